@@ -1,0 +1,42 @@
+-- Laws of `copied`.
+-- copied-fits                with room, it is the bytes and what stood behind them
+-- copied-next, copied-done   a turn of the loop that copies, and its end
+use mathlib.Core.Path.{_≡_, refl, sym, ap, _∙_}
+use mathlib.Core.List.{List, [], _∷_, _++_, append-nil}
+use Prim.Native.Nat.{ℕ, _+_, _≤_, _<_, min}
+use native.Mathlib.Omega.{arith}
+use lib.ListN.{length, take, drop, getD, set}
+use lib.Seq.{take-all, take-nil, drop-nil}
+use Rattle.base.specs.Written.{copied}
+use Rattle.base.proofs.Lists.{over}
+use Rattle.base.proofs.Tests.{by-le}
+use Rattle.base.proofs.InPlace.{next, done}
+
+pub copied-fits : (bs dst : List ℕ) → length bs ≤ length dst → copied bs dst ≡ bs ++ drop (length bs) dst
+unfolding copied
+copied-fits bs dst h = ap (λ (l : List ℕ). l ++ drop (length bs) dst) (take-all (length dst) bs h)
+
+none : (dst : List ℕ) → copied [] dst ≡ dst
+unfolding copied
+none dst = ap (λ (l : List ℕ). l ++ dst) (take-nil (length dst))
+
+full : (bs : List ℕ) → copied bs [] ≡ []
+unfolding copied
+full bs = drop-nil (length bs)
+
+one : (b d : ℕ) (bs dst : List ℕ) → copied (b ∷ bs) (d ∷ dst) ≡ b ∷ copied bs dst
+unfolding copied
+one b d bs dst = refl
+
+module _ (i : ℕ) (src dst : List ℕ) {t : List ℕ} (p : take i dst ++ copied (drop i src) (drop i dst) ≡ t) where
+  pub copied-next : i < length src → i < length dst
+      → take (i + 1) (set dst i (getD src i 0)) ++ copied (drop (i + 1) src) (drop (i + 1) (set dst i (getD src i 0))) ≡ t
+  copied-next h k = next copied (λ b d. b) none one i src dst (getD src i 0) h k refl p
+
+  pub copied-done : (n : ℕ) → n ≤ i → n ≡ min (length src) (length dst) → dst ≡ t
+  copied-done n h e =
+      by-le (length src) i (λ l. done copied (λ b d. b) none one i src dst l p) λ l.
+      let k : length dst ≤ i = omega arith in
+      sym
+      (ap (λ (x : List ℕ). take i dst ++ copied (drop i src) x) (over dst i k) ∙ ap (λ (x : List ℕ). take i dst ++ x) (full (drop i src))
+      ∙ append-nil (take i dst) ∙ take-all i dst k) ∙ p

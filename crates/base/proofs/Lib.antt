@@ -1,0 +1,9 @@
+pub mod Lists
+pub mod Bytes
+pub mod Tests
+pub mod InPlace
+pub mod Parts
+pub mod Copied
+pub mod Cycle
+pub mod Determining
+pub mod Determined

@@ -1,0 +1,36 @@
+-- by-le            two cases: a number is at most another, or above it
+-- both-l, both-r   the two halves of `both`
+-- all, all-at      a test at each number below n, computed once, holds at each of them: how a whole table's rule is proved
+use mathlib.Core.Path.{_≡_, refl, sym, subst}
+use mathlib.Core.Bool.{Bool, true, false}
+use mathlib.Core.Logic.{⊎-elim}
+use Prim.Native.Nat.{ℕ, zero, suc, _≤_, _<_}
+use native.Mathlib.Nat.{not-suc-le-zero, le-of-suc-le-suc, eq-or-lt-of-le}
+use lib.Dec.{T, leb}
+use borrow.Author.Tests.{leb-true, leb-false}
+use Rattle.base.specs.Choice.{both}
+
+pub by-le : {P : Type 0} (a b : ℕ) → (a ≤ b → P) → (b < a → P) → P
+by-le {P} a b f g = go (leb a b) refl
+  where
+    go : (t : Bool) → leb a b ≡ t → P
+    go true e = f (leb-true a b e)
+    go false e = g (leb-false a b e)
+
+pub both-l : (a b : Bool) → T (both a b) → T a
+both-l true b t = tt
+both-l false b t = t
+
+pub both-r : (a b : Bool) → T (both a b) → T b
+both-r true b t = t
+both-r false b t = absurd t
+
+abbrev pub all : ℕ → (ℕ → Bool) → Bool
+all zero p = true
+all (suc n) p = both (p n) (all n p)
+
+pub all-at : (n : ℕ) (p : ℕ → Bool) → T (all n p) → (i : ℕ) → i < n → T (p i)
+all-at zero p t i h = absurd (not-suc-le-zero h)
+all-at (suc n) p t i h =
+    ⊎-elim (λ (e : i ≡ n). subst (λ (k : ℕ). T (p k)) (sym e) (both-l (p n) (all n p) t))
+    (λ (l : i < n). all-at n p (both-r (p n) (all n p) t) i l) (eq-or-lt-of-le (le-of-suc-le-suc h))

@@ -1,0 +1,36 @@
+-- Laws of the check.
+-- fcs-lt                 it has sixteen bits
+-- register-append        feeding in parts is feeding the whole
+-- bit-next .. byte-done  a turn and the end of the loop over a byte's bits, and of the loop over bytes
+use Prim.Native.Nat.{ℕ, suc, _+_, _-_, _/_, _%_, _<_, _≤_}
+use mathlib.Core.List.{List, [], _∷_, _++_}
+use mathlib.Core.Path.{_≡_, refl}
+use native.Mathlib.Omega.{arith}
+use lib.ListN.{length, drop, getD}
+use Rattle.base.proofs.Lists.{next, over}
+use Rattle.fcs.specs.Fcs.{fcs, register, entered, shifted}
+
+pub fcs-lt : (bs : List ℕ) → fcs bs < 65536
+unfolding fcs
+fcs-lt bs = omega arith
+
+pub register-append : (r : ℕ) (a b : List ℕ) → register r (a ++ b) ≡ register (register r a) b
+unfolding register
+register-append r [] b = refl
+register-append r (x ∷ a) b = register-append (entered 8 r x) a b
+
+pub bit-next : (i r b : ℕ) {s t : ℕ} → i < 8 → s ≡ shifted r (b % 2) → entered (8 - i) r b ≡ t → entered (8 - (i + 1)) s (b / 2) ≡ t
+unfolding entered
+bit-next i r b h e p = let k : 8 - i ≡ suc (8 - (i + 1)) = omega arith in rw e (rw k at p)
+
+pub bit-done : (i r b : ℕ) {t : ℕ} → 8 ≤ i → entered (8 - i) r b ≡ t → r ≡ t
+unfolding entered
+bit-done i r b h p = let e : 8 - i ≡ 0 = omega arith in rw e at p
+
+pub byte-next : (i r : ℕ) (bs : List ℕ) {s t : ℕ} → i < length bs → s ≡ entered 8 r (getD bs i 0) → register r (drop i bs) ≡ t → register s (drop (i + 1) bs) ≡ t
+unfolding register
+byte-next i r bs h e p = rw e (rw (next bs i h) at p)
+
+pub byte-done : (i r : ℕ) (bs : List ℕ) {t : ℕ} → length bs ≤ i → register r (drop i bs) ≡ t → r ≡ t
+unfolding register
+byte-done i r bs h p = rw (over bs i h) at p

@@ -1,0 +1,73 @@
+//! The check of a frame: the 16-bit FCS of RFC 1662.
+ghost use mathlib.Core.Path.{_≡_};
+ghost use Rattle.fcs.specs.Fcs.{complement, shifted, entered, fcs, fresh, fed};
+
+/// The check's register, for bytes that lie in several places.
+pub struct Register {
+    pub bits: u16,
+}
+
+impl Register {
+    const POLYNOMIAL: u16 = 0x8408;
+
+    const ONES: u16 = 0xFFFF;
+
+    /// The register before the first byte.
+    pub fn fresh() -> Self
+        ensures { λ r. ⌜ r ≡ fresh ⌝ }
+    {
+        Self { bits: Self::ONES }
+    }
+
+    /// The register after further bytes.
+    pub fn feed(self, bytes: &[u8]) -> Self
+        ensures { λ r. ⌜ r ≡ fed self (now (bytes .entry)) ⌝ }
+    {
+        let mut bits = self.bits;
+        let mut i: usize = 0;
+        while i < bytes.len() {
+            bits = enter(bits, bytes[i]);
+            i += 1;
+        }
+        Self { bits }
+    }
+
+    /// The check of the bytes fed.
+    pub fn check(self) -> u16
+        ensures { λ r. ⌜ r ≡ complement (self .bits) ⌝ }
+    {
+        Self::ONES - self.bits
+    }
+}
+
+// One bit enters the register.
+fn shift(register: u16, bit: u8) -> u16
+    ensures { λ r. ⌜ r ≡ shifted register bit ⌝ }
+{
+    if register % 2 == bit as u16 {
+        return register / 2;
+    }
+    (register / 2) ^ Register::POLYNOMIAL
+}
+
+// One byte enters the register, its low bit first.
+fn enter(register: u16, byte: u8) -> u16
+    ensures { λ r. ⌜ r ≡ entered 8 register byte ⌝ }
+{
+    let mut bits = register;
+    let mut rest = byte;
+    let mut i: usize = 0;
+    while i < 8 {
+        bits = shift(bits, rest % 2);
+        rest = rest / 2;
+        i += 1;
+    }
+    bits
+}
+
+/// The check of bytes.
+pub fn fcs(bytes: &[u8]) -> u16
+    ensures { λ r. ⌜ r ≡ fcs (now (bytes .entry)) ⌝ }
+{
+    Register::fresh().feed(bytes).check()
+}

@@ -1,0 +1,19 @@
+-- Each public function's promise determines its result.
+use mathlib.Core.Path.{refl}
+use Rattle.base.specs.Determined.{Determined}
+use Rattle.base.proofs.Determining.{same}
+use Rattle.field.proofs.plus.Kinds as plus-kinds
+use Rattle.field.proofs.plus.Reads as plus-reads
+use Rattle.field.proofs.times.Kinds as times-kinds
+use Rattle.field.proofs.times.Reads as times-reads
+use Rattle.field.proofs.power.Kinds as power-kinds
+use Rattle.field.proofs.power.Reads as power-reads
+
+pub plus-determined : Determined plus-kinds.ps plus-kinds.r plus-reads.Pre plus-reads.Post
+plus-determined κs a z z′ ws ws′ pre p q = (same p q, refl)
+
+pub times-determined : Determined times-kinds.ps times-kinds.r times-reads.Asked times-reads.Learnt
+times-determined κs a z z′ ws ws′ pre p q = (same p q, refl)
+
+pub power-determined : Determined power-kinds.ps power-kinds.r power-reads.Asked power-reads.Learnt
+power-determined κs a z z′ ws ws′ pre p q = (same p q, refl)

@@ -1,0 +1,7 @@
+pub mod Sum
+pub mod Additive
+pub mod Product
+pub mod Powers
+pub mod Tables
+pub mod Numbers
+pub mod Determined

@@ -1,0 +1,47 @@
+-- What the code's functions need of the field. The tables of the code are `powers 255 1` and `logs 255 1` by computation:
+-- the rule of each is proved here, over the whole table.
+-- exp-table, log-table     the rule of each table
+-- product                  a product by logarithms
+-- even-power, odd-power    a power from that of half the exponent
+use mathlib.Core.Path.{_≡_, sym, ap, ap₂, _∙_}
+use mathlib.Core.List.{List, [], _∷_}
+use Prim.Native.Nat.{ℕ, zero, suc, _+_, _-_, _/_, _%_, _<_}
+use native.Mathlib.Nat.{not-suc-le-zero, le-of-suc-le-suc, add-zero, add-suc, suc-add}
+use native.Mathlib.Omega.{arith}
+use lib.ListN.{getD}
+use Rattle.field.specs.Field.{alpha, mul, pow}
+use Rattle.field.proofs.Product.{mul-comm}
+use Rattle.field.proofs.Powers.{powers, powers-at, log, log-lt, pow-log, alpha-mod, pow-add, pow-suc}
+
+pub exp-table : (k : ℕ) → k < 255 → getD (powers 255 1) k 0 ≡ pow alpha k
+exp-table = powers-at
+
+-- the logarithms of x, x + 1, ..
+abbrev pub logs : ℕ → ℕ → List ℕ
+logs zero x = []
+logs (suc n) x = log x ∷ logs n (suc x)
+
+logs-from : (n x k : ℕ) → k < n → getD (logs n x) k 0 ≡ log (x + k)
+logs-from zero x k h = absurd (not-suc-le-zero h)
+logs-from (suc n) x zero h = ap log (sym (add-zero x))
+logs-from (suc n) x (suc k) h = logs-from n (suc x) k (le-of-suc-le-suc h) ∙ ap log (suc-add x k ∙ sym (add-suc x k))
+
+pub log-table : (a : ℕ) → 0 < a → a < 256 → (getD (logs 255 1) (a - 1) 0 < 255) × (pow alpha (getD (logs 255 1) (a - 1) 0) ≡ a)
+log-table a h l = rw here (log-lt a h l, pow-log a h l)
+  where
+    here : getD (logs 255 1) (a - 1) 0 ≡ log a
+    here = logs-from 255 1 (a - 1) (omega arith) ∙ ap log (omega arith)
+
+pub product : (i j : ℕ) {a b r : ℕ} → pow alpha i ≡ a → pow alpha j ≡ b → r ≡ pow alpha ((i + j) % 255) → r ≡ mul a b
+product i j p q e = e ∙ alpha-mod (i + j) ∙ pow-add alpha i j ∙ ap₂ mul p q
+
+-- the square of the power of half the exponent
+square : (e : ℕ) {h s : ℕ} → h ≡ pow alpha (e / 2) → s ≡ mul h h → s ≡ pow alpha (e / 2 + e / 2)
+square e p q = q ∙ ap₂ mul p p ∙ sym (pow-add alpha (e / 2) (e / 2))
+
+pub even-power : (e : ℕ) {h s : ℕ} → h ≡ pow alpha (e / 2) → s ≡ mul h h → e % 2 ≡ 0 → s ≡ pow alpha e
+even-power e p q z = square e p q ∙ ap (pow alpha) (omega arith)
+
+pub odd-power : (e : ℕ) {h s r : ℕ} → h ≡ pow alpha (e / 2) → s ≡ mul h h → r ≡ mul s alpha → (e % 2 ≡ 0 → ⊥) → r ≡ pow alpha e
+odd-power e p q t z =
+    t ∙ ap (λ (x : ℕ). mul x alpha) (square e p q) ∙ mul-comm _ alpha ∙ sym (pow-suc alpha (e / 2 + e / 2)) ∙ ap (pow alpha) (omega arith)

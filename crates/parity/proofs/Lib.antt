@@ -1,0 +1,5 @@
+pub mod Sums
+pub mod Values
+pub mod Generator
+pub mod Division
+pub mod Clean

@@ -1,0 +1,161 @@
+//! Parity words of 255 bytes: parity made, and a word checked.
+ghost use mathlib.Core.Path.{_≡_};
+ghost use mathlib.Core.List.{_∷_, _++_};
+ghost use Prim.Native.Nat.{_+_, _-_, _≤_, _<_};
+ghost use lib.ListN.{length, drop, replicate};
+ghost use Rattle.base.specs.Written.{copied, outcome};
+ghost use Rattle.parity.specs.Word.{eval, clean, scale, onto, generator, divide, remainder};
+ghost use Rattle.parity.specs.Calls.{checked, made};
+
+use base::{Refusal, Written};
+
+/// What the check of a word finds.
+pub enum Checked {
+    Clean,
+    Damaged,
+    /// The call is refused, by this number of the paper.
+    Refused(u8),
+}
+
+/// A word: a message, and its parity behind it.
+pub struct Word;
+
+impl Word {
+    /// Its bytes.
+    pub const LENGTH: usize = 255;
+    /// The most of them that may be parity.
+    pub const MOST: usize = 64;
+}
+
+// The value of a polynomial at a.
+fn value(p: &[u8], a: u8) -> u8
+    ensures { λ r. ⌜ r ≡ eval (now (p .entry)) a ⌝ }
+{
+    let mut v: u8 = 0;
+    let mut i: usize = 0;
+    while i < p.len() {
+        v = field::plus(field::times(v, a), p[i]);
+        i += 1;
+    }
+    v
+}
+
+// Whether a word is zero at the roots 1 to r.
+fn zero_at(r: usize, word: &[u8]) -> bool
+    requires { ⌜ r < 255 ⌝ }
+    ensures { λ b. ⌜ b ≡ clean r (now (word .entry)) ⌝ }
+{
+    let mut j: usize = 0;
+    while j < r {
+        if value(word, field::power(j + 1)) != 0 {
+            return false;
+        }
+        j += 1;
+    }
+    true
+}
+
+/// Checks a word with r parity bytes.
+pub fn check(r: usize, word: &[u8]) -> Checked
+    ensures { λ c. ⌜ c ≡ checked r (now (word .entry)) ⌝ }
+{
+    if Word::MOST < r {
+        return Checked::Refused(Refusal::ROOTS);
+    }
+    if word.len() != Word::LENGTH {
+        return Checked::Refused(Refusal::LENGTH);
+    }
+    if zero_at(r, word) {
+        return Checked::Clean;
+    }
+    Checked::Damaged
+}
+
+// Multiplies g, the 0 behind it lent too, by (x - a).
+fn times_root(a: u8, g: &mut [u8])
+    ensures { λ _. ⌜ now (g .exit) ≡ onto (0 ∷ scale a (now (g .entry))) (now (g .entry)) ⌝ }
+{
+    let mut before: u8 = 0;
+    let mut i: usize = 0;
+    while i < g.len() {
+        let x = g[i];
+        g[i] = field::plus(field::times(a, before), x);
+        before = x;
+        i += 1;
+    }
+}
+
+// The generator for r roots, with zeros behind.
+fn generate(r: usize) -> [u8; 65]
+    requires { ⌜ r ≤ 64 ⌝ }
+    ensures { λ g. ⌜ g ≡ generator r ++ replicate (64 - r) 0 ⌝ }
+{
+    let mut g = [0u8; 65];
+    g[0] = 1;
+    let mut j: usize = 0;
+    while j < r {
+        let a = field::power(j + 1);
+        let end = j + 2;
+        times_root(a, &mut g[..end]);
+        j += 1;
+    }
+    g
+}
+
+// Takes c times g away from the first bytes of p.
+fn subtract(c: u8, g: &[u8], p: &mut [u8])
+    requires { ⌜ length (now g) ≤ length (now p) ⌝ }
+    ensures { λ _. ⌜ now (p .exit) ≡ onto (scale c (now (g .entry))) (now (p .entry)) ⌝ }
+{
+    let mut i: usize = 0;
+    while i < g.len() {
+        p[i] = field::plus(field::times(c, g[i]), p[i]);
+        i += 1;
+    }
+}
+
+// Long division in place by x^k + g, k being g's length: behind the n places that are gone stands what is left.
+fn reduce(n: usize, g: &[u8], p: &mut [u8])
+    requires { ⌜ n + length (now g) ≤ length (now p) ⌝ }
+    ensures { λ _. ⌜ drop n (now (p .exit)) ≡ divide n (1 ∷ now (g .entry)) (now (p .entry)) ⌝ }
+{
+    let mut i: usize = 0;
+    while i < n {
+        let c = p[i];
+        let next = i + 1;
+        subtract(c, g, &mut p[next..]);
+        i = next;
+    }
+}
+
+// Stores the parity of a message from the start of out on.
+fn put_parity(r: usize, message: &[u8], out: &mut [u8])
+    requires { ⌜ r ≤ 64 ⌝ }
+    requires { ⌜ length (now message) ≡ 255 - r ⌝ }
+    ensures { λ _. ⌜ now (out .exit) ≡ copied (remainder r (now (message .entry))) (now (out .entry)) ⌝ }
+{
+    let n = Word::LENGTH - r;
+    let end = r + 1;
+    let g = generate(r);
+    let mut p = [0u8; 255];
+    base::copy(message, &mut p);
+    reduce(n, &g[1..end], &mut p);
+    base::copy(&p[n..], out);
+}
+
+/// Makes the r parity bytes of a message.
+pub fn make(r: usize, message: &[u8], out: &mut [u8]) -> Written
+    ensures { λ w. ⌜ outcome w (now (out .exit)) ≡ made r (now (message .entry)) (now (out .entry)) ⌝ }
+{
+    if Word::MOST < r {
+        return Written::Refused(Refusal::ROOTS);
+    }
+    if message.len() != Word::LENGTH - r {
+        return Written::Refused(Refusal::LENGTH);
+    }
+    if out.len() < r {
+        return Written::Refused(Refusal::OUTPUT);
+    }
+    put_parity(r, message, out);
+    Written::Wrote(r)
+}
