@@ -3,7 +3,7 @@ pub mod Bytes
 pub mod Tests
 pub mod InPlace
 pub mod Parts
-pub mod Copied
+pub mod Writing
 pub mod Cycle
 pub mod Determining
 pub mod Determined

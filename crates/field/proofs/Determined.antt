@@ -9,7 +9,7 @@ use Rattle.field.proofs.times.Reads as times-reads
 use Rattle.field.proofs.power.Kinds as power-kinds
 use Rattle.field.proofs.power.Reads as power-reads
 
-pub plus-determined : Determined plus-kinds.ps plus-kinds.r plus-reads.Pre plus-reads.Post
+pub plus-determined : Determined plus-kinds.ps plus-kinds.r plus-reads.Asked plus-reads.Learnt
 plus-determined κs a z z′ ws ws′ pre p q = (same p q, refl)
 
 pub times-determined : Determined times-kinds.ps times-kinds.r times-reads.Asked times-reads.Learnt

@@ -137,6 +137,7 @@ module _ (r : ℕ) (k : r < 255) (m p q : List ℕ) (bp : Bytes p) (bq : Bytes q
 
 -- a word is clean exactly where its last r bytes are the parity of the others
 pub clean-is : (r : ℕ) → r < 255 → (m p : List ℕ) → Bytes m → Bytes p → length p ≡ r → clean r (m ++ p) ≡ true ↔ p ≡ remainder r m
-clean-is r k m p bm bp l =
-    (λ h. unique r k m p (remainder r m) bp (bytes-remainder r m bm) l (length-remainder r m) h (parity-clean r m bm),
-    λ e. ap (λ (x : List ℕ). clean r (m ++ x)) e ∙ parity-clean r m bm)
+clean-is r k m p bm bp l = (
+  λ h. unique r k m p (remainder r m) bp (bytes-remainder r m bm) l (length-remainder r m) h (parity-clean r m bm),
+  λ e. ap (λ (x : List ℕ). clean r (m ++ x)) e ∙ parity-clean r m bm,
+)

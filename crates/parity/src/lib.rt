@@ -6,8 +6,8 @@ ghost use lib.ListN.{length, drop, replicate};
 ghost use Rattle.base.specs.Written.{copied, outcome};
 ghost use Rattle.parity.specs.Word.{eval, clean, scale, onto, generator, divide, remainder};
 ghost use Rattle.parity.specs.Calls.{checked, made};
-
-use base::{Refusal, Written};
+use base::Refusal;
+use base::Written;
 
 /// What the check of a word finds.
 pub enum Checked {
@@ -75,12 +75,12 @@ pub fn check(r: usize, word: &[u8]) -> Checked
 fn times_root(a: u8, g: &mut [u8])
     ensures { λ _. ⌜ now (g .exit) ≡ onto (0 ∷ scale a (now (g .entry))) (now (g .entry)) ⌝ }
 {
-    let mut before: u8 = 0;
+    let mut last: u8 = 0;
     let mut i: usize = 0;
     while i < g.len() {
         let x = g[i];
-        g[i] = field::plus(field::times(a, before), x);
-        before = x;
+        g[i] = field::plus(field::times(a, last), x);
+        last = x;
         i += 1;
     }
 }

@@ -6,7 +6,7 @@ use native.Mathlib.Omega.{arith}
 use lib.ListN.{length, take, drop, length-set}
 use borrow.Author.Needs.{needs}
 use Rattle.base.specs.Written.{copied}
-use Rattle.base.proofs.Copied.{copied-next, copied-done}
+use Rattle.base.proofs.Writing.{copied-next, copied-done}
 use Rattle.base.proofs.copy.Statement.{statement}
 use Rattle.base.proofs.copy.Tie as tie
 

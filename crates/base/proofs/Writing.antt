@@ -1,5 +1,6 @@
--- Laws of `copied`.
--- copied-fits                with room, it is the bytes and what stood behind them
+-- Laws of calls that write.
+-- write-fits, write-short    the outcome where the output has room for the result, and where it has not
+-- copied-fits                with room, copying leaves the bytes and what stood behind them
 -- copied-next, copied-done   a turn of the loop that copies, and its end
 use mathlib.Core.Path.{_≡_, refl, sym, ap, _∙_}
 use mathlib.Core.List.{List, [], _∷_, _++_, append-nil}
@@ -7,7 +8,9 @@ use Prim.Native.Nat.{ℕ, _+_, _≤_, _<_, min}
 use native.Mathlib.Omega.{arith}
 use lib.ListN.{length, take, drop, getD, set}
 use lib.Seq.{take-all, take-nil, drop-nil}
-use Rattle.base.specs.Written.{copied}
+use borrow.Author.Tests.{lt-ltb, le-ltb}
+use Rattle.base.specs.declared.Written.the-variants.{Wrote}
+use Rattle.base.specs.Written.{outcome, refused, write, copied}
 use Rattle.base.proofs.Lists.{over}
 use Rattle.base.proofs.Tests.{by-le}
 use Rattle.base.proofs.InPlace.{next, done}
@@ -15,6 +18,12 @@ use Rattle.base.proofs.InPlace.{next, done}
 pub copied-fits : (bs dst : List ℕ) → length bs ≤ length dst → copied bs dst ≡ bs ++ drop (length bs) dst
 unfolding copied
 copied-fits bs dst h = ap (λ (l : List ℕ). l ++ drop (length bs) dst) (take-all (length dst) bs h)
+
+pub write-fits : (bs out : List ℕ) → length bs ≤ length out → write bs out ≡ outcome (Wrote (length bs)) (copied bs out)
+write-fits bs out h = simp (le-ltb (length out) (length bs) h, copied-fits bs out h)
+
+pub write-short : (bs out : List ℕ) → length out < length bs → write bs out ≡ refused 23 out
+write-short bs out h = simp (lt-ltb (length out) (length bs) h)
 
 none : (dst : List ℕ) → copied [] dst ≡ dst
 unfolding copied
