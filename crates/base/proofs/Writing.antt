@@ -1,16 +1,19 @@
 -- Laws of calls that write.
 -- write-fits, write-short    the outcome where the output has room for the result, and where it has not
+-- Keeps, ..-keeps            a refused call leaves the output as it was
 -- copied-fits                with room, copying leaves the bytes and what stood behind them
 -- copied-next, copied-done   a turn of the loop that copies, and its end
 use mathlib.Core.Path.{_≡_, refl, sym, ap, _∙_}
+use mathlib.Core.Bool.{Bool, true, false}
 use mathlib.Core.List.{List, [], _∷_, _++_, append-nil}
 use Prim.Native.Nat.{ℕ, _+_, _≤_, _<_, min}
 use native.Mathlib.Omega.{arith}
 use lib.ListN.{length, take, drop, getD, set}
 use lib.Seq.{take-all, take-nil, drop-nil}
 use borrow.Author.Tests.{lt-ltb, le-ltb}
-use Rattle.base.specs.declared.Written.the-variants.{Wrote}
-use Rattle.base.specs.Written.{outcome, refused, write, copied}
+use Rattle.base.specs.Choice.{pick}
+use Rattle.base.specs.declared.Written.the-variants.{Wrote, Refused}
+use Rattle.base.specs.Written.{Outcome, outcome, refused, write, copied}
 use Rattle.base.proofs.Lists.{over}
 use Rattle.base.proofs.Tests.{by-le}
 use Rattle.base.proofs.InPlace.{next, done}
@@ -24,6 +27,24 @@ write-fits bs out h = simp (le-ltb (length out) (length bs) h, copied-fits bs ou
 
 pub write-short : (bs out : List ℕ) → length out < length bs → write bs out ≡ refused 23 out
 write-short bs out h = simp (lt-ltb (length out) (length bs) h)
+
+-- where the answer is a refusal, the output holds what it held
+abbrev pub Keeps : List ℕ → Outcome → Type 0
+Keeps out o = (n : ℕ) → o .answer ≡ Refused n → o .output ≡ out
+
+pub refused-keeps : (n : ℕ) (out : List ℕ) → Keeps out (refused n out)
+refused-keeps n out m e = refl
+
+pub write-keeps : (bs out : List ℕ) → Keeps out (write bs out)
+write-keeps bs out =
+    by-le (length bs) (length out)
+    (λ h. rw (write-fits bs out h) λ n e. let z : _≡_ {A = ℕ} 0 1 = cc in absurd (omega arith))
+    (λ h. rw (write-short bs out h) (refused-keeps 23 out))
+
+-- of two calls the one that a test chooses
+pub pick-keeps : (t : Bool) (out : List ℕ) {o o′ : Outcome} → Keeps out o → Keeps out o′ → Keeps out (pick t o o′)
+pick-keeps true out h k = h
+pick-keeps false out h k = k
 
 none : (dst : List ℕ) → copied [] dst ≡ dst
 unfolding copied

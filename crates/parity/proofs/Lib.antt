@@ -4,5 +4,6 @@ pub mod Generator
 pub mod Division
 pub mod Clean
 pub mod Loops
+pub mod Refusing
 pub mod Numbers
 pub mod Determined

@@ -1,7 +1,7 @@
 //! Parity words of 255 bytes: parity made, and a word checked.
 ghost use mathlib.Core.Path.{_≡_};
 ghost use mathlib.Core.List.{_∷_, _++_};
-ghost use Prim.Native.Nat.{_+_, _-_, _≤_, _<_};
+ghost use Prim.Native.Nat.{_+_, _-_, _≤_};
 ghost use lib.ListN.{length, drop, replicate};
 ghost use Rattle.base.specs.Written.{copied, outcome};
 ghost use Rattle.parity.specs.Word.{eval, clean, scale, onto, generator, divide, remainder};
@@ -42,7 +42,6 @@ fn value(p: &[u8], a: u8) -> u8
 
 // Whether a word is zero at the roots 1 to r.
 fn zero_at(r: usize, word: &[u8]) -> bool
-    requires { ⌜ r < 255 ⌝ }
     ensures { λ b. ⌜ b ≡ clean r (now (word .entry)) ⌝ }
 {
     let mut j: usize = 0;
@@ -92,12 +91,12 @@ fn generate(r: usize) -> [u8; 65]
 {
     let mut g = [0u8; 65];
     g[0] = 1;
-    let mut j: usize = 0;
-    while j < r {
-        let a = field::power(j + 1);
-        let end = j + 2;
+    let mut roots: usize = 0;
+    while roots < r {
+        let a = field::power(roots + 1);
+        let end = roots + 2;
         times_root(a, &mut g[..end]);
-        j += 1;
+        roots += 1;
     }
     g
 }

@@ -1,0 +1,115 @@
+//! Answers cases from standard input, one after the other, so that tests/compare can hold the code to the second program.
+//!
+//! A case: what is asked (a letter), a number (8 bytes), how many bytes are lent as output and how many follow (2 bytes each),
+//! and those that follow. An answer: a number (8 bytes), and all bytes of the output. Numbers stand low byte first; the output
+//! is lent filled with 0xA5; a refusal n is told as 65,536 + n.
+use base::Written;
+use fcs::Register;
+use parity::Checked;
+
+const HEAD: usize = 13;
+
+fn main() {
+    let mut bytes = io::large_buffer();
+    let mut out = io::large_buffer();
+    let mut cases = u64::MAX;
+    while cases > 0 {
+        if !answer(&mut bytes, &mut out) {
+            return;
+        }
+        cases -= 1;
+    }
+}
+
+// Reads one case and writes its answer; false at the end of the input.
+fn answer(bytes: &mut [u8], out: &mut [u8]) -> bool {
+    let mut head = [0u8; 13];
+    if io::read_full(0, &mut head) != HEAD {
+        return false;
+    }
+    let room = (wide(head[9]) | wide(head[10]) << 8) as usize;
+    let n = (wide(head[11]) | wide(head[12]) << 8) as usize;
+    if bytes.len() < n {
+        return false;
+    }
+    if out.len() < room {
+        return false;
+    }
+    if io::read_full(0, &mut bytes[0..n]) != n {
+        return false;
+    }
+    respond(head[0], number(head), &bytes[0..n], &mut out[0..room])
+}
+
+// Writes the answer to one case.
+fn respond(asked: u8, number: u64, bytes: &[u8], out: &mut [u8]) -> bool {
+    fill(out);
+    print(tell(asked, number, bytes, out));
+    io::write_all(1, out)
+}
+
+fn wide(b: u8) -> u64 {
+    b as u64
+}
+
+// The number of a case.
+fn number(head: [u8; 13]) -> u64 {
+    let low = wide(head[1]) | wide(head[2]) << 8 | wide(head[3]) << 16 | wide(head[4]) << 24;
+    let high = wide(head[5]) | wide(head[6]) << 8 | wide(head[7]) << 16 | wide(head[8]) << 24;
+    low | high << 32
+}
+
+fn fill(out: &mut [u8]) {
+    let mut i: usize = 0;
+    while i < out.len() {
+        out[i] = 0xA5;
+        i += 1;
+    }
+}
+
+// Writes a number, its low byte first.
+fn print(n: u64) {
+    let text = [
+        (n % 256) as u8,
+        (n / 256 % 256) as u8,
+        (n / 65536 % 256) as u8,
+        (n / 16777216 % 256) as u8,
+        0,
+        0,
+        0,
+        0,
+    ];
+    io::write_all(1, &text);
+}
+
+fn tell(asked: u8, number: u64, bytes: &[u8], out: &mut [u8]) -> u64 {
+    match asked {
+        b'F' => fcs::fcs(bytes) as u64,
+        b'G' => {
+            let r = Register {
+                bits: (number % 65536) as u16,
+            };
+            r.feed(bytes).bits as u64
+        }
+        b'T' => field::times((number / 256 % 256) as u8, (number % 256) as u8) as u64,
+        b'E' => field::power(number as usize) as u64,
+        b'P' => written(parity::make(number as usize, bytes, out)),
+        b'W' => checked(parity::check(number as usize, bytes)),
+        _ => 0,
+    }
+}
+
+fn written(w: Written) -> u64 {
+    match w {
+        Written::Wrote(n) => n as u64,
+        Written::Refused(n) => 65536 + n as u64,
+    }
+}
+
+fn checked(c: Checked) -> u64 {
+    match c {
+        Checked::Clean => 0,
+        Checked::Damaged => 1,
+        Checked::Refused(n) => 65536 + n as u64,
+    }
+}

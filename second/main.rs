@@ -1,0 +1,114 @@
+//! The second program: the paper's sender and receiver once more, in Rust, written from the paper and not from the proved
+//! code, so that the two can be held against each other.
+//!
+//!   second fcs HEX           the check of bytes
+//!   second parity R HEX      the parity of a message
+//!   second word R HEX        clean or damaged
+//!   second cases [SEED]      cases for the proved code, to standard output
+//!   second compare CASES ANSWERS
+//!                            holds its own answers to those of the proved code
+
+mod cases;
+mod fcs;
+mod parity;
+
+use std::io::Write;
+
+fn main() {
+    let args: Vec<String> = std::env::args().skip(1).collect();
+    let words: Vec<&str> = args.iter().map(String::as_str).collect();
+    let done = match words[..] {
+        ["fcs", bytes] => unhex(bytes).map(|b| println!("{:04x}", fcs::check(&b))),
+        ["parity", r, bytes] => number(r).and_then(|r| Some((r, unhex(bytes)?))).map(|(r, b)| show_parity(r, &b)),
+        ["word", r, bytes] => number(r).and_then(|r| Some((r, unhex(bytes)?))).map(|(r, b)| show_word(r, &b)),
+        ["cases"] => Some(write_cases(1)),
+        ["cases", seed] => number(seed).map(write_cases),
+        ["compare", asked, told] => std::process::exit(compare(asked, told)),
+        _ => None,
+    };
+    if done.is_none() {
+        eprintln!("usage: second fcs HEX | parity R HEX | word R HEX | cases [SEED] | compare CASES ANSWERS");
+        std::process::exit(2);
+    }
+}
+
+fn number(text: &str) -> Option<u64> {
+    text.parse().ok()
+}
+
+fn unhex(text: &str) -> Option<Vec<u8>> {
+    if text.len() % 2 != 0 || !text.is_ascii() {
+        return None;
+    }
+    (0..text.len()).step_by(2).map(|i| u8::from_str_radix(&text[i..i + 2], 16).ok()).collect()
+}
+
+fn hex(bytes: &[u8]) -> String {
+    bytes.iter().map(|b| format!("{b:02x}")).collect()
+}
+
+fn show_parity(r: u64, message: &[u8]) {
+    match parity::make(r, message, 64) {
+        Ok(bytes) => println!("{}", hex(&bytes)),
+        Err(n) => println!("refused {n}"),
+    }
+}
+
+fn show_word(r: u64, word: &[u8]) {
+    match parity::check(r, word) {
+        Ok(true) => println!("clean"),
+        Ok(false) => println!("damaged"),
+        Err(n) => println!("refused {n}"),
+    }
+}
+
+fn write_cases(seed: u64) {
+    let mut bytes = Vec::new();
+    for case in cases::all(seed) {
+        case.write(&mut bytes);
+    }
+    std::io::stdout().write_all(&bytes).expect("standard output");
+}
+
+/// Reads the cases and the proved code's answers, and counts where the second program answers otherwise. The cases are read
+/// back from the file, so that a seed need not be told twice.
+fn compare(asked: &str, told: &str) -> i32 {
+    let asked = std::fs::read(asked).expect("cases");
+    let told = std::fs::read(told).expect("answers");
+    let (mut at, mut from, mut count, mut differ) = (0, 0, 0, 0);
+    while at < asked.len() {
+        let case = read_case(&asked[at..]);
+        at += 13 + case.bytes.len();
+        let mine = case.answer();
+        let mut right = mine.number.to_le_bytes().to_vec();
+        right.extend(&mine.out);
+        let end = told.len().min(from + right.len());
+        if told[from..end] != right[..] {
+            differ += 1;
+            if differ <= 10 {
+                println!("{} {} room {}: {}", case.asked as char, case.number, case.room, hex(&case.bytes));
+                println!("  proved code {}", hex(&told[from..end]));
+                println!("  second      {}", hex(&right));
+            }
+        }
+        from = end;
+        count += 1;
+    }
+    if from != told.len() {
+        differ += 1;
+        println!("{} bytes behind the last answer", told.len() - from);
+    }
+    println!("{count} cases, {differ} differences");
+    (differ > 0 || count == 0) as i32
+}
+
+fn read_case(bytes: &[u8]) -> cases::Case {
+    let low = |i: usize| u16::from_le_bytes([bytes[i], bytes[i + 1]]);
+    let length = low(11) as usize;
+    cases::Case {
+        asked: bytes[0],
+        number: u64::from_le_bytes(bytes[1..9].try_into().unwrap()),
+        room: low(9),
+        bytes: bytes[13..13 + length].to_vec(),
+    }
+}
