@@ -4,10 +4,16 @@ use fcs::Register;
 fn main() {
     io::write_all(1, b"CRC-16/X-25: the check of 123456789\n");
     io::print_hex(1, fcs::fcs(b"123456789") as u64, 4);
-    io::write_all(1, b"\nRFC 1662, C.2: the register behind bytes and their check, low byte first\n");
+    io::write_all(
+        1,
+        b"\nRFC 1662, C.2: the register behind bytes and their check, low byte first\n",
+    );
     let r = Register::fresh().feed(b"123456789").feed(b"\x6E\x90");
     io::print_hex(1, r.bits as u64, 4);
-    io::write_all(1, b"\nSY_IDD_1019s, figure 6-5: the parity of 1 and 222 zeros, R = 32\n");
+    io::write_all(
+        1,
+        b"\nSY_IDD_1019s, figure 6-5: the parity of 1 and 222 zeros, R = 32\n",
+    );
     figure();
     io::write_all(1, b"\n");
 }
