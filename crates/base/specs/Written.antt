@@ -1,6 +1,6 @@
--- Outcome         what a call that writes answers, and what it leaves in the output lent to it
--- refused, write  the two outcomes: every call that writes is promised by them
--- copied          what copying leaves
+-- Outcome          what a call that writes answers, and what it leaves in the output lent to it
+-- refused, write   the two outcomes: every call that writes is promised by them
+-- copied           what copying leaves
 use Prim.Native.Nat.{ℕ}
 use mathlib.Core.List.{List, _++_}
 use lib.Dec.{ltb}
@@ -9,10 +9,12 @@ use Rattle.base.specs.Choice.{pick}
 use Rattle.base.specs.declared.Written.{Written}
 use Rattle.base.specs.declared.Written.the-variants.{Wrote, Refused}
 
+-- the answer, and the output's bytes
 pub record Outcome : Type 0 where
   pub answer : Written
   pub output : List ℕ
 
+-- the outcome of an answer and bytes
 abbrev pub outcome : Written → List ℕ → Outcome
 outcome answer output = record { answer = answer; output = output }
 

@@ -10,6 +10,7 @@ use lib.Dec.{eqb}
 use Rattle.base.specs.Choice.{pick}
 use Rattle.fcs.specs.declared.Register.{Register}
 
+-- x^16 + x^12 + x^5 + 1, the low bit first
 abbrev pub polynomial : ℕ
 polynomial = 0x8408
 
@@ -26,7 +27,7 @@ unfoldable pub entered : ℕ → ℕ → ℕ → ℕ
 entered zero r b = r
 entered (suc n) r b = entered n (shifted r (b % 2)) (b / 2)
 
--- byte after byte, eight bits each
+-- the register after bytes, eight bits each
 unfoldable pub register : ℕ → List ℕ → ℕ
 register r [] = r
 register r (b ∷ bs) = register (entered 8 r b) bs
@@ -39,8 +40,10 @@ complement r = ones - r
 unfoldable pub fcs : List ℕ → ℕ
 fcs bs = complement (register ones bs)
 
+-- the register before the first byte
 abbrev pub fresh : Register
 fresh = record { bits = ones }
 
+-- the register after further bytes
 abbrev pub fed : Register → List ℕ → Register
 fed r bs = record { bits = register (r .bits) bs }

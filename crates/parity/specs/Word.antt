@@ -36,6 +36,7 @@ onto (x ∷ p) (y ∷ q) = add x y ∷ onto p q
 unfoldable pub times-root : ℕ → List ℕ → List ℕ
 times-root a g = onto (0 ∷ scale a g) (g ++ 0 ∷ [])
 
+-- (x - alpha) (x - alpha^2) .. (x - alpha^r)
 unfoldable pub generator : ℕ → List ℕ
 generator zero = 1 ∷ []
 generator (suc r) = times-root (pow alpha (suc r)) (generator r)
@@ -47,9 +48,11 @@ divide zero g p = p
 divide (suc n) g [] = []
 divide (suc n) g (c ∷ p) = divide n g (drop 1 (onto (scale c g) (c ∷ p)))
 
+-- what is left of message times x^r
 unfoldable pub remainder : ℕ → List ℕ → List ℕ
 remainder r message = divide (length message) (generator r) (message ++ replicate r 0)
 
+-- zero at alpha, alpha^2, .. alpha^r
 unfoldable pub clean : ℕ → List ℕ → Bool
 clean zero w = true
 clean (suc r) w = both (eqb (eval w (pow alpha (suc r))) 0) (clean r w)
