@@ -1,7 +1,7 @@
 //! Cases for the comparison: how they are written, which are asked, and what the second program answers.
 //! crates/answers/src/main.rt has the form of a case and of an answer.
 
-use crate::{fcs, parity};
+use crate::{fcs, interleaver, parity};
 
 pub struct Case {
     pub asked: u8,
@@ -37,6 +37,8 @@ impl Case {
                 Ok(clean) => !clean as u64,
                 Err(n) => refusal(n),
             },
+            b'I' => written(interleaver::turn(false, self.number, &self.bytes, out.len()), &mut out),
+            b'J' => written(interleaver::turn(true, self.number, &self.bytes, out.len()), &mut out),
             _ => 0,
         };
         Answer { number, out }
@@ -100,6 +102,7 @@ pub fn all(seed: u64) -> Vec<Case> {
     products(&mut random, &mut cases);
     parities(&mut random, &mut cases);
     words(&mut random, &mut cases);
+    matrices(&mut random, &mut cases);
     cases
 }
 
@@ -177,5 +180,20 @@ fn words(random: &mut Random, cases: &mut Vec<Case>) {
         }
         cases.push(Case { asked: b'W', number: r, room: 0, bytes: vec![0; 255] });
         cases.push(Case { asked: b'W', number: r, room: 0, bytes: random.bytes(255) });
+    }
+}
+
+/// Depths as they should be and not, whole matrices and others, outputs too short by one, exact and longer.
+fn matrices(random: &mut Random, cases: &mut Vec<Case>) {
+    for depth in (0..=65).chain([255, 256, 1 << 32, u64::MAX / 255 + 1, u64::MAX - 1, u64::MAX]) {
+        let whole = 255 * depth.min(65) as usize;
+        for n in [whole, whole.saturating_sub(1), whole + 1, 0, 1, 255, 510] {
+            let bytes = random.bytes(n);
+            for room in [n, n.saturating_sub(1), n + 1, n + 20] {
+                for asked in [b'I', b'J'] {
+                    cases.push(Case { asked, number: depth, room: room as u16, bytes: bytes.clone() });
+                }
+            }
+        }
     }
 }

@@ -4,12 +4,15 @@
 //!   second fcs HEX           the check of bytes
 //!   second parity R HEX      the parity of a message
 //!   second word R HEX        clean or damaged
+//!   second interleave DEPTH HEX, second restore DEPTH HEX
+//!                            the bytes of a matrix, there and back
 //!   second cases [SEED]      cases for the proved code, to standard output
 //!   second compare CASES ANSWERS
 //!                            holds its own answers to those of the proved code
 
 mod cases;
 mod fcs;
+mod interleaver;
 mod parity;
 
 use std::io::Write;
@@ -19,15 +22,17 @@ fn main() {
     let words: Vec<&str> = args.iter().map(String::as_str).collect();
     let done = match words[..] {
         ["fcs", bytes] => unhex(bytes).map(|b| println!("{:04x}", fcs::check(&b))),
-        ["parity", r, bytes] => number(r).and_then(|r| Some((r, unhex(bytes)?))).map(|(r, b)| show_parity(r, &b)),
-        ["word", r, bytes] => number(r).and_then(|r| Some((r, unhex(bytes)?))).map(|(r, b)| show_word(r, &b)),
+        ["parity", r, bytes] => both(r, bytes).map(|(r, b)| show(parity::make(r, &b, 64))),
+        ["word", r, bytes] => both(r, bytes).map(|(r, b)| show_word(r, &b)),
+        ["interleave", d, bytes] => both(d, bytes).map(|(d, b)| show(interleaver::turn(false, d, &b, b.len()))),
+        ["restore", d, bytes] => both(d, bytes).map(|(d, b)| show(interleaver::turn(true, d, &b, b.len()))),
         ["cases"] => Some(write_cases(1)),
         ["cases", seed] => number(seed).map(write_cases),
         ["compare", asked, told] => std::process::exit(compare(asked, told)),
         _ => None,
     };
     if done.is_none() {
-        eprintln!("usage: second fcs HEX | parity R HEX | word R HEX | cases [SEED] | compare CASES ANSWERS");
+        eprintln!("usage: second fcs HEX | parity R HEX | word R HEX | interleave DEPTH HEX | restore DEPTH HEX | cases [SEED] | compare CASES ANSWERS");
         std::process::exit(2);
     }
 }
@@ -47,8 +52,12 @@ fn hex(bytes: &[u8]) -> String {
     bytes.iter().map(|b| format!("{b:02x}")).collect()
 }
 
-fn show_parity(r: u64, message: &[u8]) {
-    match parity::make(r, message, 64) {
+fn both(n: &str, bytes: &str) -> Option<(u64, Vec<u8>)> {
+    Some((number(n)?, unhex(bytes)?))
+}
+
+fn show(result: Result<Vec<u8>, u8>) {
+    match result {
         Ok(bytes) => println!("{}", hex(&bytes)),
         Err(n) => println!("refused {n}"),
     }

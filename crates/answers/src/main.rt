@@ -95,6 +95,8 @@ fn tell(asked: u8, number: u64, bytes: &[u8], out: &mut [u8]) -> u64 {
         b'E' => field::power(number as usize) as u64,
         b'P' => written(parity::make(number as usize, bytes, out)),
         b'W' => checked(parity::check(number as usize, bytes)),
+        b'I' => written(interleaver::interleave(number as usize, bytes, out)),
+        b'J' => written(interleaver::restore(number as usize, bytes, out)),
         _ => 0,
     }
 }

@@ -21,6 +21,10 @@ impl Refusal {
     pub const ROOTS: u8 = 30;
     /// A message is not 255 - R bytes, or a word is not 255.
     pub const LENGTH: u8 = 31;
+    /// The depth is above 64.
+    pub const DEPTH: u8 = 32;
+    /// The input is not 255 times the depth.
+    pub const MATRIX: u8 = 33;
 }
 
 // The smaller of two numbers.
