@@ -4,6 +4,7 @@ pub mod Tests
 pub mod InPlace
 pub mod Parts
 pub mod Writing
+pub mod Laid
 pub mod Cycle
 pub mod Determining
 pub mod Determined

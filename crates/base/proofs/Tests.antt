@@ -1,4 +1,4 @@
--- by-le            two cases: a number is at most another, or above it
+-- by-eq, by-le     two cases: two numbers are equal or not; one is at most the other, or above it
 -- both-l, both-r   the two halves of `both`
 -- all, all-at      a test at each number below n, computed once, holds at each of them: how a whole table's rule is proved
 use mathlib.Core.Path.{_≡_, refl, sym, subst}
@@ -6,9 +6,16 @@ use mathlib.Core.Bool.{Bool, true, false}
 use mathlib.Core.Logic.{⊎-elim}
 use Prim.Native.Nat.{ℕ, zero, suc, _≤_, _<_}
 use native.Mathlib.Nat.{not-suc-le-zero, le-of-suc-le-suc, eq-or-lt-of-le}
-use lib.Dec.{T, leb}
-use borrow.Author.Tests.{leb-true, leb-false}
+use lib.Dec.{T, eqb, leb}
+use borrow.Author.Tests.{eqb-true, eqb-false, leb-true, leb-false}
 use Rattle.base.specs.Choice.{both}
+
+pub by-eq : {P : Type 0} (a b : ℕ) → (a ≡ b → P) → ((a ≡ b → ⊥) → P) → P
+by-eq {P} a b f g = go (eqb a b) refl
+  where
+    go : (t : Bool) → eqb a b ≡ t → P
+    go true e = f (eqb-true a b e)
+    go false e = g (eqb-false a b e)
 
 pub by-le : {P : Type 0} (a b : ℕ) → (a ≤ b → P) → (b < a → P) → P
 by-le {P} a b f g = go (leb a b) refl

@@ -1,4 +1,5 @@
 pub mod Choice
 pub mod Bytes
 pub mod Written
+pub mod Laid
 pub mod Determined

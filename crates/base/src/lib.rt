@@ -15,6 +15,30 @@ pub enum Written {
 pub struct Refusal;
 
 impl Refusal {
+    /// A frame has more than 8,205 raw bytes.
+    pub const RAW: u8 = 1;
+    /// The last raw byte is 7D.
+    pub const UNFINISHED: u8 = 2;
+    /// 7D is followed by something other than 5E and 5D.
+    pub const ESCAPE: u8 = 3;
+    /// There are fewer than 8 bytes after undoing escapes.
+    pub const SHORT: u8 = 4;
+    /// The check differs.
+    pub const CHECK: u8 = 5;
+    /// The format byte is not 0x21.
+    pub const FORMAT: u8 = 6;
+    /// A frame's port is 7D00-7EFF.
+    pub const PORT: u8 = 7;
+    /// A frame's payload is above 8,192 bytes as escaped.
+    pub const PAYLOAD: u8 = 8;
+    /// The receive buffer is full inside a frame.
+    pub const FULL: u8 = 9;
+    /// A payload to be sent is empty.
+    pub const EMPTY: u8 = 20;
+    /// A payload to be sent is above 8,192 bytes as escaped.
+    pub const LONG: u8 = 21;
+    /// A port to be sent to is 7D00-7EFF.
+    pub const BARRED: u8 = 22;
     /// The output is shorter than the result.
     pub const OUTPUT: u8 = 23;
     /// R is above 64.

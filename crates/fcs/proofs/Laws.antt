@@ -1,14 +1,16 @@
 -- Laws of the check.
 -- fcs-lt                 it has sixteen bits
 -- register-append        feeding in parts is feeding the whole
+-- check-parts            and so is the check of two parts, by the code's `Register`
 -- bit-next .. byte-done  a turn and the end of the loop over a byte's bits, and of the loop over bytes
 use Prim.Native.Nat.{ℕ, suc, _+_, _-_, _/_, _%_, _<_, _≤_}
 use mathlib.Core.List.{List, [], _∷_, _++_}
-use mathlib.Core.Path.{_≡_, refl}
+use mathlib.Core.Path.{_≡_, refl, sym, ap, _∙_}
 use native.Mathlib.Omega.{arith}
 use lib.ListN.{length, drop, getD}
 use Rattle.base.proofs.Lists.{next, over}
-use Rattle.fcs.specs.Fcs.{fcs, register, entered, shifted}
+use Rattle.fcs.specs.Fcs.{ones, complement, fcs, register, entered, shifted, fresh, fed}
+use Rattle.fcs.specs.declared.Register.{Register}
 
 pub fcs-lt : (bs : List ℕ) → fcs bs < 65536
 unfolding fcs
@@ -18,6 +20,12 @@ pub register-append : (r : ℕ) (a b : List ℕ) → register r (a ++ b) ≡ reg
 unfolding register
 register-append r [] b = refl
 register-append r (x ∷ a) b = register-append (entered 8 r x) a b
+
+pub check-parts : (a b : List ℕ) {r₀ r₁ r₂ : Register} {k : ℕ} → r₀ ≡ fresh → r₁ ≡ fed r₀ a → r₂ ≡ fed r₁ b → k ≡ complement (r₂ .bits) → k ≡ fcs (a ++ b)
+unfolding fcs
+check-parts a b e₀ e₁ e₂ e =
+    e ∙ ap (λ (r : Register). complement (r .bits)) (e₂ ∙ ap (λ (r : Register). fed r b) (e₁ ∙ ap (λ (r : Register). fed r a) e₀))
+    ∙ ap complement (sym (register-append ones a b))
 
 pub bit-next : (i r b : ℕ) {s t : ℕ} → i < 8 → s ≡ shifted r (b % 2) → entered (8 - i) r b ≡ t → entered (8 - (i + 1)) s (b / 2) ≡ t
 unfolding entered

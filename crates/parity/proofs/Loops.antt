@@ -22,7 +22,7 @@ use Rattle.base.proofs.Parts.{tail-is, tail-back, tail-length}
 use Rattle.base.proofs.Writing.{copied-fits, write-fits, write-short}
 use Rattle.field.specs.Field.{alpha, add, mul, pow}
 use Rattle.field.proofs.Product.{mul-zero}
-use Rattle.parity.specs.Word.{horner, eval, scale, onto, times-root, generator, divide, remainder, clean}
+use Rattle.parity.specs.Word.{horner, eval, scale, onto, timesRoot, generator, divide, remainder, clean}
 use Rattle.parity.proofs.Sums.{length-onto}
 use Rattle.parity.proofs.Generator.{length-generator, generator-monic}
 use Rattle.parity.proofs.Division.{divide-step, length-remainder}
@@ -121,8 +121,8 @@ unfolding onto scale
 root-behind a b [] = refl
 root-behind a b (x ∷ g) = ap (λ (l : List ℕ). add (mul a b) x ∷ l) (root-behind a x g)
 
-times-root-is : (a : ℕ) (g : List ℕ) → onto (0 ∷ scale a (g ++ 0 ∷ [])) (g ++ 0 ∷ []) ≡ times-root a g
-unfolding times-root
+times-root-is : (a : ℕ) (g : List ℕ) → onto (0 ∷ scale a (g ++ 0 ∷ [])) (g ++ 0 ∷ []) ≡ timesRoot a g
+unfolding timesRoot
 times-root-is a g =
     sym (root-start a (g ++ 0 ∷ [])) ∙ root-behind a 0 g ∙ ap (λ (x : ℕ). onto (x ∷ scale a g) (g ++ 0 ∷ [])) (mul-zero a)
 
@@ -136,7 +136,7 @@ module _ (j : ℕ) (g : List ℕ) (inv : g ≡ generator j ++ replicate (64 - j)
   generator-next {a} {y} h ha hy =
       ap₂ _++_
       (hy ∙ ap (λ (l : List ℕ). onto (0 ∷ scale a l) l) (ap (take (j + 2)) split ∙ take-at front rest (j + 2) long) ∙ times-root-is a (generator j)
-      ∙ ap (λ (x : ℕ). times-root x (generator j)) (ha ∙ ap (pow alpha) (add-one j)) ∙ ap generator (sym (add-one j)))
+      ∙ ap (λ (x : ℕ). timesRoot x (generator j)) (ha ∙ ap (pow alpha) (add-one j)) ∙ ap generator (sym (add-one j)))
       (ap (drop (j + 2)) split ∙ drop-at front rest (j + 2) long)
     where
       front : List ℕ

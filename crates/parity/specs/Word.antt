@@ -33,13 +33,13 @@ onto (x ∷ p) [] = []
 onto (x ∷ p) (y ∷ q) = add x y ∷ onto p q
 
 -- g times (x - a), which is g x + a g
-unfoldable pub times-root : ℕ → List ℕ → List ℕ
-times-root a g = onto (0 ∷ scale a g) (g ++ 0 ∷ [])
+unfoldable pub timesRoot : ℕ → List ℕ → List ℕ
+timesRoot a g = onto (0 ∷ scale a g) (g ++ 0 ∷ [])
 
 -- (x - alpha) (x - alpha^2) .. (x - alpha^r)
 unfoldable pub generator : ℕ → List ℕ
 generator zero = 1 ∷ []
-generator (suc r) = times-root (pow alpha (suc r)) (generator r)
+generator (suc r) = timesRoot (pow alpha (suc r)) (generator r)
 
 -- long division by g, whose leading coefficient is 1: n times, c being the leading coefficient of what is left, c times g is
 -- taken away, and the leading place is gone

@@ -1,0 +1,19 @@
+-- Each public function's promise determines its result, and what the lent buffer then holds.
+use mathlib.Core.Path.{refl}
+use Rattle.base.specs.Determined.{Determined}
+use Rattle.base.proofs.Determining.{same, same-answer, same-output, buffer, skip}
+use Rattle.packet.proofs.port.class_of.Kinds as class-of-kinds
+use Rattle.packet.proofs.port.class_of.Reads as class-of-reads
+use Rattle.packet.proofs.frame.judge.Kinds as judge-kinds
+use Rattle.packet.proofs.frame.judge.Reads as judge-reads
+use Rattle.packet.proofs.sender.write.Kinds as write-kinds
+use Rattle.packet.proofs.sender.write.Reads as write-reads
+
+pub class-of-determined : Determined class-of-kinds.ps class-of-kinds.r class-of-reads.Asked class-of-reads.Learnt
+class-of-determined κs a z z′ ws ws′ pre p q = (same p q, refl)
+
+pub judge-determined : Determined judge-kinds.ps judge-kinds.r judge-reads.Asked judge-reads.Learnt
+judge-determined κs a z z′ ws ws′ pre p q = (same (p .0) (q .0), buffer (same (p .1) (q .1)) refl)
+
+pub write-determined : Determined write-kinds.ps write-kinds.r write-reads.Asked write-reads.Learnt
+write-determined κs a z z′ ws ws′ pre p q = (same-answer p q, skip (skip (skip (buffer (same-output p q) refl))))

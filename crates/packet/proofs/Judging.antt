@@ -1,0 +1,192 @@
+-- Laws of a closed frame.
+-- judge-short .. judge-packet       which answer contents have, by facts on numbers
+-- closed-over, closed-full, closed-as   the same of the raw bytes in the receive buffer
+-- judge-is                          the buffer's raw bytes alone decide
+-- length-closed                     the buffer keeps its length
+-- payload-there                     a delivered payload stands in the buffer
+-- closed-keeps                      refused with 1, 2 or 3, it keeps its contents
+use mathlib.Core.Path.{_≡_, refl, sym, ap, subst, _∙_}
+use mathlib.Core.Bool.{Bool, true, false}
+use mathlib.Core.List.{List, [], _++_}
+use Prim.Native.Nat.{ℕ, _+_, _-_, _<_, _≤_}
+use native.Mathlib.Omega.{arith}
+use borrow.Author.Tests.{eq-eqb, ne-eqb, lt-ltb, le-ltb, ltb-false}
+use lib.Dec.{eqb, ltb}
+use lib.ListN.{length, getD, take, drop, length-append, length-take, length-drop}
+use lib.Seq.{take-append-le, drop-append-le, length-take-le, take-all, take-take}
+use Rattle.base.specs.Choice.{pick}
+use Rattle.fcs.specs.Fcs.{fcs}
+use Rattle.packet.specs.Port.{barred}
+use Rattle.packet.specs.Contents.{format, payloadLimit, rawLimit, wordAt, payloadOf}
+use Rattle.packet.specs.Escape.{escape, scan, plain}
+use Rattle.packet.specs.Frame.{Told, packet, refusal, judged, Closed, kept, judgeContents, closedBy, closed, judge, part}
+use Rattle.packet.specs.declared.escape.Escapes.{Escapes}
+use Rattle.packet.specs.declared.escape.Escapes.the-variants.{Right, Unfinished, Wrong}
+use Rattle.packet.specs.declared.frame.Judged.the-variants.{Packet}
+use Rattle.packet.proofs.Escaping.{plain-short}
+
+pub judge-short : (cs : List ℕ) → length cs < 8 → judgeContents cs ≡ refusal 4
+unfolding judgeContents
+judge-short cs h = simp (lt-ltb _ _ h)
+
+module _ (cs : List ℕ) (long : 8 ≤ length cs) where
+  pub judge-check : (fcs (take (length cs - 2) cs) ≡ wordAt cs (length cs - 2) → ⊥) → judgeContents cs ≡ refusal 5
+  unfolding judgeContents
+  judge-check n = simp (le-ltb _ _ long, ne-eqb _ _ n)
+
+  module _ (right : fcs (take (length cs - 2) cs) ≡ wordAt cs (length cs - 2)) where
+    pub judge-format : (getD cs 0 0 ≡ format → ⊥) → judgeContents cs ≡ refusal 6
+    unfolding judgeContents
+    judge-format n = simp (le-ltb _ _ long, eq-eqb _ _ right, ne-eqb _ _ n)
+
+    module _ (same : getD cs 0 0 ≡ format) where
+      pub judge-port : barred (wordAt cs 1) ≡ true → judgeContents cs ≡ refusal 7
+      unfolding judgeContents
+      judge-port b = simp (le-ltb _ _ long, eq-eqb _ _ right, eq-eqb _ _ same, b)
+
+      module _ (free : barred (wordAt cs 1) ≡ false) where
+        pub judge-payload : payloadLimit < length (escape (payloadOf cs)) → judgeContents cs ≡ refusal 8
+        unfolding judgeContents
+        judge-payload h = simp (le-ltb _ _ long, eq-eqb _ _ right, eq-eqb _ _ same, free, lt-ltb _ _ h)
+
+        pub judge-packet : length (escape (payloadOf cs)) ≤ payloadLimit → judgeContents cs ≡ packet (wordAt cs 1) (wordAt cs 3) (payloadOf cs)
+        unfolding judgeContents
+        judge-packet h = simp (le-ltb _ _ long, eq-eqb _ _ right, eq-eqb _ _ same, free, le-ltb _ _ h)
+
+-- the length that a delivery tells
+pub length-payload : (cs : List ℕ) → 8 ≤ length cs → length (payloadOf cs) ≡ length cs - 7
+length-payload cs h = length-take-le (length cs - 2 - 5) (drop 5 cs) (omega (arith, length-drop 5 cs)) ∙ omega arith
+
+pub judged-packet : (cs : List ℕ) {p s : ℕ} → 8 ≤ length cs → p ≡ wordAt cs 1 → s ≡ wordAt cs 3
+    → Packet p s (length cs - 7) ≡ judged (packet (wordAt cs 1) (wordAt cs 3) (payloadOf cs))
+judged-packet cs h p s i = Packet (p i) (s i) (sym (length-payload cs h) i)
+
+-- ---- a whole frame
+module _ (recv : List ℕ) (n : ℕ) where
+  pub closed-over : rawLimit < n → closed recv n ≡ kept 1 recv
+  unfolding closed
+  closed-over h = simp (lt-ltb _ _ h)
+
+  module _ (h : n ≤ rawLimit) where
+    pub closed-full : length recv < n → closed recv n ≡ kept 9 recv
+    unfolding closed
+    closed-full k = simp (le-ltb _ _ h, lt-ltb _ _ k)
+
+    pub closed-as : n ≤ length recv → (e : Escapes) → scan (take n recv) ≡ e → closed recv n ≡ closedBy e (take n recv) recv
+    unfolding closed
+    closed-as k e s = simp (le-ltb _ _ h, le-ltb _ _ k, s)
+
+told-by : (e : Escapes) (raw recv recv′ : List ℕ) → closedBy e raw recv .told ≡ closedBy e raw recv′ .told
+unfolding closedBy
+told-by Right raw recv recv′ = refl
+told-by Unfinished raw recv recv′ = refl
+told-by Wrong raw recv recv′ = refl
+
+pub judge-is : (recv : List ℕ) (n : ℕ) → n ≤ rawLimit → n ≤ length recv → closed recv n .told ≡ judge (take n recv)
+unfolding judge
+judge-is recv n h k =
+    let raw = take n recv in
+    let l : length raw ≡ n = length-take-le n recv k in
+    ap (λ (c : Closed). c .told) (closed-as recv n h k (scan raw) refl) ∙ told-by (scan raw) raw recv raw
+    ∙ sym
+    (ap (λ (c : Closed). c .told)
+    (closed-as raw (length raw) (omega arith) (omega arith) (scan raw) (ap scan (take-all (length raw) raw (omega arith))) ∙ ap (λ (r : List ℕ). closedBy (scan raw) r raw) (take-all (length raw) raw (omega arith))))
+
+pub judge-long : (raw : List ℕ) → rawLimit < length raw → judge raw ≡ refusal 1
+unfolding judge
+judge-long raw h = ap (λ (c : Closed). c .told) (closed-over raw (length raw) h)
+
+-- undone bytes are no more than the buffer holds
+pub plain-room : (recv : List ℕ) (n : ℕ) → length (plain (take n recv)) ≤ length recv
+plain-room recv n = omega (arith, plain-short (take n recv), length-take n recv)
+
+-- a fact of every closed frame, by the ways through the definition
+module _ (recv : List ℕ) (n : ℕ) (P : Closed → Type 0)
+    (over : P (kept 1 recv)) (full : P (kept 9 recv)) (by : (e : Escapes) → P (closedBy e (take n recv) recv)) where
+  by-ways : P (closed recv n)
+  unfolding closed
+  by-ways = go (ltb rawLimit n) (ltb (length recv) n)
+    where
+      go : (t u : Bool) → P (pick t (kept 1 recv) (pick u (kept 9 recv) (closedBy (scan (take n recv)) (take n recv) recv)))
+      go true u = over
+      go false true = full
+      go false false = by (scan (take n recv))
+
+length-by : (recv : List ℕ) (n : ℕ) (e : Escapes) → length (closedBy e (take n recv) recv .recv) ≡ length recv
+unfolding closedBy
+length-by recv n Unfinished = refl
+length-by recv n Wrong = refl
+length-by recv n Right = simp (length-append, length-drop) (omega (arith, plain-room recv n))
+
+pub length-closed : (recv : List ℕ) (n : ℕ) → length (closed recv n .recv) ≡ length recv
+length-closed recv n = by-ways recv n (λ c. length (c .recv) ≡ length recv) refl refl (length-by recv n)
+
+-- ---- a delivered payload stands in the buffer
+abbrev pub There : Told → List ℕ → Type 0
+There (packet port sequence payload) recv = part recv (length payload) ≡ payload
+There (refusal n) recv = Unit {0}
+
+part-there : (cs t : List ℕ) → 8 ≤ length cs → part (cs ++ t) (length (payloadOf cs)) ≡ payloadOf cs
+part-there cs t h =
+    let n : length (payloadOf cs) ≡ length cs - 7 = length-payload cs h in
+    let m : length (payloadOf cs) ≡ length cs - 2 - 5 = n ∙ omega arith in
+    let k : length (cs ++ t) ≡ length cs + length t = length-append cs t in
+    ap (λ (u : Bool). pick u [] (take (length (payloadOf cs)) (drop 5 (cs ++ t)))) (le-ltb (length (cs ++ t)) (length (payloadOf cs) + 5) (omega arith))
+    ∙ ap (take (length (payloadOf cs))) (drop-append-le 5 cs t (omega arith))
+    ∙ take-append-le (length (payloadOf cs)) (drop 5 cs) t (omega (arith, length-drop 5 cs))
+    ∙ ap (λ (m : ℕ). take m (drop 5 cs)) m
+
+there-contents : (cs t : List ℕ) → There (judgeContents cs) (cs ++ t)
+unfolding judgeContents
+there-contents cs t =
+    go (ltb (length cs) 8) (eqb (fcs (take (length cs - 2) cs)) (wordAt cs (length cs - 2))) (eqb (getD cs 0 0) format) (barred (wordAt cs 1))
+    (ltb payloadLimit (length (escape (payloadOf cs)))) refl
+  where
+    go : (short right kind bar long : Bool) → ltb (length cs) 8 ≡ short
+        → There (pick short (refusal 4) (pick right (pick kind (pick bar (refusal 7) (pick long (refusal 8) (packet (wordAt cs 1) (wordAt cs 3) (payloadOf cs)))) (refusal 6)) (refusal 5))) (cs ++ t)
+    go true r f b l e = tt
+    go false false f b l e = tt
+    go false true false b l e = tt
+    go false true true true l e = tt
+    go false true true false true e = tt
+    go false true true false false e = part-there cs t (ltb-false _ _ e)
+
+there-by : (e : Escapes) (raw recv : List ℕ) → There (closedBy e raw recv .told) (closedBy e raw recv .recv)
+unfolding closedBy
+there-by Unfinished raw recv = tt
+there-by Wrong raw recv = tt
+there-by Right raw recv = there-contents (plain raw) (drop (length (plain raw)) recv)
+
+pub payload-there : (recv : List ℕ) (n : ℕ) → There (closed recv n .told) (closed recv n .recv)
+payload-there recv n = by-ways recv n (λ c. There (c .told) (c .recv)) tt tt (λ e. there-by e (take n recv) recv)
+
+-- ---- refused with 1, 2 or 3
+abbrev KeptBy : Told → List ℕ → List ℕ → Type 0
+KeptBy (packet port sequence payload) after before = Unit {0}
+KeptBy (refusal n) after before = n ≤ 3 → after ≡ before
+
+kept-contents : (cs after before : List ℕ) → KeptBy (judgeContents cs) after before
+unfolding judgeContents
+kept-contents cs after before =
+    go (ltb (length cs) 8) (eqb (fcs (take (length cs - 2) cs)) (wordAt cs (length cs - 2))) (eqb (getD cs 0 0) format) (barred (wordAt cs 1))
+    (ltb payloadLimit (length (escape (payloadOf cs))))
+  where
+    go : (short right kind bar long : Bool)
+        → KeptBy (pick short (refusal 4) (pick right (pick kind (pick bar (refusal 7) (pick long (refusal 8) (packet (wordAt cs 1) (wordAt cs 3) (payloadOf cs)))) (refusal 6)) (refusal 5))) after before
+    go true r f b l = λ h. absurd (omega arith)
+    go false false f b l = λ h. absurd (omega arith)
+    go false true false b l = λ h. absurd (omega arith)
+    go false true true true l = λ h. absurd (omega arith)
+    go false true true false true = λ h. absurd (omega arith)
+    go false true true false false = tt
+
+kept-by : (e : Escapes) (raw recv : List ℕ) → KeptBy (closedBy e raw recv .told) (closedBy e raw recv .recv) recv
+unfolding closedBy
+kept-by Unfinished raw recv = λ h. refl
+kept-by Wrong raw recv = λ h. refl
+kept-by Right raw recv = kept-contents (plain raw) (plain raw ++ drop (length (plain raw)) recv) recv
+
+pub closed-keeps : (recv : List ℕ) (raw n : ℕ) → closed recv raw .told ≡ refusal n → n ≤ 3 → closed recv raw .recv ≡ recv
+closed-keeps recv raw n e =
+    subst (λ (t : Told). KeptBy t (closed recv raw .recv) recv) e
+    (by-ways recv raw (λ c. KeptBy (c .told) (c .recv) recv) (λ h. refl) (λ h. refl) (λ k. kept-by k (take raw recv) recv))

@@ -1,0 +1,7 @@
+pub mod Classes
+pub mod Escaping
+pub mod Judging
+pub mod Sending
+pub mod Round
+pub mod Numbers
+pub mod Determined

@@ -1,0 +1,148 @@
+-- The round trip: what the sender makes of a packet that it accepts is judged to be that packet.
+-- scan-right, plain-undoes   the escapes of escaped bytes are right, and undoing them gives the bytes back
+-- no-flag                    no flag stands in escaped bytes
+-- raw-fits                   a packet's raw bytes are within the limit
+-- round                      the round trip
+use mathlib.Core.Path.{_≡_, refl, sym, ap, _∙_}
+use mathlib.Core.Bool.{false}
+use mathlib.Core.List.{List, [], _∷_, _++_, append-assoc, append-nil}
+use Prim.Native.Nat.{ℕ, _+_, _-_, _/_, _%_, _≤_}
+use native.Mathlib.Omega.{arith}
+use borrow.Author.Tests.{ne-eqb, le-ltb}
+use lib.ListN.{length, take, length-append}
+use lib.Seq.{take-all, take-at, take-append-seam, getD-append-seam, getD-append-add}
+use Rattle.base.specs.Bytes.{Each}
+use Rattle.base.proofs.Bytes.{each-append}
+use Rattle.fcs.specs.Fcs.{fcs}
+use Rattle.packet.specs.Escape.{escape, escapeByte, plain, plainScan, scan, last, right}
+use Rattle.packet.specs.Contents.{payloadLimit, rawLimit, contents, checked, opening, two, wordAt, payloadOf}
+use Rattle.packet.specs.Port.{barred}
+use Rattle.packet.specs.Frame.{Closed, packet, judge, judgeContents, closedBy, closed}
+use Rattle.packet.specs.declared.escape.Escapes.the-variants.{Right}
+use Rattle.packet.proofs.Escaping.Kind.{flag, esc, other}
+use Rattle.packet.proofs.Escaping.{Kind, kind, escape-other, escape-append, width-most}
+use Rattle.packet.proofs.Judging.{judge-packet, closed-as}
+
+-- ---- undoing what escaping did
+plain-byte : {b : ℕ} → Kind b → (t : List ℕ) → plain (escapeByte b ++ t) ≡ b ∷ plain t
+unfolding escapeByte plain
+plain-byte flag t = refl
+plain-byte esc t = refl
+plain-byte (other n m) t = simp (ne-eqb _ _ n, ne-eqb _ _ m)
+
+pub plain-escape : (bs t : List ℕ) → plain (escape bs ++ t) ≡ bs ++ plain t
+unfolding escape
+plain-escape [] t = refl
+plain-escape (b ∷ bs) t = rw (append-assoc (escapeByte b) (escape bs) t, plain-byte (kind b) (escape bs ++ t), plain-escape bs t)
+
+scan-byte : {b : ℕ} → Kind b → (t : List ℕ) → plainScan (escapeByte b ++ t) ≡ plainScan t
+unfolding escapeByte plainScan right
+scan-byte flag t = refl
+scan-byte esc t = refl
+scan-byte (other n m) t = simp (ne-eqb _ _ n, ne-eqb _ _ m)
+
+pub scan-escape : (bs t : List ℕ) → plainScan (escape bs ++ t) ≡ plainScan t
+unfolding escape
+scan-escape [] t = refl
+scan-escape (b ∷ bs) t = rw (append-assoc (escapeByte b) (escape bs) t, scan-byte (kind b) (escape bs ++ t), scan-escape bs t)
+
+last-append : (d : ℕ) (a b : List ℕ) → last d (a ++ b) ≡ last (last d a) b
+unfolding last
+last-append d [] b = refl
+last-append d (x ∷ a) b = last-append x a b
+
+last-byte : (d : ℕ) {b : ℕ} → Kind b → last d (escapeByte b) ≡ 0x7D → ⊥
+unfolding escapeByte last
+last-byte d flag h = omega arith
+last-byte d esc h = omega arith
+last-byte d (other n m) h = m (rw (escape-other _ n m) at h)
+
+pub last-escape : (d : ℕ) (bs : List ℕ) → (d ≡ 0x7D → ⊥) → last d (escape bs) ≡ 0x7D → ⊥
+unfolding escape last
+last-escape d [] n h = n h
+last-escape d (b ∷ bs) n h = last-escape (last d (escapeByte b)) bs (last-byte d (kind b)) (rw (last-append d (escapeByte b) (escape bs)) at h)
+
+pub scan-right : (bs : List ℕ) → scan (escape bs) ≡ Right
+unfolding scan plainScan
+scan-right bs =
+    let e : plainScan (escape bs) ≡ plainScan (escape bs ++ []) = rw append-nil in
+    simp (ne-eqb _ _ (last-escape 0 bs (λ z. absurd (omega arith)))) (e ∙ scan-escape bs [])
+
+pub plain-undoes : (bs : List ℕ) → plain (escape bs) ≡ bs
+unfolding plain
+plain-undoes bs =
+    let e : plain (escape bs) ≡ plain (escape bs ++ []) = rw append-nil in
+    e ∙ plain-escape bs [] ∙ append-nil bs
+
+-- ---- no flag
+abbrev pub NoFlag : List ℕ → Type 0
+NoFlag bs = Each (λ b. b ≡ 0x7E → ⊥) bs
+
+no-flag-byte : {b : ℕ} → Kind b → NoFlag (escapeByte b)
+unfolding escapeByte
+no-flag-byte flag = (λ e. omega arith, (λ e. omega arith, tt))
+no-flag-byte esc = (λ e. omega arith, (λ e. omega arith, tt))
+no-flag-byte (other n m) = rw (escape-other _ n m) (n, tt)
+
+pub no-flag : (bs : List ℕ) → NoFlag (escape bs)
+unfolding escape
+no-flag [] = tt
+no-flag (b ∷ bs) = each-append (λ b. b ≡ 0x7E → ⊥) (escapeByte b) (escape bs) (no-flag-byte (kind b)) (no-flag bs)
+
+-- ---- bytes with a number behind them
+module _ (bs : List ℕ) (n : ℕ) where
+  behind : length (bs ++ two n) - 2 ≡ length bs
+  behind = simp length-append (omega arith)
+
+  take-behind : take (length (bs ++ two n) - 2) (bs ++ two n) ≡ bs
+  take-behind = rw behind (take-append-seam bs (two n))
+
+  word-behind : wordAt (bs ++ two n) (length (bs ++ two n) - 2) ≡ n
+  word-behind = rw (behind, getD-append-seam bs (n % 256) (n / 256 ∷ []) 0, getD-append-add bs (two n) 1 0) (omega arith)
+
+-- ---- the contents of a packet, taken apart
+module _ (port sequence : ℕ) (payload : List ℕ) where
+  length-contents : length (contents port sequence payload) ≡ length payload + 7
+  unfolding contents checked
+  length-contents = simp length-append (omega arith)
+
+  payload-contents : payloadOf (contents port sequence payload) ≡ payload
+  unfolding contents checked
+  payload-contents = take-at payload (two (fcs (opening port sequence ++ payload))) (length (contents port sequence payload) - 2 - 5) (omega (arith, length-contents))
+
+  module _ (some : length payload ≡ 0 → ⊥) (short : length (escape payload) ≤ payloadLimit) (free : barred port ≡ false) where
+    pub judge-contents : judgeContents (contents port sequence payload) ≡ packet port sequence payload
+    unfolding contents checked
+    judge-contents =
+        let cs : List ℕ = contents port sequence payload in
+        let p : wordAt cs 1 ≡ port = omega arith in
+        let s : wordAt cs 3 ≡ sequence = omega arith in
+        judge-packet cs (omega (arith, length-contents))
+        (ap fcs (take-behind (opening port sequence ++ payload) _) ∙ sym (word-behind (opening port sequence ++ payload) _))
+        refl (rw p free) (rw payload-contents short)
+        ∙ (λ i. packet (p i) (s i) (payload-contents i))
+
+    pub raw-fits : length (escape (contents port sequence payload)) ≤ rawLimit
+    unfolding contents checked escape
+    raw-fits =
+        simp (length-append, escape-append)
+        (omega (
+          arith,
+          ap length (escape-other 0x21 (omega arith) (omega arith)),
+          width-most (port % 256),
+          width-most (port / 256),
+          width-most (sequence % 256),
+          width-most (sequence / 256),
+          width-most (fcs (opening port sequence ++ payload) % 256),
+          width-most (fcs (opening port sequence ++ payload) / 256),
+        ))
+
+    -- the round trip
+    pub round : judge (escape (contents port sequence payload)) ≡ packet port sequence payload
+    unfolding judge closedBy
+    round =
+        let cs = contents port sequence payload in
+        let raw = escape cs in
+        let all : take (length raw) raw ≡ raw = take-all (length raw) raw (omega arith) in
+        ap (λ (c : Closed). c .told) (closed-as raw (length raw) raw-fits (omega arith) Right (ap scan all ∙ scan-right cs))
+        ∙ ap judgeContents (ap plain all ∙ plain-undoes cs) ∙ judge-contents

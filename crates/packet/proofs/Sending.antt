@@ -1,0 +1,77 @@
+-- Laws of the sender.
+-- write-empty .. write-free   what the call answers and leaves, by facts on numbers
+-- laid-frame, frame-fits      a frame stored part by part
+-- sent-parts                  the parts that are stored are the packet's frame
+-- writing-keeps               a refused call leaves the output as it was
+use mathlib.Core.Path.{_≡_, refl, sym, ap, ap₂, _∙_}
+use mathlib.Core.Bool.{true, false}
+use mathlib.Core.List.{List, [], _∷_, _++_}
+use Prim.Native.Nat.{ℕ, _+_, _<_, _≤_}
+use native.Mathlib.Omega.{arith}
+use lib.Dec.{eqb, ltb}
+use borrow.Author.Tests.{eq-eqb, ne-eqb, lt-ltb, le-ltb}
+use lib.ListN.{length, drop, set, length-append}
+use Rattle.base.specs.Laid.{Laid}
+use Rattle.base.specs.Written.{outcome, refused, write}
+use Rattle.base.specs.declared.Written.the-variants.{Wrote}
+use Rattle.base.proofs.Laid.{laid-append, laid-start}
+use Rattle.base.proofs.Writing.{Keeps, refused-keeps, write-keeps, pick-keeps}
+use Rattle.fcs.specs.Fcs.{fcs}
+use Rattle.packet.specs.Port.{barred}
+use Rattle.packet.specs.Contents.{payloadLimit, contents, checked, opening, two}
+use Rattle.packet.specs.Escape.{flag, escape}
+use Rattle.packet.specs.Sender.{framed, sent, writing}
+use Rattle.packet.proofs.Escaping.{escape-append}
+
+module _ (port sequence : ℕ) (payload out : List ℕ) where
+  pub write-empty : length payload ≡ 0 → writing port sequence payload out ≡ refused 20 out
+  unfolding writing
+  write-empty e = simp (eq-eqb _ _ e)
+
+  module _ (some : length payload ≡ 0 → ⊥) where
+    pub write-long : payloadLimit < length (escape payload) → writing port sequence payload out ≡ refused 21 out
+    unfolding writing
+    write-long h = simp (ne-eqb _ _ some, lt-ltb _ _ h)
+
+    module _ (short : length (escape payload) ≤ payloadLimit) where
+      pub write-barred : barred port ≡ true → writing port sequence payload out ≡ refused 22 out
+      unfolding writing
+      write-barred b = simp (ne-eqb _ _ some, le-ltb _ _ short, b)
+
+      pub write-free : barred port ≡ false → writing port sequence payload out ≡ write (sent port sequence payload) out
+      unfolding writing
+      write-free b = simp (ne-eqb _ _ some, le-ltb _ _ short, b)
+
+  pub writing-keeps : Keeps out (writing port sequence payload out)
+  unfolding writing
+  writing-keeps =
+      pick-keeps (eqb (length payload) 0) out (refused-keeps 20 out)
+      (pick-keeps (ltb payloadLimit (length (escape payload))) out (refused-keeps 21 out)
+      (pick-keeps (barred port) out (refused-keeps 22 out) (write-keeps (sent port sequence payload) out)))
+
+module _ (a b c : List ℕ) where
+  pub framed-parts : framed (a ++ b ++ c) ≡ escape a ++ escape b ++ escape c ++ (flag ∷ [])
+  unfolding framed
+  framed-parts = rw (escape-append (a ++ b) c, escape-append a b)
+
+  pub framed-length : length (framed (a ++ b ++ c)) ≡ length (escape a) + length (escape b) + length (escape c) + 1
+  framed-length = rw framed-parts (simp length-append)
+
+  pub laid-frame : {l m₁ m₂ m₃ : List ℕ} {e₁ e₂ e₃ : ℕ}
+      → Laid l 0 (escape a) m₁ e₁ → Laid m₁ e₁ (escape b) m₂ e₂ → Laid m₂ e₂ (escape c) m₃ e₃
+      → Laid l 0 (framed (a ++ b ++ c)) (set m₃ e₃ flag) (e₃ + 1)
+  laid-frame {m₃ = m} {e₃ = e} h₁ h₂ h₃ =
+      let one : Laid m e (flag ∷ []) (set m e flag) (e + 1) = record { ends = refl; holds = refl } in
+      rw framed-parts (laid-append (laid-append (laid-append h₁ h₂) h₃) one)
+
+-- stored from the start on, with room
+pub frame-fits : {l bs after : List ℕ} {end : ℕ} → Laid l 0 bs after end → length bs ≤ length l → outcome (Wrote end) after ≡ write bs l
+frame-fits {l} {bs} h k =
+    let e : 0 + length bs ≡ length bs = omega arith in
+    ap₂ (λ (n : ℕ) (x : List ℕ). outcome (Wrote n) x) (h .ends ∙ e) (laid-start h k) ∙ simp (le-ltb (length l) (length bs) k)
+
+-- the parts that the sender stores are the packet's frame
+pub sent-parts : (port sequence k : ℕ) (payload head tail : List ℕ)
+    → head ≡ opening port sequence → tail ≡ two k → k ≡ fcs (head ++ payload) → framed (head ++ payload ++ tail) ≡ sent port sequence payload
+unfolding sent contents checked
+sent-parts port sequence k payload head tail h t e = rw (t, e, h)

@@ -1,0 +1,53 @@
+-- The cycle of calls {scan_escaped, scan_plain}: the number of raw bytes left falls. Each answer is the case of the definition that the byte picks.
+use Prim.Native.Nat.{ℕ, _-_}
+use lib.ListN.{length}
+use borrow.Author.Needs.{needs}
+use borrow.Author.Tests.{eq-eqb, ne-eqb}
+use borrow.Fn.PlainCycle.{Measures}
+use native.Mathlib.Omega.{arith}
+use Rattle.packet.specs.Escape.{plainScan, escapedScan}
+use Rattle.base.proofs.Cycle.{at, below}
+use Rattle.base.proofs.Lists.{next, over}
+use Rattle.packet.proofs.Escaping.{right-in, right-low, right-high}
+use Rattle.packet.proofs.escape.scan_escaped.Reads as escaped-reads
+use Rattle.packet.proofs.escape.scan_plain.Reads as plain-reads
+use Rattle.packet.proofs.escape.scan_escaped.Kinds as escaped-kinds
+use Rattle.packet.proofs.escape.+scan_escaped+scan_plain.Lts-scan_escaped as escaped
+use Rattle.packet.proofs.escape.scan_plain.Kinds as plain-kinds
+use Rattle.packet.proofs.escape.+scan_escaped+scan_plain.Lts-scan_plain as plain
+use Rattle.packet.proofs.escape.+scan_escaped+scan_plain.{statement}
+use Rattle.packet.proofs.escape.+scan_escaped+scan_plain.Tie.{close}
+
+abbrev μ-escaped : Measures 1 escaped-kinds.ps ℕ
+μ-escaped κs a = length (a .0 .now) - a .1 .0
+
+abbrev μ-plain : Measures 1 plain-kinds.ps ℕ
+μ-plain κs a = length (a .0 .now) - a .1 .0
+
+pub +scan-escaped+scan-plain-spec : {M : Type 1} → statement M
+unfolding plainScan escapedScan
++scan-escaped+scan-plain-spec =
+    close μ-escaped μ-plain
+    (λ t. escaped.spec (below 1 plain-kinds.ps μ-plain plain-reads.Pre t, plain-reads.Post) (at 1 escaped-kinds.ps μ-escaped escaped-reads.Pre t) escaped-reads.Post
+    (λ c. let a = c .before .before .args in rw (over (a .raw .now) (a .at) (omega arith)))
+    (λ c. search needs)
+    (λ c. search needs)
+    (λ c κs. search needs)
+    (λ c.
+    let a = c .before .before .before .before .before .before .args in
+    rw (next (a .raw .now) (a .at) (omega arith)) (simp (right-in _ (c .before .before .if2 .left) (c .before .if3 .taken)) (c .scan-plain .ensures)))
+    (λ c. let a = c .before .before .before .before .args in rw (next (a .raw .now) (a .at) (omega arith)) (simp (right-low _ (c .if2 .taken))))
+    (λ c. let a = c .before .before .before .before .before .args in rw (next (a .raw .now) (a .at) (omega arith)) (simp (right-high _ (c .if3 .left)))))
+    (λ t. plain.spec (below 1 escaped-kinds.ps μ-escaped escaped-reads.Pre t, escaped-reads.Post, below 1 plain-kinds.ps μ-plain plain-reads.Pre t, plain-reads.Post) (at 1 plain-kinds.ps μ-plain plain-reads.Pre t) plain-reads.Post
+    (λ c. let a = c .before .before .args in rw (over (a .raw .now) (a .at) (omega arith)))
+    (λ c. search needs)
+    (λ c. search needs)
+    (λ c κs. search needs)
+    (λ c.
+    let a = c .before .before .before .before .before .args in
+    rw (next (a .raw .now) (a .at) (omega arith)) (simp (eq-eqb _ _ (c .before .if2 .taken)) (c .scan-escaped .ensures)))
+    (λ c. search needs)
+    (λ c κs. search needs)
+    (λ c.
+    let a = c .before .before .before .before .before .args in
+    rw (next (a .raw .now) (a .at) (omega arith)) (simp (ne-eqb _ _ (c .before .if2 .left)) (c .scan-plain .ensures))))

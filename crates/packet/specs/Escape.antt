@@ -1,0 +1,61 @@
+-- Escapes (paper 01, "Packet and frame").
+-- escape           7E becomes 7D 5E, 7D becomes 7D 5D, and no other byte is escaped
+-- plain, escaped   on reading: plain and escaped reading hand over to each other until the raw bytes run out
+-- scan             whether every escape is right
+use Prim.Native.Nat.{ℕ}
+use mathlib.Core.Bool.{Bool, true}
+use mathlib.Core.List.{List, [], _∷_, _++_}
+use lib.Dec.{eqb}
+use Rattle.base.specs.Choice.{pick}
+use Rattle.packet.specs.declared.escape.Escapes.{Escapes}
+use Rattle.packet.specs.declared.escape.Escapes.the-variants.{Right, Unfinished, Wrong}
+
+-- the flag, which stands between frames
+abbrev pub flag : ℕ
+flag = 0x7E
+
+-- a byte, escaped
+unfoldable pub escapeByte : ℕ → List ℕ
+escapeByte b = pick (eqb b 0x7E) (0x7D ∷ 0x5E ∷ []) (pick (eqb b 0x7D) (0x7D ∷ 0x5D ∷ []) (b ∷ []))
+
+-- bytes, escaped
+unfoldable pub escape : List ℕ → List ℕ
+escape [] = []
+escape (b ∷ bs) = escapeByte b ++ escape bs
+
+-- the byte that stands as b behind 7D
+abbrev pub restored : ℕ → ℕ
+restored b = pick (eqb b 0x5E) 0x7E 0x7D
+
+-- raw bytes, escapes undone
+unfoldable mutual
+  pub plain : List ℕ → List ℕ
+  plain [] = []
+  plain (b ∷ bs) = pick (eqb b 0x7D) (escaped bs) (b ∷ plain bs)
+
+  pub escaped : List ℕ → List ℕ
+  escaped [] = []
+  escaped (b ∷ bs) = restored b ∷ plain bs
+
+-- the bytes that may stand behind 7D
+unfoldable pub right : ℕ → Bool
+right b = pick (eqb b 0x5E) true (eqb b 0x5D)
+
+-- the escapes of raw bytes
+unfoldable mutual
+  pub plainScan : List ℕ → Escapes
+  plainScan [] = Right
+  plainScan (b ∷ bs) = pick (eqb b 0x7D) (escapedScan bs) (plainScan bs)
+
+  pub escapedScan : List ℕ → Escapes
+  escapedScan [] = Unfinished
+  escapedScan (b ∷ bs) = pick (right b) (plainScan bs) Wrong
+
+-- the last byte, d where there is none
+unfoldable pub last : ℕ → List ℕ → ℕ
+last d [] = d
+last d (b ∷ bs) = last b bs
+
+-- unfinished where the last raw byte is 7D, even where an earlier escape is wrong
+unfoldable pub scan : List ℕ → Escapes
+scan raw = pick (eqb (last 0 raw) 0x7D) Unfinished (plainScan raw)

@@ -1,0 +1,67 @@
+-- A closed frame (paper 01, "Numbered refusals"): the first refusal that applies of 1 to 9, or the packet.
+-- Told     what a frame is told to be, and judged, the answer that the code gives of it
+-- closed   what it is told to be, and what the receive buffer then holds
+-- judge    the same of raw bytes alone
+-- part     where a delivered payload stands
+use Prim.Native.Nat.{ℕ, _+_, _-_}
+use mathlib.Core.List.{List, [], _++_}
+use lib.Dec.{eqb, ltb}
+use lib.ListN.{length, getD, take, drop}
+use Rattle.base.specs.Choice.{pick}
+use Rattle.fcs.specs.Fcs.{fcs}
+use Rattle.packet.specs.Port.{barred}
+use Rattle.packet.specs.Contents.{format, payloadLimit, rawLimit, wordAt, payloadOf}
+use Rattle.packet.specs.Escape.{escape, plain, scan}
+use Rattle.packet.specs.declared.escape.Escapes.{Escapes}
+use Rattle.packet.specs.declared.escape.Escapes.the-variants.{Right, Unfinished, Wrong}
+use Rattle.packet.specs.declared.frame.Judged.{Judged}
+use Rattle.packet.specs.declared.frame.Judged.the-variants.{Packet, Refused}
+
+-- a packet (port, sequence, payload), or refused by its number
+pub data Told : Type 0 where
+  packet : ℕ → ℕ → List ℕ → Told
+  refusal : ℕ → Told
+
+-- the code's answer: of a payload it tells the length
+abbrev pub judged : Told → Judged
+judged (packet port sequence payload) = Packet port sequence (length payload)
+judged (refusal n) = Refused n
+
+-- what a frame is told to be, and the receive buffer then
+pub record Closed : Type 0 where
+  pub told : Told
+  pub recv : List ℕ
+
+-- contents: 4 fewer than 8 bytes, 5 check differs, 6 format, 7 port, 8 payload too long as escaped
+unfoldable pub judgeContents : List ℕ → Told
+judgeContents cs =
+    pick (ltb (length cs) 8) (refusal 4)
+    (pick (eqb (fcs (take (length cs - 2) cs)) (wordAt cs (length cs - 2)))
+    (pick (eqb (getD cs 0 0) format)
+    (pick (barred (wordAt cs 1)) (refusal 7)
+    (pick (ltb payloadLimit (length (escape (payloadOf cs)))) (refusal 8)
+    (packet (wordAt cs 1) (wordAt cs 3) (payloadOf cs))))
+    (refusal 6))
+    (refusal 5))
+
+-- refused with the raw bytes left as they are
+abbrev pub kept : ℕ → List ℕ → Closed
+kept n recv = record { told = refusal n; recv = recv }
+
+-- 2 last raw byte is 7D, 3 7D followed by other than 5E and 5D; else escapes are undone from the start, and bytes behind stay
+unfoldable pub closedBy : Escapes → List ℕ → List ℕ → Closed
+closedBy Unfinished raw recv = kept 2 recv
+closedBy Wrong raw recv = kept 3 recv
+closedBy Right raw recv = record { told = judgeContents (plain raw); recv = plain raw ++ drop (length (plain raw)) recv }
+
+-- n raw bytes from the start of the receive buffer: 1 more than 8,205 of them, 9 the buffer is too short for them
+unfoldable pub closed : List ℕ → ℕ → Closed
+closed recv n = pick (ltb rawLimit n) (kept 1 recv) (pick (ltb (length recv) n) (kept 9 recv) (closedBy (scan (take n recv)) (take n recv) recv))
+
+-- raw bytes in a buffer that just holds them
+unfoldable pub judge : List ℕ → Told
+judge raw = closed raw (length raw) .told
+
+-- n payload bytes as a call of its own hands them out: without format, port, sequence and check; empty where the buffer is too short
+abbrev pub part : List ℕ → ℕ → List ℕ
+part recv n = pick (ltb (length recv) (n + 5)) [] (take n (drop 5 recv))

@@ -1,0 +1,150 @@
+//! Escapes: undone on reading, counted and stored on writing.
+ghost use mathlib.Core.Path.{_≡_};
+ghost use Prim.Native.Nat.{_+_, _<_, _≤_};
+ghost use lib.ListN.{length, take, drop};
+ghost use Rattle.base.specs.Laid.{Laid};
+ghost use Rattle.packet.specs.Escape.{escape, escapeByte, plain, escaped, plainScan, escapedScan, scan, restored};
+
+/// What the escapes of raw bytes are.
+pub enum Escapes {
+    Right,
+    /// The last raw byte is 7D.
+    Unfinished,
+    /// 7D is followed by something other than 5E and 5D.
+    Wrong,
+}
+
+// Plain reading of raw[at..].
+fn scan_plain(raw: &[u8], at: usize) -> Escapes
+    requires { ⌜ at ≤ length (now raw) ⌝ }
+    ensures { λ r. ⌜ r ≡ plainScan (drop at (now (raw .entry))) ⌝ }
+{
+    if at == raw.len() {
+        return Escapes::Right;
+    }
+    if raw[at] == 0x7D {
+        return scan_escaped(raw, at + 1);
+    }
+    scan_plain(raw, at + 1)
+}
+
+// Escaped reading of raw[at..], behind a 7D.
+fn scan_escaped(raw: &[u8], at: usize) -> Escapes
+    requires { ⌜ at ≤ length (now raw) ⌝ }
+    ensures { λ r. ⌜ r ≡ escapedScan (drop at (now (raw .entry))) ⌝ }
+{
+    if at == raw.len() {
+        return Escapes::Unfinished;
+    }
+    let b = raw[at];
+    match b {
+        0x5E | 0x5D => scan_plain(raw, at + 1),
+        _ => Escapes::Wrong,
+    }
+}
+
+// What the escapes of raw bytes are.
+pub fn scan(raw: &[u8]) -> Escapes
+    ensures { λ r. ⌜ r ≡ scan (now (raw .entry)) ⌝ }
+{
+    let n = raw.len();
+    if n == 0 {
+        return Escapes::Right;
+    }
+    if raw[n - 1] == 0x7D {
+        return Escapes::Unfinished;
+    }
+    scan_plain(raw, 0)
+}
+
+// The byte that stands as b behind 7D.
+fn restored(b: u8) -> u8
+    ensures { λ r. ⌜ r ≡ restored b ⌝ }
+{
+    if b == 0x5E { 0x7E } else { 0x7D }
+}
+
+// Plain reading of recv[from..n]: stored, escapes undone, from `to` on; the place behind.
+pub fn undo_plain(recv: &mut [u8], n: usize, from: usize, to: usize) -> usize
+    requires { ⌜ (n ≤ length (now recv)) × (from ≤ n) × (to ≤ from) ⌝ }
+    ensures { λ r. ⌜ Laid (now (recv .entry)) to (plain (drop from (take n (now (recv .entry))))) (now (recv .exit)) r ⌝ }
+{
+    if from == n {
+        return to;
+    }
+    let b = recv[from];
+    if b == 0x7D {
+        return undo_escaped(recv, n, from + 1, to);
+    }
+    recv[to] = b;
+    undo_plain(recv, n, from + 1, to + 1)
+}
+
+// Escaped reading of the same, behind a 7D.
+fn undo_escaped(recv: &mut [u8], n: usize, from: usize, to: usize) -> usize
+    requires { ⌜ (n ≤ length (now recv)) × (from ≤ n) × (to < from) ⌝ }
+    ensures { λ r. ⌜ Laid (now (recv .entry)) to (escaped (drop from (take n (now (recv .entry))))) (now (recv .exit)) r ⌝ }
+{
+    if from == n {
+        return to;
+    }
+    let b = restored(recv[from]);
+    recv[to] = b;
+    undo_plain(recv, n, from + 1, to + 1)
+}
+
+// How many bytes a byte is once it is escaped.
+fn width(b: u8) -> usize
+    ensures { λ r. ⌜ r ≡ length (escapeByte b) ⌝ }
+{
+    if b == 0x7E {
+        return 2;
+    }
+    if b == 0x7D { 2 } else { 1 }
+}
+
+// How many bytes they are once they are escaped.
+pub fn escaped_len(bytes: &[u8]) -> usize
+    ensures { λ r. ⌜ r ≡ length (escape (now (bytes .entry))) ⌝ }
+{
+    let mut n: usize = 0;
+    let mut i: usize = 0;
+    while i < bytes.len() {
+        n += width(bytes[i]);
+        i += 1;
+    }
+    n
+}
+
+// Stores a byte, escaped, from `at` on; the place behind.
+fn put_byte(out: &mut [u8], at: usize, b: u8) -> usize
+    requires { ⌜ at + length (escapeByte b) ≤ length (now out) ⌝ }
+    ensures { λ r. ⌜ Laid (now (out .entry)) at (escapeByte b) (now (out .exit)) r ⌝ }
+{
+    if b == 0x7E {
+        out[at] = 0x7D;
+        out[at + 1] = 0x5E;
+        return at + 2;
+    }
+    if b == 0x7D {
+        out[at] = 0x7D;
+        out[at + 1] = 0x5D;
+        return at + 2;
+    }
+    out[at] = b;
+    at + 1
+}
+
+// Stores bytes, escaped, from `at` on; the place behind.
+pub fn put(out: &mut [u8], at: usize, bytes: &[u8]) -> usize
+    requires { ⌜ at + length (escape (now bytes)) ≤ length (now out) ⌝ }
+    ensures { λ r. ⌜ Laid (now (out .entry)) at (escape (now (bytes .entry))) (now (out .exit)) r ⌝ }
+{
+    let mut to = at;
+    let mut i: usize = 0;
+    while i < bytes.len() {
+        to = put_byte(out, to, bytes[i]);
+        i += 1;
+    }
+    to
+}

@@ -1,0 +1,12 @@
+//! Packets: one closed frame judged, one packet written, and the classes of ports.
+mod escape;
+mod frame;
+mod port;
+mod sender;
+
+pub use frame::Frame;
+pub use frame::Judged;
+pub use frame::judge;
+pub use port::Class;
+pub use port::class_of;
+pub use sender::write;
