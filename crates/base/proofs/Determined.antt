@@ -1,9 +1,14 @@
--- The public function's promise determines what it leaves.
+-- Each public function's promise determines its result, and what the lent buffer then holds.
 use mathlib.Core.Path.{refl}
 use Rattle.base.specs.Determined.{Determined}
 use Rattle.base.proofs.Determining.{same, buffer, skip}
+use Rattle.base.proofs.least.Kinds as least-kinds
+use Rattle.base.proofs.least.Reads as least-reads
 use Rattle.base.proofs.copy.Kinds as copy-kinds
 use Rattle.base.proofs.copy.Reads as copy-reads
+
+pub least-determined : Determined least-kinds.ps least-kinds.r least-reads.Asked least-reads.Learnt
+least-determined κs a z z′ ws ws′ pre p q = (same p q, refl)
 
 pub copy-determined : Determined copy-kinds.ps copy-kinds.r copy-reads.Asked copy-reads.Learnt
 copy-determined κs a z z′ ws ws′ pre p q = (refl, skip (buffer (same p q) refl))

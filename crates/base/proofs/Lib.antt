@@ -6,5 +6,6 @@ pub mod Parts
 pub mod Writing
 pub mod Laid
 pub mod Cycle
+pub mod Calls
 pub mod Determining
 pub mod Determined

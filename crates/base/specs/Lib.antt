@@ -2,4 +2,5 @@ pub mod Choice
 pub mod Bytes
 pub mod Written
 pub mod Laid
+pub mod Calls
 pub mod Determined

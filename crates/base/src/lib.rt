@@ -33,6 +33,10 @@ impl Refusal {
     pub const PAYLOAD: u8 = 8;
     /// The receive buffer is full inside a frame.
     pub const FULL: u8 = 9;
+    /// A count of the state is beyond its limit.
+    pub const STATE: u8 = 10;
+    /// A lent buffer is too short.
+    pub const BUFFER: u8 = 11;
     /// A payload to be sent is empty.
     pub const EMPTY: u8 = 20;
     /// A payload to be sent is above 8,192 bytes as escaped.
@@ -51,8 +55,8 @@ impl Refusal {
     pub const MATRIX: u8 = 33;
 }
 
-// The smaller of two numbers.
-fn least(a: usize, b: usize) -> usize
+/// The smaller of two numbers.
+pub fn least(a: usize, b: usize) -> usize
     ensures { λ r. ⌜ r ≡ min a b ⌝ }
 {
     if a < b { a } else { b }

@@ -4,16 +4,15 @@ ghost use Prim.Native.Nat.{_+_, _<_};
 ghost use lib.ListN.{length};
 ghost use Rattle.packet.specs.Contents.{word, wordAt};
 ghost use Rattle.packet.specs.Frame.{judged, judgeContents, closed};
-
 use crate::escape;
 use crate::escape::Escapes;
 use crate::port;
 use base::Refusal;
 
-/// The numbers of a frame.
-pub struct Frame;
+/// The numbers of packets and frames.
+pub struct Packet;
 
-impl Frame {
+impl Packet {
     /// The flag, which stands between frames.
     pub const FLAG: u8 = 0x7E;
     /// The format byte.
@@ -62,14 +61,14 @@ fn judge_contents(cs: &[u8]) -> Judged
     if fcs::fcs(&cs[..n - 2]) != word_at(cs, n - 2) {
         return Judged::Refused(Refusal::CHECK);
     }
-    if cs[0] != Frame::FORMAT {
+    if cs[0] != Packet::FORMAT {
         return Judged::Refused(Refusal::FORMAT);
     }
     let port = word_at(cs, 1);
     if port::barred(port) {
         return Judged::Refused(Refusal::PORT);
     }
-    if Frame::PAYLOAD < escape::escaped_len(&cs[5..n - 2]) {
+    if Packet::PAYLOAD < escape::escaped_len(&cs[5..n - 2]) {
         return Judged::Refused(Refusal::PAYLOAD);
     }
     Judged::Packet {
@@ -83,7 +82,7 @@ fn judge_contents(cs: &[u8]) -> Judged
 pub fn judge(recv: &mut [u8], raw: usize) -> Judged
     ensures { λ r. ⌜ (r ≡ judged (closed (now (recv .entry)) raw .told)) × (now (recv .exit) ≡ closed (now (recv .entry)) raw .recv) ⌝ }
 {
-    if Frame::RAW < raw {
+    if Packet::RAW < raw {
         return Judged::Refused(Refusal::RAW);
     }
     if recv.len() < raw {

@@ -4,8 +4,8 @@ mod frame;
 mod port;
 mod sender;
 
-pub use frame::Frame;
 pub use frame::Judged;
+pub use frame::Packet;
 pub use frame::judge;
 pub use port::Class;
 pub use port::class_of;

@@ -8,11 +8,11 @@ ghost use Rattle.fcs.specs.Fcs.{fcs};
 ghost use Rattle.packet.specs.Contents.{payloadLimit, opening, two};
 ghost use Rattle.packet.specs.Escape.{escape};
 ghost use Rattle.packet.specs.Sender.{framed, writing};
-
 use crate::escape;
-use crate::frame::Frame;
+use crate::frame::Packet;
 use crate::port;
-use base::{Refusal, Written};
+use base::Refusal;
+use base::Written;
 use fcs::Register;
 
 // Format byte, port, sequence.
@@ -20,7 +20,7 @@ fn opening(port: u16, sequence: u16) -> [u8; 5]
     ensures { λ r. ⌜ r ≡ opening port sequence ⌝ }
 {
     [
-        Frame::FORMAT,
+        Packet::FORMAT,
         (port % 256) as u8,
         (port / 256) as u8,
         (sequence % 256) as u8,
@@ -54,7 +54,7 @@ fn put_frame(head: &[u8; 5], payload: &[u8], tail: &[u8; 2], out: &mut [u8]) -> 
     let a = escape::put(out, 0, head);
     let b = escape::put(out, a, payload);
     let c = escape::put(out, b, tail);
-    out[c] = Frame::FLAG;
+    out[c] = Packet::FLAG;
     Written::Wrote(c + 1)
 }
 
@@ -65,7 +65,7 @@ pub fn write(port: u16, sequence: u16, payload: &[u8], out: &mut [u8]) -> Writte
     if payload.len() == 0 {
         return Written::Refused(Refusal::EMPTY);
     }
-    if Frame::PAYLOAD < escape::escaped_len(payload) {
+    if Packet::PAYLOAD < escape::escaped_len(payload) {
         return Written::Refused(Refusal::LONG);
     }
     if port::barred(port) {

@@ -1,0 +1,305 @@
+-- Laws of reading by calls, proved once for any reader whose `hand` makes one of the owed moves.
+-- law                               the law of a call: its answer is the first, and the others are had from its state and the bytes left
+-- fits, more-iff                    "more wanted" exactly when all bytes are taken and no answer is owed
+-- hear-hand, hear-eat, hear-end     one move of a call, as a loop makes it
+-- cut, cut-ends                     every way of cutting yields the answers and the final state of the uncut string, and comes to its end
+-- cut-guarded, cut-guarded-ends     the same of a call that looks at its state first
+use Prim.Native.Nat.{ℕ, zero, suc, _+_, _≤_, zero-le, suc-le-suc}
+use native.Mathlib.Nat.{zero-add, suc-add, add-assoc}
+use native.Mathlib.Omega.{arith}
+use mathlib.Core.Path.{_≡_, refl, sym, _∙_, ap, subst}
+use mathlib.Core.List.{List, [], _∷_, _++_, nil≢cons, cons≢nil, head-eq-of-cons-eq, tail-eq-of-cons-eq}
+use mathlib.Core.Option.{Option, some, none, Option·none-ne-some}
+use mathlib.Core.Logic.{_↔_}
+use lib.ListN.{length, drop}
+use Rattle.base.specs.Calls.{joined, tell, andThen, unless, oneMore, after, With, Reads, ReadsAll}
+use Rattle.base.specs.Calls.Reads.{more, answer}
+use Rattle.base.specs.Calls.ReadsAll.{done, piece}
+use Rattle.base.specs.Calls as calls
+
+module _ {S A : Type 0} where
+  pub tell-then : (o : Option A) (r : List A × S) (k : S → List A × S) → andThen (tell o r) k ≡ tell o (andThen r k)
+  tell-then none r k = refl
+  tell-then (some a) r k = refl
+
+pub after-none : {A S : Type 0} (r : Option A × ℕ × S) → r ≡ after 0 r
+after-none r = λ i. (r .0, sym (zero-add (r .1)) i, r .2)
+
+pub after-one : {A S : Type 0} (n : ℕ) (r : Option A × ℕ × S) → oneMore (after n r) ≡ after (suc n) r
+after-one n r = λ i. (r .0, sym (suc-add n (r .1)) i, r .2)
+
+pub after-more : {A S : Type 0} (n : ℕ) (r : Option A × ℕ × S) → after n (oneMore r) ≡ after (n + 1) r
+after-more n r = let e : n + suc (r .1) ≡ n + 1 + r .1 = omega arith in λ i. (r .0, e i, r .2)
+
+pub after-after : {A S : Type 0} (m n : ℕ) (r : Option A × ℕ × S) → after m (after n r) ≡ after (m + n) r
+after-after m n r = λ i. (r .0, sym (add-assoc m n (r .1)) i, r .2)
+
+module _ {S A : Type 0} (eat : S → ℕ → Option A × S) where
+  abbrev run : S → List ℕ → List A × S
+  run = calls.run eat
+
+  pub run-append : (s : S) (bs cs : List ℕ) → run s (bs ++ cs) ≡ andThen (run s bs) (λ t. run t cs)
+  run-append s [] cs = refl
+  run-append s (b ∷ bs) cs =
+      ap (tell (eat s b .0)) (run-append (eat s b .1) bs cs) ∙ sym (tell-then (eat s b .0) (run (eat s b .1) bs) (λ t. run t cs))
+
+module _ {S A : Type 0} (pend : S → ℕ) (hand : S → Option A × S) (eat : S → ℕ → Option A × S) where
+  abbrev drain : ℕ → S → (S → List A × S) → List A × S
+  drain = calls.drain pend hand eat
+
+  abbrev rest : List ℕ → S → List A × S
+  rest = calls.rest pend hand eat
+
+  abbrev all : S → List ℕ → List A × S
+  all = calls.all pend hand eat
+
+  abbrev first : ℕ → S → (S → Option A × ℕ × S) → Option A × ℕ × S
+  first = calls.first pend hand eat
+
+  abbrev wait : List ℕ → S → Option A × ℕ × S
+  wait = calls.wait pend hand eat
+
+  abbrev hear : S → List ℕ → Option A × ℕ × S
+  hear = calls.hear pend hand eat
+
+  abbrev toldBy : Option A → ℕ → S → List ℕ → List A × S
+  toldBy = calls.toldBy pend hand eat
+
+  abbrev told : Option A × ℕ × S → List ℕ → List A × S
+  told = calls.told pend hand eat
+
+  -- `hand` makes one of the owed moves
+  module _ (hand-one : (s : S) (n : ℕ) → pend s ≡ suc n → pend (hand s .1) ≡ n) where
+    told-hand : (o : Option A) (t : S) (r : Option A × ℕ × S) (bs : List ℕ) (x : List A × S)
+        → x ≡ all t bs → x ≡ told r bs → tell o x ≡ told (unless o 0 t r) bs
+    told-hand none t r bs x e f = f
+    told-hand (some a) t r bs x e f = ap (tell (some a)) e
+
+    told-more : (o : Option A) (n : ℕ) (t : S) (b : ℕ) (bs : List ℕ) → toldBy o n t bs ≡ toldBy o (suc n) t (b ∷ bs)
+    told-more none n t b bs = refl
+    told-more (some a) n t b bs = refl
+
+    told-eat : (o : Option A) (t : S) (r : Option A × ℕ × S) (b : ℕ) (bs : List ℕ) (x : List A × S)
+        → x ≡ all t bs → x ≡ told r bs → tell o x ≡ told (unless o 1 t (oneMore r)) (b ∷ bs)
+    told-eat none t r b bs x e f = f ∙ told-more (r .0) (r .1) (r .2) b bs
+    told-eat (some a) t r b bs x e f = ap (tell (some a)) e
+
+    law-first : (bs : List ℕ) (k : (s : S) → rest bs s ≡ told (wait bs s) bs)
+        (n : ℕ) (s : S) → pend s ≡ n → drain n s (rest bs) ≡ told (first n s (wait bs)) bs
+    law-first bs k zero s h = k s
+    law-first bs k (suc n) s h =
+        let e : pend (hand s .1) ≡ n = hand-one s n h in
+        told-hand (hand s .0) (hand s .1) (first n (hand s .1) (wait bs)) bs (drain n (hand s .1) (rest bs)) (rw e refl) (law-first bs k n (hand s .1) e)
+
+    law-wait : (bs : List ℕ) (s : S) → rest bs s ≡ told (wait bs s) bs
+    law-wait [] s = refl
+    law-wait (b ∷ bs) s =
+        told-eat (eat s b .0) (eat s b .1) (hear (eat s b .1) bs) b bs (all (eat s b .1) bs) refl
+        (law-first bs (law-wait bs) (pend (eat s b .1)) (eat s b .1) refl)
+
+    pub law : (s : S) (bs : List ℕ) → all s bs ≡ told (hear s bs) bs
+    law s bs = law-first bs (law-wait bs) (pend s) s refl
+
+    -- "more wanted" is said exactly when every byte is taken and nothing is owed; an answer leaves the bytes behind those taken
+    abbrev pub FitsBy : Option A → ℕ → S → List ℕ → Type 0
+    FitsBy none n s bs = (n ≡ length bs) × (pend s ≡ 0)
+    FitsBy (some a) n s bs = n ≤ length bs
+
+    abbrev pub Fits : Option A × ℕ × S → List ℕ → Type 0
+    Fits r bs = FitsBy (r .0) (r .1) (r .2) bs
+
+    fits-hand : (o : Option A) (t : S) (r : Option A × ℕ × S) (bs : List ℕ) → Fits r bs → Fits (unless o 0 t r) bs
+    fits-hand none t r bs f = f
+    fits-hand (some a) t r bs f = zero-le
+
+    fits-more : (o : Option A) (n : ℕ) (t : S) (b : ℕ) (bs : List ℕ) → FitsBy o n t bs → FitsBy o (suc n) t (b ∷ bs)
+    fits-more none n t b bs f = (ap suc (f .0), f .1)
+    fits-more (some a) n t b bs f = suc-le-suc f
+
+    fits-eat : (o : Option A) (t : S) (r : Option A × ℕ × S) (b : ℕ) (bs : List ℕ) → Fits r bs → Fits (unless o 1 t (oneMore r)) (b ∷ bs)
+    fits-eat none t r b bs f = fits-more (r .0) (r .1) (r .2) b bs f
+    fits-eat (some a) t r b bs f = suc-le-suc zero-le
+
+    fits-first : (bs : List ℕ) (k : (s : S) → pend s ≡ 0 → Fits (wait bs s) bs) (n : ℕ) (s : S) → pend s ≡ n → Fits (first n s (wait bs)) bs
+    fits-first bs k zero s h = k s h
+    fits-first bs k (suc n) s h =
+        fits-hand (hand s .0) (hand s .1) (first n (hand s .1) (wait bs)) bs (fits-first bs k n (hand s .1) (hand-one s n h))
+
+    fits-wait : (bs : List ℕ) (s : S) → pend s ≡ 0 → Fits (wait bs s) bs
+    fits-wait [] s h = (refl, h)
+    fits-wait (b ∷ bs) s h =
+        fits-eat (eat s b .0) (eat s b .1) (hear (eat s b .1) bs) b bs (fits-first bs (fits-wait bs) (pend (eat s b .1)) (eat s b .1) refl)
+
+    pub fits : (s : S) (bs : List ℕ) → Fits (hear s bs) bs
+    fits s bs = fits-first bs (fits-wait bs) (pend s) s refl
+
+    -- one move of a call: an owed one ..
+    pub hear-hand : (s : S) (n : ℕ) (bs : List ℕ) → pend s ≡ suc n → hear s bs ≡ unless (hand s .0) 0 (hand s .1) (hear (hand s .1) bs)
+    hear-hand s n bs e = ap (λ m. first m s (wait bs)) e ∙ ap (λ m. unless (hand s .0) 0 (hand s .1) (first m (hand s .1) (wait bs))) (sym (hand-one s n e))
+
+    -- .. a byte, where nothing is owed ..
+    pub hear-eat : (s : S) (b : ℕ) (bs : List ℕ) → pend s ≡ 0 → hear s (b ∷ bs) ≡ unless (eat s b .0) 1 (eat s b .1) (oneMore (hear (eat s b .1) bs))
+    hear-eat s b bs e = ap (λ m. first m s (wait (b ∷ bs))) e
+
+    -- .. and the end, where nothing is left
+    pub hear-end : (s : S) → pend s ≡ 0 → hear s [] ≡ (none, 0, s)
+    hear-end s e = ap (λ m. first m s (wait [])) e
+
+    -- "more wanted" exactly when no answer is owed
+    none-told : (o : Option A) (n : ℕ) (s : S) (bs : List ℕ) → o ≡ none → toldBy o n s bs .0 ≡ []
+    none-told none n s bs e = refl
+    none-told (some a) n s bs e = absurd (Option·none-ne-some a (sym e))
+
+    told-none : (o : Option A) (n : ℕ) (s : S) (bs : List ℕ) → toldBy o n s bs .0 ≡ [] → o ≡ none
+    told-none none n s bs e = refl
+    told-none (some a) n s bs e = absurd (cons≢nil e)
+
+    pub more-iff : (s : S) (bs : List ℕ) → (hear s bs .0 ≡ none) ↔ (all s bs .0 ≡ [])
+    more-iff s bs = (
+      (λ e. ap (λ r. r .0) (law s bs) ∙ none-told (hear s bs .0) (hear s bs .1) (hear s bs .2) bs e),
+      (λ e. told-none (hear s bs .0) (hear s bs .1) (hear s bs .2) bs (sym (ap (λ r. r .0) (law s bs)) ∙ e)),
+    )
+
+    -- what holds of an answer and the state that comes with it at each move, holds of a call's
+    module _ (Q : A → S → Type 0) (q-hand : (s : S) → With Q (hand s .0) (hand s .1)) (q-eat : (s : S) (b : ℕ) → With Q (eat s b .0) (eat s b .1)) where
+      with-unless : (o : Option A) (n : ℕ) (t : S) (r : Option A × ℕ × S) → With Q o t → With Q (r .0) (r .2) → With Q (unless o n t r .0) (unless o n t r .2)
+      with-unless none n t r q w = w
+      with-unless (some a) n t r q w = q
+
+      with-first : (bs : List ℕ) (k : (s : S) → With Q (wait bs s .0) (wait bs s .2)) (n : ℕ) (s : S) → With Q (first n s (wait bs) .0) (first n s (wait bs) .2)
+      with-first bs k zero s = k s
+      with-first bs k (suc n) s = with-unless (hand s .0) 0 (hand s .1) (first n (hand s .1) (wait bs)) (q-hand s) (with-first bs k n (hand s .1))
+
+      with-wait : (bs : List ℕ) (s : S) → With Q (wait bs s .0) (wait bs s .2)
+      with-wait [] s = tt
+      with-wait (b ∷ bs) s =
+          with-unless (eat s b .0) 1 (eat s b .1) (oneMore (hear (eat s b .1) bs)) (q-eat s b) (with-first bs (with-wait bs) (pend (eat s b .1)) (eat s b .1))
+
+      pub with-hear : (s : S) (bs : List ℕ) → With Q (hear s bs .0) (hear s bs .2)
+      with-hear s bs = with-first bs (with-wait bs) (pend s) s
+
+    -- where all has been read nothing is owed
+    settled-drain : (bs : List ℕ) (k : (s : S) → pend s ≡ 0 → pend (rest bs s .1) ≡ 0) (n : ℕ) (s : S) → pend s ≡ n → pend (drain n s (rest bs) .1) ≡ 0
+    settled-drain bs k zero s h = k s h
+    settled-drain bs k (suc n) s h = tell-end (hand s .0) (drain n (hand s .1) (rest bs)) (settled-drain bs k n (hand s .1) (hand-one s n h))
+      where
+        tell-end : (o : Option A) (r : List A × S) → pend (r .1) ≡ 0 → pend (tell o r .1) ≡ 0
+        tell-end none r e = e
+        tell-end (some a) r e = e
+
+    settled-tell : (o : Option A) (r : List A × S) → pend (r .1) ≡ 0 → pend (tell o r .1) ≡ 0
+    settled-tell none r e = e
+    settled-tell (some a) r e = e
+
+    settled-rest : (bs : List ℕ) (s : S) → pend s ≡ 0 → pend (rest bs s .1) ≡ 0
+    settled-rest [] s h = h
+    settled-rest (b ∷ bs) s h =
+        settled-tell (eat s b .0) (all (eat s b .1) bs) (settled-drain bs (settled-rest bs) (pend (eat s b .1)) (eat s b .1) refl)
+
+    pub settled : (s : S) (bs : List ℕ) → pend (all s bs .1) ≡ 0
+    settled s bs = settled-drain bs (settled-rest bs) (pend s) s refl
+
+    -- whatever the calls yield is what the piece means ..
+    pub reads-all : {s : S} {bs : List ℕ} {xs : List A} {t : S} → Reads hear s bs xs t → all s bs ≡ (xs, t)
+    reads-all {s} {bs} (more n e) = law s bs ∙ ap (λ r. told r bs) e
+    reads-all {s} {bs} (answer {a = a} n e r) = law s bs ∙ ap (λ q. told q bs) e ∙ ap (tell (some a)) (reads-all r)
+
+    -- .. and the calls end
+    ends-by : (xs : List A) (u : S) (s : S) (bs : List ℕ) (r : Option A × ℕ × S) → hear s bs ≡ r → told r bs ≡ (xs, u) → Reads hear s bs xs u
+    ends-by [] u s bs (none, n, t) h q = subst (λ v. Reads hear s bs [] v) (ap (λ p. p .1) q) (more n h)
+    ends-by [] u s bs (some a, n, t) h q = absurd (cons≢nil (ap (λ p. p .0) q))
+    ends-by (x ∷ xs) u s bs (none, n, t) h q = absurd (nil≢cons (ap (λ p. p .0) q))
+    ends-by (x ∷ xs) u s bs (some a, n, t) h q =
+        subst (λ c. Reads hear s bs (c ∷ xs) u) (head-eq-of-cons-eq (ap (λ p. p .0) q))
+        (answer n h
+        (ends-by xs u t (drop n bs) (hear t (drop n bs)) refl
+        (sym (law t (drop n bs)) ∙ (λ i. (tail-eq-of-cons-eq (ap (λ p. p .0) q) i, q i .1)))))
+
+    pub ends : (s : S) (bs : List ℕ) → Reads hear s bs (all s bs .0) (all s bs .1)
+    ends s bs = ends-by (all s bs .0) (all s bs .1) s bs (hear s bs) refl (sym (law s bs))
+
+    -- a string is read one part after the other
+    append-drain : (bs cs : List ℕ) (k : (s : S) → pend s ≡ 0 → rest (bs ++ cs) s ≡ andThen (rest bs s) (λ t. all t cs))
+        (n : ℕ) (s : S) → pend s ≡ n → drain n s (rest (bs ++ cs)) ≡ andThen (drain n s (rest bs)) (λ t. all t cs)
+    append-drain bs cs k zero s h = k s h
+    append-drain bs cs k (suc n) s h =
+        ap (tell (hand s .0)) (append-drain bs cs k n (hand s .1) (hand-one s n h))
+        ∙ sym (tell-then (hand s .0) (drain n (hand s .1) (rest bs)) (λ t. all t cs))
+
+    append-rest : (bs cs : List ℕ) (s : S) → pend s ≡ 0 → rest (bs ++ cs) s ≡ andThen (rest bs s) (λ t. all t cs)
+    append-rest [] cs s h = rw h refl
+    append-rest (b ∷ bs) cs s h =
+        ap (tell (eat s b .0)) (append-drain bs cs (append-rest bs cs) (pend (eat s b .1)) (eat s b .1) refl)
+        ∙ sym (tell-then (eat s b .0) (all (eat s b .1) bs) (λ t. all t cs))
+
+    pub all-append : (s : S) (bs cs : List ℕ) → all s (bs ++ cs) ≡ andThen (all s bs) (λ t. all t cs)
+    all-append s bs cs = append-drain bs cs (append-rest bs cs) (pend s) s refl
+
+    -- every way of cutting yields the answers and the final state of the uncut string ..
+    pub cut : {s : S} {ps : List (List ℕ)} {xs : List A} {t : S} → pend s ≡ 0 → ReadsAll hear s ps xs t → (xs, t) ≡ all s (joined ps)
+    cut {s} h done = rw h refl
+    cut {s} h (piece {t = t} {p = p} {ps = ps} {xs = xs} {ys = ys} r rs) =
+        let e : all s p ≡ (xs, t) = reads-all r in
+        let z : pend t ≡ 0 = subst (λ (q : List A × S). pend (q .1) ≡ 0) e (settled s p) in
+        (λ i. (xs ++ cut z rs i .0, cut z rs i .1)) ∙ (λ i. andThen (sym e i) (λ v. all v (joined ps))) ∙ sym (all-append s p (joined ps))
+
+    -- .. and every way of cutting comes to its end
+    pub cut-ends : (ps : List (List ℕ)) (s : S) → pend s ≡ 0 → ReadsAll hear s ps (all s (joined ps) .0) (all s (joined ps) .1)
+    cut-ends [] s h = rw h done
+    cut-ends (p ∷ ps) s h =
+        rw (all-append s p (joined ps)) (piece (ends s p) (cut-ends ps (all s p .1) (settled s p)))
+
+    -- A guarded call: one that is the bare call wherever `Inv` holds, which no move breaks.
+    module _ (Inv : S → Type 0)
+        (inv-hand : (s : S) (n : ℕ) → pend s ≡ suc n → Inv s → Inv (hand s .1))
+        (inv-eat : (s : S) (b : ℕ) → pend s ≡ 0 → Inv s → Inv (eat s b .1)) where
+      inv-unless : (o : Option A) (n : ℕ) (t : S) (r : Option A × ℕ × S) → Inv t → Inv (r .2) → Inv (unless o n t r .2)
+      inv-unless none n t r i j = j
+      inv-unless (some a) n t r i j = i
+
+      inv-first : (bs : List ℕ) (k : (s : S) → pend s ≡ 0 → Inv s → Inv (wait bs s .2)) (n : ℕ) (s : S) → pend s ≡ n → Inv s → Inv (first n s (wait bs) .2)
+      inv-first bs k zero s h i = k s h i
+      inv-first bs k (suc n) s h i =
+          inv-unless (hand s .0) 0 (hand s .1) (first n (hand s .1) (wait bs)) (inv-hand s n h i)
+          (inv-first bs k n (hand s .1) (hand-one s n h) (inv-hand s n h i))
+
+      inv-wait : (bs : List ℕ) (s : S) → pend s ≡ 0 → Inv s → Inv (wait bs s .2)
+      inv-wait [] s h i = i
+      inv-wait (b ∷ bs) s h i =
+          inv-unless (eat s b .0) 1 (eat s b .1) (oneMore (hear (eat s b .1) bs)) (inv-eat s b h i)
+          (inv-first bs (inv-wait bs) (pend (eat s b .1)) (eat s b .1) refl (inv-eat s b h i))
+
+      pub inv-hear : (s : S) (bs : List ℕ) → Inv s → Inv (hear s bs .2)
+      inv-hear s bs i = inv-first bs (inv-wait bs) (pend s) s refl i
+
+      module _ (call : S → List ℕ → Option A × ℕ × S) (agrees : (s : S) (bs : List ℕ) → Inv s → call s bs ≡ hear s bs) where
+        keeps : (s : S) (bs : List ℕ) (r : Option A × ℕ × S) → Inv s → hear s bs ≡ r → Inv (r .2)
+        keeps s bs r i e = subst (λ (q : Option A × ℕ × S). Inv (q .2)) e (inv-hear s bs i)
+
+        guarded : {s : S} {bs : List ℕ} {xs : List A} {t : S} → Inv s → Reads call s bs xs t → Reads hear s bs xs t × Inv t
+        guarded {s} {bs} i (more n {t = t} e) = (more n (sym (agrees s bs i) ∙ e), keeps s bs (none, n, t) i (sym (agrees s bs i) ∙ e))
+        guarded {s} {bs} i (answer {a = a} n {t = t} e r) =
+            let h : hear s bs ≡ (some a, n, t) = sym (agrees s bs i) ∙ e in
+            let j = guarded (keeps s bs (some a, n, t) i h) r in
+            (answer n h (j .0), j .1)
+
+        bare : {s : S} {bs : List ℕ} {xs : List A} {t : S} → Inv s → Reads hear s bs xs t → Reads call s bs xs t × Inv t
+        bare {s} {bs} i (more n {t = t} e) = (more n (agrees s bs i ∙ e), keeps s bs (none, n, t) i e)
+        bare {s} {bs} i (answer {a = a} n {t = t} e r) =
+            let j = bare (keeps s bs (some a, n, t) i e) r in
+            (answer n (agrees s bs i ∙ e) (j .0), j .1)
+
+        guarded-all : {s : S} {ps : List (List ℕ)} {xs : List A} {t : S} → Inv s → ReadsAll call s ps xs t → ReadsAll hear s ps xs t
+        guarded-all i done = done
+        guarded-all i (piece r rs) = let j = guarded i r in piece (j .0) (guarded-all (j .1) rs)
+
+        bare-all : {s : S} {ps : List (List ℕ)} {xs : List A} {t : S} → Inv s → ReadsAll hear s ps xs t → ReadsAll call s ps xs t
+        bare-all i done = done
+        bare-all i (piece r rs) = let j = bare i r in piece (j .0) (bare-all (j .1) rs)
+
+        -- the same of the guarded call
+        pub cut-guarded : {s : S} {ps : List (List ℕ)} {xs : List A} {t : S} → pend s ≡ 0 → Inv s → ReadsAll call s ps xs t → (xs, t) ≡ all s (joined ps)
+        cut-guarded h i r = cut h (guarded-all i r)
+
+        pub cut-guarded-ends : (ps : List (List ℕ)) (s : S) → pend s ≡ 0 → Inv s → ReadsAll call s ps (all s (joined ps) .0) (all s (joined ps) .1)
+        cut-guarded-ends ps s h i = bare-all i (cut-ends ps s h)

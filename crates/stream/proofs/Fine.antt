@@ -1,0 +1,56 @@
+-- States and buffers that pass refusals 10 and 11.
+-- Fine              what the two ask, as facts
+-- fine-is, fine-of  they are passed exactly then
+-- fine-take         every byte keeps it
+use Prim.Native.Nat.{ℕ, suc, _≤_, _<_, min}
+use native.Mathlib.Omega.{arith}
+use mathlib.Core.Path.{_≡_, refl, sym}
+use mathlib.Core.Bool.{Bool, true, false, _&&_, false≢true}
+use mathlib.Core.List.{List}
+use lib.ListN.{length, length-set}
+use lib.Dec.{eqb, ltb, leb}
+use borrow.Author.Tests.{le-leb, eq-eqb, ltb-true, eqb-true, leb-true}
+use Rattle.packet.specs.Contents.{rawLimit}
+use Rattle.packet.specs.Escape.{flag}
+use Rattle.packet.proofs.Judging.{length-closed}
+use Rattle.stream.specs.declared.frame.Frame.{Frame}
+use Rattle.stream.specs.Called.{Held, held, begun, store, shut, takeBy, takeByte, sound}
+
+pub record Fine (h : Held) : Type 0 where
+  pub stored : h .st .stored ≡ min (h .st .raw) rawLimit
+  pub raw : h .st .raw ≤ suc rawLimit
+  pub room : rawLimit ≤ length (h .recv)
+
+pub fine-is : (h : Held) → Fine h → sound (h .st) ≡ true
+fine-is h f = rw (eq-eqb (h .st .stored) (min (h .st .raw) rawLimit) (f .stored), le-leb (h .st .raw) (suc rawLimit) (f .raw)) refl
+
+and-parts : (a b : Bool) → a && b ≡ true → (a ≡ true) × (b ≡ true)
+and-parts true b e = (refl, e)
+and-parts false b e = absurd (false≢true e)
+
+pub fine-of : (f : Frame) (l : List ℕ) → sound f ≡ true → rawLimit ≤ length l → Fine (held f l)
+fine-of f l s h =
+    let p = and-parts (eqb (f .stored) (min (f .raw) rawLimit)) (leb (f .raw) (suc rawLimit)) s in
+    record { stored = eqb-true _ _ (p .0); raw = leb-true _ _ (p .1); room = h }
+
+fine-begun : (l : List ℕ) → rawLimit ≤ length l → Fine (held begun l)
+fine-begun l h = record { stored = refl; raw = omega arith; room = h }
+
+fine-store : (t : Bool) (h : Held) (b : ℕ) → ltb (h .st .raw) rawLimit ≡ t → Fine h → Fine (store t h b)
+fine-store true h b e f =
+    let l : h .st .raw < rawLimit = ltb-true _ _ e in
+    record { stored = omega arith; raw = omega arith; room = rw length-set (f .room) }
+fine-store false h b e f = record { stored = refl; raw = omega arith; room = f .room }
+
+fine-shut : (z : Bool) (h : Held) → Fine h → Fine (shut z h .1)
+fine-shut true h f = fine-begun (h .recv) (f .room)
+fine-shut false h f = fine-begun _ (rw length-closed (f .room))
+
+fine-by : (t o : Bool) (h : Held) (b : ℕ) → Fine h → Fine (takeBy t o h b .1)
+fine-by false false h b f = f
+fine-by true false h b f = fine-begun (h .recv) (f .room)
+fine-by false true h b f = fine-store (ltb (h .st .raw) rawLimit) h b refl f
+fine-by true true h b f = fine-shut (eqb (h .st .raw) 0) h f
+
+pub fine-take : (h : Held) (b : ℕ) → Fine h → Fine (takeByte h b .1)
+fine-take h b f = fine-by (eqb b flag) (h .st .opened) h b f

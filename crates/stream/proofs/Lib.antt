@@ -1,0 +1,4 @@
+pub mod Fine
+pub mod Runs
+pub mod Turning
+pub mod Sending

@@ -1,0 +1,144 @@
+-- Laws of `before`.
+-- before-more, before-flag, before-over   a byte that is no flag, a flag, the end: what a loop over bytes needs
+use Prim.Native.Nat.{ℕ, zero, suc, _+_, _-_, _≤_, _<_, min}
+use native.Mathlib.Omega.{arith}
+use native.Mathlib.Nat.{add-zero}
+use native.Mathlib.Numerals.{add-one}
+use mathlib.Core.Path.{_≡_, refl, sym, _∙_, ap, ap₂}
+use mathlib.Core.Bool.{Bool, true, false}
+use mathlib.Core.List.{List, [], _∷_, _++_, append-nil}
+use lib.ListN.{length, take, drop, getD, set, length-append}
+use lib.Seq.{sets, take-all, take-at, length-take-le}
+use borrow.Author.Tests.{eq-eqb, ne-eqb}
+use Rattle.base.proofs.Lists.{next, over}
+use Rattle.base.proofs.Tests.{by-eq, by-le}
+use Rattle.packet.specs.Contents.{rawLimit}
+use Rattle.packet.specs.Escape.{flag}
+use Rattle.packet.proofs.Round.{NoFlag}
+use Rattle.stream.specs.declared.frame.Frame.{Frame}
+use Rattle.stream.specs.Runs.{before, countedBy, counted, gatheredBy}
+
+module _ (l : List ℕ) (i : ℕ) where
+  pub before-flag : i < length l → getD l i 0 ≡ flag → before (drop i l) ≡ []
+  unfolding before
+  before-flag h e = rw (next l i h) (simp (eq-eqb _ _ e))
+
+  pub before-more : i < length l → (getD l i 0 ≡ flag → ⊥) → before (drop i l) ≡ getD l i 0 ∷ before (drop (i + 1) l)
+  unfolding before
+  before-more h n = rw (next l i h) (simp (ne-eqb _ _ n))
+
+  pub before-over : length l ≤ i → before (drop i l) ≡ []
+  unfolding before
+  before-over h = rw (over l i h)
+
+-- ---- the loops: counting, and storing
+module _ (l : List ℕ) (i : ℕ) {t : ℕ} (inv : i + length (before (drop i l)) ≡ t) where
+  pub count-more : i < length l → (getD l i 0 ≡ flag → ⊥) → i + 1 + length (before (drop (i + 1) l)) ≡ t
+  count-more h n = omega (arith, ap length (before-more l i h n))
+
+  pub count-done : before (drop i l) ≡ [] → i ≡ t
+  count-done e = omega (arith, ap length e)
+
+module _ (l r : List ℕ) (at i : ℕ) {t : List ℕ} (inv : sets r (at + i) (before (drop i l)) ≡ t) where
+  pub store-more : i < length l → (getD l i 0 ≡ flag → ⊥) → sets (set r (at + i) (getD l i 0)) (at + (i + 1)) (before (drop (i + 1) l)) ≡ t
+  store-more h n =
+      let e : at + (i + 1) ≡ suc (at + i) = omega arith in
+      rw e (sym (ap (sets r (at + i)) (before-more l i h n)) ∙ inv)
+
+  pub store-done : before (drop i l) ≡ [] → r ≡ t
+  store-done e = sym (ap (sets r (at + i)) e) ∙ inv
+
+-- ---- the counts
+pub counted-is : (f : Frame) (n : ℕ) {k s : ℕ} → f .opened ≡ true → f .raw ≤ suc rawLimit → k ≡ min n (suc rawLimit - f .raw) → s ≡ min (f .raw + k) rawLimit
+    → _≡_ {A = Frame} (record { opened = true; raw = f .raw + k; stored = s }) (counted f n)
+counted-is f n {k} {s} o h e q =
+    (λ i. record { opened = true; raw = raw i; stored = stored i }) ∙ ap (λ (b : Bool). countedBy b f n) (sym o)
+  where
+    raw : f .raw + k ≡ min (f .raw + n) (suc rawLimit)
+    raw = omega arith
+
+    stored : s ≡ min (f .raw + n) rawLimit
+    stored = omega arith
+
+-- ---- the bytes before the first flag, in parts
+pub before-found : (l : List ℕ) (n : ℕ) → length (before (take n l)) < length (take n l) → before (take n l) ≡ before l
+unfolding before
+before-found [] zero h = refl
+before-found [] (suc n) h = refl
+before-found (b ∷ l) zero h = absurd (omega arith)
+before-found (b ∷ l) (suc n) h =
+    by-eq b flag (λ e. simp (eq-eqb b flag e))
+    (λ m. let k = simp (ne-eqb b flag m) at h in simp (ne-eqb b flag m) (ap (λ (x : List ℕ). b ∷ x) (before-found l n (omega (arith, k)))))
+
+pub before-none : (l : List ℕ) (n : ℕ) → length (take n l) ≤ length (before (take n l)) → before l ≡ take n l ++ before (drop n l)
+unfolding before
+before-none [] zero h = refl
+before-none [] (suc n) h = refl
+before-none (b ∷ l) zero h = refl
+before-none (b ∷ l) (suc n) h =
+    by-eq b flag (λ e. let k = simp (eq-eqb b flag e) at h in absurd (omega (arith, k)))
+    (λ m. let k = simp (ne-eqb b flag m) at h in simp (ne-eqb b flag m) (ap (λ (x : List ℕ). b ∷ x) (before-none l n (omega (arith, k)))))
+
+pub no-flag-before : (l : List ℕ) → NoFlag (before l)
+unfolding before
+no-flag-before [] = tt
+no-flag-before (b ∷ l) = by-eq b flag (λ e. simp (eq-eqb b flag e) tt) (λ m. simp (ne-eqb b flag m) (m, no-flag-before l))
+
+pub before-short : (l : List ℕ) → length (before l) ≤ length l
+unfolding before
+before-short [] = omega arith
+before-short (b ∷ l) = by-eq b flag (λ e. simp (eq-eqb b flag e) (omega arith)) (λ m. simp (ne-eqb b flag m) (omega (arith, before-short l)))
+
+pub before-stops : (l : List ℕ) {n : ℕ} → n ≡ length (before l) → (n ≡ length l → ⊥) → n < length l
+before-stops l {n} e stop = by-le (length l) n (λ m. absurd (stop (omega (arith, before-short l)))) (λ m. m)
+
+-- behind them stands the flag, or nothing
+pub before-rest : (l : List ℕ) → l ≡ before l ++ drop (length (before l)) l
+unfolding before
+before-rest [] = refl
+before-rest (b ∷ l) =
+    by-eq b flag (λ e. simp (eq-eqb b flag e)) (λ m. simp (ne-eqb b flag m) (ap (λ (x : List ℕ). b ∷ x) (before-rest l)))
+
+stops : (l : List ℕ) → length (before l) < length l → getD l (length (before l)) 0 ≡ flag
+unfolding before
+stops [] h = absurd (omega arith)
+stops (b ∷ l) h =
+    by-eq b flag (λ e. simp (eq-eqb b flag e) e)
+    (λ m. let k = simp (ne-eqb b flag m) at h in simp (ne-eqb b flag m) (stops l (omega (arith, k))))
+
+pub before-stop : (l : List ℕ) → length (before l) < length l → drop (length (before l)) l ≡ flag ∷ drop (length (before l) + 1) l
+before-stop l h = next l (length (before l)) h ∙ ap (λ (b : ℕ). b ∷ drop (length (before l) + 1) l) (stops l h)
+
+pub before-all : (l : List ℕ) → length l ≤ length (before l) → before l ≡ l
+before-all l h = sym (before-rest l ∙ ap (λ (x : List ℕ). before l ++ x) (over l (length (before l)) h) ∙ append-nil (before l))
+
+-- ---- gather: stored up to the limit, counted behind it
+module _ (raw : ℕ) (l recv : List ℕ) (n at : ℕ) (e : at ≡ min raw rawLimit) (en : n ≡ min (rawLimit - at) (length l)) {k : ℕ} (ek : k ≡ length (before (take n l))) where
+  lent : length (take n l) ≡ n
+  lent = length-take-le n l (omega arith)
+
+  pub gather-found : {y : List ℕ} → k < n → y ≡ sets recv at (before (take n l))
+      → (k ≡ length (before l)) × (y ≡ gatheredBy true raw (before l) recv)
+  gather-found h ey =
+      let f : before (take n l) ≡ before l = before-found l n (omega (arith, lent)) in (
+        ek ∙ ap length f,
+        ey ∙ ap₂ (λ (a : ℕ) (x : List ℕ). sets recv a x) e (f ∙ sym (take-all (rawLimit - min raw rawLimit) (before l) (omega (arith, ap length f)))),
+      )
+
+  pub gather-none : {y : List ℕ} {r : ℕ} → n ≤ k → y ≡ sets recv at (before (take n l)) → r ≡ n + length (before (drop n l))
+      → (r ≡ length (before l)) × (y ≡ gatheredBy true raw (before l) recv)
+  gather-none h ey er =
+      let f : before l ≡ take n l ++ before (drop n l) = before-none l n (omega (arith, lent)) in (
+        er ∙ sym (ap length f ∙ length-append (take n l) (before (drop n l)) ∙ ap (λ (m : ℕ). m + length (before (drop n l))) lent),
+        ey
+            ∙ ap₂ (λ (a : ℕ) (x : List ℕ). sets recv a x) e
+            (before-all (take n l) (omega (arith, lent)) ∙ sym (ap (λ (m : ℕ). take (rawLimit - m) (before l)) (sym e) ∙ ap (take (rawLimit - at)) f ∙ stored)),
+      )
+    where
+      stored : take (rawLimit - at) (take n l ++ before (drop n l)) ≡ take n l
+      stored =
+          by-le (length l) (rawLimit - at)
+          (λ (s : length l ≤ rawLimit - at).
+          ap (λ (x : List ℕ). take (rawLimit - at) (take n l ++ x)) (before-over l n (omega arith)) ∙ ap (take (rawLimit - at)) (append-nil (take n l))
+          ∙ take-all (rawLimit - at) (take n l) (omega (arith, lent)))
+          (λ s. take-at (take n l) (before (drop n l)) (rawLimit - at) (lent ∙ omega arith))

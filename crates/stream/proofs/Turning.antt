@@ -1,0 +1,205 @@
+-- A call, run by run: what the code takes from flag to flag is what the definition takes byte by byte.
+-- run-read                           a run of bytes that are no flags gives no answer, and is gathered
+-- flag-closes, flag-opens            the flag behind it
+-- turn-end, turn-answer, turn-opens  the ways through a turn
+-- loop-answer, loop-more, loop-end   the loop of a call
+-- call-unsound, .., call-on          refusals 10 and 11
+use Prim.Native.Nat.{ℕ, suc, _+_, _-_, _≤_, _<_, min}
+use native.Mathlib.Omega.{arith}
+use native.Mathlib.Nat.{add-zero}
+use native.Mathlib.Numerals.{add-one}
+use mathlib.Core.Path.{_≡_, refl, sym, _∙_, ap, subst}
+use mathlib.Core.Bool.{Bool, true, false, not, _&&_, false≢true}
+use mathlib.Core.List.{List, [], _∷_, _++_}
+use mathlib.Core.Option.{Option, some, none}
+use lib.ListN.{length, take, drop, set, length-append}
+use lib.Seq.{sets, take-nil, drop-drop}
+use lib.Dec.{eqb, ltb, leb}
+use borrow.Author.Tests.{eq-eqb, ne-eqb, ltb-true, ltb-false, le-leb, lt-leb}
+use Rattle.base.specs.Calls.{unless, oneMore, after}
+use Rattle.base.proofs.Calls.{after-none, after-one, after-more, after-after}
+use Rattle.base.proofs.Lists.{over}
+use Rattle.packet.specs.Contents.{rawLimit}
+use Rattle.packet.specs.Escape.{flag}
+use Rattle.packet.specs.Frame.{Told, refusal, judged, closed}
+use Rattle.packet.specs.declared.frame.Judged.{Judged}
+use Rattle.packet.specs.declared.frame.Judged.the-variants.{Refused}
+use Rattle.packet.proofs.Round.{NoFlag}
+use Rattle.stream.specs.declared.frame.Frame.{Frame}
+use Rattle.stream.specs.declared.frame.Read.{Read}
+use Rattle.stream.specs.declared.frame.Turn.{Turn}
+use Rattle.stream.specs.declared.frame.Heard.the-variants.{More, Said}
+use Rattle.stream.specs.Called.{Held, held, begun, store, shut, takeBy, takeByte, readOn, sound, readBy, readCall, readOf, ReadIs}
+use Rattle.stream.specs.Runs.{before, countedBy, counted, gatheredBy, gathered, closes, TurnBy, TurnIs}
+use Rattle.stream.proofs.Fine.{Fine, fine-is, fine-take}
+use Rattle.stream.proofs.Runs.{before-rest, before-stop, before-stops, no-flag-before}
+
+-- the state behind a run
+abbrev pub ran : Held → List ℕ → Held
+ran h xs = held (counted (h .st) (length xs)) (gathered (h .st) xs (h .recv))
+
+-- ---- one byte more
+same-frame : {o : Bool} {r r′ s s′ : ℕ} {l l′ : List ℕ} → r ≡ r′ → s ≡ s′ → l ≡ l′
+    → held (record { opened = o; raw = r; stored = s }) l ≡ held (record { opened = o; raw = r′; stored = s′ }) l′
+same-frame {o} p q e = λ i. held (record { opened = o; raw = p i; stored = q i }) (e i)
+
+ran-store : (t : Bool) (raw stored : ℕ) (recv : List ℕ) (b : ℕ) (xs : List ℕ) → ltb raw rawLimit ≡ t
+    → ran (store t (held (record { opened = true; raw = raw; stored = stored }) recv) b) xs ≡ ran (held (record { opened = true; raw = raw; stored = stored }) recv) (b ∷ xs)
+ran-store true raw stored recv b xs e =
+    let l : raw < rawLimit = ltb-true _ _ e in
+    let m : min raw rawLimit ≡ raw = omega arith in
+    let n : min (suc raw) rawLimit ≡ suc raw = omega arith in
+    let k : rawLimit - raw ≡ suc (rawLimit - suc raw) = omega arith in
+    same-frame (omega arith) (omega arith)
+    (ap (λ (x : ℕ). sets (set recv raw b) x (take (rawLimit - x) xs)) n
+    ∙ sym (ap (λ (x : ℕ). sets recv x (take (rawLimit - x) (b ∷ xs))) m ∙ ap (λ (x : ℕ). sets recv raw (take x (b ∷ xs))) k))
+ran-store false raw stored recv b xs e =
+    let l : rawLimit ≤ raw = ltb-false _ _ e in
+    let m : rawLimit - min raw rawLimit ≡ 0 = omega arith in
+    same-frame (omega arith) (omega arith) (sym (ap (λ (x : ℕ). sets recv (min raw rawLimit) (take x (b ∷ xs))) m))
+
+ran-none : (o : Bool) (raw stored : ℕ) (recv : List ℕ) → stored ≡ min raw rawLimit → raw ≤ suc rawLimit
+    → held (record { opened = o; raw = raw; stored = stored }) recv ≡ ran (held (record { opened = o; raw = raw; stored = stored }) recv) []
+ran-none false raw stored recv s h = refl
+ran-none true raw stored recv s h =
+    same-frame (omega arith) (omega arith) (sym (ap (λ (x : List ℕ). sets recv (min raw rawLimit) x) (take-nil (rawLimit - min raw rawLimit))))
+
+-- a byte that is no flag, and the run behind it
+ran-more : (o : Bool) (raw stored : ℕ) (recv : List ℕ) (b : ℕ) (xs : List ℕ)
+    → ran (takeBy false o (held (record { opened = o; raw = raw; stored = stored }) recv) b .1) xs ≡ ran (held (record { opened = o; raw = raw; stored = stored }) recv) (b ∷ xs)
+ran-more false raw stored recv b xs = refl
+ran-more true raw stored recv b xs = ran-store (ltb raw rawLimit) raw stored recv b xs refl
+
+-- one byte of a call, by: is it a flag
+abbrev byteOf : Bool → Held → ℕ → List ℕ → Option Told × ℕ × Held
+byteOf t h b ys = unless (takeBy t (h .st .opened) h b .0) 1 (takeBy t (h .st .opened) h b .1) (oneMore (readOn (takeBy t (h .st .opened) h b .1) ys))
+
+byte-by : (o : Bool) (h : Held) (b : ℕ) (r : Option Told × ℕ × Held) → unless (takeBy false o h b .0) 1 (takeBy false o h b .1) r ≡ r
+byte-by true h b r = refl
+byte-by false h b r = refl
+
+byte-read : (h : Held) (b : ℕ) (ys : List ℕ) → (b ≡ flag → ⊥) → readOn h (b ∷ ys) ≡ oneMore (readOn (takeBy false (h .st .opened) h b .1) ys)
+byte-read h b ys n = ap (λ (t : Bool). byteOf t h b ys) (ne-eqb b flag n) ∙ byte-by (h .st .opened) h b _
+
+pub run-read : (xs : List ℕ) → NoFlag xs → (h : Held) → Fine h → (cs : List ℕ) → readOn h (xs ++ cs) ≡ after (length xs) (readOn (ran h xs) cs)
+run-read [] n h f cs = ap (λ (g : Held). readOn g cs) (ran-none (h .st .opened) (h .st .raw) (h .st .stored) (h .recv) (f .stored) (f .raw)) ∙ after-none _
+run-read (b ∷ xs) n h f cs =
+    let g : Held = takeBy false (h .st .opened) h b .1 in
+    let fg : Fine g = rw (ne-eqb b flag (n .0)) at (fine-take h b f) in
+    byte-read h b (xs ++ cs) (n .0) ∙ ap oneMore (run-read xs (n .1) g fg cs) ∙ after-one (length xs) (readOn (ran g xs) cs)
+    ∙ ap (λ (k : Held). after (suc (length xs)) (readOn k cs)) (ran-more (h .st .opened) (h .st .raw) (h .st .stored) (h .recv) b xs)
+
+-- ---- the flag behind it
+flag-read : (h : Held) (ys : List ℕ) → readOn h (flag ∷ ys) ≡ byteOf true h flag ys
+flag-read h ys = ap (λ (t : Bool). byteOf t h flag ys) (eq-eqb flag flag refl)
+
+closes-by : (o z : Bool) (h : Held) (ys : List ℕ) → h .st .opened ≡ o → eqb (h .st .raw) 0 ≡ z → o && not z ≡ true
+    → byteOf true h flag ys ≡ (some (closed (h .recv) (h .st .raw) .told), 1, held begun (closed (h .recv) (h .st .raw) .recv))
+closes-by false z h ys o e c = absurd (false≢true c)
+closes-by true true h ys o e c = absurd (false≢true c)
+closes-by true false h ys o e c =
+    (λ i. unless (takeBy true (o i) h flag .0) 1 (takeBy true (o i) h flag .1) (oneMore (readOn (takeBy true (o i) h flag .1) ys)))
+    ∙ (λ i. unless (shut (e i) h .0) 1 (shut (e i) h .1) (oneMore (readOn (shut (e i) h .1) ys)))
+
+pub flag-closes : (h : Held) (ys : List ℕ) → closes (h .st) ≡ true
+    → readOn h (flag ∷ ys) ≡ (some (closed (h .recv) (h .st .raw) .told), 1, held begun (closed (h .recv) (h .st .raw) .recv))
+flag-closes h ys c = flag-read h ys ∙ closes-by (h .st .opened) (eqb (h .st .raw) 0) h ys refl refl c
+
+opens-by : (o z : Bool) (h : Held) (ys : List ℕ) → h .st .opened ≡ o → eqb (h .st .raw) 0 ≡ z → o && not z ≡ false
+    → byteOf true h flag ys ≡ oneMore (readOn (held begun (h .recv)) ys)
+opens-by false z h ys o e c =
+    λ i. unless (takeBy true (o i) h flag .0) 1 (takeBy true (o i) h flag .1) (oneMore (readOn (takeBy true (o i) h flag .1) ys))
+opens-by true false h ys o e c = absurd (false≢true (sym c))
+opens-by true true h ys o e c =
+    (λ i. unless (takeBy true (o i) h flag .0) 1 (takeBy true (o i) h flag .1) (oneMore (readOn (takeBy true (o i) h flag .1) ys)))
+    ∙ (λ i. unless (shut (e i) h .0) 1 (shut (e i) h .1) (oneMore (readOn (shut (e i) h .1) ys)))
+
+pub flag-opens : (h : Held) (ys : List ℕ) → closes (h .st) ≡ false → readOn h (flag ∷ ys) ≡ oneMore (readOn (held begun (h .recv)) ys)
+flag-opens h ys c = flag-read h ys ∙ opens-by (h .st .opened) (eqb (h .st .raw) 0) h ys refl refl c
+
+sound-counted : (o : Bool) (h : Held) → Fine h → (n : ℕ) → sound (countedBy o (h .st) n) ≡ true
+sound-counted false h f n = fine-is h f
+sound-counted true h f n =
+    fine-is (held (countedBy true (h .st) n) (h .recv)) (record { stored = omega arith; raw = omega arith; room = f .room })
+
+-- ---- a turn: n bytes before the first flag of l
+module _ (h : Held) (f : Fine h) (l : List ℕ) (some-bytes : 0 < length l) {n : ℕ} {g : Frame} {k : List ℕ}
+    (en : n ≡ length (before l)) (eg : g ≡ counted (h .st) n) (ek : k ≡ gathered (h .st) (before l) (h .recv)) where
+  is-ran : held g k ≡ ran h (before l)
+  is-ran = λ i. held ((eg ∙ ap (counted (h .st)) en) i) (ek i)
+
+  -- the call, behind the run
+  behind : readOn h l ≡ after n (readOn (held g k) (drop n l))
+  behind =
+      ap (readOn h) (before-rest l) ∙ run-read (before l) (no-flag-before l) h f (drop (length (before l)) l)
+      ∙ (λ i. after (sym en i) (readOn (sym is-ran i) (drop (sym en i) l)))
+
+  pub turn-end : n ≡ length l → TurnIs h l (record { done = false; heard = More; taken = n; frame = g }) k
+  turn-end e =
+      record { means = behind; some = omega arith; within = omega arith; again = ap sound eg ∙ sound-counted (h .st .opened) h f n }
+
+  module _ (stop : n ≡ length l → ⊥) where
+    short : n < length l
+    short = before-stops l en stop
+
+    at-flag : drop n l ≡ flag ∷ drop (n + 1) l
+    at-flag = ap (λ (m : ℕ). drop m l) en ∙ before-stop l (omega (arith, short)) ∙ ap (λ (m : ℕ). flag ∷ drop (m + 1) l) (sym en)
+
+    pub turn-answer : {j : Judged} {k′ : List ℕ} {g′ : Frame} → closes g ≡ true → g′ ≡ begun → j ≡ judged (closed k (g .raw) .told) → k′ ≡ closed k (g .raw) .recv
+        → TurnIs h l (record { done = true; heard = Said j; taken = n + 1; frame = g′ }) k′
+    turn-answer {j} {k′} {g′} c eb ej er =
+        let told : readOn h l ≡ (some (closed k (g .raw) .told), n + 1, held begun (closed k (g .raw) .recv)) =
+        behind ∙ ap (λ (x : List ℕ). after n (readOn (held g k) x)) at-flag ∙ ap (after n) (flag-closes (held g k) (drop (n + 1) l) c) in
+        record {
+          means = ((λ i. record { heard = Said (ej i); taken = n + 1; frame = eb i }) ∙ ap readOf (sym told), er ∙ ap (λ (x : Option Told × ℕ × Held). x .2 .recv) (sym told));
+          some = omega arith;
+          within = omega (arith, short);
+          again = ap sound eb }
+
+    pub turn-opens : {g′ : Frame} → closes g ≡ false → g′ ≡ begun → TurnIs h l (record { done = false; heard = More; taken = n + 1; frame = g′ }) k
+    turn-opens {g′} c eb =
+        record {
+          means =
+              behind ∙ ap (λ (x : List ℕ). after n (readOn (held g k) x)) at-flag ∙ ap (after n) (flag-opens (held g k) (drop (n + 1) l) c)
+              ∙ after-more n (readOn (held begun k) (drop (n + 1) l)) ∙ ap (λ (b : Frame). after (n + 1) (readOn (held b k) (drop (n + 1) l))) (sym eb);
+          some = omega arith;
+          within = omega (arith, short);
+          again = ap sound eb }
+
+-- ---- the loop of a call: the call on the piece is the one on the bytes left, after those taken
+module _ (h₀ : Held) (piece : List ℕ) (f : Frame) (l : List ℕ) (at : ℕ) (e : readOn h₀ piece ≡ after at (readOn (held f l) (drop at piece))) where
+  module _ (t : Turn) (l′ : List ℕ) (is : TurnIs (held f l) (drop at piece) t l′) where
+    pub loop-answer : {r : Read} → t .done ≡ true → r ≡ record { heard = t .heard; taken = at + t .taken; frame = t .frame } → ReadIs (readOn h₀ piece) r l′
+    loop-answer d er =
+        let m = subst (λ (b : Bool). TurnBy b (held f l) (drop at piece) t l′) d (is .means) in (
+          er ∙ ap (λ (q : Read). record { heard = q .heard; taken = at + q .taken; frame = q .frame }) (m .0) ∙ ap readOf (sym e),
+          m .1 ∙ ap (λ (x : Option Told × ℕ × Held). x .2 .recv) (sym e),
+        )
+
+    pub loop-more : t .done ≡ false → readOn h₀ piece ≡ after (at + t .taken) (readOn (held (t .frame) l′) (drop (at + t .taken) piece))
+    loop-more d =
+        let m = subst (λ (b : Bool). TurnBy b (held f l) (drop at piece) t l′) d (is .means) in
+        e ∙ ap (after at) m ∙ after-after at (t .taken) _
+        ∙ ap (λ (x : List ℕ). after (at + t .taken) (readOn (held (t .frame) l′) x)) (drop-drop (t .taken) at piece)
+
+  pub loop-end : length piece ≤ at → ReadIs (readOn h₀ piece) (record { heard = More; taken = at; frame = f }) l
+  loop-end h =
+      let p : readOn h₀ piece ≡ (none, at, held f l) =
+      e ∙ ap (λ (x : List ℕ). after at (readOn (held f l) x)) (over piece at h) ∙ (λ i. (none, add-zero at i, held f l)) in
+      (ap readOf (sym p), ap (λ (x : Option Told × ℕ × Held). x .2 .recv) (sym p))
+
+-- ---- a call: refused with 10, with 11, or let on
+module _ (h : Held) (bs : List ℕ) where
+  pub call-unsound : sound (h .st) ≡ false → ReadIs (readCall h bs) (record { heard = Said (Refused 10); taken = 0; frame = h .st }) (h .recv)
+  call-unsound s =
+      let e : readCall h bs ≡ (some (refusal 10), 0, h) = ap (λ (t : Bool). readBy t (leb rawLimit (length (h .recv))) h bs) s in
+      (ap readOf (sym e), ap (λ (x : Option Told × ℕ × Held). x .2 .recv) (sym e))
+
+  module _ (s : sound (h .st) ≡ true) where
+    pub call-cramped : length (h .recv) < rawLimit → ReadIs (readCall h bs) (record { heard = Said (Refused 11); taken = 0; frame = h .st }) (h .recv)
+    call-cramped l =
+        let e : readCall h bs ≡ (some (refusal 11), 0, h) = λ i. readBy (s i) (lt-leb rawLimit (length (h .recv)) l i) h bs in
+        (ap readOf (sym e), ap (λ (x : Option Told × ℕ × Held). x .2 .recv) (sym e))
+
+    pub call-on : {r : Read} {l : List ℕ} → rawLimit ≤ length (h .recv) → ReadIs (readOn h bs) r l → ReadIs (readCall h bs) r l
+    call-on {r} {l} room t = subst (λ (x : Option Told × ℕ × Held). ReadIs x r l) (λ i. readBy (sym s i) (sym (le-leb rawLimit (length (h .recv)) room) i) h bs) t

@@ -1,0 +1,20 @@
+-- `stream::sender::append` meets its contract.
+use borrow.Author.Needs.{needs}
+use Rattle.packet.specs.Sender.{writing}
+use Rattle.stream.proofs.Sending.{appended}
+use Rattle.stream.proofs.sender.append.Statement.{statement}
+use Rattle.stream.proofs.sender.append.Tie as tie
+
+pub append-spec : {M : Type 1} → statement M
+append-spec =
+    tie.close
+    (tie.spec
+    (search needs)
+    (search needs)
+    (search needs)
+    (search needs)
+    (search needs)
+    (search needs)
+    (λ c.
+    let a = c .before .before .before .before .before .before .before .args in
+    appended (a .at) _ (a .out .now) (c .before .before .before .before .least .ensures) (writing (a .port) (a .sequence) (a .payload .now)) (c .before .before .write .ensures)))

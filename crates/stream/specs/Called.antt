@@ -1,0 +1,112 @@
+-- The reader as it is called (paper 01, "Opportunistic channel" on the receive buffer and on calls): its state and the lent receive
+-- buffer go in and come back, and one call gives at most one answer.
+-- Held               state and receive buffer
+-- takeByte           one byte
+-- readAll            what a byte string means: its answers, and state and buffer behind it
+-- readCall, ReadIs   one call, and that the code's results are those
+-- inUse              the final state that counts
+-- heldOf             the state of the reader without a limit, in numbers and the buffer
+use Prim.Native.Nat.{ℕ, suc, min}
+use mathlib.Core.Path.{_≡_}
+use mathlib.Core.Bool.{Bool, true, false, _&&_}
+use mathlib.Core.List.{List, _++_}
+use mathlib.Core.Option.{Option, some, none}
+use lib.ListN.{length, take, set}
+use lib.Dec.{eqb, ltb, leb}
+use Rattle.base.specs.Calls.{all, hear}
+use Rattle.packet.specs.Contents.{rawLimit}
+use Rattle.packet.specs.Escape.{flag}
+use Rattle.packet.specs.Frame.{Told, refusal, judged, closed}
+use Rattle.stream.specs.Reader.{Reading, waiting, inside}
+use Rattle.stream.specs.declared.frame.Frame.{Frame}
+use Rattle.stream.specs.declared.frame.Read.{Read}
+use Rattle.stream.specs.declared.frame.Heard.{Heard}
+use Rattle.stream.specs.declared.frame.Heard.the-variants.{More, Said}
+
+-- state and receive buffer
+pub record Held : Type 0 where
+  pub st : Frame
+  pub recv : List ℕ
+
+abbrev pub held : Frame → List ℕ → Held
+held f recv = record { st = f; recv = recv }
+
+-- fresh: waiting for a flag, counts zero
+abbrev pub fresh : Frame
+fresh = record { opened = false; raw = 0; stored = 0 }
+
+-- behind a flag: counts zero
+abbrev pub begun : Frame
+begun = record { opened = true; raw = 0; stored = 0 }
+
+-- a raw byte of a frame is stored, 8,205 of them at most; a raw count of 8,206 means "over"
+abbrev pub store : Bool → Held → ℕ → Held
+store true h b = held (record { opened = true; raw = suc (h .st .raw); stored = suc (h .st .raw) }) (set (h .recv) (h .st .raw) b)
+store false h b = held (record { opened = true; raw = suc rawLimit; stored = rawLimit }) (h .recv)
+
+-- the closing flag, by: is there nothing between two flags
+abbrev pub shut : Bool → Held → Option Told × Held
+shut true h = (none, held begun (h .recv))
+shut false h = (some (closed (h .recv) (h .st .raw) .told), held begun (closed (h .recv) (h .st .raw) .recv))
+
+-- one byte, by: is it a flag, was there one before
+abbrev pub takeBy : Bool → Bool → Held → ℕ → Option Told × Held
+takeBy false false h b = (none, h)
+takeBy true false h b = (none, held begun (h .recv))
+takeBy false true h b = (none, store (ltb (h .st .raw) rawLimit) h b)
+takeBy true true h b = shut (eqb (h .st .raw) 0) h
+
+-- one byte
+abbrev pub takeByte : Held → ℕ → Option Told × Held
+takeByte h b = takeBy (eqb b flag) (h .st .opened) h b
+
+-- this reader never owes anything
+abbrev pub owesNone : Held → ℕ
+owesNone h = 0
+
+abbrev pub handsNone : Held → Option Told × Held
+handsNone h = (none, h)
+
+-- a byte string: its answers, and state and buffer behind it
+abbrev pub readAll : Held → List ℕ → List Told × Held
+readAll = all owesNone handsNone takeByte
+
+-- one call behind refusals 10 and 11: the answer (none: "more wanted"), the bytes taken, state and buffer
+abbrev pub readOn : Held → List ℕ → Option Told × ℕ × Held
+readOn = hear owesNone handsNone takeByte
+
+-- 10: stored bytes other than the raw count or 8,205, whichever is less; raw count above 8,206
+abbrev pub sound : Frame → Bool
+sound f = eqb (f .stored) (min (f .raw) rawLimit) && leb (f .raw) (suc rawLimit)
+
+-- by: does it pass 10, does it pass 11 (receive buffer under 8,205 bytes)
+abbrev pub readBy : Bool → Bool → Held → List ℕ → Option Told × ℕ × Held
+readBy false roomy h bs = (some (refusal 10), 0, h)
+readBy true false h bs = (some (refusal 11), 0, h)
+readBy true true h bs = readOn h bs
+
+-- one call
+abbrev pub readCall : Held → List ℕ → Option Told × ℕ × Held
+readCall h bs = readBy (sound (h .st)) (leb rawLimit (length (h .recv))) h bs
+
+-- the code's answer
+abbrev pub answered : Option Told → Heard
+answered none = More
+answered (some t) = Said (judged t)
+
+-- the code's result of a call
+abbrev pub readOf : Option Told × ℕ × Held → Read
+readOf x = record { heard = answered (x .0); taken = x .1; frame = x .2 .st }
+
+-- r is the result, and l the receive buffer, of a call
+abbrev pub ReadIs : Option Told × ℕ × Held → Read → List ℕ → Type 0
+ReadIs x r l = (r ≡ readOf x) × (l ≡ x .2 .recv)
+
+-- the state's numbers, and the bytes in use: as many as the count says, from the start
+abbrev pub inUse : Held → Frame × List ℕ
+inUse h = (h .st, take (h .st .stored) (h .recv))
+
+-- the raw bytes of the reader without a limit stand at the start of the buffer, up to 8,205 of them; behind them stand the bytes j
+abbrev pub heldOf : Reading → List ℕ → Held
+heldOf waiting j = held fresh j
+heldOf (inside rs) j = held (record { opened = true; raw = min (length rs) (suc rawLimit); stored = min (length rs) rawLimit }) (take rawLimit rs ++ j)

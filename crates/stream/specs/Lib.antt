@@ -1,0 +1,4 @@
+pub mod Sender
+pub mod Reader
+pub mod Called
+pub mod Runs

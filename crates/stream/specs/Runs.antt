@@ -1,0 +1,56 @@
+-- What the code does run by run, from flag to flag: its private functions are promised by these.
+-- before     the bytes before the first flag
+-- counted    the state after n raw bytes more
+-- gathered   the receive buffer after raw bytes more
+-- TurnIs     what a run and its flag give
+use Prim.Native.Nat.{ℕ, suc, _+_, _-_, _≤_, _<_, min}
+use mathlib.Core.Path.{_≡_}
+use mathlib.Core.Bool.{Bool, true, false, not, _&&_}
+use mathlib.Core.List.{List, [], _∷_}
+use lib.ListN.{length, take, drop}
+use lib.Dec.{eqb}
+use lib.Seq.{sets}
+use Rattle.base.specs.Choice.{pick}
+use Rattle.packet.specs.Contents.{rawLimit}
+use Rattle.packet.specs.Escape.{flag}
+use Rattle.base.specs.Calls.{after}
+use Rattle.stream.specs.Called.{Held, held, readOn, sound, ReadIs}
+use Rattle.stream.specs.declared.frame.Frame.{Frame}
+use Rattle.stream.specs.declared.frame.Turn.{Turn}
+
+-- the bytes before the first flag, all where there is none
+unfoldable pub before : List ℕ → List ℕ
+before [] = []
+before (b ∷ bs) = pick (eqb b flag) [] (b ∷ before bs)
+
+-- the raw count stops at 8,206
+abbrev pub countedBy : Bool → Frame → ℕ → Frame
+countedBy false f n = f
+countedBy true f n = record { opened = true; raw = min (f .raw + n) (suc rawLimit); stored = min (f .raw + n) rawLimit }
+
+abbrev pub counted : Frame → ℕ → Frame
+counted f n = countedBy (f .opened) f n
+
+-- as many as the limit leaves are stored
+abbrev pub gatheredBy : Bool → ℕ → List ℕ → List ℕ → List ℕ
+gatheredBy false raw run recv = recv
+gatheredBy true raw run recv = sets recv (min raw rawLimit) (take (rawLimit - min raw rawLimit) run)
+
+abbrev pub gathered : Frame → List ℕ → List ℕ → List ℕ
+gathered f run recv = gatheredBy (f .opened) (f .raw) run recv
+
+-- whether a flag closes a frame here
+abbrev pub closes : Frame → Bool
+closes f = f .opened && not (eqb (f .raw) 0)
+
+-- the answer of a call, or where the call goes on
+abbrev pub TurnBy : Bool → Held → List ℕ → Turn → List ℕ → Type 0
+TurnBy true h bs t l = ReadIs (readOn h bs) (record { heard = t .heard; taken = t .taken; frame = t .frame }) l
+TurnBy false h bs t l = readOn h bs ≡ after (t .taken) (readOn (held (t .frame) l) (drop (t .taken) bs))
+
+-- some bytes are taken, and the state is sound again
+pub record TurnIs (h : Held) (bs : List ℕ) (t : Turn) (l : List ℕ) : Type 0 where
+  pub means : TurnBy (t .done) h bs t l
+  pub some : 0 < t .taken
+  pub within : t .taken ≤ length bs
+  pub again : sound (t .frame) ≡ true

@@ -1,0 +1,60 @@
+-- The sender's stream (paper 01, "Packet and frame"): one flag, then each packet's escaped contents with one flag behind it.
+-- Packet, Accepted   a packet to be sent, and that the sender takes it
+-- stream             the whole stream of packets
+-- openedFrom         the packets that are opened from a flag of it on
+-- appending          what the call that appends a packet answers and leaves
+use Prim.Native.Nat.{ℕ, zero, suc, _-_, _≤_, _<_}
+use mathlib.Core.Path.{_≡_}
+use mathlib.Core.Bool.{false}
+use mathlib.Core.List.{List, [], _∷_, _++_}
+use lib.ListN.{length, take, drop}
+use Rattle.base.specs.Bytes.{Bytes}
+use Rattle.base.specs.Written.{Outcome, outcome}
+use Rattle.packet.specs.Port.{barred}
+use Rattle.packet.specs.Contents.{payloadLimit, contents}
+use Rattle.packet.specs.Escape.{flag, escape}
+use Rattle.packet.specs.Frame.{Told, packet}
+use Rattle.packet.specs.Sender.{writing}
+
+-- port, sequence, payload
+pub record Packet : Type 0 where
+  pub port : ℕ
+  pub sequence : ℕ
+  pub payload : List ℕ
+
+-- what refusals 20, 21 and 22 ask, of numbers that fit their bytes
+pub record Accepted (p : Packet) : Type 0 where
+  pub some : length (p .payload) ≡ 0 → ⊥
+  pub short : length (escape (p .payload)) ≤ payloadLimit
+  pub free : barred (p .port) ≡ false
+  pub port-fits : p .port < 65536
+  pub sequence-fits : p .sequence < 65536
+  pub bytes : Bytes (p .payload)
+
+-- a packet's raw bytes: its escaped contents
+abbrev pub rawOf : Packet → List ℕ
+rawOf p = escape (contents (p .port) (p .sequence) (p .payload))
+
+-- each packet's raw bytes with one flag behind them ..
+abbrev pub behind : List Packet → List ℕ
+behind [] = []
+behind (p ∷ ps) = rawOf p ++ flag ∷ behind ps
+
+-- .. behind one flag
+abbrev pub stream : List Packet → List ℕ
+stream ps = flag ∷ behind ps
+
+-- a packet as it is delivered
+abbrev pub delivered : Packet → Told
+delivered p = packet (p .port) (p .sequence) (p .payload)
+
+-- the packets that are opened by the flag at place n of the stream, or by a later one
+abbrev pub openedFrom : List Packet → ℕ → List Packet
+openedFrom [] n = []
+openedFrom (p ∷ ps) zero = p ∷ ps
+openedFrom (p ∷ ps) (suc n) = openedFrom ps (n - length (rawOf p))
+
+-- a packet written behind the first `at` bytes of the output
+abbrev pub appending : ℕ → ℕ → ℕ → List ℕ → List ℕ → Outcome
+appending at port sequence payload out =
+    outcome (writing port sequence payload (drop at out) .answer) (take at out ++ writing port sequence payload (drop at out) .output)

@@ -1,0 +1,260 @@
+//! The frame reader: its state by value, and the receive buffer lent.
+ghost use mathlib.Core.Path.{_≡_};
+ghost use mathlib.Core.Bool.{true, false};
+ghost use Prim.Native.Nat.{suc, _+_, _≤_, _<_};
+ghost use lib.ListN.{length, drop};
+ghost use lib.Seq.{sets};
+ghost use Rattle.packet.specs.Contents.{rawLimit};
+ghost use Rattle.packet.specs.Frame.{part};
+ghost use Rattle.stream.specs.Called.{held, fresh, begun, readOn, readCall, sound, ReadIs};
+ghost use Rattle.stream.specs.Runs.{before, counted, gathered, closes, TurnIs};
+use base::Refusal;
+use packet::Judged;
+use packet::Packet;
+
+/// The reader's state.
+pub struct Frame {
+    /// A flag was seen.
+    pub opened: bool,
+    /// Raw bytes behind it; one more than the limit means "over".
+    pub raw: usize,
+    /// How many of them are stored.
+    pub stored: usize,
+}
+
+/// What a call answers.
+pub enum Heard {
+    /// More is wanted.
+    More,
+    /// A closed frame, or the call refused.
+    Said(Judged),
+}
+
+/// The result of a call.
+pub struct Read {
+    pub heard: Heard,
+    /// Bytes of the piece taken.
+    pub taken: usize,
+    pub frame: Frame,
+}
+
+// What a run of bytes and the flag behind it give.
+struct Turn {
+    // The flag gave an answer.
+    done: bool,
+    heard: Heard,
+    // Bytes taken.
+    taken: usize,
+    frame: Frame,
+}
+
+// The first place from `from` on where a flag stands, or the end.
+fn flag_from(bytes: &[u8], from: usize) -> usize
+    requires { ⌜ from ≤ length (now bytes) ⌝ }
+    ensures { λ r. ⌜ r ≡ from + length (before (drop from (now (bytes .entry)))) ⌝ }
+{
+    let mut i = from;
+    while i < bytes.len() {
+        if bytes[i] == Packet::FLAG {
+            return i;
+        }
+        i += 1;
+    }
+    i
+}
+
+// Stores the bytes before the first flag from `at` on; how many.
+fn store(recv: &mut [u8], at: usize, bytes: &[u8]) -> usize
+    requires { ⌜ at + length (now bytes) ≤ length (now recv) ⌝ }
+    ensures { λ r. ⌜ (r ≡ length (before (now (bytes .entry)))) × (now (recv .exit) ≡ sets (now (recv .entry)) at (before (now (bytes .entry)))) ⌝ }
+{
+    let mut i: usize = 0;
+    while i < bytes.len() {
+        if bytes[i] == Packet::FLAG {
+            return i;
+        }
+        recv[at + i] = bytes[i];
+        i += 1;
+    }
+    i
+}
+
+impl Frame {
+    pub const FLAG: u8 = Packet::FLAG;
+
+    /// Raw bytes stored, at most.
+    pub const RAW: usize = Packet::RAW;
+
+    /// The raw count that means "over".
+    pub const OVER: usize = Self::RAW + 1;
+
+    /// Waiting for a flag.
+    pub fn fresh() -> Self
+        ensures { λ r. ⌜ r ≡ fresh ⌝ }
+    {
+        Frame {
+            opened: false,
+            raw: 0,
+            stored: 0,
+        }
+    }
+
+    // Behind a flag.
+    fn begun() -> Self
+        ensures { λ r. ⌜ r ≡ begun ⌝ }
+    {
+        Frame {
+            opened: true,
+            raw: 0,
+            stored: 0,
+        }
+    }
+
+    // Whether no count is beyond its limit.
+    fn sound(self) -> bool
+        ensures { λ r. ⌜ r ≡ sound self ⌝ }
+    {
+        if self.stored != base::least(self.raw, Frame::RAW) {
+            return false;
+        }
+        self.raw <= Frame::OVER
+    }
+
+    // After n raw bytes more.
+    fn counted(self, n: usize) -> Self
+        requires { ⌜ self .raw ≤ suc rawLimit ⌝ }
+        ensures { λ r. ⌜ r ≡ counted self n ⌝ }
+    {
+        if self.opened {
+            let raw = self.raw + base::least(n, Frame::OVER - self.raw);
+            return Frame {
+                opened: true,
+                raw,
+                stored: base::least(raw, Frame::RAW),
+            };
+        }
+        self
+    }
+
+    // Takes the bytes before the first flag: those of a frame are stored; how many.
+    fn gather(self, recv: &mut [u8], bytes: &[u8]) -> usize
+        requires { ⌜ rawLimit ≤ length (now recv) ⌝ }
+        ensures { λ r. ⌜ (r ≡ length (before (now (bytes .entry)))) × (now (recv .exit) ≡ gathered self (before (now (bytes .entry))) (now (recv .entry))) ⌝ }
+    {
+        if self.opened {
+            let at = base::least(self.raw, Frame::RAW);
+            let n = base::least(Frame::RAW - at, bytes.len());
+            let k = store(recv, at, &bytes[0..n]);
+            if k < n {
+                return k;
+            }
+            return flag_from(bytes, n);
+        }
+        flag_from(bytes, 0)
+    }
+
+    // Whether a flag closes a frame here.
+    fn closes(self) -> bool
+        ensures { λ r. ⌜ r ≡ closes self ⌝ }
+    {
+        if self.opened {
+            return self.raw != 0;
+        }
+        false
+    }
+
+    // The bytes up to the first flag, and the flag.
+    fn turn(self, recv: &mut [u8], bytes: &[u8]) -> Turn
+        requires { ⌜ (sound self ≡ true) × (rawLimit ≤ length (now recv)) × (0 < length (now bytes)) ⌝ }
+        ensures { λ r. ⌜ TurnIs (held self (now (recv .entry))) (now (bytes .entry)) r (now (recv .exit)) ⌝ }
+    {
+        let n = self.gather(recv, bytes);
+        let frame = self.counted(n);
+        if n == bytes.len() {
+            return Turn {
+                done: false,
+                heard: Heard::More,
+                taken: n,
+                frame,
+            };
+        }
+        if frame.closes() {
+            let j = packet::judge(recv, frame.raw);
+            return Turn {
+                done: true,
+                heard: Heard::Said(j),
+                taken: n + 1,
+                frame: Frame::begun(),
+            };
+        }
+        Turn {
+            done: false,
+            heard: Heard::More,
+            taken: n + 1,
+            frame: Frame::begun(),
+        }
+    }
+
+    // The bytes of a piece, up to the first answer.
+    fn read_on(self, recv: &mut [u8], piece: &[u8]) -> Read
+        requires { ⌜ (sound self ≡ true) × (rawLimit ≤ length (now recv)) ⌝ }
+        ensures { λ r. ⌜ ReadIs (readOn (held self (now (recv .entry))) (now (piece .entry))) r (now (recv .exit)) ⌝ }
+    {
+        let mut frame = self;
+        let mut at: usize = 0;
+        while at < piece.len() {
+            let t = frame.turn(recv, &piece[at..]);
+            at += t.taken;
+            let f = t.frame;
+            frame = f;
+            if t.done {
+                let heard = t.heard;
+                return Read {
+                    heard,
+                    taken: at,
+                    frame: f,
+                };
+            }
+        }
+        Read {
+            heard: Heard::More,
+            taken: at,
+            frame,
+        }
+    }
+
+    /// One call: at most one answer, and no byte behind the one that caused it is taken.
+    pub fn read(self, recv: &mut [u8], piece: &[u8]) -> Read
+        ensures { λ r. ⌜ ReadIs (readCall (held self (now (recv .entry))) (now (piece .entry))) r (now (recv .exit)) ⌝ }
+    {
+        if !self.sound() {
+            return Read {
+                heard: Heard::Said(Judged::Refused(Refusal::STATE)),
+                taken: 0,
+                frame: self,
+            };
+        }
+        if recv.len() < Frame::RAW {
+            return Read {
+                heard: Heard::Said(Judged::Refused(Refusal::BUFFER)),
+                taken: 0,
+                frame: self,
+            };
+        }
+        self.read_on(recv, piece)
+    }
+}
+
+/// The payload of a delivered packet, where it stands in the receive buffer; an empty part where that is too short to hold it.
+pub fn payload(recv: &[u8], length: usize) -> &[u8]
+    ensures { λ r. ⌜ now r ≡ part (now (recv .entry)) length ⌝ }
+{
+    if recv.len() < 5 {
+        return &recv[..0];
+    }
+    if recv.len() - 5 < length {
+        return &recv[..0];
+    }
+    let end = length + 5;
+    &recv[5..end]
+}
