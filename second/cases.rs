@@ -1,18 +1,15 @@
 //! Cases for the comparison: how they are written, which are asked, and what the second program answers.
 //! crates/answers/src/main.rt has the form of a case and of an answer.
 
-use crate::{fcs, interleaver, parity};
+use crate::packet::Judged;
+use crate::stream::Frame;
+use crate::{fcs, interleaver, packet, parity, stream};
 
 pub struct Case {
     pub asked: u8,
     pub number: u64,
     pub room: u16,
     pub bytes: Vec<u8>,
-}
-
-pub struct Answer {
-    pub number: u64,
-    pub out: Vec<u8>,
 }
 
 impl Case {
@@ -24,24 +21,84 @@ impl Case {
         to.extend(&self.bytes);
     }
 
-    /// What the second program answers.
-    pub fn answer(&self) -> Answer {
+    /// What the second program answers, as bytes.
+    pub fn answer(&self) -> Vec<u8> {
         let mut out = vec![0xA5; self.room as usize];
-        let number = match self.asked {
+        let mut answer = match self.asked {
+            b'S' => self.read(&mut out),
+            _ => self.tell(&mut out).to_le_bytes().to_vec(),
+        };
+        answer.extend(out);
+        answer
+    }
+
+    fn tell(&self, out: &mut [u8]) -> u64 {
+        let (low, next) = (self.number as u16, (self.number >> 16) as u16);
+        match self.asked {
             b'F' => fcs::check(&self.bytes) as u64,
-            b'G' => fcs::feed(self.number as u16, &self.bytes) as u64,
-            b'T' => parity::times((self.number >> 8) as u8, self.number as u8) as u64,
+            b'G' => fcs::feed(low, &self.bytes) as u64,
+            b'T' => parity::times((low >> 8) as u8, low as u8) as u64,
             b'E' => parity::power(self.number) as u64,
-            b'P' => written(parity::make(self.number, &self.bytes, out.len()), &mut out),
+            b'P' => written(parity::make(self.number, &self.bytes, out.len()), out),
             b'W' => match parity::check(self.number, &self.bytes) {
                 Ok(clean) => !clean as u64,
                 Err(n) => refusal(n),
             },
-            b'I' => written(interleaver::turn(false, self.number, &self.bytes, out.len()), &mut out),
-            b'J' => written(interleaver::turn(true, self.number, &self.bytes, out.len()), &mut out),
+            b'I' => written(interleaver::turn(false, self.number, &self.bytes, out.len()), out),
+            b'J' => written(interleaver::turn(true, self.number, &self.bytes, out.len()), out),
+            b'C' => packet::class(low) as u64,
+            b'K' => written(packet::write(low, next, &self.bytes, out.len()), out),
+            b'B' => written(if out.is_empty() { Err(23) } else { Ok(vec![packet::FLAG]) }, out),
+            b'A' => {
+                let at = out.len().min((self.number >> 32) as usize);
+                written(packet::write(low, next, &self.bytes, out.len() - at), &mut out[at..])
+            }
+            b'Q' => {
+                let n = out.len().min(self.bytes.len());
+                out[..n].copy_from_slice(&self.bytes[..n]);
+                judged(packet::judge(out, self.number as usize))
+            }
             _ => 0,
-        };
-        Answer { number, out }
+        }
+    }
+
+    /// A stream read in pieces.
+    fn read(&self, recv: &mut [u8]) -> Vec<u8> {
+        let mut told = Vec::new();
+        let (raw, stored) = ((self.number >> 32) as usize & 0xFFFF, (self.number >> 48) as usize);
+        let mut frame = Frame { opened: self.number >> 31 & 1 == 1, raw, stored };
+        let (mut at, mut seed) = (0, self.number & 0x7FFFFFFF);
+        'pieces: loop {
+            let (length, next) = stream::next_piece(seed, self.bytes.len() - at);
+            let end = at + length;
+            seed = next;
+            loop {
+                let (answer, taken) = frame.read(recv, &self.bytes[at..end]);
+                at += taken;
+                told.extend((taken as u64).to_le_bytes());
+                told.extend(answer.map_or(0, judged).to_le_bytes());
+                match answer {
+                    None => break,
+                    Some(Judged::Packet { length, .. }) => told.extend(&recv[5..5 + length]),
+                    Some(Judged::Refused(n)) if n >= 10 => break 'pieces,
+                    Some(Judged::Refused(_)) => {}
+                }
+            }
+            if end == self.bytes.len() {
+                break;
+            }
+        }
+        for n in [frame.opened as u64, frame.raw as u64, frame.stored as u64] {
+            told.extend(n.to_le_bytes());
+        }
+        told
+    }
+}
+
+fn judged(j: Judged) -> u64 {
+    match j {
+        Judged::Packet { port, sequence, length } => port as u64 | (sequence as u64) << 16 | (length as u64) << 32 | 1 << 56,
+        Judged::Refused(n) => refusal(n),
     }
 }
 
@@ -103,6 +160,9 @@ pub fn all(seed: u64) -> Vec<Case> {
     parities(&mut random, &mut cases);
     words(&mut random, &mut cases);
     matrices(&mut random, &mut cases);
+    packets(&mut random, &mut cases);
+    frames(&mut random, &mut cases);
+    streams(&mut random, &mut cases);
     cases
 }
 
@@ -195,5 +255,119 @@ fn matrices(random: &mut Random, cases: &mut Vec<Case>) {
                 }
             }
         }
+    }
+}
+
+/// Ports at the edges of their classes.
+const PORTS: [u16; 21] = [
+    0x0000, 0x0400, 0x0401, 0x50FF, 0x5100, 0x5101, 0x5200, 0x5201, 0x5207, 0x5208, 0x52FF, 0x5300, 0x7CFF, 0x7D00, 0x7E7D, 0x7EFF, 0x7F00,
+    0xFEFF, 0xFF00, 0xFFFE, 0xFFFF,
+];
+
+/// Payloads: at the limits, full of escapes, and random ones.
+fn payloads(random: &mut Random) -> Vec<Vec<u8>> {
+    let mut all = vec![vec![], vec![0x41], vec![0x7E], vec![0x7D], vec![0x7D, 0x5E], vec![0; 8191], vec![0; 8192], vec![0; 8193]];
+    all.extend([vec![0x7E; 4096], vec![0x7E; 4097], vec![0x7D; 4095], [vec![0x7D; 4095], vec![0; 2]].concat(), vec![0x7E; 9000]]);
+    for _ in 0..12 {
+        let n = random.below(400);
+        all.push(random.bytes(n));
+        all.push((0..n).map(|_| [0x7D, 0x7E, 0x5D, 0x5E, random.byte()][random.below(5)]).collect());
+    }
+    all
+}
+
+fn header(port: u16, sequence: u16) -> u64 {
+    port as u64 | (sequence as u64) << 16
+}
+
+fn packets(random: &mut Random, cases: &mut Vec<Case>) {
+    for number in (0..65536).step_by(13).chain(PORTS.map(u64::from)) {
+        cases.push(Case { asked: b'C', number, room: 0, bytes: vec![] });
+    }
+    for room in [0, 1, 2, 50] {
+        cases.push(Case { asked: b'B', number: 0, room, bytes: vec![] });
+    }
+    for bytes in payloads(random) {
+        for port in [0x5100, 0x7D00, 0x7E7D, random.next() as u16] {
+            let sequence = [0, 0x7D7E, random.next() as u16][random.below(3)];
+            let number = header(port, sequence);
+            let n = packet::write(port, sequence, &bytes, usize::MAX).map_or(30, |b| b.len());
+            for room in [n, n - 1, n + 1, n + 9, 0] {
+                cases.push(Case { asked: b'K', number, room: room as u16, bytes: bytes.clone() });
+            }
+            for (room, at) in [(n + 5, 5u64), (n + 4, 5), (n, 0), (3, 4), (3, 0xFFFFFFFF), (n + 40, 17)] {
+                cases.push(Case { asked: b'A', number: number | at << 32, room: room as u16, bytes: bytes.clone() });
+            }
+        }
+    }
+}
+
+/// Raw bytes of frames: right ones, damaged ones, every refusal.
+fn raws(random: &mut Random) -> Vec<Vec<u8>> {
+    let mut all = vec![];
+    for payload in payloads(random) {
+        for port in [0x5100, 0x7D80, random.next() as u16] {
+            let mut raw = packet::escape(&packet::contents(port, random.next() as u16, &payload));
+            all.push(raw.clone());
+            let mut other = packet::contents(port, 7, &payload);
+            other.truncate(other.len() - 2);
+            other[0] = 0x26;
+            other.extend(fcs::check(&other).to_le_bytes());
+            all.push(packet::escape(&other));
+            let at = random.below(raw.len());
+            raw[at] ^= 1 << random.below(8);
+            all.push(raw.clone());
+            raw.push(0x7D);
+            all.push(raw.clone());
+            raw.truncate(random.below(raw.len()));
+            all.push(raw);
+        }
+    }
+    for n in [1, 7, 8, 8204, 8205, 8206, 9000] {
+        all.push(vec![0x21; n]);
+        all.push(vec![0x7D; n]);
+        all.push([vec![0x7D, 0x21], vec![0x41; n], vec![0x7D]].concat());
+        all.push(random.bytes(n).into_iter().map(|b| if b == 0x7E { 0x7F } else { b }).collect());
+    }
+    all
+}
+
+fn frames(random: &mut Random, cases: &mut Vec<Case>) {
+    for bytes in raws(random) {
+        let n = bytes.len();
+        for (raw, room) in [(n, n), (n, n + 7), (n, n - n.min(1)), (n + 1, n + 3), (n - n.min(1), n), (0, n)] {
+            cases.push(Case { asked: b'Q', number: raw as u64, room: room as u16, bytes: bytes.clone() });
+        }
+    }
+}
+
+/// Streams of frames and stray bytes, whole and cut, from a fresh state and from any other.
+fn streams(random: &mut Random, cases: &mut Vec<Case>) {
+    let raws = raws(random);
+    for i in 0..2500 {
+        let mut bytes = vec![];
+        for _ in 0..random.below(6) {
+            match random.below(8) {
+                0 => bytes.extend({
+                    let n = random.below(30);
+                    random.bytes(n)
+                }),
+                1 => bytes.push(0x7D),
+                2 => bytes.extend([0x7E, 0x7E]),
+                _ => bytes.extend(&raws[random.below(raws.len())]),
+            }
+            bytes.push(0x7E);
+        }
+        if random.below(3) == 0 {
+            bytes.truncate(random.below(bytes.len() + 1));
+        }
+        bytes.truncate(60000);
+        let seed = if random.below(3) == 0 { 0 } else { 1 + random.next() % 0x7FFFFFFE };
+        let raw = [0, 0, 0, 1, 7, 8204, 8205, 8206, 8207, random.below(8300)][random.below(10)];
+        let stored = if random.below(12) == 0 { random.below(8300) } else { raw.min(8205) };
+        let opened = random.below(2);
+        let room = if i % 40 == 0 { 8204 } else { 8205 + random.below(3) * 50 };
+        let number = if i % 2 == 0 { seed } else { seed | (opened as u64) << 31 | (raw as u64) << 32 | (stored as u64) << 48 };
+        cases.push(Case { asked: b'S', number, room: room as u16, bytes });
     }
 }

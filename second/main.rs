@@ -13,7 +13,9 @@
 mod cases;
 mod fcs;
 mod interleaver;
+mod packet;
 mod parity;
+mod stream;
 
 use std::io::Write;
 
@@ -52,6 +54,11 @@ fn hex(bytes: &[u8]) -> String {
     bytes.iter().map(|b| format!("{b:02x}")).collect()
 }
 
+/// The first bytes, for a message.
+fn short(bytes: &[u8]) -> String {
+    hex(&bytes[..bytes.len().min(40)])
+}
+
 fn both(n: &str, bytes: &str) -> Option<(u64, Vec<u8>)> {
     Some((number(n)?, unhex(bytes)?))
 }
@@ -88,16 +95,15 @@ fn compare(asked: &str, told: &str) -> i32 {
     while at < asked.len() {
         let case = read_case(&asked[at..]);
         at += 13 + case.bytes.len();
-        let mine = case.answer();
-        let mut right = mine.number.to_le_bytes().to_vec();
-        right.extend(&mine.out);
+        let right = case.answer();
         let end = told.len().min(from + right.len());
         if told[from..end] != right[..] {
             differ += 1;
             if differ <= 10 {
-                println!("{} {} room {}: {}", case.asked as char, case.number, case.room, hex(&case.bytes));
-                println!("  proved code {}", hex(&told[from..end]));
-                println!("  second      {}", hex(&right));
+                let first = right.iter().zip(&told[from..end]).take_while(|(a, b)| a == b).count();
+                println!("{} {} room {}: {}", case.asked as char, case.number, case.room, short(&case.bytes));
+                println!("  at byte {first} of the answer the proved code has {}", short(&told[(from + first).min(end)..end]));
+                println!("  and the second program {}", short(&right[first..]));
             }
         }
         from = end;

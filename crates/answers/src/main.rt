@@ -2,9 +2,13 @@
 //!
 //! A case: what is asked (a letter), a number (8 bytes), how many bytes are lent as output and how many follow (2 bytes each),
 //! and those that follow. An answer: a number (8 bytes), and all bytes of the output. Numbers stand low byte first; the output
-//! is lent filled with 0xA5; a refusal n is told as 65,536 + n.
+//! is lent filled with 0xA5; a refusal n is told as 65,536 + n. Where a stream is asked (reading.rt), an answer is longer.
+mod reading;
+
 use base::Written;
 use fcs::Register;
+use packet::Class;
+use packet::Judged;
 use parity::Checked;
 
 const HEAD: usize = 13;
@@ -44,6 +48,10 @@ fn answer(bytes: &mut [u8], out: &mut [u8]) -> bool {
 // Writes the answer to one case.
 fn respond(asked: u8, number: u64, bytes: &[u8], out: &mut [u8]) -> bool {
     fill(out);
+    if asked == b'S' {
+        reading::read(number, bytes, out);
+        return io::write_all(1, out);
+    }
     print(tell(asked, number, bytes, out));
     io::write_all(1, out)
 }
@@ -70,41 +78,61 @@ fn fill(out: &mut [u8]) {
 // Writes a number, its low byte first.
 fn print(n: u64) {
     let text = [
-        (n % 256) as u8,
-        (n / 256 % 256) as u8,
-        (n / 65536 % 256) as u8,
-        (n / 16777216 % 256) as u8,
-        0,
-        0,
-        0,
-        0,
+        low(n),
+        low(n / 0x100),
+        low(n / 0x10000),
+        low(n / 0x1000000),
+        low(n / 0x100000000),
+        low(n / 0x10000000000),
+        low(n / 0x1000000000000),
+        low(n / 0x100000000000000),
     ];
     io::write_all(1, &text);
+}
+
+fn low(n: u64) -> u8 {
+    (n % 256) as u8
+}
+
+fn half(n: u64) -> u16 {
+    (n % 65536) as u16
 }
 
 fn tell(asked: u8, number: u64, bytes: &[u8], out: &mut [u8]) -> u64 {
     match asked {
         b'F' => fcs::fcs(bytes) as u64,
-        b'G' => {
-            let r = Register {
-                bits: (number % 65536) as u16,
-            };
-            r.feed(bytes).bits as u64
-        }
-        b'T' => field::times((number / 256 % 256) as u8, (number % 256) as u8) as u64,
+        b'G' => Register { bits: half(number) }.feed(bytes).bits as u64,
+        b'T' => field::times(low(number / 256), low(number)) as u64,
         b'E' => field::power(number as usize) as u64,
         b'P' => written(parity::make(number as usize, bytes, out)),
         b'W' => checked(parity::check(number as usize, bytes)),
         b'I' => written(interleaver::interleave(number as usize, bytes, out)),
         b'J' => written(interleaver::restore(number as usize, bytes, out)),
+        b'C' => class(packet::class_of(half(number))),
+        b'K' => written(packet::write(half(number), half(number / 0x10000), bytes, out)),
+        b'B' => written(stream::begin(out)),
+        b'A' => appended(number, bytes, out),
+        b'Q' => closed(number as usize, bytes, out),
         _ => 0,
     }
+}
+
+// A packet appended: port, sequence, and the place in 32 bits.
+fn appended(number: u64, bytes: &[u8], out: &mut [u8]) -> u64 {
+    let at = (number / 0x100000000) as usize;
+    written(stream::append(out, at, half(number), half(number / 0x10000), bytes))
+}
+
+// A closed frame, of raw bytes that the output holds from its start.
+fn closed(raw: usize, bytes: &[u8], out: &mut [u8]) -> u64 {
+    base::copy(bytes, out);
+    judged(packet::judge(out, raw))
 }
 
 fn written(w: Written) -> u64 {
     match w {
         Written::Wrote(n) => n as u64,
-        Written::Refused(n) => 65536 + n as u64,
+        Written::Refused(n) => refused(n),
     }
 }
 
@@ -112,6 +140,37 @@ fn checked(c: Checked) -> u64 {
     match c {
         Checked::Clean => 0,
         Checked::Damaged => 1,
-        Checked::Refused(n) => 65536 + n as u64,
+        Checked::Refused(n) => refused(n),
+    }
+}
+
+// A packet: port, sequence, length, and 1 above them.
+fn judged(j: Judged) -> u64 {
+    match j {
+        Judged::Packet {
+            port,
+            sequence,
+            length,
+        } => sum(port as u64, sequence as u64, length as u64 % 0x1000000),
+        Judged::Refused(n) => refused(n),
+    }
+}
+
+fn sum(port: u64, sequence: u64, length: u64) -> u64 {
+    port | sequence << 16 | length << 32 | 1 << 56
+}
+
+fn refused(n: u8) -> u64 {
+    65536 + n as u64
+}
+
+fn class(c: Class) -> u64 {
+    match c {
+        Class::System => 0,
+        Class::Applications => 1,
+        Class::M => 2,
+        Class::D => 3,
+        Class::Future => 4,
+        Class::Barred => 5,
     }
 }

@@ -8,7 +8,7 @@ use Rattle.packet.specs.Contents.{payloadLimit, checked, contents}
 use Rattle.packet.specs.Escape.{escapeByte, escape}
 
 pub numbers : contents 0x5100 0 (0x41 ∷ []) ≡ 0x21 ∷ 0x00 ∷ 0x51 ∷ 0x00 ∷ 0x00 ∷ 0x41 ∷ 0xE4 ∷ 0xEC ∷ []
-unfolding contents checked fcs register entered
+unfolding contents checked fcs register entered escape escapeByte
 numbers = refl
 
 -- 8,192 plain bytes, and 4,096 bytes of 7E, are just within it

@@ -3,17 +3,19 @@
 -- laid-frame, frame-fits      a frame stored part by part
 -- sent-parts                  the parts that are stored are the packet's frame
 -- writing-keeps               a refused call leaves the output as it was
+-- wrote-is                    what a packet that was written shows
 use mathlib.Core.Path.{_≡_, refl, sym, ap, ap₂, _∙_}
-use mathlib.Core.Bool.{true, false}
+use mathlib.Core.Bool.{Bool, true, false}
 use mathlib.Core.List.{List, [], _∷_, _++_}
 use Prim.Native.Nat.{ℕ, _+_, _<_, _≤_}
 use native.Mathlib.Omega.{arith}
 use lib.Dec.{eqb, ltb}
-use borrow.Author.Tests.{eq-eqb, ne-eqb, lt-ltb, le-ltb}
+use borrow.Author.Tests.{eq-eqb, ne-eqb, lt-ltb, le-ltb, eqb-false, ltb-false}
 use lib.ListN.{length, drop, set, length-append}
+use Rattle.base.specs.Choice.{pick}
 use Rattle.base.specs.Laid.{Laid}
 use Rattle.base.specs.Written.{outcome, refused, write}
-use Rattle.base.specs.declared.Written.the-variants.{Wrote}
+use Rattle.base.specs.declared.Written.the-variants.{Wrote, Refused}
 use Rattle.base.proofs.Laid.{laid-append, laid-start}
 use Rattle.base.proofs.Writing.{Keeps, refused-keeps, write-keeps, pick-keeps}
 use Rattle.fcs.specs.Fcs.{fcs}
@@ -75,3 +77,34 @@ pub sent-parts : (port sequence k : ℕ) (payload head tail : List ℕ)
     → head ≡ opening port sequence → tail ≡ two k → k ≡ fcs (head ++ payload) → framed (head ++ payload ++ tail) ≡ sent port sequence payload
 unfolding sent contents checked
 sent-parts port sequence k payload head tail h t e = rw (t, e, h)
+
+-- ---- what a packet that was written shows: that the sender takes it, and where it stands
+pub record Wrote-is (port sequence : ℕ) (payload out : List ℕ) (n : ℕ) (out′ : List ℕ) : Type 0 where
+  pub some : length payload ≡ 0 → ⊥
+  pub short : length (escape payload) ≤ payloadLimit
+  pub free : barred port ≡ false
+  pub long : n ≡ length (sent port sequence payload)
+  pub holds : out′ ≡ sent port sequence payload ++ drop (length (sent port sequence payload)) out
+
+pub wrote-is : (port sequence : ℕ) (payload out : List ℕ) (n : ℕ) → writing port sequence payload out .answer ≡ Wrote n
+    → Wrote-is port sequence payload out n (writing port sequence payload out .output)
+unfolding writing
+wrote-is port sequence payload out n =
+    go (eqb (length payload) 0) (ltb payloadLimit (length (escape payload))) (barred port) (ltb (length out) (length bs)) refl refl refl
+  where
+    bs : List ℕ
+    bs = sent port sequence payload
+
+    wrong : {m : ℕ} → Refused m ≡ Wrote n → ⊥
+    wrong e = let z : _≡_ {A = ℕ} 0 1 = cc in omega arith
+
+    go : (e l b r : Bool) → eqb (length payload) 0 ≡ e → ltb payloadLimit (length (escape payload)) ≡ l → barred port ≡ b
+        → pick e (refused 20 out) (pick l (refused 21 out) (pick b (refused 22 out) (pick r (refused 23 out) (outcome (Wrote (length bs)) (bs ++ drop (length bs) out))))) .answer ≡ Wrote n
+        → Wrote-is port sequence payload out n (pick e (refused 20 out) (pick l (refused 21 out) (pick b (refused 22 out) (pick r (refused 23 out) (outcome (Wrote (length bs)) (bs ++ drop (length bs) out))))) .output)
+    go true l b r he hl hb q = absurd (wrong q)
+    go false true b r he hl hb q = absurd (wrong q)
+    go false false true r he hl hb q = absurd (wrong q)
+    go false false false true he hl hb q = absurd (wrong q)
+    go false false false false he hl hb q =
+        let k : length bs ≡ n = cc in
+        record { some = eqb-false _ _ he; short = ltb-false _ _ hl; free = hb; long = sym k; holds = refl }

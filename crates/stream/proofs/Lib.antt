@@ -2,3 +2,10 @@ pub mod Fine
 pub mod Runs
 pub mod Turning
 pub mod Sending
+pub mod Accepting
+pub mod Streaming
+pub mod Cutting
+pub mod Delivery
+pub mod Shown
+pub mod Numbers
+pub mod Determined

@@ -17,10 +17,10 @@ use Rattle.base.specs.declared.Written.the-variants.{Wrote, Refused}
 use Rattle.base.proofs.Lists.{over}
 use Rattle.base.proofs.Parts.{tail-is}
 use Rattle.base.proofs.Tests.{by-le}
-use Rattle.base.proofs.Writing.{write-fits, copied-fits, Keeps}
+use Rattle.base.proofs.Writing.{write-fits, write-short, copied-fits, Keeps}
 use Rattle.packet.specs.Escape.{flag}
 use Rattle.packet.specs.Sender.{sent, framed, writing}
-use Rattle.packet.proofs.Sending.{writing-keeps}
+use Rattle.packet.proofs.Sending.{writing-keeps, wrote-is}
 use Rattle.stream.specs.Sender.{Packet, rawOf, behind, stream, appending}
 
 set-first : (l : List ℕ) (b : ℕ) → 0 < length l → set l 0 b ≡ b ∷ drop 1 l
@@ -55,3 +55,38 @@ module _ (at from : ℕ) (out : List ℕ) (e : from ≡ min at (length out)) whe
 pub appending-keeps : (at port sequence : ℕ) (payload out : List ℕ) → Keeps out (appending at port sequence payload out)
 appending-keeps at port sequence payload out n e =
     ap (λ (x : List ℕ). take at out ++ x) (writing-keeps port sequence payload (drop at out) n e) ∙ take-append-drop at out
+
+-- ---- the stream
+behind-append : (ps : List Packet) (p : Packet) → behind (ps ++ p ∷ []) ≡ behind ps ++ (rawOf p ++ flag ∷ [])
+behind-append [] p = refl
+behind-append (q ∷ ps) p = ap (λ (l : List ℕ). rawOf q ++ flag ∷ l) (behind-append ps p) ∙ sym (append-assoc (rawOf q) (flag ∷ behind ps) (rawOf p ++ flag ∷ []))
+
+pub begin-stream : (out : List ℕ) (n : ℕ) → write (flag ∷ []) out .answer ≡ Wrote n → take n (write (flag ∷ []) out .output) ≡ stream []
+begin-stream out n = by-le 1 (length out) fits λ h e. absurd (short h e)
+  where
+    fits : 1 ≤ length out → write (flag ∷ []) out .answer ≡ Wrote n → take n (write (flag ∷ []) out .output) ≡ stream []
+    fits h e =
+        let w = write-fits (flag ∷ []) out h ∙ ap (outcome (Wrote 1)) (copied-fits (flag ∷ []) out h) in
+        let k : Wrote 1 ≡ Wrote n = sym (ap (λ (o : Outcome). o .answer) w) ∙ e in
+        let m : 1 ≡ n = cc in
+        rw (← m) (ap (λ (o : Outcome). take 1 (o .output)) w)
+
+    short : length out < 1 → write (flag ∷ []) out .answer ≡ Wrote n → ⊥
+    short h e =
+        let k : Refused 23 ≡ Wrote n = sym (ap (λ (o : Outcome). o .answer) (write-short (flag ∷ []) out h)) ∙ e in
+        let z : _≡_ {A = ℕ} 0 1 = cc in
+        omega arith
+
+pub append-stream : (ps : List Packet) (p : Packet) (out : List ℕ) (at n : ℕ) → at ≤ length out → take at out ≡ stream ps
+    → appending at (p .port) (p .sequence) (p .payload) out .answer ≡ Wrote n
+    → take (at + n) (appending at (p .port) (p .sequence) (p .payload) out .output) ≡ stream (ps ++ p ∷ [])
+unfolding sent framed
+append-stream ps p out at n h e a =
+    let w = wrote-is (p .port) (p .sequence) (p .payload) (drop at out) n a in
+    let bs : List ℕ = rawOf p ++ flag ∷ [] in
+    let l : length (take at out ++ bs) ≡ at + n = length-append (take at out) bs ∙ omega (arith, length-take-le at out h, w .long) in
+    ap (λ (x : List ℕ). take (at + n) (take at out ++ x)) (w .holds)
+    ∙ ap (take (at + n)) (sym (append-assoc (take at out) bs (drop (length bs) (drop at out))))
+    ∙ take-at (take at out ++ bs) (drop (length bs) (drop at out)) (at + n) l
+    ∙ ap (λ (x : List ℕ). x ++ bs) e
+    ∙ ap (λ (x : List ℕ). flag ∷ x) (sym (behind-append ps p))

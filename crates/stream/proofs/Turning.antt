@@ -154,7 +154,8 @@ module _ (h : Held) (f : Fine h) (l : List ℕ) (some-bytes : 0 < length l) {n :
           means = ((λ i. record { heard = Said (ej i); taken = n + 1; frame = eb i }) ∙ ap readOf (sym told), er ∙ ap (λ (x : Option Told × ℕ × Held). x .2 .recv) (sym told));
           some = omega arith;
           within = omega (arith, short);
-          again = ap sound eb }
+          again = ap sound eb;
+        }
 
     pub turn-opens : {g′ : Frame} → closes g ≡ false → g′ ≡ begun → TurnIs h l (record { done = false; heard = More; taken = n + 1; frame = g′ }) k
     turn-opens {g′} c eb =
@@ -164,7 +165,8 @@ module _ (h : Held) (f : Fine h) (l : List ℕ) (some-bytes : 0 < length l) {n :
               ∙ after-more n (readOn (held begun k) (drop (n + 1) l)) ∙ ap (λ (b : Frame). after (n + 1) (readOn (held b k) (drop (n + 1) l))) (sym eb);
           some = omega arith;
           within = omega (arith, short);
-          again = ap sound eb }
+          again = ap sound eb;
+        }
 
 -- ---- the loop of a call: the call on the piece is the one on the bytes left, after those taken
 module _ (h₀ : Held) (piece : List ℕ) (f : Frame) (l : List ℕ) (at : ℕ) (e : readOn h₀ piece ≡ after at (readOn (held f l) (drop at piece))) where

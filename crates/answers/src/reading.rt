@@ -1,0 +1,125 @@
+//! A stream read in pieces. The number of the case: 31 bits that say how it is cut (0: not at all), whether the frame is open, then
+//! raw and stored count in 16 bits each; the output is the receive buffer. Each call is told as the bytes taken and its answer (0: more
+//! wanted), a delivered payload behind it; at the end the state's three numbers.
+use packet::Judged;
+use stream::Frame;
+use stream::Heard;
+
+// Where the reading stands: the piece that is handed in is bytes[at..end].
+struct Place {
+    frame: Frame,
+    seed: u64,
+    at: usize,
+    end: usize,
+    go: bool,
+}
+
+pub fn read(number: u64, bytes: &[u8], recv: &mut [u8]) {
+    let frame = Frame {
+        opened: number / 0x80000000 % 2 == 1,
+        raw: (number / 0x100000000 % 65536) as usize,
+        stored: (number / 0x1000000000000) as usize,
+    };
+    let mut place = next_piece(frame, number % 0x80000000, 0, bytes.len());
+    let mut calls = u64::MAX;
+    while calls > 0 {
+        if !place.go {
+            crate::print(place.frame.opened as u64);
+            crate::print(place.frame.raw as u64);
+            crate::print(place.frame.stored as u64);
+            return;
+        }
+        place = call(place, bytes, recv);
+        calls -= 1;
+    }
+}
+
+// Cuts the next piece: often of 0 bytes or 1, else of up to 300.
+fn next_piece(frame: Frame, seed: u64, at: usize, n: usize) -> Place {
+    if seed == 0 {
+        return Place {
+            frame,
+            seed,
+            at,
+            end: n,
+            go: true,
+        };
+    }
+    let drawn = seed % 0x80000000 * 1103515245 % 0x80000000 / 8;
+    let kind = drawn / 256 % 8;
+    let next = seed % 0x80000000 * 69069 % 0x80000000 + 1;
+    let long = (drawn / 2048 % 300) as usize;
+    let want = if kind < 2 {
+        0
+    } else {
+        if kind < 4 { 1 } else { long }
+    };
+    let left = n - base::least(at, n);
+    Place {
+        frame,
+        seed: next,
+        at,
+        end: base::least(at, n) + base::least(want, left),
+        go: true,
+    }
+}
+
+// One call, and what follows from its answer.
+fn call(p: Place, bytes: &[u8], recv: &mut [u8]) -> Place {
+    let at = p.at;
+    let end = p.end;
+    let frame = p.frame;
+    let seed = p.seed;
+    if bytes.len() < end {
+        return stop(frame);
+    }
+    if end < at {
+        return stop(frame);
+    }
+    let r = frame.read(recv, &bytes[at..end]);
+    let f = r.frame;
+    let next = std::num::wrapping_add_usize(at, r.taken);
+    crate::print(r.taken as u64);
+    let h = r.heard;
+    match h {
+        Heard::More => {
+            crate::print(0);
+            if end == bytes.len() {
+                return stop(f);
+            }
+            next_piece(f, seed, next, bytes.len())
+        }
+        Heard::Said(j) => {
+            crate::print(crate::judged(j));
+            Place {
+                frame: f,
+                seed,
+                at: next,
+                end,
+                go: deliver(j, recv),
+            }
+        }
+    }
+}
+
+fn stop(frame: Frame) -> Place {
+    Place {
+        frame,
+        seed: 0,
+        at: 0,
+        end: 0,
+        go: false,
+    }
+}
+
+// Writes a delivered payload; false where the call was refused.
+fn deliver(j: Judged, recv: &[u8]) -> bool {
+    match j {
+        Judged::Packet {
+            port: _,
+            sequence: _,
+            length,
+        } => io::write_all(1, stream::payload(recv, length)),
+        Judged::Refused(n) => n < 10,
+    }
+}

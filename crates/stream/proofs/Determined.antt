@@ -1,0 +1,31 @@
+-- Each public function's promise determines its result, and what the lent buffer then holds. `payload` returns a part of the buffer:
+-- what it holds is determined.
+use mathlib.Core.Path.{refl}
+use denote.Ref.{now}
+use Rattle.base.specs.Determined.{Determined, DeterminedAs}
+use Rattle.base.proofs.Determining.{same, same-answer, same-output, buffer, skip}
+use Rattle.stream.proofs.frame.Frame.fresh.Kinds as fresh-kinds
+use Rattle.stream.proofs.frame.Frame.fresh.Reads as fresh-reads
+use Rattle.stream.proofs.frame.Frame.read.Kinds as read-kinds
+use Rattle.stream.proofs.frame.Frame.read.Reads as read-reads
+use Rattle.stream.proofs.frame.payload.Kinds as payload-kinds
+use Rattle.stream.proofs.frame.payload.Reads as payload-reads
+use Rattle.stream.proofs.sender.begin.Kinds as begin-kinds
+use Rattle.stream.proofs.sender.begin.Reads as begin-reads
+use Rattle.stream.proofs.sender.append.Kinds as append-kinds
+use Rattle.stream.proofs.sender.append.Reads as append-reads
+
+pub fresh-determined : Determined fresh-kinds.ps fresh-kinds.r fresh-reads.Asked fresh-reads.Learnt
+fresh-determined κs a z z′ ws ws′ pre p q = (same p q, refl)
+
+pub read-determined : Determined read-kinds.ps read-kinds.r read-reads.Asked read-reads.Learnt
+read-determined κs a z z′ ws ws′ pre p q = (same (p .0) (q .0), skip (buffer (same (p .1) (q .1)) refl))
+
+pub payload-determined : DeterminedAs payload-kinds.ps payload-kinds.r (λ κs z. now z) payload-reads.Asked payload-reads.Learnt
+payload-determined κs a z z′ ws ws′ pre p q = (same p q, refl)
+
+pub begin-determined : Determined begin-kinds.ps begin-kinds.r begin-reads.Asked begin-reads.Learnt
+begin-determined κs a z z′ ws ws′ pre p q = (same-answer p q, buffer (same-output p q) refl)
+
+pub append-determined : Determined append-kinds.ps append-kinds.r append-reads.Asked append-reads.Learnt
+append-determined κs a z z′ ws ws′ pre p q = (same-answer p q, buffer (same-output p q) refl)
