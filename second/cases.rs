@@ -3,7 +3,7 @@
 
 use crate::packet::Judged;
 use crate::stream::Frame;
-use crate::{fcs, interleaver, packet, parity, stream};
+use crate::{channel, channel_cases, fcs, interleaver, packet, parity, stream};
 
 pub struct Case {
     pub asked: u8,
@@ -26,6 +26,7 @@ impl Case {
         let mut out = vec![0xA5; self.room as usize];
         let mut answer = match self.asked {
             b'S' => self.read(&mut out),
+            b'O' => channel_cases::hear(self.number, &self.bytes, &mut out),
             _ => self.tell(&mut out).to_le_bytes().to_vec(),
         };
         answer.extend(out);
@@ -58,6 +59,8 @@ impl Case {
                 out[..n].copy_from_slice(&self.bytes[..n]);
                 judged(packet::judge(out, self.number as usize))
             }
+            b'M' => written(channel::mark(&self.bytes, out.len()), out),
+            b'N' => written(channel::send(&self.bytes, out.len()), out),
             _ => 0,
         }
     }
@@ -65,8 +68,7 @@ impl Case {
     /// A stream read in pieces.
     fn read(&self, recv: &mut [u8]) -> Vec<u8> {
         let mut told = Vec::new();
-        let (raw, stored) = ((self.number >> 32) as usize & 0xFFFF, (self.number >> 48) as usize);
-        let mut frame = Frame { opened: self.number >> 31 & 1 == 1, raw, stored };
+        let mut frame = frame(self.number);
         let (mut at, mut seed) = (0, self.number & 0x7FFFFFFF);
         'pieces: loop {
             let (length, next) = stream::next_piece(seed, self.bytes.len() - at);
@@ -95,7 +97,12 @@ impl Case {
     }
 }
 
-fn judged(j: Judged) -> u64 {
+/// The frame state in the number of a case.
+pub fn frame(number: u64) -> Frame {
+    Frame { opened: number >> 31 & 1 == 1, raw: (number >> 32) as usize & 0xFFFF, stored: (number >> 48) as usize }
+}
+
+pub fn judged(j: Judged) -> u64 {
     match j {
         Judged::Packet { port, sequence, length } => port as u64 | (sequence as u64) << 16 | (length as u64) << 32 | 1 << 56,
         Judged::Refused(n) => refusal(n),
@@ -163,6 +170,7 @@ pub fn all(seed: u64) -> Vec<Case> {
     packets(&mut random, &mut cases);
     frames(&mut random, &mut cases);
     streams(&mut random, &mut cases);
+    channel_cases::all(&mut random, &mut cases);
     cases
 }
 

@@ -11,6 +11,8 @@
 //!                            holds its own answers to those of the proved code
 
 mod cases;
+mod channel;
+mod channel_cases;
 mod fcs;
 mod interleaver;
 mod packet;

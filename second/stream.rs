@@ -9,8 +9,17 @@ pub struct Frame {
 }
 
 impl Frame {
+    pub fn fresh() -> Self {
+        Frame { opened: false, raw: 0, stored: 0 }
+    }
+
+    /// Whether no count is beyond its limit.
+    pub fn sound(&self) -> bool {
+        self.stored == self.raw.min(RAW) && self.raw <= RAW + 1
+    }
+
     /// Takes one byte; an answer where a frame is closed.
-    fn take(&mut self, recv: &mut [u8], byte: u8) -> Option<Judged> {
+    pub fn take(&mut self, recv: &mut [u8], byte: u8) -> Option<Judged> {
         if byte == FLAG {
             let closes = self.opened && self.raw > 0;
             let raw = self.raw;
@@ -29,7 +38,7 @@ impl Frame {
 
     /// One call: its answer (none: more wanted), and the bytes taken.
     pub fn read(&mut self, recv: &mut [u8], piece: &[u8]) -> (Option<Judged>, usize) {
-        if self.stored != self.raw.min(RAW) || self.raw > RAW + 1 {
+        if !self.sound() {
             return (Some(Judged::Refused(10)), 0);
         }
         if recv.len() < RAW {

@@ -2,7 +2,9 @@
 //!
 //! A case: what is asked (a letter), a number (8 bytes), how many bytes are lent as output and how many follow (2 bytes each),
 //! and those that follow. An answer: a number (8 bytes), and all bytes of the output. Numbers stand low byte first; the output
-//! is lent filled with 0xA5; a refusal n is told as 65,536 + n. Where a stream is asked (reading.rt), an answer is longer.
+//! is lent filled with 0xA5; a refusal n is told as 65,536 + n. Where a stream is asked (reading.rt) or a
+//! channel (hearing.rt), an answer is longer.
+mod hearing;
 mod reading;
 
 use base::Written;
@@ -50,6 +52,10 @@ fn respond(asked: u8, number: u64, bytes: &[u8], out: &mut [u8]) -> bool {
     fill(out);
     if asked == b'S' {
         reading::read(number, bytes, out);
+        return io::write_all(1, out);
+    }
+    if asked == b'O' {
+        hearing::hear(number, bytes, out);
         return io::write_all(1, out);
     }
     print(tell(asked, number, bytes, out));
@@ -113,6 +119,8 @@ fn tell(asked: u8, number: u64, bytes: &[u8], out: &mut [u8]) -> u64 {
         b'B' => written(stream::begin(out)),
         b'A' => appended(number, bytes, out),
         b'Q' => closed(number as usize, bytes, out),
+        b'M' => written(channel::mark(bytes, out)),
+        b'N' => written(channel::send(bytes, out)),
         _ => 0,
     }
 }

@@ -14,13 +14,23 @@ struct Place {
     go: bool,
 }
 
-pub fn read(number: u64, bytes: &[u8], recv: &mut [u8]) {
-    let frame = Frame {
+// The next piece: where it ends, and how the rest is cut.
+pub struct Piece {
+    pub seed: u64,
+    pub end: usize,
+}
+
+// The frame state in the number of a case.
+pub fn frame(number: u64) -> Frame {
+    Frame {
         opened: number / 0x80000000 % 2 == 1,
         raw: (number / 0x100000000 % 65536) as usize,
         stored: (number / 0x1000000000000) as usize,
-    };
-    let mut place = next_piece(frame, number % 0x80000000, 0, bytes.len());
+    }
+}
+
+pub fn read(number: u64, bytes: &[u8], recv: &mut [u8]) {
+    let mut place = next_piece(frame(number), number % 0x80000000, 0, bytes.len());
     let mut calls = u64::MAX;
     while calls > 0 {
         if !place.go {
@@ -34,16 +44,21 @@ pub fn read(number: u64, bytes: &[u8], recv: &mut [u8]) {
     }
 }
 
-// Cuts the next piece: often of 0 bytes or 1, else of up to 300.
 fn next_piece(frame: Frame, seed: u64, at: usize, n: usize) -> Place {
+    let c = cut(seed, at, n);
+    Place {
+        frame,
+        seed: c.seed,
+        at,
+        end: c.end,
+        go: true,
+    }
+}
+
+// Cuts the next piece: often of 0 bytes or 1, else of up to 300.
+pub fn cut(seed: u64, at: usize, n: usize) -> Piece {
     if seed == 0 {
-        return Place {
-            frame,
-            seed,
-            at,
-            end: n,
-            go: true,
-        };
+        return Piece { seed, end: n };
     }
     let drawn = seed % 0x80000000 * 1103515245 % 0x80000000 / 8;
     let kind = drawn / 256 % 8;
@@ -55,12 +70,9 @@ fn next_piece(frame: Frame, seed: u64, at: usize, n: usize) -> Place {
         if kind < 4 { 1 } else { long }
     };
     let left = n - base::least(at, n);
-    Place {
-        frame,
+    Piece {
         seed: next,
-        at,
         end: base::least(at, n) + base::least(want, left),
-        go: true,
     }
 }
 
@@ -113,7 +125,7 @@ fn stop(frame: Frame) -> Place {
 }
 
 // Writes a delivered payload; false where the call was refused.
-fn deliver(j: Judged, recv: &[u8]) -> bool {
+pub fn deliver(j: Judged, recv: &[u8]) -> bool {
     match j {
         Judged::Packet {
             port: _,

@@ -17,7 +17,7 @@ use Rattle.stream.proofs.Fine.{Fine, fine-is, fine-take}
 pub none-owed : (h : Held) (n : ℕ) → owesNone h ≡ suc n → owesNone (handsNone h .1) ≡ n
 none-owed h n e = omega arith
 
-read-agrees : (h : Held) (bs : List ℕ) → Fine h → readCall h bs ≡ readOn h bs
+pub read-agrees : (h : Held) (bs : List ℕ) → Fine h → readCall h bs ≡ readOn h bs
 read-agrees h bs f = rw (fine-is h f, le-leb rawLimit (length (h .recv)) (f .room)) refl
 
 -- the law of a call: its answer is the first, and the others are had from its state and the bytes it left

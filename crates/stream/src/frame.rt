@@ -110,8 +110,8 @@ impl Frame {
         }
     }
 
-    // Whether no count is beyond its limit.
-    fn sound(self) -> bool
+    /// Whether no count is beyond its limit.
+    pub fn sound(self) -> bool
         ensures { λ r. ⌜ r ≡ sound self ⌝ }
     {
         if self.stored != base::least(self.raw, Frame::RAW) {

@@ -16,6 +16,7 @@ read-spec =
     tie.close
     (tie.spec Inv-loop μ-loop
     (search needs)
+    (search needs)
     (λ c. refl)
     (search needs)
     (search needs)

@@ -1,0 +1,184 @@
+//! A channel heard in pieces. The number of the case is as for a stream (reading.rt). Its bytes begin with a head: whether the
+//! receiver is locked, its four hunted bytes, then in 16 bits each the counts of word, handed on and marker, the length of the first
+//! piece and that of the word buffer. The word buffer's bytes follow, then those to be heard; the output is the receive buffer. Each
+//! call is told as the bytes taken and its answer (0: more wanted, 1: clean, 2: damaged, 3: lock lost), a delivered payload behind
+//! it; at the end the state's numbers, the hunted bytes and the word buffer.
+use crate::reading;
+use channel::Answer;
+use channel::Hunting;
+use channel::Locked;
+use channel::Receiver;
+
+const HEAD: usize = 15;
+
+// The longest word buffer that is lent.
+const WORD: usize = 300;
+
+// Where the hearing stands: the piece that is handed in is bytes[at..end].
+struct Place {
+    receiver: Receiver,
+    seed: u64,
+    at: usize,
+    end: usize,
+    go: bool,
+}
+
+pub fn hear(number: u64, bytes: &[u8], recv: &mut [u8]) {
+    let mut head = [0u8; 15];
+    let mut word = [0u8; 300];
+    base::copy(bytes, &mut head);
+    lend(number, head, bytes, recv, &mut word);
+}
+
+// Fills the word buffer and hears what follows it.
+fn lend(number: u64, head: [u8; 15], bytes: &[u8], recv: &mut [u8], word: &mut [u8]) {
+    let size = pair(head[13], head[14]);
+    if WORD < size {
+        return;
+    }
+    if word.len() < size {
+        return;
+    }
+    let from = HEAD + size;
+    if bytes.len() < from {
+        return;
+    }
+    base::copy(&bytes[15..from], word);
+    run(
+        start(number, head, bytes.len() - from),
+        &bytes[from..],
+        recv,
+        &mut word[0..size],
+    );
+    io::write_all(1, &word[0..size]);
+}
+
+fn pair(low: u8, high: u8) -> usize {
+    (crate::wide(low) | crate::wide(high) << 8) as usize
+}
+
+// The first piece, of n bytes at most.
+fn start(number: u64, head: [u8; 15], n: usize) -> Place {
+    let hunting = Hunting {
+        a: head[1],
+        b: head[2],
+        c: head[3],
+        d: head[4],
+    };
+    let lock = Locked {
+        word: pair(head[5], head[6]),
+        handed: pair(head[7], head[8]),
+        marker: pair(head[9], head[10]),
+    };
+    let receiver = Receiver {
+        locked: head[0] == 1,
+        hunting,
+        lock,
+        frame: reading::frame(number),
+    };
+    Place {
+        receiver,
+        seed: number % 0x80000000,
+        at: 0,
+        end: base::least(pair(head[11], head[12]), n),
+        go: true,
+    }
+}
+
+fn run(first: Place, bytes: &[u8], recv: &mut [u8], word: &mut [u8]) {
+    let mut place = first;
+    let mut calls = u64::MAX;
+    while calls > 0 {
+        if !place.go {
+            finish(place.receiver);
+            return;
+        }
+        place = call(place, bytes, recv, word);
+        calls -= 1;
+    }
+}
+
+// Writes the state's numbers and the hunted bytes.
+fn finish(r: Receiver) {
+    let lock = r.lock;
+    let frame = r.frame;
+    let hunting = r.hunting;
+    crate::print(r.locked as u64);
+    crate::print(lock.word as u64);
+    crate::print(lock.handed as u64);
+    crate::print(lock.marker as u64);
+    crate::print(frame.opened as u64);
+    crate::print(frame.raw as u64);
+    crate::print(frame.stored as u64);
+    crate::print(hunting.a as u64);
+    crate::print(hunting.b as u64);
+    crate::print(hunting.c as u64);
+    crate::print(hunting.d as u64);
+}
+
+// One call, and what follows from its answer.
+fn call(p: Place, bytes: &[u8], recv: &mut [u8], word: &mut [u8]) -> Place {
+    let at = p.at;
+    let end = p.end;
+    let receiver = p.receiver;
+    let seed = p.seed;
+    if bytes.len() < end {
+        return stop(receiver);
+    }
+    if end < at {
+        return stop(receiver);
+    }
+    let h = receiver.hear(recv, word, &bytes[at..end]);
+    let r = h.receiver;
+    let next = std::num::wrapping_add_usize(at, h.taken);
+    let answer = h.answer;
+    crate::print(h.taken as u64);
+    crate::print(code(answer));
+    match answer {
+        Answer::More => more(r, seed, next, end, bytes.len()),
+        Answer::Said(j) => onward(r, seed, next, end, reading::deliver(j, recv)),
+        Answer::Clean => onward(r, seed, next, end, true),
+        Answer::Damaged => onward(r, seed, next, end, true),
+        Answer::LockLost => onward(r, seed, next, end, true),
+    }
+}
+
+fn code(answer: Answer) -> u64 {
+    match answer {
+        Answer::More => 0,
+        Answer::Clean => 1,
+        Answer::Damaged => 2,
+        Answer::LockLost => 3,
+        Answer::Said(j) => crate::judged(j),
+    }
+}
+
+// Behind a piece: the next one of n bytes in all, or the end.
+fn more(receiver: Receiver, seed: u64, at: usize, end: usize, n: usize) -> Place {
+    if end == n {
+        return stop(receiver);
+    }
+    let c = reading::cut(seed, at, n);
+    Place {
+        receiver,
+        seed: c.seed,
+        at,
+        end: c.end,
+        go: true,
+    }
+}
+
+// The rest of the piece.
+fn onward(receiver: Receiver, seed: u64, at: usize, end: usize, go: bool) -> Place {
+    Place {
+        receiver,
+        seed,
+        at,
+        end,
+        go,
+    }
+}
+
+fn stop(receiver: Receiver) -> Place {
+    onward(receiver, 0, 0, 0, false)
+}

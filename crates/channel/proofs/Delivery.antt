@@ -1,0 +1,59 @@
+-- payload-there   a delivered payload is the part of the receive buffer that a call of its own hands out
+use Prim.Native.Nat.{ℕ, suc}
+use mathlib.Core.Bool.{Bool, true, false}
+use mathlib.Core.List.{List}
+use mathlib.Core.Option.{Option, some, none}
+use lib.ListN.{getD, set}
+use lib.Dec.{ltb}
+use Rattle.base.specs.Calls.{With}
+use Rattle.base.proofs.Calls.{with-hear}
+use Rattle.packet.specs.Frame.{Told}
+use Rattle.packet.proofs.Judging.{There}
+use Rattle.stream.specs.Called.{takeByte}
+use Rattle.stream.proofs.Delivery.{ThereIf, there-byte}
+use Rattle.channel.specs.declared.receiver.Hunting.{Hunting}
+use Rattle.channel.specs.Sender.{wordBytes}
+use Rattle.channel.specs.Channel.{Event, said, block, lost, isMarker, shift}
+use Rattle.channel.specs.Called.{Board, heldIn, wordOn, compareOn, markOn, eatBy, eatByte, owed, asEvent, handOn}
+use Rattle.channel.specs.Called.{sound, roomy, hearBy, hearCall}
+use Rattle.channel.proofs.Cutting.{hand-one}
+
+-- of an event and the buffers that come with it
+abbrev pub ThereEvent : Event → Board → Type 0
+ThereEvent (said a) d = There a (d .recv)
+ThereEvent (block c) d = Unit {0}
+ThereEvent lost d = Unit {0}
+
+there-as : (o : Option Told) (d : Board) → ThereIf o (d .recv) → With ThereEvent (asEvent o) d
+there-as none d t = tt
+there-as (some a) d t = t
+
+there-word : (t : Bool) (c : Board) (k : List ℕ) → With ThereEvent (wordOn t c k .0) (wordOn t c k .1)
+there-word true c k = tt
+there-word false c k = tt
+
+there-compare : (t : Bool) (f : Hunting) (c : Board) → With ThereEvent (compareOn t f c .0) (compareOn t f c .1)
+there-compare true f c = tt
+there-compare false f c = tt
+
+there-mark : (t : Bool) (f : Hunting) (c : Board) → With ThereEvent (markOn t f c .0) (markOn t f c .1)
+there-mark true f c = tt
+there-mark false f c = there-compare (isMarker f) f c
+
+there-eat : (l t : Bool) (c : Board) (b : ℕ) → With ThereEvent (eatBy l t c b .0) (eatBy l t c b .1)
+there-eat false t c b = tt
+there-eat true true c b = there-word (ltb (suc (c .st .lock .word)) wordBytes) c (set (c .word) (c .st .lock .word) b)
+there-eat true false c b = there-mark (ltb (suc (c .st .lock .marker)) 4) (shift (c .st .hunting) b) c
+
+there-by-call : (s r : Bool) (c : Board) (bs : List ℕ) → With ThereEvent (hearBy s r c bs .0) (hearBy s r c bs .2)
+there-by-call false r c bs = tt
+there-by-call true false c bs = tt
+there-by-call true true c bs =
+    with-hear owed handOn eatByte hand-one ThereEvent
+    (λ d. there-as (takeByte (heldIn d) (getD (d .word) (d .st .lock .handed) 0) .0) (handOn d .1)
+    (there-byte (heldIn d) (getD (d .word) (d .st .lock .handed) 0)))
+    (λ d b. there-eat (d .st .locked) (ltb (d .st .lock .word) wordBytes) d b) c bs
+
+-- a delivered payload is the part of the receive buffer that a call of its own hands out
+pub payload-there : (c : Board) (bs : List ℕ) → With ThereEvent (hearCall c bs .0) (hearCall c bs .2)
+payload-there c bs = there-by-call (sound (c .st)) (roomy (c .recv) (c .word)) c bs

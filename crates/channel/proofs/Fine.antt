@@ -1,0 +1,127 @@
+-- States and buffers that pass refusals 10 and 11.
+-- Fine                 what the two ask, as facts
+-- fine-is, fine-of     they are passed exactly then
+-- fine-fresh           a fresh receiver passes them, with buffers that are long enough
+-- fine-hand, fine-eat  every move keeps it
+use Prim.Native.Nat.{ℕ, suc, _≤_, _<_}
+use native.Mathlib.Omega.{arith}
+use mathlib.Core.Path.{_≡_, refl}
+use mathlib.Core.Bool.{Bool, true, false, _&&_, false≢true}
+use mathlib.Core.List.{List}
+use lib.ListN.{length, getD, set, length-set}
+use lib.Dec.{eqb, ltb, leb}
+use borrow.Author.Tests.{le-leb, ltb-true, leb-true}
+use Rattle.packet.specs.Contents.{rawLimit}
+use Rattle.stream.specs.Called.{Held, takeByte}
+use Rattle.stream.proofs.Fine.{Fine as FineFrame, fine-take, fine-of as frame-of, fine-is as frame-is}
+use Rattle.channel.specs.declared.receiver.Hunting.{Hunting}
+use Rattle.channel.specs.Sender.{messageBytes, wordBytes}
+use Rattle.channel.specs.Channel.{shift, isMarker, zeros}
+use Rattle.channel.specs.Called.{Board, board, heldIn, huntingWith, freshReceiver, lockedWith, sound, roomy}
+use Rattle.channel.specs.Called.{huntOn, wordOn, compareOn, markOn, eatBy, eatByte, owedBy, owed, handOn}
+
+-- what 10 asks of the state, and 11 of the buffers
+pub record Fine (c : Board) : Type 0 where
+  pub frame : FineFrame (heldIn c)
+  pub word : c .st .lock .word ≤ wordBytes
+  pub marker : c .st .lock .marker ≤ 3
+  pub handed : c .st .lock .handed ≤ messageBytes
+  pub room : wordBytes ≤ length (c .word)
+
+-- two tests, passed together
+pub and-parts : (x y : Bool) → x && y ≡ true → (x ≡ true) × (y ≡ true)
+and-parts true y e = (refl, e)
+and-parts false y e = absurd (false≢true e)
+
+-- the tests of 10 and 11, passed ..
+pub fine-of : (c : Board) → sound (c .st) ≡ true → roomy (c .recv) (c .word) ≡ true → Fine c
+fine-of c s r =
+    let p = and-parts _ _ s in
+    let l = and-parts (leb (c .st .lock .word) wordBytes) _ (p .1) in
+    let m = and-parts (leb (c .st .lock .marker) 3) _ (l .1) in
+    let q = and-parts (leb rawLimit (length (c .recv))) _ r in
+    record {
+      frame = frame-of (c .st .frame) (c .recv) (p .0) (leb-true _ _ (q .0));
+      word = leb-true _ _ (l .0);
+      marker = leb-true _ _ (m .0);
+      handed = leb-true _ _ (m .1);
+      room = leb-true _ _ (q .1);
+    }
+
+-- .. and passed only then: 10 ..
+pub fine-is : (c : Board) → Fine c → sound (c .st) ≡ true
+fine-is c i =
+    rw (
+      frame-is (heldIn c) (i .frame),
+      le-leb (c .st .lock .word) wordBytes (i .word),
+      le-leb (c .st .lock .marker) 3 (i .marker),
+      le-leb (c .st .lock .handed) messageBytes (i .handed),
+    ) refl
+
+-- .. and 11
+pub fine-roomy : (c : Board) → Fine c → roomy (c .recv) (c .word) ≡ true
+fine-roomy c i = rw (le-leb rawLimit (length (c .recv)) (i .frame .room), le-leb wordBytes (length (c .word)) (i .room)) refl
+
+fine-hunting : (f : Hunting) (l k : List ℕ) → rawLimit ≤ length l → wordBytes ≤ length k → Fine (huntingWith f l k)
+fine-hunting f l k a b = record {
+  frame = record { stored = refl; raw = omega arith; room = a };
+  word = omega arith;
+  marker = omega arith;
+  handed = omega arith;
+  room = b;
+}
+
+-- a fresh receiver, with buffers that are long enough
+pub fine-fresh : (l k : List ℕ) → rawLimit ≤ length l → wordBytes ≤ length k → Fine (board freshReceiver l k)
+fine-fresh l k a b = fine-hunting zeros l k a b
+
+fine-locked : (f : Hunting) (w h m : ℕ) (r : Held) (k : List ℕ)
+    → w ≤ wordBytes → h ≤ messageBytes → m ≤ 3 → FineFrame r → wordBytes ≤ length k → Fine (lockedWith f w h m r k)
+fine-locked f w h m r k a b c d e = record { frame = d; word = a; marker = c; handed = b; room = e }
+
+-- locked, at the start of a word
+fine-begun : (f : Hunting) (c : Board) → Fine c → Fine (lockedWith f 0 0 0 (heldIn c) (c .word))
+fine-begun f c i = fine-locked f 0 0 0 (heldIn c) (c .word) (omega arith) (omega arith) (omega arith) (i .frame) (i .room)
+
+fine-hunt : (t : Bool) (f : Hunting) (c : Board) → Fine c → Fine (huntOn t f c)
+fine-hunt true f c i = fine-begun f c i
+fine-hunt false f c i = record { frame = i .frame; word = i .word; marker = i .marker; handed = i .handed; room = i .room }
+
+fine-compare : (t : Bool) (f : Hunting) (c : Board) → Fine c → Fine (compareOn t f c .1)
+fine-compare true f c i = fine-begun f c i
+fine-compare false f c i = fine-hunting f (c .recv) (c .word) (i .frame .room) (i .room)
+
+fine-mark : (t : Bool) (f : Hunting) (c : Board) → ltb (suc (c .st .lock .marker)) 4 ≡ t → Fine c → Fine (markOn t f c .1)
+fine-mark true f c e i =
+    let l : suc (c .st .lock .marker) < 4 = ltb-true _ _ e in
+    fine-locked f _ _ _ (heldIn c) (c .word) (i .word) (i .handed) (omega arith) (i .frame) (i .room)
+fine-mark false f c e i = fine-compare (isMarker f) f c i
+
+fine-word : (t : Bool) (c : Board) (k : List ℕ) → ltb (suc (c .st .lock .word)) wordBytes ≡ t → Fine c → wordBytes ≤ length k → Fine (wordOn t c k .1)
+fine-word true c k e i h =
+    let l : suc (c .st .lock .word) < wordBytes = ltb-true _ _ e in
+    fine-locked _ _ _ _ (heldIn c) k (omega arith) (i .handed) (i .marker) (i .frame) h
+fine-word false c k e i h = fine-locked _ wordBytes 0 0 (heldIn c) k (omega arith) (omega arith) (omega arith) (i .frame) h
+
+fine-by : (l t : Bool) (c : Board) (b : ℕ) → Fine c → Fine (eatBy l t c b .1)
+fine-by false t c b i = fine-hunt (isMarker (shift (c .st .hunting) b)) (shift (c .st .hunting) b) c i
+fine-by true true c b i =
+    fine-word (ltb (suc (c .st .lock .word)) wordBytes) c (set (c .word) (c .st .lock .word) b) refl i (rw length-set (i .room))
+fine-by true false c b i = fine-mark (ltb (suc (c .st .lock .marker)) 4) (shift (c .st .hunting) b) c refl i
+
+-- a new byte keeps it ..
+pub fine-eat : (c : Board) (b : ℕ) → owed c ≡ 0 → Fine c → Fine (eatByte c b .1)
+fine-eat c b e i = fine-by (c .st .locked) (ltb (c .st .lock .word) wordBytes) c b i
+
+-- where a message byte is owed, it is one of the 223, and one less is owed behind it
+pub owed-one : (l t : Bool) (h n : ℕ) → owedBy l t h ≡ suc n → (owedBy true t (suc h) ≡ n) × (h < messageBytes)
+owed-one true true h n e = omega arith
+owed-one true false h n e = absurd (omega arith)
+owed-one false t h n e = absurd (omega arith)
+
+-- .. and so does a stored message byte that is handed on
+pub fine-hand : (c : Board) (n : ℕ) → owed c ≡ suc n → Fine c → Fine (handOn c .1)
+fine-hand c n e i =
+    let l : c .st .lock .handed < messageBytes = owed-one (c .st .locked) (eqb (c .st .lock .word) wordBytes) (c .st .lock .handed) n e .1 in
+    let b : ℕ = getD (c .word) (c .st .lock .handed) 0 in
+    fine-locked _ _ _ _ (takeByte (heldIn c) b .1) (c .word) (i .word) (omega arith) (i .marker) (fine-take (heldIn c) b (i .frame)) (i .room)

@@ -1,0 +1,531 @@
+-- What the code's ways through the phases of a call give.
+-- shifts-next .. hunt-done     the two loops among the last four bytes
+-- hand-none .. hand-said       the rest of a stored word
+-- compare-more .. lost         marker bytes
+-- hunt-more, hunt-found        hunting
+-- fill-more, fill-whole        bytes of a word
+-- call-unsound .. call-on      refused with 10, with 11, or let on
+use Prim.Native.Nat.{ℕ, suc, _+_, _-_, _≤_, _<_, min}
+use native.Mathlib.Omega.{arith}
+use native.Mathlib.Numerals.{add-one}
+use native.Mathlib.Nat.{add-zero, zero-add}
+use mathlib.Core.Path.{_≡_, refl, sym, _∙_, ap, subst}
+use mathlib.Core.Bool.{Bool, true, false, _&&_, false≢true}
+use mathlib.Core.List.{List, [], _∷_, _++_, append-assoc}
+use mathlib.Core.Option.{Option, some, none}
+use lib.ListN.{length, take, drop, getD, length-append, length-drop, drop-of-length-le, take-append-drop}
+use lib.Seq.{drop-cons, take-at, take-all, length-take-le}
+use lib.Dec.{eqb, ltb, leb}
+use borrow.Author.Tests.{le-leb, leb-true, eqb-true, lt-ltb, le-ltb}
+use borrow.Rule.Slice.PartMut.{putMid}
+use Rattle.base.specs.Choice.{pick}
+use Rattle.base.specs.Calls.{after, unless}
+use Rattle.base.specs.Written.{copied}
+use Rattle.base.proofs.Calls.{after-none, FitsBy, fits}
+use Rattle.base.proofs.Writing.{copied-fits}
+use Rattle.packet.specs.Contents.{rawLimit}
+use Rattle.packet.specs.Frame.{Told, judged}
+use Rattle.packet.specs.declared.frame.Judged.{Judged}
+use Rattle.stream.specs.declared.frame.Frame.{Frame}
+use Rattle.stream.specs.declared.frame.Read.{Read}
+use Rattle.stream.specs.declared.frame.Heard.the-variants as heard
+use Rattle.stream.specs.Called.{Held, held, fresh, takeByte, owesNone, handsNone, readOn, readCall, ReadIs, sound as soundFrame, answered as frameAnswered}
+use Rattle.stream.proofs.Fine.{fine-of}
+use Rattle.stream.proofs.Cutting.{none-owed, read-agrees}
+use Rattle.channel.specs.declared.receiver.Hunting.{Hunting}
+use Rattle.channel.specs.declared.receiver.Locked.{Locked}
+use Rattle.channel.specs.declared.receiver.Receiver.{Receiver}
+use Rattle.channel.specs.declared.receiver.Answer.{Answer}
+use Rattle.channel.specs.declared.receiver.Answer.the-variants.{More, Said, LockLost}
+use Rattle.channel.specs.declared.receiver.Hearing.{Hearing}
+use Rattle.channel.specs.declared.receiver.Phase.{Phase}
+use Rattle.channel.specs.declared.receiver.Found.{Found}
+use Rattle.channel.specs.Channel.{Event, block, isClean, shift, isMarker}
+use Rattle.channel.specs.Called.{Board, board, counts, huntingWith, lockedWith, owedBy, owes, asEvent, hearOn, soundLock, sound, roomy, hearBy, hearCall, blockAnswer, hearingOf, HearingIs}
+use Rattle.channel.specs.Phases.{shifts, later, hunted, ended, PhaseBy, HandedIs, SoughtIs, FilledIs}
+use Rattle.channel.proofs.Sending.{lent, back}
+use Rattle.channel.proofs.Fine.{and-parts}
+use Rattle.channel.proofs.Phases.{onward, hand-run, mark-part, comparedOn, behindFour, mark-four, huntingAt, huntedOn, hunt-run, word-part, word-whole}
+
+-- ---- the two loops
+pub shifts-next : (f : Hunting) (bs : List ℕ) (i : ℕ) {g t : Hunting} → i < length bs → g ≡ shift f (getD bs i 0) → shifts f (drop i bs) ≡ t
+    → shifts g (drop (i + 1) bs) ≡ t
+shifts-next f bs i h e p =
+    (λ j. shifts (e j) (drop (add-one i j) bs)) ∙ sym (ap (shifts f) (drop-cons bs i 0 h)) ∙ p
+
+pub shifts-done : (f : Hunting) (bs : List ℕ) (i : ℕ) {t : Hunting} → length bs ≤ i → shifts f (drop i bs) ≡ t → f ≡ t
+shifts-done f bs i h p = sym (ap (shifts f) (drop-of-length-le bs h)) ∙ p
+
+-- what hunting finds, so many bytes later
+abbrev pub latest : ℕ → Found → Found
+latest n x = record { found = x .found; taken = n + x .taken; hunting = x .hunting }
+
+hunted-some : (f : Hunting) (bs : List ℕ) (i : ℕ) {g : Hunting} (t : Bool) → i < length bs → g ≡ shift f (getD bs i 0) → isMarker g ≡ t
+    → hunted f (drop i bs) ≡ pick t (record { found = true; taken = 1; hunting = g }) (later (hunted g (drop (suc i) bs)))
+unfolding hunted
+hunted-some f bs i {g} t h e m =
+    ap (hunted f) (drop-cons bs i 0 h)
+    ∙ (λ j. pick (isMarker (sym e j)) (record { found = true; taken = 1; hunting = sym e j }) (later (hunted (sym e j) (drop (suc i) bs))))
+    ∙ ap (λ b. pick b (record { found = true; taken = 1; hunting = g }) (later (hunted g (drop (suc i) bs)))) m
+
+module _ (f : Hunting) (bs : List ℕ) (i : ℕ) {t : Found} (p : latest i (hunted f (drop i bs)) ≡ t) where
+  pub hunt-next : {g : Hunting} {r : Bool} → i < length bs → g ≡ shift f (getD bs i 0) → r ≡ isMarker g → r ≡ false
+      → latest (i + 1) (hunted g (drop (i + 1) bs)) ≡ t
+  hunt-next {g} h e m q =
+      let x : Found = hunted g (drop (suc i) bs) in
+      let n : i + 1 + x .taken ≡ i + suc (x .taken) = omega arith in
+      ap (λ j. latest (i + 1) (hunted g (drop j bs))) (add-one i)
+      ∙ (λ j. record { found = x .found; taken = n j; hunting = x .hunting })
+      ∙ ap (latest i) (sym (hunted-some f bs i false h e (sym m ∙ q))) ∙ p
+
+  pub hunt-stop : {g : Hunting} {r : Bool} → i < length bs → g ≡ shift f (getD bs i 0) → r ≡ isMarker g → r ≡ true
+      → record { found = true; taken = i + 1; hunting = g } ≡ t
+  hunt-stop h e m q = ap (latest i) (sym (hunted-some f bs i true h e (sym m ∙ q))) ∙ p
+
+  pub hunt-done : length bs ≤ i → record { found = false; taken = i; hunting = f } ≡ t
+  unfolding hunted
+  hunt-done h =
+      (λ j. record { found = false; taken = sym (add-zero i) j; hunting = f })
+      ∙ ap (λ l. latest i (hunted f l)) (sym (drop-of-length-le bs h)) ∙ p
+
+pub latest-none : (x : Found) → latest 0 x ≡ x
+latest-none x = λ j. record { found = x .found; taken = zero-add (x .taken) j; hunting = x .hunting }
+
+-- ---- what 10 and 11 ask
+pub sound-lock : (s : Receiver) → sound s ≡ true → soundLock (s .lock) ≡ true
+sound-lock s e = and-parts (soundFrame (s .frame)) _ e .1
+
+sound-frame : (s : Receiver) → sound s ≡ true → soundFrame (s .frame) ≡ true
+sound-frame s e = and-parts (soundFrame (s .frame)) _ e .0
+
+module _ (k : Locked) (e : soundLock k ≡ true) where
+  pub lock-word : k .word ≤ 255
+  lock-word = leb-true _ _ (and-parts (leb (k .word) 255) _ e .0)
+
+  pub lock-marker : k .marker ≤ 3
+  lock-marker = leb-true _ _ (and-parts (leb (k .marker) 3) _ (and-parts (leb (k .word) 255) _ e .1) .0)
+
+  pub lock-handed : k .handed ≤ 223
+  lock-handed = leb-true _ _ (and-parts (leb (k .marker) 3) _ (and-parts (leb (k .word) 255) _ e .1) .1)
+
+lock-sound : (w h m : ℕ) → w ≤ 255 → m ≤ 3 → h ≤ 223 → soundLock (counts w h m) ≡ true
+lock-sound w h m a b c = rw (le-leb w 255 a, le-leb m 3 b, le-leb h 223 c) refl
+
+pub room-recv : (l k : List ℕ) → roomy l k ≡ true → rawLimit ≤ length l
+room-recv l k e = leb-true _ _ (and-parts (leb rawLimit (length l)) _ e .0)
+
+pub room-word : (l k : List ℕ) → roomy l k ≡ true → 255 ≤ length k
+room-word l k e = leb-true _ _ (and-parts (leb rawLimit (length l)) _ e .1)
+
+-- ---- the rest of a stored word
+owed-some : (l t : Bool) (h : ℕ) → (owedBy l t h ≡ 0 → ⊥) → (l ≡ true) × (t ≡ true) × (h < 223)
+owed-some true true h e = (refl, refl, let n : 223 - h ≡ 0 → ⊥ = e in omega arith)
+owed-some true false h e = absurd (e refl)
+owed-some false t h e = absurd (e refl)
+
+fits-within : (o : Option Told) (n : ℕ) (g : Held) (bs : List ℕ) → FitsBy owesNone handsNone takeByte none-owed o n g bs → n ≤ length bs
+fits-within none n g bs f = omega (arith, f .0)
+fits-within (some a) n g bs f = f
+
+fits-none : (o : Option Told) (n : ℕ) (g : Held) (bs : List ℕ) → FitsBy owesNone handsNone takeByte none-owed o n g bs → frameAnswered o ≡ heard.More → n ≡ length bs
+fits-none none n g bs f e = f .0
+fits-none (some a) n g bs f e = absurd (let z : _≡_ {A = ℕ} 0 1 = cc in omega arith)
+
+is-none : (o : Option Told) → frameAnswered o ≡ heard.More → o ≡ none
+is-none none e = refl
+is-none (some a) e = absurd (let z : _≡_ {A = ℕ} 0 1 = cc in omega arith)
+
+said-is : (o : Option Told) (j : Judged) → frameAnswered o ≡ heard.Said j → (t : Told) × (o ≡ some t) × (j ≡ judged t)
+said-is none j e = absurd (let z : _≡_ {A = ℕ} 0 1 = cc in omega arith)
+said-is (some t) j e = (t, refl, cc)
+
+module _ (s : Receiver) (l k : List ℕ) (sd : sound s ≡ true) where
+  pub hand-none : {t : Phase} {n : ℕ} → n ≡ owes s → n ≡ 0 → t ≡ record { done = false; answer = More; taken = 0; receiver = s } → HandedIs (board s l k) t l
+  hand-none en z e =
+      subst (λ t. HandedIs (board s l k) t l) (sym e) (record {
+        means = λ bs. after-none (hearOn (board s l k) bs);
+        taken = refl;
+        lock = sound-lock s sd;
+        owed = λ d. sym en ∙ z;
+      })
+
+  module _ (rm : roomy l k ≡ true) {n : ℕ} (en : n ≡ owes s) (nz : n ≡ 0 → ⊥) where
+    some-owed : (s .locked ≡ true) × (eqb (s .lock .word) 255 ≡ true) × (s .lock .handed < 223)
+    some-owed = owed-some (s .locked) (eqb (s .lock .word) 255) (s .lock .handed) (λ z. nz (en ∙ z))
+
+    pub hand-handed : s .lock .handed < 223
+    hand-handed = some-owed .2
+
+    whole-word : s .lock .word ≡ 255
+    whole-word = eqb-true _ _ (some-owed .1)
+
+    rest : List ℕ
+    rest = take (223 - s .lock .handed) (drop (s .lock .handed) k)
+
+    got : Option Told × ℕ × Held
+    got = readOn (held (s .frame) l) rest
+
+    rest-length : length rest ≡ 223 - s .lock .handed
+    unfolding rest
+    rest-length =
+        length-take-le (223 - s .lock .handed) (drop (s .lock .handed) k) (omega (arith, length-drop (s .lock .handed) k, room-word l k rm))
+
+    got-fits : FitsBy owesNone handsNone takeByte none-owed (got .0) (got .1) (got .2) rest
+    unfolding got
+    got-fits = fits owesNone handsNone takeByte none-owed (held (s .frame) l) rest
+
+    module _ {r : Read} {l′ : List ℕ} (e : ReadIs (readCall (held (s .frame) l) (take (223 - s .lock .handed) (drop (s .lock .handed) k))) r l′) where
+      call-is : readCall (held (s .frame) l) (take (223 - s .lock .handed) (drop (s .lock .handed) k)) ≡ got
+      unfolding got rest
+      call-is = read-agrees (held (s .frame) l) _ (fine-of (s .frame) l (sound-frame s sd) (room-recv l k rm))
+
+      heard-is : r .heard ≡ frameAnswered (got .0)
+      heard-is = ap (λ (x : Read). x .heard) (e .0) ∙ ap (λ x. frameAnswered (x .0)) call-is
+
+      taken-is : r .taken ≡ got .1
+      taken-is = ap (λ (x : Read). x .taken) (e .0) ∙ ap (λ x. x .1) call-is
+
+      frame-is : r .frame ≡ got .2 .st
+      frame-is = ap (λ (x : Read). x .frame) (e .0) ∙ ap (λ x. x .2 .st) call-is
+
+      recv-is : l′ ≡ got .2 .recv
+      recv-is = e .1 ∙ ap (λ x. x .2 .recv) call-is
+
+      pub taken-within : s .lock .handed + r .taken ≤ 223
+      taken-within = omega (arith, fits-within (got .0) (got .1) (got .2) rest got-fits, rest-length, taken-is, hand-handed)
+
+      abbrev next : Receiver
+      next = record { locked = true; hunting = s .hunting; lock = counts (s .lock .word) (s .lock .handed + r .taken) (s .lock .marker); frame = r .frame }
+
+      next-is : board next l′ k ≡ lockedWith (s .hunting) 255 (s .lock .handed + got .1) (s .lock .marker) (got .2) k
+      next-is = λ i.
+          board (record {
+            locked = true;
+            hunting = s .hunting;
+            lock = counts (whole-word i) (s .lock .handed + taken-is i) (s .lock .marker);
+            frame = frame-is i;
+          }) (recv-is i) k
+
+      runs : (bs : List ℕ) → hearOn (board s l k) bs ≡ onward (s .hunting) (s .lock .marker) k bs (s .lock .handed) got
+      unfolding got rest
+      runs bs =
+          (λ i. hearOn
+          (board (record {
+            locked = some-owed .0 i;
+            hunting = s .hunting;
+            lock = counts (whole-word i) (s .lock .handed) (s .lock .marker);
+            frame = s .frame;
+          }) l k) bs)
+          ∙ hand-run (s .hunting) (s .lock .marker) k bs (223 - s .lock .handed) (s .lock .handed) (held (s .frame) l)
+          (omega (arith, hand-handed)) (omega (arith, room-word l k rm))
+
+      next-lock : soundLock (next .lock) ≡ true
+      next-lock = lock-sound (s .lock .word) (s .lock .handed + r .taken) (s .lock .marker) (lock-word (s .lock) (sound-lock s sd)) (lock-marker (s .lock) (sound-lock s sd)) taken-within
+
+      pub hand-more : {t : Phase} → r .heard ≡ heard.More → t ≡ record { done = false; answer = More; taken = 0; receiver = next } → HandedIs (board s l k) t l′
+      hand-more m p =
+          let o : got .0 ≡ none = is-none (got .0) (sym heard-is ∙ m) in
+          let w : got .1 ≡ length rest = fits-none (got .0) (got .1) (got .2) rest got-fits (sym heard-is ∙ m) in
+          let z : 223 - (s .lock .handed + r .taken) ≡ 0 = omega (arith, w, rest-length, taken-is, hand-handed) in
+          subst (λ t. HandedIs (board s l k) t l′) (sym p) (record {
+            means = λ bs.
+                runs bs
+                ∙ ap (λ x. unless (asEvent x) 0 (lockedWith (s .hunting) 255 (s .lock .handed + got .1) (s .lock .marker) (got .2) k)
+                (hearOn (lockedWith (s .hunting) 255 (s .lock .handed + got .1) (s .lock .marker) (got .2) k) bs)) o
+                ∙ ap (λ c. hearOn c bs) (sym next-is)
+                ∙ after-none (hearOn (board next l′ k) bs);
+            taken = refl;
+            lock = next-lock;
+            owed = λ d. (λ i. owedBy true (eqb (whole-word i) 255) (s .lock .handed + r .taken)) ∙ z;
+          })
+
+      pub hand-said : (j : Judged) {t : Phase} → r .heard ≡ heard.Said j → t ≡ record { done = true; answer = Said j; taken = 0; receiver = next } → HandedIs (board s l k) t l′
+      hand-said j m p =
+          let o = said-is (got .0) j (sym heard-is ∙ m) in
+          subst (λ t. HandedIs (board s l k) t l′) (sym p) (record {
+            means = λ bs.
+                let q : hearOn (board s l k) bs ≡ (asEvent (some (o .0)), 0, board next l′ k) =
+                runs bs
+                ∙ ap (λ x. unless (asEvent x) 0 (lockedWith (s .hunting) 255 (s .lock .handed + got .1) (s .lock .marker) (got .2) k)
+                (hearOn (lockedWith (s .hunting) 255 (s .lock .handed + got .1) (s .lock .marker) (got .2) k) bs)) (o .1)
+                ∙ (λ i. (asEvent (some (o .0)), 0, sym next-is i)) in (
+                  (λ i. record { answer = Said (o .2 i); taken = 0; receiver = next }) ∙ ap hearingOf (sym q),
+                  ap (λ x. x .2 .recv) (sym q),
+                  ap (λ x. x .2 .word) (sym q),
+                );
+            taken = refl;
+            lock = next-lock;
+            owed = λ d. absurd (false≢true (sym d));
+          })
+
+-- ---- marker bytes
+module _ (s : Receiver) (bs : List ℕ) (o : s .locked ≡ true) (w : s .lock .word ≡ 255) (m : s .lock .marker ≤ 3) (z : owes s ≡ 0)
+    {n : ℕ} (en : n ≡ min (4 - s .lock .marker) (length bs)) {f : Hunting} (ef : f ≡ shifts (s .hunting) (take n bs)) where
+  none-left : 223 - s .lock .handed ≡ 0
+  none-left = sym (λ i. owedBy (o i) (eqb (w i) 255) (s .lock .handed)) ∙ z
+
+  board-is : (l k : List ℕ) → board s l k ≡ lockedWith (s .hunting) 255 (s .lock .handed) (s .lock .marker) (held (s .frame) l) k
+  board-is l k i = board (record { locked = o i; hunting = s .hunting; lock = counts (w i) (s .lock .handed) (s .lock .marker); frame = s .frame }) l k
+
+  pub compare-more : {t : Phase} → s .lock .marker + n < 4
+      → t ≡ record {
+        done = true;
+        answer = More;
+        taken = n;
+        receiver = record { locked = true; hunting = f; lock = counts (s .lock .word) (s .lock .handed) (s .lock .marker + n); frame = s .frame };
+      }
+      → SoughtIs s bs t
+  compare-more h e =
+      let all : n ≡ length bs = omega (arith, en) in
+      let part : take n bs ≡ bs = take-all n bs (omega arith) in
+      subst (SoughtIs s bs) (sym e) (record {
+        means = λ l k.
+            let q : hearOn (board s l k) bs
+            ≡ (none, n, board (record { locked = true; hunting = f; lock = counts (s .lock .word) (s .lock .handed) (s .lock .marker + n); frame = s .frame }) l k) =
+            ap (λ c. hearOn c bs) (board-is l k)
+            ∙ mark-part (s .lock .handed) (held (s .frame) l) k none-left bs (s .hunting) (s .lock .marker) (omega arith)
+            ∙ (λ i. (
+              none,
+              sym all i,
+              lockedWith (sym (ef ∙ ap (shifts (s .hunting)) part) i) (sym w i) (s .lock .handed) (s .lock .marker + sym all i) (held (s .frame) l) k,
+            )) in
+            (ap hearingOf (sym q), ap (λ x. x .2 .recv) (sym q), ap (λ x. x .2 .word) (sym q));
+        within = omega arith;
+        ready = λ d. absurd (false≢true (sym d));
+      })
+
+  four : (l k : List ℕ) (t : Bool) → isMarker f ≡ t → 4 ≤ s .lock .marker + n
+      → hearOn (board s l k) bs ≡ behindFour (s .lock .handed) (held (s .frame) l) k none-left (drop n bs) n (comparedOn (s .lock .handed) (held (s .frame) l) k none-left t f)
+  four l k t e h =
+      ap (λ c. hearOn c bs) (board-is l k)
+      ∙ ap (hearOn (lockedWith (s .hunting) 255 (s .lock .handed) (s .lock .marker) (held (s .frame) l) k)) (sym (take-append-drop n bs))
+      ∙ go (take n bs) refl
+    where
+      long : length (take n bs) ≡ n
+      long = length-take-le n bs (omega (arith, en))
+
+      go : (v : List ℕ) → take n bs ≡ v
+          → hearOn (lockedWith (s .hunting) 255 (s .lock .handed) (s .lock .marker) (held (s .frame) l) k) (v ++ drop n bs)
+          ≡ behindFour (s .lock .handed) (held (s .frame) l) k none-left (drop n bs) n (comparedOn (s .lock .handed) (held (s .frame) l) k none-left t f)
+      go [] p = absurd (omega (arith, long, ap length p, h, m))
+      go (b ∷ v) p =
+          let g : f ≡ shifts (s .hunting) (b ∷ v) = ef ∙ ap (shifts (s .hunting)) p in
+          let c : suc (length v) ≡ n = sym (ap length p) ∙ long in
+          mark-four (s .lock .handed) (held (s .frame) l) k none-left b v (s .hunting) (s .lock .marker) (drop n bs) (omega (arith, en, h, m, c))
+          ∙ (λ i. behindFour (s .lock .handed) (held (s .frame) l) k none-left (drop n bs) (c i)
+          (comparedOn (s .lock .handed) (held (s .frame) l) k none-left ((ap isMarker (sym g) ∙ e) i) (sym g i)))
+
+  pub compare-again : {t : Phase} {r : Bool} {x : Receiver} → 4 ≤ s .lock .marker + n → r ≡ isMarker f → r ≡ true
+      → x ≡ record { locked = true; hunting = f; lock = counts 0 0 0; frame = s .frame }
+      → t ≡ record { done = false; answer = More; taken = n; receiver = x } → SoughtIs s bs t
+  compare-again {r = r} {x = x} h e g ex et =
+      subst (SoughtIs s bs) (sym (et ∙ ap (λ y. record { done = false; answer = More; taken = n; receiver = y }) ex)) (record {
+        means = λ l k. four l k true (sym e ∙ g) h;
+        within = omega (arith, en);
+        ready = λ d. (refl, omega arith);
+      })
+
+  pub compare-lost : {t : Phase} {r : Bool} {x : Receiver} → 4 ≤ s .lock .marker + n → r ≡ isMarker f → r ≡ false
+      → x ≡ record { locked = false; hunting = f; lock = counts 0 0 0; frame = fresh }
+      → t ≡ record { done = true; answer = LockLost; taken = n; receiver = x } → SoughtIs s bs t
+  compare-lost {r = r} {x = x} h e g ex et =
+      subst (SoughtIs s bs) (sym (et ∙ ap (λ y. record { done = true; answer = LockLost; taken = n; receiver = y }) ex)) (record {
+        means = λ l k.
+            let q = four l k false (sym e ∙ g) h in
+            (ap hearingOf (sym q), ap (λ x. x .2 .recv) (sym q), ap (λ x. x .2 .word) (sym q));
+        within = omega (arith, en);
+        ready = λ d. absurd (false≢true (sym d));
+      })
+
+-- ---- hunting
+hunted-within : (bs : List ℕ) (f : Hunting) → hunted f bs .taken ≤ length bs
+unfolding hunted
+hunted-within [] f = omega arith
+hunted-within (b ∷ bs) f = by (isMarker (shift f b)) (hunted (shift f b) bs) (hunted-within bs (shift f b))
+  where
+    by : (t : Bool) (x : Found) → x .taken ≤ length bs → pick t (record { found = true; taken = 1; hunting = shift f b }) (later x) .taken ≤ suc (length bs)
+    by true x h = omega arith
+    by false x h = omega arith
+
+module _ (s : Receiver) (bs : List ℕ) (o : s .locked ≡ false) {x : Found} (ex : x ≡ hunted (s .hunting) bs) where
+  hunts : (l k : List ℕ) (t : Bool) → x .found ≡ t → hearOn (board s l k) bs ≡ huntedOn (s .lock) (s .frame) l k bs t (x .taken) (x .hunting)
+  hunts l k t e =
+      (λ i. hearOn (board (record { locked = o i; hunting = s .hunting; lock = s .lock; frame = s .frame }) l k) bs)
+      ∙ hunt-run (s .lock) (s .frame) l k bs (s .hunting)
+      ∙ (λ i. huntedOn (s .lock) (s .frame) l k bs (sym ex i .found) (sym ex i .taken) (sym ex i .hunting))
+      ∙ ap (λ b. huntedOn (s .lock) (s .frame) l k bs b (x .taken) (x .hunting)) e
+
+  some-within : x .taken ≤ length bs
+  some-within = subst (λ (y : Found). y .taken ≤ length bs) (sym ex) (hunted-within bs (s .hunting))
+
+  pub hunt-found : {t : Phase} {y : Receiver} → x .found ≡ true → y ≡ record { locked = true; hunting = x .hunting; lock = counts 0 0 0; frame = s .frame }
+      → t ≡ record { done = false; answer = More; taken = x .taken; receiver = y } → SoughtIs s bs t
+  hunt-found e ey et =
+      subst (SoughtIs s bs) (sym (et ∙ ap (λ y. record { done = false; answer = More; taken = x .taken; receiver = y }) ey)) (record {
+        means = λ l k. hunts l k true e;
+        within = some-within;
+        ready = λ d. (refl, omega arith);
+      })
+
+  pub hunt-more : {t : Phase} → x .found ≡ false
+      → t ≡ record { done = true; answer = More; taken = x .taken; receiver = record { locked = false; hunting = x .hunting; lock = s .lock; frame = s .frame } }
+      → SoughtIs s bs t
+  hunt-more e et =
+      subst (SoughtIs s bs) (sym et) (record {
+        means = λ l k. let q = hunts l k false e in (ap hearingOf (sym q), ap (λ x. x .2 .recv) (sym q), ap (λ x. x .2 .word) (sym q));
+        within = some-within;
+        ready = λ d. absurd (false≢true (sym d));
+      })
+
+-- ---- nothing to seek: a word's bytes are wanted
+pub sought-none : (s : Receiver) (bs : List ℕ) {t : Phase} → s .locked ≡ true → s .lock .word < 255
+    → t ≡ record { done = false; answer = More; taken = 0; receiver = s } → SoughtIs s bs t
+sought-none s bs o h e =
+    subst (SoughtIs s bs) (sym e) (record { means = λ l k. after-none (hearOn (board s l k) bs); within = omega arith; ready = λ d. (o, h) })
+
+-- ---- bytes of a word
+module _ (s : Receiver) (word bs : List ℕ) (o : s .locked ≡ true) (w : s .lock .word < 255) (room : 255 ≤ length word)
+    {n : ℕ} (en : n ≡ min (255 - s .lock .word) (length bs)) {y : List ℕ}
+    (ey : y ≡ copied (take n bs) (take (length word - s .lock .word) (drop (s .lock .word) word))) where
+  abbrev before : List ℕ
+  before = take (s .lock .word) word
+
+  abbrev behind : List ℕ
+  behind = drop (s .lock .word) word
+
+  before-length : length before ≡ s .lock .word
+  before-length = length-take-le (s .lock .word) word (omega arith)
+
+  some-length : length (take n bs) ≡ n
+  some-length = length-take-le n bs (omega (arith, en))
+
+  parts : word ≡ before ++ behind
+  parts = sym (take-append-drop (s .lock .word) word)
+
+  pub filled-is : putMid (s .lock .word) (length word - s .lock .word) word y ≡ (before ++ take n bs) ++ drop (length (take n bs)) behind
+  filled-is =
+      back before behind word (s .lock .word) parts before-length y
+      ∙ ap (λ x. before ++ x)
+      (ey ∙ ap (copied (take n bs)) (lent before behind word (s .lock .word) parts before-length)
+      ∙ copied-fits (take n bs) behind (omega (arith, some-length, en, length-drop (s .lock .word) word)))
+      ∙ sym (append-assoc before (take n bs) (drop (length (take n bs)) behind))
+
+  board-at : (l : List ℕ) → board s l word ≡ lockedWith (s .hunting) (length before) (s .lock .handed) (s .lock .marker) (held (s .frame) l) (before ++ behind)
+  board-at l i = board (record { locked = o i; hunting = s .hunting; lock = counts (sym before-length i) (s .lock .handed) (s .lock .marker); frame = s .frame }) l (parts i)
+
+  pub fill-more : (at : ℕ) → s .lock .word + n < 255
+      → FilledIs s word bs at (record {
+        answer = More;
+        taken = at + n;
+        receiver = record { locked = true; hunting = s .hunting; lock = counts (s .lock .word + n) (s .lock .handed) (s .lock .marker); frame = s .frame };
+      }) (putMid (s .lock .word) (length word - s .lock .word) word y)
+  fill-more at h l =
+      let part : take n bs ≡ bs = take-all n bs (omega (arith, en)) in
+      let q : hearOn (board s l word) bs
+      ≡ (
+        none,
+        n,
+        board (record { locked = true; hunting = s .hunting; lock = counts (s .lock .word + n) (s .lock .handed) (s .lock .marker); frame = s .frame }) l
+            (putMid (s .lock .word) (length word - s .lock .word) word y),
+      ) =
+      (λ i. hearOn (board-at l i) (sym part i))
+      ∙ word-part (s .hunting) (s .lock .handed) (s .lock .marker) (held (s .frame) l) (take n bs) before behind
+      (omega (arith, before-length, some-length)) (omega (arith, some-length, en, length-drop (s .lock .word) word))
+      ∙ (λ i. (
+        none,
+        some-length i,
+        lockedWith (s .hunting) (before-length i + some-length i) (s .lock .handed) (s .lock .marker) (held (s .frame) l) (sym filled-is i),
+      )) in
+      (ap (λ x. hearingOf (after at x)) (sym q), ap (λ x. x .2 .recv) (sym q), ap (λ x. x .2 .word) (sym q))
+
+  whole-length : 255 ≤ s .lock .word + n → length (before ++ take n bs) ≡ 255
+  whole-length h = omega (arith, length-append before (take n bs), before-length, some-length, en)
+
+  whole-is : 255 ≤ s .lock .word + n → take 255 (putMid (s .lock .word) (length word - s .lock .word) word y) ≡ before ++ take n bs
+  whole-is h = ap (take 255) filled-is ∙ take-at (before ++ take n bs) (drop (length (take n bs)) behind) 255 (whole-length h)
+
+  pub fill-room : 255 ≤ s .lock .word + n → 255 ≤ length (putMid (s .lock .word) (length word - s .lock .word) word y)
+  fill-room h =
+      omega (arith, ap length filled-is, length-append (before ++ take n bs) (drop (length (take n bs)) behind), whole-length h)
+
+  pub fill-within : n ≤ length bs
+  fill-within = omega (arith, en)
+
+  pub fill-same : 255 ≤ s .lock .word + n → n ≡ 255 → take 255 bs ≡ take 255 (putMid (s .lock .word) (length word - s .lock .word) word y)
+  fill-same h e =
+      let z : s .lock .word ≡ 0 = omega (arith, en) in
+      ap (λ i. take i bs) (sym e) ∙ ap (λ i. take i word ++ take n bs) (sym z) ∙ sym (whole-is h)
+
+  pub fill-whole : (at : ℕ) {a : Answer} {k : Locked} → 255 ≤ s .lock .word + n
+      → a ≡ blockAnswer (isClean (take 255 (putMid (s .lock .word) (length word - s .lock .word) word y))) → k ≡ counts 255 0 0
+      → FilledIs s word bs at (record {
+        answer = a;
+        taken = at + n;
+        receiver = record { locked = true; hunting = s .hunting; lock = k; frame = s .frame };
+      }) (putMid (s .lock .word) (length word - s .lock .word) word y)
+  fill-whole at {a} {k} h ea ek l =
+      let q : hearOn (board s l word) bs
+      ≡ (
+        some (block (isClean (before ++ take n bs))),
+        n,
+        board (record { locked = true; hunting = s .hunting; lock = k; frame = s .frame }) l (putMid (s .lock .word) (length word - s .lock .word) word y),
+      ) =
+      (λ i. hearOn (board-at l i) (sym (take-append-drop n bs) i))
+      ∙ word-whole (s .hunting) (s .lock .handed) (s .lock .marker) (held (s .frame) l) (take n bs) before behind (drop n bs)
+      (omega (arith, before-length)) (omega (arith, before-length, some-length, en)) (omega (arith, some-length, en, length-drop (s .lock .word) word))
+      ∙ (λ i. (
+        some (block (isClean (before ++ take n bs))),
+        some-length i,
+        board (record { locked = true; hunting = s .hunting; lock = sym ek i; frame = s .frame }) l (sym filled-is i),
+      )) in (
+        (λ i. record {
+          answer = (ea ∙ ap (λ x. blockAnswer (isClean x)) (whole-is h)) i;
+          taken = at + n;
+          receiver = record { locked = true; hunting = s .hunting; lock = k; frame = s .frame };
+        }) ∙ ap (λ x. hearingOf (after at x)) (sym q),
+        ap (λ x. x .2 .recv) (sym q),
+        ap (λ x. x .2 .word) (sym q),
+      )
+
+-- ---- phase behind phase
+heard-by : {x y : Option Event × ℕ × Board} {r : Hearing} {l k : List ℕ} → x ≡ y → HearingIs y r l k → HearingIs x r l k
+heard-by {r = r} {l = l} {k = k} p h = subst (λ z. HearingIs z r l k) (sym p) h
+
+module _ (c : Board) (bs : List ℕ) {t : Phase} {l : List ℕ} (h : HandedIs c t l) where
+  pub handed-end : {r : Hearing} → t .done ≡ true → r ≡ ended t → HearingIs (hearOn c bs) r l (c .word)
+  handed-end d e =
+      subst (λ r. HearingIs (hearOn c bs) r l (c .word)) (sym e) (subst (λ b. PhaseBy b c bs t l (c .word)) d (h .means bs))
+
+  module _ (d : t .done ≡ false) where
+    handed-on : hearOn c bs ≡ hearOn (board (t .receiver) l (c .word)) bs
+    handed-on =
+        subst (λ b. PhaseBy b c bs t l (c .word)) d (h .means bs)
+        ∙ ap (λ n. after n (hearOn (board (t .receiver) l (c .word)) (drop n bs))) (h .taken)
+        ∙ sym (after-none (hearOn (board (t .receiver) l (c .word)) bs))
+
+    module _ {u : Phase} (g : SoughtIs (t .receiver) bs u) where
+      pub sought-end : {r : Hearing} → u .done ≡ true → r ≡ ended u → HearingIs (hearOn c bs) r l (c .word)
+      sought-end v e =
+          heard-by handed-on
+          (subst (λ r. HearingIs (hearOn (board (t .receiver) l (c .word)) bs) r l (c .word)) (sym e)
+          (subst (λ b. PhaseBy b (board (t .receiver) l (c .word)) bs u l (c .word)) v (g .means l (c .word))))
+
+      pub filled-end : {r : Hearing} {k rest : List ℕ} → u .done ≡ false → rest ≡ drop (u .taken) bs → FilledIs (u .receiver) (c .word) rest (u .taken) r k
+          → HearingIs (hearOn c bs) r l k
+      filled-end v e f =
+          heard-by
+          (handed-on ∙ subst (λ b. PhaseBy b (board (t .receiver) l (c .word)) bs u l (c .word)) v (g .means l (c .word))
+          ∙ ap (λ x. after (u .taken) (hearOn (board (u .receiver) l (c .word)) x)) (sym e))
+          (f l)
+
+-- ---- the call: refused with 10, with 11, or let on
+module _ (c : Board) (bs : List ℕ) where
+  pub call-unsound : sound (c .st) ≡ false → HearingIs (hearCall c bs) (hearingOf (hearBy false true c bs)) (c .recv) (c .word)
+  call-unsound e = heard-by (ap (λ t. hearBy t (roomy (c .recv) (c .word)) c bs) e) (refl, refl, refl)
+
+  module _ (s : sound (c .st) ≡ true) where
+    pub call-cramped : roomy (c .recv) (c .word) ≡ false → HearingIs (hearCall c bs) (hearingOf (hearBy true false c bs)) (c .recv) (c .word)
+    call-cramped e = heard-by (λ i. hearBy (s i) (e i) c bs) (refl, refl, refl)
+
+    pub call-on : {r : Hearing} {l k : List ℕ} → roomy (c .recv) (c .word) ≡ true → HearingIs (hearOn c bs) r l k → HearingIs (hearCall c bs) r l k
+    call-on e h = heard-by (λ i. hearBy (s i) (e i) c bs) h

@@ -1,0 +1,12 @@
+pub mod Sending
+pub mod Fine
+pub mod Cutting
+pub mod Delivery
+pub mod Shown
+pub mod Streaming
+pub mod Demands
+pub mod Checks
+pub mod Phases
+pub mod Hearing
+pub mod Determined
+pub mod Numbers

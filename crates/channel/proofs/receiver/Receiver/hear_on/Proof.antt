@@ -1,0 +1,42 @@
+-- `channel::receiver::Receiver::hear_on` meets its contract, phase behind phase.
+use native.Mathlib.Omega.{arith}
+use lib.ListN.{length-drop}
+use Rattle.base.proofs.Parts.{tail-is}
+use Rattle.channel.specs.Called.{board}
+use Rattle.channel.proofs.Hearing.{room-word, handed-end, sought-end, filled-end}
+use borrow.Author.Needs.{needs}
+use Rattle.channel.proofs.receiver.Receiver.hear_on.Statement.{statement}
+use Rattle.channel.proofs.receiver.Receiver.hear_on.Tie as tie
+
+pub hear-on-spec : {M : Type 1} → statement M
+hear-on-spec =
+    tie.close
+    (tie.spec
+    (λ c κs. c .before .before .before .before .before .pre)
+    (search needs)
+    (search needs)
+    (search needs)
+    (λ c.
+    let s = c .before .before .before .before .before .before .before .before .before .before in
+    handed-end (board (s .args .self) (s .args .recv .now) (s .args .word .now)) (s .args .piece .now) (c .before .before .before .before .hand-on .ensures) (c .before .if1 .taken) (c .ended .ensures))
+    (λ c κs. let h = c .before .before .before .before .hand-on .ensures in (h .lock, h .owed (c .before .if1 .left)))
+    (search needs)
+    (search needs)
+    (search needs)
+    (λ c.
+    let s = c .before .before .before .before .before .before .before .before .before .before .before .before .before in
+    sought-end (board (s .args .self) (s .args .recv .now) (s .args .word .now)) (s .args .piece .now) (c .before .before .before .before .before .before .before .hand-on .ensures) (c .before .before .before .before .if1 .left) (c .before .before .seek .ensures) (c .before .if2 .taken) (c .ended2 .ensures))
+    (search needs)
+    (search needs)
+    (search needs)
+    (λ c κs.
+    let s = c .before .before .before .before .before .before .before .before .before .before .before .before .before .before .before in
+    let g = c .before .before .before .before .seek .ensures in
+    let at = c .before .before .before .before .seek .result .taken in
+    let r = g .ready (c .before .before .before .if2 .left) in
+    (r .0, r .1, room-word (s .args .recv .now) (s .args .word .now) (s .pre .1), rw (tail-is at (s .args .piece .now)) (omega (arith, g .within, length-drop at (s .args .piece .now)))))
+    (search needs)
+    (search needs)
+    (λ c.
+    let s = c .before .before .before .before .before .before .before .before .before .before .before .before .before .before .before .before .before .before in
+    filled-end (board (s .args .self) (s .args .recv .now) (s .args .word .now)) (s .args .piece .now) (c .before .before .before .before .before .before .before .before .before .before .before .before .hand-on .ensures) (c .before .before .before .before .before .before .before .before .before .if1 .left) (c .before .before .before .before .before .before .before .seek .ensures) (c .before .before .before .before .before .before .if2 .left) (tail-is (c .before .before .before .before .before .before .before .seek .result .taken) (s .args .piece .now)) (c .before .before .fill .ensures)))

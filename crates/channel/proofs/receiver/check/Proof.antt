@@ -1,0 +1,17 @@
+-- `channel::check` meets its contract: a word of 255 bytes is never refused.
+use borrow.Author.Needs.{needs}
+use Rattle.channel.proofs.Checks.{told-clean, told-damaged, told-refused}
+use Rattle.channel.proofs.receiver.check.Statement.{statement}
+use Rattle.channel.proofs.receiver.check.Tie as tie
+
+pub check-spec : {M : Type 1} → statement M
+check-spec =
+    tie.close
+    (tie.spec
+    (search needs)
+    (search needs)
+    (search needs)
+    (search needs)
+    (λ c. let s = c .before .before .before .before in told-clean (s .args .word .now) (s .pre) _ (c .before .before .check .ensures) (c .enum-told .given .1))
+    (λ c. let s = c .before .before .before .before in told-damaged (s .args .word .now) (s .pre) _ (c .before .before .check .ensures) (c .enum-told2 .given .1))
+    (λ c. let s = c .before .before .before .before in told-refused (s .args .word .now) (s .pre) _ (c .before .before .check .ensures) _ (c .enum-told3 .given .1)))

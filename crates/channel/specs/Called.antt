@@ -1,0 +1,171 @@
+-- The receiver as it is called (paper 01, "Opportunistic channel" on buffers and on calls): its state and the two lent buffers go in
+-- and come back, and one call gives at most one answer.
+-- Board                  state, receive buffer and word buffer
+-- handOn, eatByte        one stored message byte handed on, one new byte
+-- hearAll                what a byte string means: its answers, and state and buffers behind it
+-- hearCall, HearingIs    one call, and that the code's results are those
+-- inUse                  the final state that counts
+-- boardOf                the state of the receiver without a limit, in numbers and the buffers
+use Prim.Native.Nat.{ℕ, suc, _-_}
+use mathlib.Core.Path.{_≡_}
+use mathlib.Core.Bool.{Bool, true, false, _&&_}
+use mathlib.Core.List.{List, _++_}
+use mathlib.Core.Option.{Option, some, none}
+use lib.ListN.{length, take, getD, set}
+use lib.Dec.{eqb, ltb, leb}
+use Rattle.base.specs.Calls.{all, hear}
+use Rattle.packet.specs.Contents.{rawLimit}
+use Rattle.packet.specs.Frame.{Told, refusal, judged}
+use Rattle.stream.specs.Called.{Held, held, fresh, takeByte, heldOf, sound as soundFrame}
+use Rattle.channel.specs.declared.receiver.Hunting.{Hunting}
+use Rattle.channel.specs.declared.receiver.Locked.{Locked}
+use Rattle.channel.specs.declared.receiver.Receiver.{Receiver}
+use Rattle.channel.specs.declared.receiver.Answer.{Answer}
+use Rattle.channel.specs.declared.receiver.Answer.the-variants.{More, Said, Clean, Damaged, LockLost}
+use Rattle.channel.specs.declared.receiver.Hearing.{Hearing}
+use Rattle.channel.specs.Sender.{messageBytes, wordBytes}
+use Rattle.channel.specs.Channel.{Event, said, block, lost, isClean, shift, isMarker, zeros, Chan, hunting, inWord, inMark}
+
+-- state, receive buffer and word buffer
+pub record Board : Type 0 where
+  pub st : Receiver
+  pub recv : List ℕ
+  pub word : List ℕ
+
+abbrev pub board : Receiver → List ℕ → List ℕ → Board
+board s recv word = record { st = s; recv = recv; word = word }
+
+-- the frame reader in it
+abbrev pub heldIn : Board → Held
+heldIn c = held (c .st .frame) (c .recv)
+
+-- bytes of a word, message bytes of it handed on, marker bytes behind it
+abbrev pub counts : ℕ → ℕ → ℕ → Locked
+counts w h m = record { word = w; handed = h; marker = m }
+
+-- hunting with the last four bytes: counts zero, waiting for a flag
+abbrev pub huntingWith : Hunting → List ℕ → List ℕ → Board
+huntingWith f l k = board (record { locked = false; hunting = f; lock = counts 0 0 0; frame = fresh }) l k
+
+-- fresh: four hunted bytes of zero
+abbrev pub freshReceiver : Receiver
+freshReceiver = record { locked = false; hunting = zeros; lock = counts 0 0 0; frame = fresh }
+
+-- locked, with these counts
+abbrev pub lockedWith : Hunting → ℕ → ℕ → ℕ → Held → List ℕ → Board
+lockedWith f w h m r k = board (record { locked = true; hunting = f; lock = counts w h m; frame = r .st }) (r .recv) k
+
+-- hunting, by: are the last four the marker
+abbrev pub huntOn : Bool → Hunting → Board → Board
+huntOn true f c = lockedWith f 0 0 0 (heldIn c) (c .word)
+huntOn false f c = board (record { locked = false; hunting = f; lock = c .st .lock; frame = c .st .frame }) (c .recv) (c .word)
+
+-- a byte of a word, by: is it not whole yet. A whole word gives the block's answer
+abbrev pub wordOn : Bool → Board → List ℕ → Option Event × Board
+wordOn true c k = (none, lockedWith (c .st .hunting) (suc (c .st .lock .word)) (c .st .lock .handed) (c .st .lock .marker) (heldIn c) k)
+wordOn false c k = (some (block (isClean (take wordBytes k))), lockedWith (c .st .hunting) wordBytes 0 0 (heldIn c) k)
+
+-- four marker bytes, by: are they the marker. Lock lost: any open packet is dropped, and they are hunted in
+abbrev pub compareOn : Bool → Hunting → Board → Option Event × Board
+compareOn true f c = (none, lockedWith f 0 0 0 (heldIn c) (c .word))
+compareOn false f c = (some lost, huntingWith f (c .recv) (c .word))
+
+-- a marker byte, by: are they not four yet
+abbrev pub markOn : Bool → Hunting → Board → Option Event × Board
+markOn true f c = (none, lockedWith f (c .st .lock .word) (c .st .lock .handed) (suc (c .st .lock .marker)) (heldIn c) (c .word))
+markOn false f c = compareOn (isMarker f) f c
+
+-- one new byte, by: is it locked, is the word not whole yet
+abbrev pub eatBy : Bool → Bool → Board → ℕ → Option Event × Board
+eatBy false t c b = (none, huntOn (isMarker (shift (c .st .hunting) b)) (shift (c .st .hunting) b) c)
+eatBy true true c b = wordOn (ltb (suc (c .st .lock .word)) wordBytes) c (set (c .word) (c .st .lock .word) b)
+eatBy true false c b = markOn (ltb (suc (c .st .lock .marker)) 4) (shift (c .st .hunting) b) c
+
+-- one new byte
+abbrev pub eatByte : Board → ℕ → Option Event × Board
+eatByte c b = eatBy (c .st .locked) (ltb (c .st .lock .word) wordBytes) c b
+
+-- message bytes not handed on yet, by: is it locked, is the word whole
+abbrev pub owedBy : Bool → Bool → ℕ → ℕ
+owedBy true true h = messageBytes - h
+owedBy true false h = 0
+owedBy false t h = 0
+
+-- message bytes of a stored word that are not handed on yet
+abbrev pub owes : Receiver → ℕ
+owes s = owedBy (s .locked) (eqb (s .lock .word) wordBytes) (s .lock .handed)
+
+abbrev pub owed : Board → ℕ
+owed c = owes (c .st)
+
+-- a frame's answer is one of the channel
+abbrev pub asEvent : Option Told → Option Event
+asEvent none = none
+asEvent (some a) = some (said a)
+
+abbrev pub handWith : Option Told × Held → Board → Option Event × Board
+handWith r c = (asEvent (r .0), lockedWith (c .st .hunting) (c .st .lock .word) (suc (c .st .lock .handed)) (c .st .lock .marker) (r .1) (c .word))
+
+-- one stored message byte is handed on to the frame reader
+abbrev pub handOn : Board → Option Event × Board
+handOn c = handWith (takeByte (heldIn c) (getD (c .word) (c .st .lock .handed) 0)) c
+
+-- a byte string: its answers, and state and buffers behind it
+abbrev pub hearAll : Board → List ℕ → List Event × Board
+hearAll = all owed handOn eatByte
+
+-- one call behind refusals 10 and 11: the answer (none: "more wanted"), the bytes taken, state and buffers
+abbrev pub hearOn : Board → List ℕ → Option Event × ℕ × Board
+hearOn = hear owed handOn eatByte
+
+-- what 10 asks of the lock's counts
+abbrev pub soundLock : Locked → Bool
+soundLock l = leb (l .word) wordBytes && (leb (l .marker) 3 && leb (l .handed) messageBytes)
+
+-- 10: stored or raw count as for a frame, word above 255, marker above 3, handed on above 223
+abbrev pub sound : Receiver → Bool
+sound s = soundFrame (s .frame) && soundLock (s .lock)
+
+-- 11: receive buffer under 8,205 bytes, word buffer under 255
+abbrev pub roomy : List ℕ → List ℕ → Bool
+roomy recv word = leb rawLimit (length recv) && leb wordBytes (length word)
+
+-- by: does it pass 10, does it pass 11
+abbrev pub hearBy : Bool → Bool → Board → List ℕ → Option Event × ℕ × Board
+hearBy false r c bs = (some (said (refusal 10)), 0, c)
+hearBy true false c bs = (some (said (refusal 11)), 0, c)
+hearBy true true c bs = hearOn c bs
+
+-- one call
+abbrev pub hearCall : Board → List ℕ → Option Event × ℕ × Board
+hearCall c bs = hearBy (sound (c .st)) (roomy (c .recv) (c .word)) c bs
+
+-- the code's answer to a block
+abbrev pub blockAnswer : Bool → Answer
+blockAnswer true = Clean
+blockAnswer false = Damaged
+
+-- the code's answer
+abbrev pub answered : Option Event → Answer
+answered none = More
+answered (some (said t)) = Said (judged t)
+answered (some (block c)) = blockAnswer c
+answered (some lost) = LockLost
+
+-- the code's result of a call
+abbrev pub hearingOf : Option Event × ℕ × Board → Hearing
+hearingOf x = record { answer = answered (x .0); taken = x .1; receiver = x .2 .st }
+
+-- r is the result, l the receive buffer and k the word buffer of a call
+abbrev pub HearingIs : Option Event × ℕ × Board → Hearing → List ℕ → List ℕ → Type 0
+HearingIs x r l k = (r ≡ hearingOf x) × (l ≡ x .2 .recv) × (k ≡ x .2 .word)
+
+-- the state's numbers and the hunted bytes, and the bytes in use in both buffers: as many as the counts say, from the start
+abbrev pub inUse : Board → Receiver × List ℕ × List ℕ
+inUse c = (c .st, take (c .st .frame .stored) (c .recv), take (c .st .lock .word) (c .word))
+
+-- a word's bytes so far stand at the start of the word buffer, a frame's as `heldOf` says; behind them stand the bytes k and j
+abbrev pub boardOf : Chan → List ℕ → List ℕ → Board
+boardOf (hunting f) j k = huntingWith f j k
+boardOf (inWord f w r) j k = lockedWith f (length w) 0 0 (heldOf r j) (w ++ k)
+boardOf (inMark f w n r) j k = lockedWith f wordBytes messageBytes n (heldOf r j) (w ++ k)

@@ -1,0 +1,529 @@
+//! The receiver: its state by value, the receive buffer and the word buffer lent.
+ghost use mathlib.Core.Path.{_≡_};
+ghost use mathlib.Core.Bool.{true, false};
+ghost use Prim.Native.Nat.{_+_, _^_, _≤_, _<_};
+ghost use lib.ListN.{length, take};
+ghost use Rattle.channel.specs.Channel.{isClean, shift, isMarker, zeros};
+ghost use Rattle.channel.specs.Called.{
+  board,
+  counts,
+  freshReceiver,
+  owes,
+  soundLock,
+  sound,
+  roomy,
+  blockAnswer,
+  hearOn,
+  hearCall,
+  HearingIs,
+};
+ghost use Rattle.channel.specs.Phases.{shifts, hunted, ended, HandedIs, SoughtIs, FilledIs};
+use crate::block::Block;
+use base::Refusal;
+use packet::Judged;
+use parity::Checked;
+use stream::Frame;
+use stream::Heard;
+
+/// Hunting: the last four bytes, the oldest first.
+pub struct Hunting {
+    pub a: u8,
+    pub b: u8,
+    pub c: u8,
+    pub d: u8,
+}
+
+/// Locked: bytes of a word, message bytes of it handed on, bytes of the next marker.
+pub struct Locked {
+    pub word: usize,
+    pub handed: usize,
+    pub marker: usize,
+}
+
+/// The receiver's state.
+pub struct Receiver {
+    pub locked: bool,
+    pub hunting: Hunting,
+    pub lock: Locked,
+    pub frame: Frame,
+}
+
+/// What a call answers.
+pub enum Answer {
+    /// More is wanted.
+    More,
+    /// A closed frame, or the call refused.
+    Said(Judged),
+    /// A whole word, clean.
+    Clean,
+    /// A whole word, damaged.
+    Damaged,
+    LockLost,
+}
+
+/// The result of a call.
+pub struct Hearing {
+    pub answer: Answer,
+    /// Bytes of the piece taken.
+    pub taken: usize,
+    pub receiver: Receiver,
+}
+
+// What a phase of a call gives.
+struct Phase {
+    // It ends the call.
+    done: bool,
+    answer: Answer,
+    taken: usize,
+    receiver: Receiver,
+}
+
+// What hunting finds.
+struct Found {
+    found: bool,
+    // Bytes taken, the marker's last one among them.
+    taken: usize,
+    hunting: Hunting,
+}
+
+impl Hunting {
+    // Four bytes of zero.
+    fn fresh() -> Self
+        ensures { λ r. ⌜ r ≡ zeros ⌝ }
+    {
+        Hunting {
+            a: 0,
+            b: 0,
+            c: 0,
+            d: 0,
+        }
+    }
+
+    // One byte more.
+    fn shift(self, x: u8) -> Self
+        ensures { λ r. ⌜ r ≡ shift self x ⌝ }
+    {
+        Hunting {
+            a: self.b,
+            b: self.c,
+            c: self.d,
+            d: x,
+        }
+    }
+
+    // Whether the last four are the marker.
+    fn at_marker(self) -> bool
+        ensures { λ r. ⌜ r ≡ isMarker self ⌝ }
+    {
+        let m = Block::MARKER;
+        if self.d == m[3] {
+            if self.c == m[2] {
+                if self.b == m[1] {
+                    return self.a == m[0];
+                }
+            }
+        }
+        false
+    }
+
+    // All of some bytes more.
+    fn shifted(self, bytes: &[u8]) -> Self
+        ensures { λ r. ⌜ r ≡ shifts self (now (bytes .entry)) ⌝ }
+    {
+        let mut last = self;
+        let mut i: usize = 0;
+        while i < bytes.len() {
+            last = last.shift(bytes[i]);
+            i += 1;
+        }
+        last
+    }
+
+    // Bytes up to the marker, or all of them.
+    fn hunt(self, piece: &[u8]) -> Found
+        ensures { λ r. ⌜ r ≡ hunted self (now (piece .entry)) ⌝ }
+    {
+        let mut hunting = self;
+        let mut i: usize = 0;
+        while i < piece.len() {
+            hunting = hunting.shift(piece[i]);
+            i += 1;
+            if hunting.at_marker() {
+                return Found {
+                    found: true,
+                    taken: i,
+                    hunting,
+                };
+            }
+        }
+        Found {
+            found: false,
+            taken: i,
+            hunting,
+        }
+    }
+}
+
+impl Locked {
+    // Behind a marker, and where lock is lost.
+    fn fresh() -> Self
+        ensures { λ r. ⌜ r ≡ counts 0 0 0 ⌝ }
+    {
+        Locked {
+            word: 0,
+            handed: 0,
+            marker: 0,
+        }
+    }
+
+    // A whole word: nothing of it is handed on yet.
+    fn whole() -> Self
+        ensures { λ r. ⌜ r ≡ counts 255 0 0 ⌝ }
+    {
+        Locked {
+            word: Block::WORD,
+            handed: 0,
+            marker: 0,
+        }
+    }
+
+    // Whether no count is beyond its limit.
+    fn sound(self) -> bool
+        ensures { λ r. ⌜ r ≡ soundLock self ⌝ }
+    {
+        if Block::WORD < self.word {
+            return false;
+        }
+        if 3 < self.marker {
+            return false;
+        }
+        self.handed <= Block::MESSAGE
+    }
+}
+
+// The answer to a word.
+fn check(word: &[u8]) -> Answer
+    requires { ⌜ length (now word) ≡ 255 ⌝ }
+    ensures { λ r. ⌜ r ≡ blockAnswer (isClean (now (word .entry))) ⌝ }
+{
+    match parity::check(Block::PARITY, word) {
+        Checked::Clean => Answer::Clean,
+        Checked::Damaged => Answer::Damaged,
+        Checked::Refused(_) => Answer::Damaged,
+    }
+}
+
+// The answer to the word whose last n bytes came in this piece: one that lies whole in the piece is checked where it stands.
+fn check_last(word: &[u8], piece: &[u8], n: usize) -> Answer
+    requires { ⌜ 255 ≤ length (now word) ⌝ }
+    requires { ⌜ n ≤ length (now piece) ⌝ }
+    requires { ⌜ (n ≡ 255 → take 255 (now piece) ≡ take 255 (now word)) ⌝ }
+    ensures { λ r. ⌜ r ≡ blockAnswer (isClean (take 255 (now (word .entry)))) ⌝ }
+{
+    if n == Block::WORD {
+        return check(&piece[0..255]);
+    }
+    check(&word[0..255])
+}
+
+// Whether the buffers are as long as the receiver asks.
+fn has_room(recv: &[u8], word: &[u8]) -> bool
+    ensures { λ r. ⌜ r ≡ roomy (now (recv .entry)) (now (word .entry)) ⌝ }
+{
+    if recv.len() < Frame::RAW {
+        return false;
+    }
+    Block::WORD <= word.len()
+}
+
+impl Phase {
+    // The call goes on with this state, so many bytes later.
+    fn on(taken: usize, receiver: Receiver) -> Self
+        ensures { λ r. ⌜ r ≡ record { done = false; answer = Answer.More; taken = taken; receiver = receiver } ⌝ }
+    {
+        Phase {
+            done: false,
+            answer: Answer::More,
+            taken,
+            receiver,
+        }
+    }
+
+    // The call ends with this answer.
+    fn end(answer: Answer, taken: usize, receiver: Receiver) -> Self
+        ensures { λ r. ⌜ r ≡ record { done = true; answer = answer; taken = taken; receiver = receiver } ⌝ }
+    {
+        Phase {
+            done: true,
+            answer,
+            taken,
+            receiver,
+        }
+    }
+
+    // The call that ends with this phase.
+    fn ended(self) -> Hearing
+        ensures { λ r. ⌜ r ≡ ended self ⌝ }
+    {
+        let answer = self.answer;
+        let receiver = self.receiver;
+        Hearing {
+            answer,
+            taken: self.taken,
+            receiver,
+        }
+    }
+}
+
+impl Receiver {
+    pub const FLAG: u8 = Frame::FLAG;
+
+    pub const MARKER: [u8; 4] = Block::MARKER;
+
+    /// Bytes that the receive buffer needs.
+    pub const RAW: usize = Frame::RAW;
+
+    /// Bytes that the word buffer needs.
+    pub const WORD: usize = Block::WORD;
+
+    /// Hunting, and waiting for a flag.
+    pub fn fresh() -> Self
+        ensures { λ r. ⌜ r ≡ freshReceiver ⌝ }
+    {
+        Receiver {
+            locked: false,
+            hunting: Hunting::fresh(),
+            lock: Locked::fresh(),
+            frame: Frame::fresh(),
+        }
+    }
+
+    // Whether no count is beyond its limit.
+    fn sound(self) -> bool
+        ensures { λ r. ⌜ r ≡ sound self ⌝ }
+    {
+        let frame = self.frame;
+        let lock = self.lock;
+        if frame.sound() {
+            return lock.sound();
+        }
+        false
+    }
+
+    // Message bytes of a stored word that are not handed on yet.
+    fn owed(self) -> usize
+        requires { ⌜ self .lock .handed ≤ 223 ⌝ }
+        ensures { λ r. ⌜ r ≡ owes self ⌝ }
+    {
+        let lock = self.lock;
+        if self.locked {
+            if lock.word == Block::WORD {
+                return Block::MESSAGE - lock.handed;
+            }
+        }
+        0
+    }
+
+    // The rest of a stored word goes on to the frame reader, up to the first answer.
+    fn hand_on(self, recv: &mut [u8], word: &[u8]) -> Phase
+        requires { ⌜ (sound self ≡ true) × (roomy (now recv) (now word) ≡ true) ⌝ }
+        ensures { λ r. ⌜ HandedIs (board self (now (recv .entry)) (now (word .entry))) r (now (recv .exit)) ⌝ }
+    {
+        if self.owed() == 0 {
+            return Phase::on(0, self);
+        }
+        let lock = self.lock;
+        let hunting = self.hunting;
+        let frame = self.frame;
+        let from = lock.handed;
+        let read = frame.read(recv, &word[from..223]);
+        let behind = read.frame;
+        let next = Receiver {
+            locked: true,
+            hunting,
+            lock: Locked {
+                word: lock.word,
+                handed: from + read.taken,
+                marker: lock.marker,
+            },
+            frame: behind,
+        };
+        let heard = read.heard;
+        match heard {
+            Heard::More => Phase::on(0, next),
+            Heard::Said(judged) => Phase::end(Answer::Said(judged), 0, next),
+        }
+    }
+
+    // Locked, behind a word: up to four bytes that should be the marker.
+    fn compare(self, piece: &[u8]) -> Phase
+        requires { ⌜ (self .locked ≡ true) × (self .lock .word ≡ 255) × (self .lock .marker ≤ 3) × (owes self ≡ 0) ⌝ }
+        ensures { λ r. ⌜ SoughtIs self (now (piece .entry)) r ⌝ }
+    {
+        let lock = self.lock;
+        let last = self.hunting;
+        let frame = self.frame;
+        let n = base::least(4 - lock.marker, piece.len());
+        let hunting = last.shifted(&piece[0..n]);
+        let marker = lock.marker + n;
+        if marker < 4 {
+            let next = Receiver {
+                locked: true,
+                hunting,
+                lock: Locked {
+                    word: lock.word,
+                    handed: lock.handed,
+                    marker,
+                },
+                frame,
+            };
+            return Phase::end(Answer::More, n, next);
+        }
+        if hunting.at_marker() {
+            return Phase::on(n, Receiver::locked_at(hunting, frame));
+        }
+        Phase::end(Answer::LockLost, n, Receiver::lost_at(hunting))
+    }
+
+    // Behind a marker.
+    fn locked_at(hunting: Hunting, frame: Frame) -> Self
+        ensures { λ r. ⌜ r ≡ record { locked = true; hunting = hunting; lock = counts 0 0 0; frame = frame } ⌝ }
+    {
+        Receiver {
+            locked: true,
+            hunting,
+            lock: Locked::fresh(),
+            frame,
+        }
+    }
+
+    // Lock is lost: any open packet is dropped.
+    fn lost_at(hunting: Hunting) -> Self
+        ensures { λ r. ⌜ r ≡ record { locked = false; hunting = hunting; lock = counts 0 0 0; frame = freshReceiver .frame } ⌝ }
+    {
+        Receiver {
+            locked: false,
+            hunting,
+            lock: Locked::fresh(),
+            frame: Frame::fresh(),
+        }
+    }
+
+    // Hunting: bytes up to the marker.
+    fn hunt(self, piece: &[u8]) -> Phase
+        requires { ⌜ self .locked ≡ false ⌝ }
+        ensures { λ r. ⌜ SoughtIs self (now (piece .entry)) r ⌝ }
+    {
+        let last = self.hunting;
+        let lock = self.lock;
+        let frame = self.frame;
+        let f = last.hunt(piece);
+        let hunting = f.hunting;
+        if f.found {
+            return Phase::on(f.taken, Receiver::locked_at(hunting, frame));
+        }
+        let next = Receiver {
+            locked: false,
+            hunting,
+            lock,
+            frame,
+        };
+        Phase::end(Answer::More, f.taken, next)
+    }
+
+    // Bytes up to where a word's bytes are wanted.
+    fn seek(self, piece: &[u8]) -> Phase
+        requires { ⌜ (soundLock (self .lock) ≡ true) × (owes self ≡ 0) ⌝ }
+        ensures { λ r. ⌜ SoughtIs self (now (piece .entry)) r ⌝ }
+    {
+        if self.locked {
+            let lock = self.lock;
+            if lock.word < Block::WORD {
+                return Phase::on(0, self);
+            }
+            return self.compare(piece);
+        }
+        self.hunt(piece)
+    }
+
+    // Bytes of a word, `at` bytes into a piece. The whole word gives the block's answer.
+    fn fill(self, word: &mut [u8], piece: &[u8], at: usize) -> Hearing
+        requires { ⌜ (self .locked ≡ true) × (self .lock .word < 255) × (255 ≤ length (now word)) × (at + length (now piece) < 2 ^ 64) ⌝ }
+        ensures { λ r. ⌜ FilledIs self (now (word .entry)) (now (piece .entry)) at r (now (word .exit)) ⌝ }
+    {
+        let lock = self.lock;
+        let hunting = self.hunting;
+        let frame = self.frame;
+        let from = lock.word;
+        let n = base::least(Block::WORD - from, piece.len());
+        base::copy(&piece[0..n], &mut word[from..]);
+        let end = from + n;
+        if end < Block::WORD {
+            return Hearing {
+                answer: Answer::More,
+                taken: at + n,
+                receiver: Receiver {
+                    locked: true,
+                    hunting,
+                    lock: Locked {
+                        word: end,
+                        handed: lock.handed,
+                        marker: lock.marker,
+                    },
+                    frame,
+                },
+            };
+        }
+        let answer = check_last(word, piece, n);
+        Hearing {
+            answer,
+            taken: at + n,
+            receiver: Receiver {
+                locked: true,
+                hunting,
+                lock: Locked::whole(),
+                frame,
+            },
+        }
+    }
+
+    // A call behind refusals 10 and 11: a stored word's rest, then bytes up to a word's, then those.
+    fn hear_on(self, recv: &mut [u8], word: &mut [u8], piece: &[u8]) -> Hearing
+        requires { ⌜ (sound self ≡ true) × (roomy (now recv) (now word) ≡ true) ⌝ }
+        ensures { λ r. ⌜ HearingIs (hearOn (board self (now (recv .entry)) (now (word .entry))) (now (piece .entry))) r (now (recv .exit)) (now (word .exit)) ⌝ }
+    {
+        let handed = self.hand_on(recv, word);
+        if handed.done {
+            return handed.ended();
+        }
+        let receiver = handed.receiver;
+        let sought = receiver.seek(piece);
+        if sought.done {
+            return sought.ended();
+        }
+        let at = sought.taken;
+        let next = sought.receiver;
+        next.fill(word, &piece[at..], at)
+    }
+
+    /// One call: at most one answer, and no byte behind the one that caused it is taken.
+    pub fn hear(self, recv: &mut [u8], word: &mut [u8], piece: &[u8]) -> Hearing
+        ensures { λ r. ⌜ HearingIs (hearCall (board self (now (recv .entry)) (now (word .entry))) (now (piece .entry))) r (now (recv .exit)) (now (word .exit)) ⌝ }
+    {
+        if !self.sound() {
+            return Hearing {
+                answer: Answer::Said(Judged::Refused(Refusal::STATE)),
+                taken: 0,
+                receiver: self,
+            };
+        }
+        if !has_room(recv, word) {
+            return Hearing {
+                answer: Answer::Said(Judged::Refused(Refusal::BUFFER)),
+                taken: 0,
+                receiver: self,
+            };
+        }
+        self.hear_on(recv, word, piece)
+    }
+}

@@ -1,0 +1,75 @@
+//! The sender's blocks: the marker, a message and its parity.
+ghost use mathlib.Core.Path.{_≡_};
+ghost use Prim.Native.Nat.{_+_, _*_, _/_, _≤_, _<_};
+ghost use mathlib.Core.List.{_++_};
+ghost use lib.ListN.{length, drop, replicate};
+ghost use Rattle.base.specs.Written.{outcome, copied};
+ghost use Rattle.packet.specs.Escape.{flag};
+ghost use Rattle.channel.specs.Sender.{marker, wordOf, fillers, marking, sending};
+use crate::block::Block;
+use base::Refusal;
+use base::Written;
+use packet::Packet;
+
+// Writes one block: the marker, the message and its parity.
+fn put_block(message: &[u8], out: &mut [u8])
+    requires { ⌜ (length (now message) ≡ 223) × (259 ≤ length (now out)) ⌝ }
+    ensures { λ _. ⌜ now (out .exit) ≡ (marker ++ wordOf (now (message .entry))) ++ drop 259 (now (out .entry)) ⌝ }
+{
+    let marker = Block::MARKER;
+    base::copy(&marker, out);
+    base::copy(message, &mut out[4..]);
+    parity::make(Block::PARITY, message, &mut out[227..]);
+}
+
+/// Marks one block of 223 bytes.
+pub fn mark(message: &[u8], out: &mut [u8]) -> Written
+    ensures { λ w. ⌜ outcome w (now (out .exit)) ≡ marking (now (message .entry)) (now (out .entry)) ⌝ }
+{
+    if message.len() != Block::MESSAGE {
+        return Written::Refused(Refusal::LENGTH);
+    }
+    if out.len() < Block::LENGTH {
+        return Written::Refused(Refusal::OUTPUT);
+    }
+    put_block(message, out);
+    Written::Wrote(Block::LENGTH)
+}
+
+// Writes the block of the next 223 bytes, or of those that are left and flags behind them.
+fn put_next(stream: &[u8], out: &mut [u8])
+    requires { ⌜ 259 ≤ length (now out) ⌝ }
+    ensures { λ _. ⌜ now (out .exit) ≡ (marker ++ wordOf (copied (now (stream .entry)) (replicate 223 flag))) ++ drop 259 (now (out .entry)) ⌝ }
+{
+    let mut message: [u8; 223] = [Packet::FLAG; 223];
+    base::copy(stream, &mut message);
+    put_block(&message, out);
+}
+
+// How many blocks so many bytes fill.
+fn blocks_of(n: usize) -> usize
+    ensures { λ r. ⌜ (r ≡ (n + fillers n) / 223) × (223 * r < n + 223) ⌝ }
+{
+    if n % Block::MESSAGE == 0 {
+        return n / Block::MESSAGE;
+    }
+    n / Block::MESSAGE + 1
+}
+
+/// Sends a whole stream.
+pub fn send(stream: &[u8], out: &mut [u8]) -> Written
+    ensures { λ w. ⌜ outcome w (now (out .exit)) ≡ sending (now (stream .entry)) (now (out .entry)) ⌝ }
+{
+    let blocks = blocks_of(stream.len());
+    if out.len() < Block::LENGTH * blocks {
+        return Written::Refused(Refusal::OUTPUT);
+    }
+    let mut i: usize = 0;
+    while i < blocks {
+        let from = Block::MESSAGE * i;
+        let at = Block::LENGTH * i;
+        put_next(&stream[from..], &mut out[at..]);
+        i += 1;
+    }
+    Written::Wrote(Block::LENGTH * blocks)
+}

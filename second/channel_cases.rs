@@ -1,0 +1,347 @@
+//! Cases for the opportunistic channel: blocks marked, streams sent, and what a receiver hears in pieces.
+//! crates/answers/src/hearing.rt has the form of a heard channel.
+
+use crate::cases::{self, Case, Random};
+use crate::channel::{self, Answer, Receiver, BLOCK, MARKER, MESSAGE};
+use crate::packet::{self, Judged, FLAG, RAW};
+use crate::parity::{self, WORD};
+use crate::stream::{self, Frame};
+
+/// One channel to be heard: the receiver, how the bytes are cut, the lent buffers and the bytes.
+struct Run {
+    receiver: Receiver,
+    /// The length of the first piece; the rest is cut as the seed says.
+    first: usize,
+    seed: u64,
+    word: Vec<u8>,
+    room: usize,
+    bytes: Vec<u8>,
+}
+
+impl Run {
+    /// A fresh receiver with buffers as they should be; everything in one piece.
+    fn whole(bytes: Vec<u8>) -> Self {
+        Run { receiver: Receiver::fresh(), first: bytes.len(), seed: 0, word: vec![0xA5; WORD], room: RAW, bytes }
+    }
+
+    fn case(self) -> Case {
+        let r = self.receiver;
+        let mut bytes = vec![r.locked as u8];
+        bytes.extend(r.hunted);
+        for n in [r.word, r.handed, r.marker, self.first, self.word.len()] {
+            bytes.extend((n as u16).to_le_bytes());
+        }
+        bytes.extend(self.word);
+        bytes.extend(self.bytes);
+        let f = r.frame;
+        let number = self.seed | (f.opened as u64) << 31 | (f.raw as u64) << 32 | (f.stored as u64) << 48;
+        Case { asked: b'O', number, room: self.room as u16, bytes }
+    }
+}
+
+/// A channel heard in pieces, the receive buffer lent; what is told of it, the word buffer last.
+pub fn hear(number: u64, bytes: &[u8], recv: &mut [u8]) -> Vec<u8> {
+    let pair = |i: usize| u16::from_le_bytes([bytes[i], bytes[i + 1]]) as usize;
+    let hunted = [bytes[1], bytes[2], bytes[3], bytes[4]];
+    let mut r =
+        Receiver { locked: bytes[0] == 1, hunted, word: pair(5), handed: pair(7), marker: pair(9), frame: cases::frame(number) };
+    let (word, heard) = bytes[15..].split_at(pair(13));
+    let mut word = word.to_vec();
+    let (mut at, mut end, mut seed) = (0, pair(11).min(heard.len()), number & 0x7FFFFFFF);
+    let mut told = Vec::new();
+    loop {
+        let (answer, taken) = r.read(recv, &mut word, &heard[at..end]);
+        at += taken;
+        told.extend((taken as u64).to_le_bytes());
+        told.extend(answer.map_or(0, code).to_le_bytes());
+        match answer {
+            Some(Answer::Said(Judged::Packet { length, .. })) => told.extend(&recv[5..5 + length]),
+            Some(Answer::Said(Judged::Refused(n))) if n >= 10 => break,
+            Some(_) => {}
+            None if end == heard.len() => break,
+            None => {
+                let (length, next) = stream::next_piece(seed, heard.len() - at);
+                (end, seed) = (at + length, next);
+            }
+        }
+    }
+    let numbers = [r.locked as usize, r.word, r.handed, r.marker, r.frame.opened as usize, r.frame.raw, r.frame.stored];
+    for n in numbers.into_iter().chain(r.hunted.map(usize::from)) {
+        told.extend((n as u64).to_le_bytes());
+    }
+    told.extend(word);
+    told
+}
+
+/// An answer as a number; 0 is kept for "more wanted".
+fn code(answer: Answer) -> u64 {
+    match answer {
+        Answer::Block { clean: true } => 1,
+        Answer::Block { clean: false } => 2,
+        Answer::LockLost => 3,
+        Answer::Said(j) => cases::judged(j),
+    }
+}
+
+pub fn all(random: &mut Random, cases: &mut Vec<Case>) {
+    senders(random, cases);
+    let mut runs = Vec::new();
+    everywhere(random, &mut runs);
+    changed(random, &mut runs);
+    nearly(random, &mut runs);
+    slipped(random, &mut runs);
+    states(random, &mut runs);
+    begun(random, &mut runs);
+    buffers(random, &mut runs);
+    longest(random, &mut runs);
+    cases.extend(runs.into_iter().map(Run::case));
+}
+
+/// Messages and outputs as they should be, and one off.
+fn senders(random: &mut Random, cases: &mut Vec<Case>) {
+    for n in [0, 222, 223, 224, 255] {
+        for bytes in [vec![0; n], vec![0xFF; n], vec![FLAG; n], random.bytes(n), random.bytes(n)] {
+            for room in [0, 258, 259, 260, 300] {
+                cases.push(Case { asked: b'M', number: 0, room, bytes: bytes.clone() });
+            }
+        }
+    }
+    for n in [0usize, 1, 2, 222, 223, 224, 445, 446, 447, 669, 700] {
+        let result = n.div_ceil(MESSAGE) * BLOCK;
+        for bytes in [random.bytes(n), vec![FLAG; n], packets(random, n)] {
+            for room in [result, result.saturating_sub(1), result + 1, result + 40, 0] {
+                cases.push(Case { asked: b'N', number: 0, room: room as u16, bytes: bytes.clone() });
+            }
+        }
+    }
+}
+
+/// One packet as the stream has it, half of them full of escapes.
+fn packet(random: &mut Random) -> Vec<u8> {
+    let n = 1 + random.below(90);
+    let mut payload = random.bytes(n);
+    if random.below(2) == 0 {
+        payload.iter_mut().for_each(|b| *b = [0x7D, 0x7E, 0x5D, 0x5E, *b][*b as usize % 5]);
+    }
+    let port = if random.below(12) == 0 { 0x7E00 } else { 0x5100 + random.below(256) as u16 };
+    let mut bytes = packet::escape(&packet::contents(port, random.next() as u16, &payload));
+    bytes.push(FLAG);
+    bytes
+}
+
+/// A stream of n bytes: packets, and now and then a fault, flags, or a marker where none should be.
+fn packets(random: &mut Random, n: usize) -> Vec<u8> {
+    let mut bytes = vec![FLAG];
+    while bytes.len() < n {
+        match random.below(14) {
+            0 => bytes.extend([FLAG; 3]),
+            1 => bytes.extend(MARKER),
+            2 => bytes.extend([0x7D, FLAG]),
+            3 => {
+                let mut faulty = packet(random);
+                let at = random.below(faulty.len());
+                faulty[at] ^= 1 << random.below(8);
+                bytes.extend(faulty);
+            }
+            _ => bytes.extend(packet(random)),
+        }
+    }
+    bytes.truncate(n);
+    bytes
+}
+
+/// A stream in so many blocks, the last of them filled with flags or not.
+fn sent(random: &mut Random, blocks: usize) -> Vec<u8> {
+    let spare = [0, random.below(MESSAGE), random.below(30)][random.below(3)];
+    let plain = packets(random, blocks * MESSAGE - spare);
+    channel::send(&plain, usize::MAX).unwrap()
+}
+
+/// Bytes in front of the first marker: none, random ones, almost the marker, the marker too early.
+fn stray(random: &mut Random) -> Vec<u8> {
+    let n = random.below(40);
+    match random.below(8) {
+        0 | 1 => vec![],
+        2 | 3 => random.bytes(n),
+        4 => vec![0x7D, 0x3A, 0xE2, 0x7D, 0x3A, 0xE2, 0x42],
+        5 => [&[0x7D, 0x3A, 0x7D, 0x7D, 0x3A, 0xE2][..], &MARKER[..random.below(4)]].concat(),
+        6 => (0..n).map(|_| MARKER[random.below(4)]).collect(),
+        _ => [&MARKER[..], &random.bytes(n)].concat(),
+    }
+}
+
+/// How a run is cut: not at all, once, or in many pieces.
+fn cut(random: &mut Random, mut run: Run) -> Run {
+    let kind = random.below(3);
+    if kind > 0 {
+        run.first = random.below(run.bytes.len() + 1);
+    }
+    if kind > 1 {
+        run.first %= 300;
+        run.seed = 1 + random.next() % 0x7FFFFFFE;
+    }
+    run
+}
+
+/// One block cut at every place; behind it nothing, a wrong marker, a marker one byte late, or a marker and some of a word.
+fn everywhere(random: &mut Random, runs: &mut Vec<Run>) {
+    for (before, behind) in [(&[][..], &[][..]), (&MARKER[..3], &[0x43, FLAG]), (&[0x7D], &MARKER), (&MARKER, &[FLAG, 0x21])] {
+        let bytes = [&sent(random, 1), before, behind].concat();
+        for first in 0..=bytes.len() {
+            runs.push(Run { first, ..Run::whole(bytes.clone()) });
+        }
+    }
+}
+
+/// Alters so many bytes of a part, drawn anew each time.
+fn alter(random: &mut Random, part: &mut [u8], count: usize) {
+    for _ in 0..count {
+        let at = random.below(part.len());
+        part[at] ^= 1 + random.below(255) as u8;
+    }
+}
+
+/// Streams with stray bytes in front and blocks, markers or lengths changed on the way.
+fn changed(random: &mut Random, runs: &mut Vec<Run>) {
+    for i in 0..2400 {
+        let blocks = 2 + random.below(5) * random.below(2);
+        let mut bytes = sent(random, blocks);
+        let start = BLOCK * random.below(blocks);
+        let at = random.below(bytes.len());
+        let few = 1 + random.below(5);
+        let many = 2 + random.below(60);
+        match i % 10 {
+            0 => {}
+            1 | 2 => alter(random, &mut bytes[start + 4..start + BLOCK], 1),
+            3 => alter(random, &mut bytes[start + 4..start + BLOCK], many),
+            4 => bytes[start + 4..start + BLOCK].fill_with(|| random.byte()),
+            5 => alter(random, &mut bytes[start..start + 4], 1),
+            6 => bytes[start..start + 4].fill_with(|| random.byte()),
+            7 => drop(bytes.drain(at..(at + few).min(bytes.len()))),
+            8 => drop(bytes.splice(at..at, random.bytes(few))),
+            _ => bytes.truncate(at),
+        }
+        let bytes = [stray(random), bytes].concat();
+        runs.push(cut(random, Run::whole(bytes)));
+    }
+}
+
+/// Words that are zero at all roots but the last one or the first one, and words that are zero at one more.
+fn nearly(random: &mut Random, runs: &mut Vec<Run>) {
+    for i in 0..12 {
+        let roots = [31, 31, 33][i % 3];
+        let mut word = packets(random, WORD - roots);
+        word.extend(parity::make(roots as u64, &word, 64).unwrap());
+        if i % 3 == 1 {
+            for (at, b) in word.iter_mut().enumerate() {
+                *b = parity::times(*b, parity::power(at as u64 + 1));
+            }
+        }
+        runs.push(cut(random, Run::whole([&MARKER[..], &word].concat())));
+    }
+}
+
+/// Up to four bytes too many or too few before the second marker: some of the four at the lost lock begin a marker.
+fn slipped(random: &mut Random, runs: &mut Vec<Run>) {
+    for i in 0..320 {
+        let mut bytes = sent(random, 3);
+        let few = 1 + i % 4;
+        match i / 4 % 4 {
+            0 => drop(bytes.splice(BLOCK..BLOCK, random.bytes(few))),
+            1 => drop(bytes.splice(BLOCK..BLOCK, MARKER[..few].to_vec())),
+            2 => drop(bytes.splice(BLOCK..BLOCK, vec![0x7D; few])),
+            _ => drop(bytes.drain(BLOCK - few..BLOCK)),
+        }
+        runs.push(cut(random, Run::whole(bytes)));
+    }
+}
+
+/// One of some counts, now and then one beyond the limit.
+fn count(random: &mut Random, within: &[usize], beyond: &[usize]) -> usize {
+    let from = if random.below(12) == 0 { beyond } else { within };
+    from[random.below(from.len())]
+}
+
+/// A receiver in any state: counts at and beyond their limits, also such as no run reaches.
+fn any(random: &mut Random) -> Receiver {
+    let raw = [0, 0, 1, 7, 8204, 8205, 8206, 8207, random.below(8300)][random.below(9)];
+    let stored = if random.below(15) == 0 { random.below(8300) } else { raw.min(RAW) };
+    let (some, few) = (random.below(WORD), random.below(MESSAGE));
+    let marker = count(random, &[0, 1, 2, 3], &[4, 5, 65535]);
+    let mut hunted = [0x7D, 0x3A, 0xE2, [0x42, random.byte()][random.below(2)]];
+    hunted.rotate_left(if random.below(2) == 0 { marker % 4 } else { random.below(4) });
+    Receiver {
+        locked: random.below(4) > 0,
+        hunted,
+        word: count(random, &[0, 1, 253, 254, 255, 255, 255, 255, some], &[256, 259, 65535]),
+        handed: count(random, &[0, 1, 221, 222, 223, 223, few], &[224, 255, 65535]),
+        marker,
+        frame: Frame { opened: random.below(2) == 1, raw, stored },
+    }
+}
+
+/// Any state, a whole word in the buffer, and the rest of a marker or any part of a stream to hear.
+fn states(random: &mut Random, runs: &mut Vec<Run>) {
+    for _ in 0..1800 {
+        let receiver = any(random);
+        let mut word = sent(random, 1).split_off(4);
+        if random.below(3) == 0 {
+            alter(random, &mut word, 3);
+        }
+        let mut bytes = sent(random, 2);
+        let from = [receiver.marker.min(4), random.below(5), random.below(bytes.len())][random.below(3)];
+        bytes.drain(..from);
+        bytes.truncate(random.below(bytes.len() + 1));
+        let run = Run { receiver, word, ..Run::whole(bytes) };
+        runs.push(cut(random, run));
+    }
+}
+
+/// A word begun before, whose rest is heard: mostly clean where the two parts belong together.
+fn begun(random: &mut Random, runs: &mut Vec<Run>) {
+    for i in 0..300 {
+        let mut word = sent(random, 1).split_off(4);
+        let there = if i < 20 { [0, 1, 222, 223, 224, 253, 254][i % 7] } else { random.below(WORD) };
+        let mut bytes = word.split_off(there);
+        bytes.extend(sent(random, 1));
+        word.resize(WORD + i % 3, 0x33);
+        if i % 4 == 0 {
+            alter(random, &mut word[..there + 1], 1);
+        }
+        let mut receiver = any(random);
+        (receiver.locked, receiver.word) = (true, there);
+        receiver.frame = Frame { opened: i % 2 == 0, raw: 0, stored: 0 };
+        runs.push(cut(random, Run { receiver, word, ..Run::whole(bytes) }));
+    }
+}
+
+/// Buffers too short, exact and longer, with states that are refused and such as are not.
+fn buffers(random: &mut Random, runs: &mut Vec<Run>) {
+    for room in [0, 8204, 8205, 8206, 8300] {
+        for length in [0, 1, 223, 254, 255, 256, 300] {
+            for i in 0..6 {
+                let receiver = if i < 2 { Receiver::fresh() } else { any(random) };
+                let bytes = [stray(random), sent(random, 1)].concat();
+                let run = Run { receiver, word: random.bytes(length), room, ..Run::whole(bytes) };
+                runs.push(cut(random, run));
+            }
+        }
+    }
+}
+
+/// Frames of the greatest length and beyond, over many blocks, each once more with one byte altered.
+fn longest(random: &mut Random, runs: &mut Vec<Run>) {
+    let escaped = packet::escape(&packet::contents(0x5100, 0x7E7D, &[0x7E; 4096]));
+    let plain = packet::escape(&packet::contents(0x5101, 2, &[0x41; 8192]));
+    let beyond = packet::escape(&packet::contents(0x5102, 3, &[0x41; 8193]));
+    for frame in [escaped, plain, beyond, vec![0x41; 8205], vec![0x41; 8206], vec![0x7D; 9000]] {
+        let bytes = [&[FLAG][..], &frame, &[FLAG], &packet(random)].concat();
+        let mut bytes = channel::send(&bytes, usize::MAX).unwrap();
+        let run = Run::whole(bytes.clone());
+        runs.push(cut(random, run));
+        let at = BLOCK * (1 + random.below(30));
+        alter(random, &mut bytes[at..at + BLOCK], 1);
+        let seed = 1 + random.next() % 0x7FFFFFFE;
+        runs.push(Run { seed, first: 0, ..Run::whole(bytes) });
+    }
+}
