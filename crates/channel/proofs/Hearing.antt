@@ -383,10 +383,19 @@ pub sought-none : (s : Receiver) (bs : List ℕ) {t : Phase} → s .locked ≡ t
 sought-none s bs o h e =
     subst (SoughtIs s bs) (sym e) (record { means = λ l k. after-none (hearOn (board s l k) bs); within = omega arith; ready = λ d. (o, h) })
 
--- ---- bytes of a word
-module _ (s : Receiver) (word bs : List ℕ) (o : s .locked ≡ true) (w : s .lock .word < 255) (room : 255 ≤ length word)
-    {n : ℕ} (en : n ≡ min (255 - s .lock .word) (length bs)) {y : List ℕ}
-    (ey : y ≡ copied (take n bs) (take (length word - s .lock .word) (drop (s .lock .word) word))) where
+-- ---- bytes of a word, from `at` on in a piece
+module _ (s : Receiver) (word piece : List ℕ) (at : ℕ) (o : s .locked ≡ true) (w : s .lock .word < 255) (room : 255 ≤ length word) (in-piece : at ≤ length piece)
+    {n : ℕ} (left : n ≡ min (255 - s .lock .word) (length piece - at)) {y : List ℕ}
+    (copy : y ≡ copied (take (at + n - at) (drop at piece)) (take (length word - s .lock .word) (drop (s .lock .word) word))) where
+  abbrev bs : List ℕ
+  bs = drop at piece
+
+  en : n ≡ min (255 - s .lock .word) (length bs)
+  en = left ∙ ap (min (255 - s .lock .word)) (sym (length-drop at piece))
+
+  ey : y ≡ copied (take n bs) (take (length word - s .lock .word) (drop (s .lock .word) word))
+  ey = copy ∙ ap (λ m. copied (take m bs) (take (length word - s .lock .word) (drop (s .lock .word) word))) (let z : at + n - at ≡ n = omega arith in z)
+
   abbrev before : List ℕ
   before = take (s .lock .word) word
 
@@ -413,13 +422,13 @@ module _ (s : Receiver) (word bs : List ℕ) (o : s .locked ≡ true) (w : s .lo
   board-at : (l : List ℕ) → board s l word ≡ lockedWith (s .hunting) (length before) (s .lock .handed) (s .lock .marker) (held (s .frame) l) (before ++ behind)
   board-at l i = board (record { locked = o i; hunting = s .hunting; lock = counts (sym before-length i) (s .lock .handed) (s .lock .marker); frame = s .frame }) l (parts i)
 
-  pub fill-more : (at : ℕ) → s .lock .word + n < 255
+  pub fill-more : s .lock .word + n < 255
       → FilledIs s word bs at (record {
         answer = More;
         taken = at + n;
         receiver = record { locked = true; hunting = s .hunting; lock = counts (s .lock .word + n) (s .lock .handed) (s .lock .marker); frame = s .frame };
       }) (putMid (s .lock .word) (length word - s .lock .word) word y)
-  fill-more at h l =
+  fill-more h l =
       let part : take n bs ≡ bs = take-all n bs (omega (arith, en)) in
       let q : hearOn (board s l word) bs
       ≡ (
@@ -448,22 +457,22 @@ module _ (s : Receiver) (word bs : List ℕ) (o : s .locked ≡ true) (w : s .lo
   fill-room h =
       omega (arith, ap length filled-is, length-append (before ++ take n bs) (drop (length (take n bs)) behind), whole-length h)
 
-  pub fill-within : n ≤ length bs
-  fill-within = omega (arith, en)
+  pub fill-within : at + n ≤ length piece
+  fill-within = omega (arith, left)
 
   pub fill-same : 255 ≤ s .lock .word + n → n ≡ 255 → take 255 bs ≡ take 255 (putMid (s .lock .word) (length word - s .lock .word) word y)
   fill-same h e =
       let z : s .lock .word ≡ 0 = omega (arith, en) in
       ap (λ i. take i bs) (sym e) ∙ ap (λ i. take i word ++ take n bs) (sym z) ∙ sym (whole-is h)
 
-  pub fill-whole : (at : ℕ) {a : Answer} {k : Locked} → 255 ≤ s .lock .word + n
+  pub fill-whole : {a : Answer} {k : Locked} → 255 ≤ s .lock .word + n
       → a ≡ blockAnswer (isClean (take 255 (putMid (s .lock .word) (length word - s .lock .word) word y))) → k ≡ counts 255 0 0
       → FilledIs s word bs at (record {
         answer = a;
         taken = at + n;
         receiver = record { locked = true; hunting = s .hunting; lock = k; frame = s .frame };
       }) (putMid (s .lock .word) (length word - s .lock .word) word y)
-  fill-whole at {a} {k} h ea ek l =
+  fill-whole {a} {k} h ea ek l =
       let q : hearOn (board s l word) bs
       ≡ (
         some (block (isClean (before ++ take n bs))),
@@ -510,12 +519,11 @@ module _ (c : Board) (bs : List ℕ) {t : Phase} {l : List ℕ} (h : HandedIs c 
           (subst (λ r. HearingIs (hearOn (board (t .receiver) l (c .word)) bs) r l (c .word)) (sym e)
           (subst (λ b. PhaseBy b (board (t .receiver) l (c .word)) bs u l (c .word)) v (g .means l (c .word))))
 
-      pub filled-end : {r : Hearing} {k rest : List ℕ} → u .done ≡ false → rest ≡ drop (u .taken) bs → FilledIs (u .receiver) (c .word) rest (u .taken) r k
+      pub filled-end : {r : Hearing} {k : List ℕ} → u .done ≡ false → FilledIs (u .receiver) (c .word) (drop (u .taken) bs) (u .taken) r k
           → HearingIs (hearOn c bs) r l k
-      filled-end v e f =
+      filled-end v f =
           heard-by
-          (handed-on ∙ subst (λ b. PhaseBy b (board (t .receiver) l (c .word)) bs u l (c .word)) v (g .means l (c .word))
-          ∙ ap (λ x. after (u .taken) (hearOn (board (u .receiver) l (c .word)) x)) (sym e))
+          (handed-on ∙ subst (λ b. PhaseBy b (board (t .receiver) l (c .word)) bs u l (c .word)) v (g .means l (c .word)))
           (f l)
 
 -- ---- the call: refused with 10, with 11, or let on

@@ -1,8 +1,8 @@
 //! The receiver: its state by value, the receive buffer and the word buffer lent.
 ghost use mathlib.Core.Path.{_≡_};
 ghost use mathlib.Core.Bool.{true, false};
-ghost use Prim.Native.Nat.{_+_, _^_, _≤_, _<_};
-ghost use lib.ListN.{length, take};
+ghost use Prim.Native.Nat.{_+_, _≤_, _<_};
+ghost use lib.ListN.{length, take, drop};
 ghost use Rattle.channel.specs.Channel.{isClean, shift, isMarker, zeros};
 ghost use Rattle.channel.specs.Called.{
   board,
@@ -213,15 +213,16 @@ fn check(word: &[u8]) -> Answer
     }
 }
 
-// The answer to the word whose last n bytes came in this piece: one that lies whole in the piece is checked where it stands.
-fn check_last(word: &[u8], piece: &[u8], n: usize) -> Answer
+// The answer to the word whose last n bytes stand in the piece from `at` on: where those are all its bytes, it is checked there.
+fn check_last(word: &[u8], piece: &[u8], at: usize, n: usize) -> Answer
     requires { ⌜ 255 ≤ length (now word) ⌝ }
-    requires { ⌜ n ≤ length (now piece) ⌝ }
-    requires { ⌜ (n ≡ 255 → take 255 (now piece) ≡ take 255 (now word)) ⌝ }
+    requires { ⌜ at + n ≤ length (now piece) ⌝ }
+    requires { ⌜ (n ≡ 255 → take 255 (drop at (now piece)) ≡ take 255 (now word)) ⌝ }
     ensures { λ r. ⌜ r ≡ blockAnswer (isClean (take 255 (now (word .entry)))) ⌝ }
 {
     if n == Block::WORD {
-        return check(&piece[0..255]);
+        let end = at + 255;
+        return check(&piece[at..end]);
     }
     check(&word[0..255])
 }
@@ -446,27 +447,28 @@ impl Receiver {
         self.hunt(piece)
     }
 
-    // Bytes of a word, `at` bytes into a piece. The whole word gives the block's answer.
+    // Bytes of a word, from `at` on. The whole word gives the block's answer.
     fn fill(self, word: &mut [u8], piece: &[u8], at: usize) -> Hearing
-        requires { ⌜ (self .locked ≡ true) × (self .lock .word < 255) × (255 ≤ length (now word)) × (at + length (now piece) < 2 ^ 64) ⌝ }
-        ensures { λ r. ⌜ FilledIs self (now (word .entry)) (now (piece .entry)) at r (now (word .exit)) ⌝ }
+        requires { ⌜ (self .locked ≡ true) × (self .lock .word < 255) × (255 ≤ length (now word)) × (at ≤ length (now piece)) ⌝ }
+        ensures { λ r. ⌜ FilledIs self (now (word .entry)) (drop at (now (piece .entry))) at r (now (word .exit)) ⌝ }
     {
         let lock = self.lock;
         let hunting = self.hunting;
         let frame = self.frame;
         let from = lock.word;
-        let n = base::least(Block::WORD - from, piece.len());
-        base::copy(&piece[0..n], &mut word[from..]);
-        let end = from + n;
-        if end < Block::WORD {
+        let n = base::least(Block::WORD - from, piece.len() - at);
+        let taken = at + n;
+        base::copy(&piece[at..taken], &mut word[from..]);
+        let count = from + n;
+        if count < Block::WORD {
             return Hearing {
                 answer: Answer::More,
-                taken: at + n,
+                taken,
                 receiver: Receiver {
                     locked: true,
                     hunting,
                     lock: Locked {
-                        word: end,
+                        word: count,
                         handed: lock.handed,
                         marker: lock.marker,
                     },
@@ -474,10 +476,10 @@ impl Receiver {
                 },
             };
         }
-        let answer = check_last(word, piece, n);
+        let answer = check_last(word, piece, at, n);
         Hearing {
             answer,
-            taken: at + n,
+            taken,
             receiver: Receiver {
                 locked: true,
                 hunting,
@@ -503,7 +505,7 @@ impl Receiver {
         }
         let at = sought.taken;
         let next = sought.receiver;
-        next.fill(word, &piece[at..], at)
+        next.fill(word, piece, at)
     }
 
     /// One call: at most one answer, and no byte behind the one that caused it is taken.

@@ -6,6 +6,8 @@ use Rattle.base.specs.Determined.{Determined, DeterminedAs}
 use Rattle.base.proofs.Determining.{same, same-answer, same-output, buffer, skip}
 use Rattle.stream.proofs.frame.Frame.fresh.Kinds as fresh-kinds
 use Rattle.stream.proofs.frame.Frame.fresh.Reads as fresh-reads
+use Rattle.stream.proofs.frame.Frame.sound.Kinds as sound-kinds
+use Rattle.stream.proofs.frame.Frame.sound.Reads as sound-reads
 use Rattle.stream.proofs.frame.Frame.read.Kinds as read-kinds
 use Rattle.stream.proofs.frame.Frame.read.Reads as read-reads
 use Rattle.stream.proofs.frame.payload.Kinds as payload-kinds
@@ -17,6 +19,9 @@ use Rattle.stream.proofs.sender.append.Reads as append-reads
 
 pub fresh-determined : Determined fresh-kinds.ps fresh-kinds.r fresh-reads.Asked fresh-reads.Learnt
 fresh-determined κs a z z′ ws ws′ pre p q = (same p q, refl)
+
+pub sound-determined : Determined sound-kinds.ps sound-kinds.r sound-reads.Asked sound-reads.Learnt
+sound-determined κs a z z′ ws ws′ pre p q = (same p q, refl)
 
 pub read-determined : Determined read-kinds.ps read-kinds.r read-reads.Asked read-reads.Learnt
 read-determined κs a z z′ ws ws′ pre p q = (same (p .0) (q .0), skip (buffer (same (p .1) (q .1)) refl))

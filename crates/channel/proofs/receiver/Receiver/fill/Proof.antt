@@ -1,5 +1,4 @@
 -- `channel::receiver::Receiver::fill` meets its contract, by the law of a word's bytes.
-use native.Mathlib.Nat.{sub-zero}
 use borrow.Author.Needs.{needs}
 use Rattle.channel.proofs.Hearing.{fill-more, fill-room, fill-within, fill-same, fill-whole}
 use Rattle.channel.proofs.receiver.Receiver.fill.Statement.{statement}
@@ -21,26 +20,25 @@ fill-spec =
     (search needs)
     (search needs)
     (search needs)
+    (search needs)
     (λ c.
     let t = c .before .before .before .before .before .before in
     let s = t .before .before .before .before .before .before in
-    fill-more (s .args .self) (s .args .word .now) (s .args .piece .now) (s .pre .0) (s .pre .1) (s .pre .2) (t .least .ensures) (rw (sub-zero (t .least .result)) at (c .before .before .before .copy .ensures)) (s .args .at) (c .if1 .taken))
+    fill-more (s .args .self) (s .args .word .now) (s .args .piece .now) (s .args .at) (s .pre .0) (s .pre .1) (s .pre .2) (s .pre .3) (t .least .ensures) (c .before .before .before .copy .ensures) (c .if1 .taken))
     (λ c κs.
     let t = c .before .before .before .before .before .before .before in
     let s = t .before .before .before .before .before .before in
-    let e = rw (sub-zero (t .least .result)) at (c .before .before .before .before .copy .ensures) in
+    let e = c .before .before .before .before .copy .ensures in
     let h = c .before .if1 .left in (
-      fill-room (s .args .self) (s .args .word .now) (s .args .piece .now) (s .pre .0) (s .pre .1) (s .pre .2) (t .least .ensures) e h,
+      fill-room (s .args .self) (s .args .word .now) (s .args .piece .now) (s .args .at) (s .pre .0) (s .pre .1) (s .pre .2) (s .pre .3) (t .least .ensures) e h,
       (
-        fill-within (s .args .self) (s .args .word .now) (s .args .piece .now) (s .pre .0) (s .pre .1) (s .pre .2) (t .least .ensures) e,
-        fill-same (s .args .self) (s .args .word .now) (s .args .piece .now) (s .pre .0) (s .pre .1) (s .pre .2) (t .least .ensures) e h,
+        fill-within (s .args .self) (s .args .word .now) (s .args .piece .now) (s .args .at) (s .pre .0) (s .pre .1) (s .pre .2) (s .pre .3) (t .least .ensures) e,
+        fill-same (s .args .self) (s .args .word .now) (s .args .piece .now) (s .args .at) (s .pre .0) (s .pre .1) (s .pre .2) (s .pre .3) (t .least .ensures) e h,
       ),
     ))
-    (search needs)
     (search needs)
     (search needs)
     (λ c.
     let t = c .before .before .before .before .before .before .before .before .before in
     let s = t .before .before .before .before .before .before in
-    fill-whole (s .args .self) (s .args .word .now) (s .args .piece .now) (s .pre .0) (s .pre .1) (s .pre .2) (t .least .ensures) (rw (sub-zero (t .least .result)) at (c .before .before .before .before .before .before .copy .ensures)) (s .args .at)
-    (c .before .before .before .if1 .left) (c .before .check-last .ensures) (c .whole .ensures)))
+    fill-whole (s .args .self) (s .args .word .now) (s .args .piece .now) (s .args .at) (s .pre .0) (s .pre .1) (s .pre .2) (s .pre .3) (t .least .ensures) (c .before .before .before .before .before .before .copy .ensures) (c .before .before .before .if1 .left) (c .before .check-last .ensures) (c .whole .ensures)))

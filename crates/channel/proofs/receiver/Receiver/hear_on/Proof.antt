@@ -1,7 +1,4 @@
 -- `channel::receiver::Receiver::hear_on` meets its contract, phase behind phase.
-use native.Mathlib.Omega.{arith}
-use lib.ListN.{length-drop}
-use Rattle.base.proofs.Parts.{tail-is}
 use Rattle.channel.specs.Called.{board}
 use Rattle.channel.proofs.Hearing.{room-word, handed-end, sought-end, filled-end}
 use borrow.Author.Needs.{needs}
@@ -26,17 +23,15 @@ hear-on-spec =
     (λ c.
     let s = c .before .before .before .before .before .before .before .before .before .before .before .before .before in
     sought-end (board (s .args .self) (s .args .recv .now) (s .args .word .now)) (s .args .piece .now) (c .before .before .before .before .before .before .before .hand-on .ensures) (c .before .before .before .before .if1 .left) (c .before .before .seek .ensures) (c .before .if2 .taken) (c .ended2 .ensures))
-    (search needs)
-    (search needs)
-    (search needs)
     (λ c κs.
-    let s = c .before .before .before .before .before .before .before .before .before .before .before .before .before .before .before in
-    let g = c .before .before .before .before .seek .ensures in
-    let at = c .before .before .before .before .seek .result .taken in
-    let r = g .ready (c .before .before .before .if2 .left) in
-    (r .0, r .1, room-word (s .args .recv .now) (s .args .word .now) (s .pre .1), rw (tail-is at (s .args .piece .now)) (omega (arith, g .within, length-drop at (s .args .piece .now)))))
+    let s = c .before .before .before .before .before .before .before .before .before .before .before .before .before .before in
+    let g = c .before .before .before .seek .ensures in
+    let r = g .ready (c .before .before .if2 .left) in
+    (r .0, r .1, room-word (s .args .recv .now) (s .args .word .now) (s .pre .1), g .within))
     (search needs)
     (search needs)
     (λ c.
-    let s = c .before .before .before .before .before .before .before .before .before .before .before .before .before .before .before .before .before .before in
-    filled-end (board (s .args .self) (s .args .recv .now) (s .args .word .now)) (s .args .piece .now) (c .before .before .before .before .before .before .before .before .before .before .before .before .hand-on .ensures) (c .before .before .before .before .before .before .before .before .before .if1 .left) (c .before .before .before .before .before .before .before .seek .ensures) (c .before .before .before .before .before .before .if2 .left) (tail-is (c .before .before .before .before .before .before .before .seek .result .taken) (s .args .piece .now)) (c .before .before .fill .ensures)))
+    let h = c .before .before .before .before .before .before .before .before .before .before .before in
+    let s = h .before .before .before .before .before .before in
+    filled-end (board (s .args .self) (s .args .recv .now) (s .args .word .now)) (s .args .piece .now) (h .hand-on .ensures) (c .before .before .before .before .before .before .before .before .if1 .left)
+    (c .before .before .before .before .before .before .seek .ensures) (c .before .before .before .before .before .if2 .left) (c .before .before .fill .ensures)))
