@@ -89,7 +89,7 @@ fine-hunt false f c i = record { frame = i .frame; word = i .word; marker = i .m
 
 fine-compare : (t : Bool) (f : Hunting) (c : Board) → Fine c → Fine (compareOn t f c .1)
 fine-compare true f c i = fine-begun f c i
-fine-compare false f c i = fine-hunting f (c .recv) (c .word) (i .frame .room) (i .room)
+fine-compare false f c i = fine-hunting _ (c .recv) (c .word) (i .frame .room) (i .room)
 
 fine-mark : (t : Bool) (f : Hunting) (c : Board) → ltb (suc (c .st .lock .marker)) 4 ≡ t → Fine c → Fine (markOn t f c .1)
 fine-mark true f c e i =

@@ -1,22 +1,23 @@
 -- What the code's ways through the phases of a call give.
--- shifts-next .. hunt-done     the two loops among the last four bytes
--- hand-none .. hand-said       the rest of a stored word
--- compare-more .. lost         marker bytes
--- hunt-more, hunt-found        hunting
--- fill-more, fill-whole        bytes of a word
--- call-unsound .. call-on      refused with 10, with 11, or let on
+-- shifts-next, shifts-done, hunt-next, hunt-stop, hunt-done    the two loops among the last four bytes
+-- hand-none, hand-more, hand-said                              the rest of a stored word
+-- compare-more, compare-again, compare-lost                    marker bytes
+-- hunt-found, hunt-more                                        hunting
+-- fill-more, fill-whole                                        bytes of a word
+-- handed-end, sought-end, filled-end                           phase behind phase
+-- call-unsound, call-cramped, call-on                          refused with 10, with 11, or let on
 use Prim.Native.Nat.{ℕ, suc, _+_, _-_, _≤_, _<_, min}
 use native.Mathlib.Omega.{arith}
 use native.Mathlib.Numerals.{add-one}
 use native.Mathlib.Nat.{add-zero, zero-add}
 use mathlib.Core.Path.{_≡_, refl, sym, _∙_, ap, subst}
-use mathlib.Core.Bool.{Bool, true, false, _&&_, false≢true}
+use mathlib.Core.Bool.{Bool, true, false, false≢true}
 use mathlib.Core.List.{List, [], _∷_, _++_, append-assoc}
 use mathlib.Core.Option.{Option, some, none}
 use lib.ListN.{length, take, drop, getD, length-append, length-drop, drop-of-length-le, take-append-drop}
 use lib.Seq.{drop-cons, take-at, take-all, length-take-le}
-use lib.Dec.{eqb, ltb, leb}
-use borrow.Author.Tests.{le-leb, leb-true, eqb-true, lt-ltb, le-ltb}
+use lib.Dec.{eqb, leb}
+use borrow.Author.Tests.{le-leb, leb-true, eqb-true}
 use borrow.Rule.Slice.PartMut.{putMid}
 use Rattle.base.specs.Choice.{pick}
 use Rattle.base.specs.Calls.{after, unless}
@@ -41,11 +42,11 @@ use Rattle.channel.specs.declared.receiver.Hearing.{Hearing}
 use Rattle.channel.specs.declared.receiver.Phase.{Phase}
 use Rattle.channel.specs.declared.receiver.Found.{Found}
 use Rattle.channel.specs.Channel.{Event, block, isClean, shift, isMarker}
-use Rattle.channel.specs.Called.{Board, board, counts, huntingWith, lockedWith, owedBy, owes, asEvent, hearOn, soundLock, sound, roomy, hearBy, hearCall, blockAnswer, hearingOf, HearingIs}
+use Rattle.channel.specs.Called.{Board, board, counts, lockedWith, owedBy, owes, asEvent, hearOn, soundLock, sound, roomy, hearBy, hearCall, blockAnswer, hearingOf, HearingIs}
 use Rattle.channel.specs.Phases.{shifts, later, hunted, ended, PhaseBy, HandedIs, SoughtIs, FilledIs}
 use Rattle.channel.proofs.Sending.{lent, back}
 use Rattle.channel.proofs.Fine.{and-parts}
-use Rattle.channel.proofs.Phases.{onward, hand-run, mark-part, comparedOn, behindFour, mark-four, huntingAt, huntedOn, hunt-run, word-part, word-whole}
+use Rattle.channel.proofs.Phases.{onward, hand-run, mark-part, comparedOn, behindFour, mark-four, huntedOn, hunt-run, word-part, word-whole}
 
 -- ---- the two loops
 pub shifts-next : (f : Hunting) (bs : List ℕ) (i : ℕ) {g t : Hunting} → i < length bs → g ≡ shift f (getD bs i 0) → shifts f (drop i bs) ≡ t

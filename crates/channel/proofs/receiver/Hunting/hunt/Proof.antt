@@ -1,7 +1,6 @@
 -- `channel::receiver::Hunting::hunt` meets its contract. The invariant: what is found behind the bytes passed is what is found.
-use mathlib.Core.Path.{_≡_, refl, sym}
+use mathlib.Core.Path.{_≡_}
 use Prim.Native.Nat.{_-_}
-use native.Mathlib.Nat.{zero-add}
 use lib.ListN.{length, drop}
 use borrow.Author.Needs.{needs}
 use Rattle.channel.specs.Phases.{hunted}

@@ -1,7 +1,7 @@
 -- `channel::receiver::Receiver::hand_on` meets its contract, by the law of a stored word's rest.
 use native.Mathlib.Omega.{arith}
 use borrow.Author.Needs.{needs}
-use Rattle.channel.proofs.Hearing.{sound-lock, lock-handed, room-word, hand-none, hand-handed, taken-within, hand-more, hand-said}
+use Rattle.channel.proofs.Hearing.{sound-lock, lock-handed, room-word, hand-none, taken-within, hand-more, hand-said}
 use Rattle.channel.proofs.receiver.Receiver.hand_on.Statement.{statement}
 use Rattle.channel.proofs.receiver.Receiver.hand_on.Tie as tie
 

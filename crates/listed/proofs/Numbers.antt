@@ -1,0 +1,126 @@
+-- The paper's case and its edges, computed: recordings, and what is printed of each.
+-- table    recordings
+-- limit    the byte with which the stream would pass 4,294,967,295 bytes is wrong; the one before is read
+-- digits   numbers at the edges of their widths
+use Prim.Native.Nat.{ℕ}
+use mathlib.Core.Path.{_≡_, refl}
+use mathlib.Core.List.{List, [], _∷_, map}
+use Rattle.fcs.specs.Fcs.{fcs, register, entered}
+use Rattle.packet.specs.Port.{class}
+use Rattle.packet.specs.Escape.{escape, escapeByte, plain, plainScan, right, last, scan}
+use Rattle.packet.specs.Frame.{judgeContents, closedBy, closed, judge}
+use Rattle.listed.specs.declared.Place.the-variants.{Inside, Wrong}
+use Rattle.listed.specs.Apart.{nextAt, inStream, apart, well}
+use Rattle.listed.specs.Lines.{decimal, decimalBy, letter, told, line, lines, count, endLine, wrongLine}
+use Rattle.listed.specs.Listing.{heard, lastLine, listed, listing}
+
+-- a recording, and what is printed
+abbrev rows : List (List ℕ × List ℕ)
+rows =
+    -- the paper's case: P 20736 0 1 M / E 10 1 0 0 0
+    (
+      0x50 ∷ 0xF5 ∷ 0x5F ∷ 0x05 ∷ 0x00 ∷ 0x7E ∷ 0x21 ∷ 0x00 ∷ 0x51 ∷ 0x00 ∷ 0xF5 ∷ 0x5F ∷ 0x05 ∷ 0x00 ∷ 0x00 ∷ 0x41 ∷ 0xE4 ∷ 0xEC ∷ 0x7E ∷ [],
+      80 ∷ 32 ∷ 50 ∷ 48 ∷ 55 ∷ 51 ∷ 54 ∷ 32 ∷ 48 ∷ 32 ∷ 49 ∷ 32 ∷ 77 ∷ 10 ∷ 69 ∷ 32 ∷ 49 ∷ 48 ∷ 32 ∷ 49 ∷ 32 ∷ 48 ∷ 32 ∷ 48 ∷ 32 ∷ 48 ∷ 10 ∷ [],
+    ) ∷
+    -- empty input: X 0
+    (
+      [],
+      88 ∷ 32 ∷ 48 ∷ 10 ∷ [],
+    ) ∷
+    -- an unknown first byte: X 0
+    (
+      0x51 ∷ [],
+      88 ∷ 32 ∷ 48 ∷ 10 ∷ [],
+    ) ∷
+    -- an unknown first byte, and more: X 0
+    (
+      0x00 ∷ 0xF5 ∷ 0x5F ∷ [],
+      88 ∷ 32 ∷ 48 ∷ 10 ∷ [],
+    ) ∷
+    -- no record, plain: E 0 0 0 0 0
+    (
+      0x50 ∷ [],
+      69 ∷ 32 ∷ 48 ∷ 32 ∷ 48 ∷ 32 ∷ 48 ∷ 32 ∷ 48 ∷ 32 ∷ 48 ∷ 10 ∷ [],
+    ) ∷
+    -- no record, on the channel: E 0 0 0 0 0
+    (
+      0x4F ∷ [],
+      69 ∷ 32 ∷ 48 ∷ 32 ∷ 48 ∷ 32 ∷ 48 ∷ 32 ∷ 48 ∷ 32 ∷ 48 ∷ 10 ∷ [],
+    ) ∷
+    -- ends in a mark: X 2
+    (
+      0x50 ∷ 0xF5 ∷ [],
+      88 ∷ 32 ∷ 50 ∷ 10 ∷ [],
+    ) ∷
+    -- a wrong mark: X 2
+    (
+      0x50 ∷ 0xF5 ∷ 0x60 ∷ 0x00 ∷ 0x00 ∷ [],
+      88 ∷ 32 ∷ 50 ∷ 10 ∷ [],
+    ) ∷
+    -- ends before a length: X 3
+    (
+      0x50 ∷ 0xF5 ∷ 0x5F ∷ [],
+      88 ∷ 32 ∷ 51 ∷ 10 ∷ [],
+    ) ∷
+    -- ends in a length: X 4
+    (
+      0x50 ∷ 0xF5 ∷ 0x5F ∷ 0x01 ∷ [],
+      88 ∷ 32 ∷ 52 ∷ 10 ∷ [],
+    ) ∷
+    -- a record of length 0: E 0 0 0 0 0
+    (
+      0x50 ∷ 0xF5 ∷ 0x5F ∷ 0x00 ∷ 0x00 ∷ [],
+      69 ∷ 32 ∷ 48 ∷ 32 ∷ 48 ∷ 32 ∷ 48 ∷ 32 ∷ 48 ∷ 32 ∷ 48 ∷ 10 ∷ [],
+    ) ∷
+    -- a record of length 0, and another: R 4 / E 3 0 1 0 0
+    (
+      0x50 ∷ 0xF5 ∷ 0x5F ∷ 0x00 ∷ 0x00 ∷ 0xF5 ∷ 0x5F ∷ 0x03 ∷ 0x00 ∷ 0x7E ∷ 0x00 ∷ 0x7E ∷ [],
+      82 ∷ 32 ∷ 52 ∷ 10 ∷ 69 ∷ 32 ∷ 51 ∷ 32 ∷ 48 ∷ 32 ∷ 49 ∷ 32 ∷ 48 ∷ 32 ∷ 48 ∷ 10 ∷ [],
+    ) ∷
+    -- a record cut short: its bytes are read: R 4 / X 8
+    (
+      0x50 ∷ 0xF5 ∷ 0x5F ∷ 0x05 ∷ 0x00 ∷ 0x7E ∷ 0x00 ∷ 0x7E ∷ [],
+      82 ∷ 32 ∷ 52 ∷ 10 ∷ 88 ∷ 32 ∷ 56 ∷ 10 ∷ [],
+    ) ∷
+    -- a record without its bytes: X 5
+    (
+      0x50 ∷ 0xF5 ∷ 0x5F ∷ 0x05 ∷ 0x00 ∷ [],
+      88 ∷ 32 ∷ 53 ∷ 10 ∷ [],
+    ) ∷
+    -- a wrong byte behind a record: R 4 / X 8
+    (
+      0x50 ∷ 0xF5 ∷ 0x5F ∷ 0x03 ∷ 0x00 ∷ 0x7E ∷ 0x00 ∷ 0x7E ∷ 0x99 ∷ 0xF5 ∷ [],
+      82 ∷ 32 ∷ 52 ∷ 10 ∷ 88 ∷ 32 ∷ 56 ∷ 10 ∷ [],
+    ) ∷
+    -- a frame over two records: R 4 / E 3 0 1 0 0
+    (
+      0x50 ∷ 0xF5 ∷ 0x5F ∷ 0x02 ∷ 0x00 ∷ 0x7E ∷ 0x00 ∷ 0xF5 ∷ 0x5F ∷ 0x01 ∷ 0x00 ∷ 0x7E ∷ [],
+      82 ∷ 32 ∷ 52 ∷ 10 ∷ 69 ∷ 32 ∷ 51 ∷ 32 ∷ 48 ∷ 32 ∷ 49 ∷ 32 ∷ 48 ∷ 32 ∷ 48 ∷ 10 ∷ [],
+    ) ∷
+    -- stray bytes on the channel: E 3 0 0 0 0
+    (
+      0x4F ∷ 0xF5 ∷ 0x5F ∷ 0x03 ∷ 0x00 ∷ 0x7E ∷ 0x00 ∷ 0x7E ∷ [],
+      69 ∷ 32 ∷ 51 ∷ 32 ∷ 48 ∷ 32 ∷ 48 ∷ 32 ∷ 48 ∷ 32 ∷ 48 ∷ 10 ∷ [],
+    ) ∷
+    -- a length's high byte: X 6
+    (
+      0x50 ∷ 0xF5 ∷ 0x5F ∷ 0x00 ∷ 0x01 ∷ 0x00 ∷ [],
+      88 ∷ 32 ∷ 54 ∷ 10 ∷ [],
+    ) ∷
+    []
+
+pub table : map (λ (r : List ℕ × List ℕ). listing (r .0)) rows ≡ map (λ (r : List ℕ × List ℕ). r .1) rows
+unfolding listing listed lastLine heard wrongLine endLine count lines line told letter decimal decimalBy well apart inStream nextAt judge closed closedBy judgeContents scan last plainScan right plain escape escapeByte class fcs register entered
+table = refl
+
+pub limit :
+    apart (record { place = Inside 2; offset = 100; count = 4294967294 }) (1 ∷ 2 ∷ 3 ∷ [])
+    ≡ (1 ∷ [], record { place = Wrong; offset = 101; count = 4294967295 })
+unfolding apart inStream nextAt
+limit = refl
+
+pub digits :
+    _≡_ {A = List (List ℕ)} (decimal 0 ∷ decimal 4294967295 ∷ decimal 18446744073709551615 ∷ [])
+    ((48 ∷ []) ∷ (52 ∷ 50 ∷ 57 ∷ 52 ∷ 57 ∷ 54 ∷ 55 ∷ 50 ∷ 57 ∷ 53 ∷ []) ∷ (49 ∷ 56 ∷ 52 ∷ 52 ∷ 54 ∷ 55 ∷ 52 ∷ 52 ∷ 48 ∷ 55 ∷ 51 ∷ 55 ∷ 48 ∷ 57 ∷ 53 ∷ 53 ∷ 49 ∷ 54 ∷ 49 ∷ 53 ∷ []) ∷ [])
+unfolding decimal decimalBy
+digits = refl
