@@ -11,7 +11,7 @@ use Rattle.packet.specs.Frame.{Told}
 use Rattle.packet.proofs.Judging.{There}
 use Rattle.stream.specs.Called.{takeByte}
 use Rattle.stream.proofs.Delivery.{ThereIf, there-byte}
-use Rattle.channel.specs.declared.receiver.Hunting.{Hunting}
+use Rattle.channel.specs.declared.hunting.Hunting.{Hunting}
 use Rattle.channel.specs.Sender.{wordBytes}
 use Rattle.channel.specs.Channel.{Event, said, block, lost, isMarker, shift}
 use Rattle.channel.specs.Called.{Board, heldIn, wordOn, compareOn, markOn, eatBy, eatByte, owed, asEvent, handOn}

@@ -14,7 +14,7 @@ use borrow.Author.Tests.{le-leb, ltb-true, leb-true}
 use Rattle.packet.specs.Contents.{rawLimit}
 use Rattle.stream.specs.Called.{Held, takeByte}
 use Rattle.stream.proofs.Fine.{Fine as FineFrame, fine-take, fine-of as frame-of, fine-is as frame-is}
-use Rattle.channel.specs.declared.receiver.Hunting.{Hunting}
+use Rattle.channel.specs.declared.hunting.Hunting.{Hunting}
 use Rattle.channel.specs.Sender.{messageBytes, wordBytes}
 use Rattle.channel.specs.Channel.{shift, isMarker, zeros}
 use Rattle.channel.specs.Called.{Board, board, heldIn, huntingWith, freshReceiver, lockedWith, sound, roomy}

@@ -33,14 +33,14 @@ use Rattle.stream.specs.declared.frame.Heard.the-variants as heard
 use Rattle.stream.specs.Called.{Held, held, fresh, takeByte, owesNone, handsNone, readOn, readCall, ReadIs, sound as soundFrame, answered as frameAnswered}
 use Rattle.stream.proofs.Fine.{fine-of}
 use Rattle.stream.proofs.Cutting.{none-owed, read-agrees}
-use Rattle.channel.specs.declared.receiver.Hunting.{Hunting}
-use Rattle.channel.specs.declared.receiver.Locked.{Locked}
+use Rattle.channel.specs.declared.hunting.Hunting.{Hunting}
+use Rattle.channel.specs.declared.locked.Locked.{Locked}
 use Rattle.channel.specs.declared.receiver.Receiver.{Receiver}
 use Rattle.channel.specs.declared.receiver.Answer.{Answer}
 use Rattle.channel.specs.declared.receiver.Answer.the-variants.{More, Said, LockLost}
 use Rattle.channel.specs.declared.receiver.Hearing.{Hearing}
 use Rattle.channel.specs.declared.receiver.Phase.{Phase}
-use Rattle.channel.specs.declared.receiver.Found.{Found}
+use Rattle.channel.specs.declared.hunting.Found.{Found}
 use Rattle.channel.specs.Channel.{Event, block, isClean, shift, isMarker}
 use Rattle.channel.specs.Called.{Board, board, counts, lockedWith, owedBy, owes, asEvent, hearOn, soundLock, sound, roomy, hearBy, hearCall, blockAnswer, hearingOf, HearingIs}
 use Rattle.channel.specs.Phases.{shifts, later, hunted, ended, PhaseBy, HandedIs, SoughtIs, FilledIs}

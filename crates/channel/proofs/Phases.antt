@@ -21,9 +21,9 @@ use Rattle.base.proofs.Calls.{after-none, after-one, hear-hand, hear-eat, hear-
 use Rattle.packet.specs.Frame.{Told}
 use Rattle.stream.specs.declared.frame.Frame.{Frame}
 use Rattle.stream.specs.Called.{Held, held, takeByte, readOn}
-use Rattle.channel.specs.declared.receiver.Hunting.{Hunting}
-use Rattle.channel.specs.declared.receiver.Locked.{Locked}
-use Rattle.channel.specs.declared.receiver.Found.{Found}
+use Rattle.channel.specs.declared.hunting.Hunting.{Hunting}
+use Rattle.channel.specs.declared.locked.Locked.{Locked}
+use Rattle.channel.specs.declared.hunting.Found.{Found}
 use Rattle.channel.specs.Channel.{Event, block, lost, isClean, shift, isMarker}
 use Rattle.channel.specs.Called.{Board, board, huntingWith, lockedWith, huntOn, wordOn, compareOn, markOn, eatBy, eatByte, owed, asEvent, handOn, hearOn}
 use Rattle.channel.specs.Phases.{shifts, later, hunted}

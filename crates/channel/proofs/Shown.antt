@@ -19,7 +19,7 @@ use Rattle.packet.specs.Frame.{Told}
 use Rattle.stream.specs.Reader.{Reading, read, reads}
 use Rattle.stream.specs.Called.{Held, takeByte, heldOf}
 use Rattle.stream.proofs.Shown.{shown-byte, tell-end, held-use, held-st}
-use Rattle.channel.specs.declared.receiver.Hunting.{Hunting}
+use Rattle.channel.specs.declared.hunting.Hunting.{Hunting}
 use Rattle.channel.specs.Sender.{messageBytes, wordBytes}
 use Rattle.channel.specs.Channel.{Event, said, block, message, isClean, shift, isMarker}
 use Rattle.channel.specs.Channel.{Chan, hunting, inWord, inMark, whole, hunt, grow, compared, behindWord, step, hears}

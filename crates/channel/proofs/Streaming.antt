@@ -26,7 +26,7 @@ use Rattle.stream.specs.Reader.{Reading, waiting, read, reads}
 use Rattle.stream.specs.Sender.{Packet, Accepted, rawOf, behind, stream, delivered, openedFrom}
 use Rattle.stream.proofs.Accepting.{raw-bytes}
 use Rattle.stream.proofs.Streaming.{synchronised, stream-read, from-flag}
-use Rattle.channel.specs.declared.receiver.Hunting.{Hunting}
+use Rattle.channel.specs.declared.hunting.Hunting.{Hunting}
 use Rattle.channel.specs.Sender.{marker, messageBytes, parityBytes, wordBytes, wordOf, framed}
 use Rattle.channel.specs.Sender.{fillers, filled, cutUp, messagesOf, sentWords, sent}
 use Rattle.channel.specs.Channel.{Event, said, frames, blocks, losses, message, isClean, shift, isMarker, zeros}

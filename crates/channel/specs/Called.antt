@@ -17,8 +17,8 @@ use Rattle.base.specs.Calls.{all, hear}
 use Rattle.packet.specs.Contents.{rawLimit}
 use Rattle.packet.specs.Frame.{Told, refusal, judged}
 use Rattle.stream.specs.Called.{Held, held, fresh, takeByte, heldOf, sound as soundFrame}
-use Rattle.channel.specs.declared.receiver.Hunting.{Hunting}
-use Rattle.channel.specs.declared.receiver.Locked.{Locked}
+use Rattle.channel.specs.declared.hunting.Hunting.{Hunting}
+use Rattle.channel.specs.declared.locked.Locked.{Locked}
 use Rattle.channel.specs.declared.receiver.Receiver.{Receiver}
 use Rattle.channel.specs.declared.receiver.Answer.{Answer}
 use Rattle.channel.specs.declared.receiver.Answer.the-variants.{More, Said, Clean, Damaged, LockLost}

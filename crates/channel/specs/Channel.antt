@@ -14,7 +14,7 @@ use Rattle.packet.specs.Frame.{Told}
 use Rattle.parity.specs.Word.{clean}
 use Rattle.stream.specs.Reader.{Reading, waiting, reads}
 use Rattle.channel.specs.Sender.{marker, messageBytes, parityBytes, wordBytes}
-use Rattle.channel.specs.declared.receiver.Hunting.{Hunting}
+use Rattle.channel.specs.declared.hunting.Hunting.{Hunting}
 
 -- an answer: a frame's or a refused call's; a block's (true: clean); lock lost
 pub data Event : Type 0 where

@@ -12,6 +12,7 @@ use Rattle.base.specs.Choice.{pick}
 use Rattle.base.specs.Written.{Outcome, refused, write}
 use Rattle.packet.specs.Escape.{flag}
 use Rattle.parity.specs.Word.{remainder}
+use Rattle.parity.specs.Calls.{whole}
 use Rattle.stream.specs.Sender.{Packet, stream}
 
 -- the marker that stands before each word
@@ -28,7 +29,7 @@ parityBytes = 32
 
 -- bytes of a word
 abbrev pub wordBytes : ℕ
-wordBytes = 255
+wordBytes = whole
 
 -- a message with its parity behind it
 abbrev pub wordOf : List ℕ → List ℕ

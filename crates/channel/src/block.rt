@@ -1,4 +1,5 @@
 //! The channel's fixed numbers.
+use parity::Word;
 
 /// A block: the marker, and a word behind it.
 pub struct Block;
@@ -7,15 +8,15 @@ impl Block {
     /// What stands before each word.
     pub const MARKER: [u8; 4] = [0x7D, 0x3A, 0xE2, 0x42];
 
-    /// Message bytes of a word.
-    pub const MESSAGE: usize = 223;
+    /// Bytes of a word.
+    pub const WORD: usize = Word::LENGTH;
 
     /// Its parity bytes.
     pub const PARITY: usize = 32;
 
-    /// Its bytes.
-    pub const WORD: usize = 255;
+    /// Its message bytes.
+    pub const MESSAGE: usize = Self::WORD - Self::PARITY;
 
     /// Bytes of a block.
-    pub const LENGTH: usize = 259;
+    pub const LENGTH: usize = 4 + Self::WORD;
 }

@@ -3,7 +3,7 @@ ghost use mathlib.Core.Path.{_≡_};
 ghost use mathlib.Core.Bool.{true, false};
 ghost use Prim.Native.Nat.{_+_, _≤_, _<_};
 ghost use lib.ListN.{length, take, drop};
-ghost use Rattle.channel.specs.Channel.{isClean, shift, isMarker, zeros};
+ghost use Rattle.channel.specs.Channel.{isClean};
 ghost use Rattle.channel.specs.Called.{
   board,
   counts,
@@ -17,28 +17,15 @@ ghost use Rattle.channel.specs.Called.{
   hearCall,
   HearingIs,
 };
-ghost use Rattle.channel.specs.Phases.{shifts, hunted, ended, HandedIs, SoughtIs, FilledIs};
+ghost use Rattle.channel.specs.Phases.{ended, HandedIs, SoughtIs, FilledIs};
 use crate::block::Block;
+use crate::hunting::Hunting;
+use crate::locked::Locked;
 use base::Refusal;
 use packet::Judged;
 use parity::Checked;
 use stream::Frame;
 use stream::Heard;
-
-/// Hunting: the last four bytes, the oldest first.
-pub struct Hunting {
-    pub a: u8,
-    pub b: u8,
-    pub c: u8,
-    pub d: u8,
-}
-
-/// Locked: bytes of a word, message bytes of it handed on, bytes of the next marker.
-pub struct Locked {
-    pub word: usize,
-    pub handed: usize,
-    pub marker: usize,
-}
 
 /// The receiver's state.
 pub struct Receiver {
@@ -78,129 +65,6 @@ struct Phase {
     receiver: Receiver,
 }
 
-// What hunting finds.
-struct Found {
-    found: bool,
-    // Bytes taken, the marker's last one among them.
-    taken: usize,
-    hunting: Hunting,
-}
-
-impl Hunting {
-    // Four bytes of zero.
-    fn fresh() -> Self
-        ensures { λ r. ⌜ r ≡ zeros ⌝ }
-    {
-        Hunting {
-            a: 0,
-            b: 0,
-            c: 0,
-            d: 0,
-        }
-    }
-
-    // One byte more.
-    fn shift(self, x: u8) -> Self
-        ensures { λ r. ⌜ r ≡ shift self x ⌝ }
-    {
-        Hunting {
-            a: self.b,
-            b: self.c,
-            c: self.d,
-            d: x,
-        }
-    }
-
-    // Whether the last four are the marker.
-    fn at_marker(self) -> bool
-        ensures { λ r. ⌜ r ≡ isMarker self ⌝ }
-    {
-        let m = Block::MARKER;
-        if self.d == m[3] {
-            if self.c == m[2] {
-                if self.b == m[1] {
-                    return self.a == m[0];
-                }
-            }
-        }
-        false
-    }
-
-    // All of some bytes more.
-    fn shifted(self, bytes: &[u8]) -> Self
-        ensures { λ r. ⌜ r ≡ shifts self (now (bytes .entry)) ⌝ }
-    {
-        let mut last = self;
-        let mut i: usize = 0;
-        while i < bytes.len() {
-            last = last.shift(bytes[i]);
-            i += 1;
-        }
-        last
-    }
-
-    // Bytes up to the marker, or all of them.
-    fn hunt(self, piece: &[u8]) -> Found
-        ensures { λ r. ⌜ r ≡ hunted self (now (piece .entry)) ⌝ }
-    {
-        let mut hunting = self;
-        let mut i: usize = 0;
-        while i < piece.len() {
-            hunting = hunting.shift(piece[i]);
-            i += 1;
-            if hunting.at_marker() {
-                return Found {
-                    found: true,
-                    taken: i,
-                    hunting,
-                };
-            }
-        }
-        Found {
-            found: false,
-            taken: i,
-            hunting,
-        }
-    }
-}
-
-impl Locked {
-    // Behind a marker, and where lock is lost.
-    fn fresh() -> Self
-        ensures { λ r. ⌜ r ≡ counts 0 0 0 ⌝ }
-    {
-        Locked {
-            word: 0,
-            handed: 0,
-            marker: 0,
-        }
-    }
-
-    // A whole word: nothing of it is handed on yet.
-    fn whole() -> Self
-        ensures { λ r. ⌜ r ≡ counts 255 0 0 ⌝ }
-    {
-        Locked {
-            word: Block::WORD,
-            handed: 0,
-            marker: 0,
-        }
-    }
-
-    // Whether no count is beyond its limit.
-    fn sound(self) -> bool
-        ensures { λ r. ⌜ r ≡ soundLock self ⌝ }
-    {
-        if Block::WORD < self.word {
-            return false;
-        }
-        if 3 < self.marker {
-            return false;
-        }
-        self.handed <= Block::MESSAGE
-    }
-}
-
 // The answer to a word.
 fn check(word: &[u8]) -> Answer
     requires { ⌜ length (now word) ≡ 255 ⌝ }
@@ -221,10 +85,10 @@ fn check_last(word: &[u8], piece: &[u8], at: usize, n: usize) -> Answer
     ensures { λ r. ⌜ r ≡ blockAnswer (isClean (take 255 (now (word .entry)))) ⌝ }
 {
     if n == Block::WORD {
-        let end = at + 255;
+        let end = at + Block::WORD;
         return check(&piece[at..end]);
     }
-    check(&word[0..255])
+    check(&word[0..Block::WORD])
 }
 
 // Whether the buffers are as long as the receiver asks.
@@ -337,7 +201,7 @@ impl Receiver {
         let hunting = self.hunting;
         let frame = self.frame;
         let from = lock.handed;
-        let read = frame.read(recv, &word[from..223]);
+        let read = frame.read(recv, &word[from..Block::MESSAGE]);
         let behind = read.frame;
         let next = Receiver {
             locked: true,

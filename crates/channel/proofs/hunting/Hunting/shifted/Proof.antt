@@ -1,12 +1,12 @@
--- `channel::receiver::Hunting::shifted` meets its contract. The invariant: what is shifted, and what is left, is the whole.
+-- `channel::hunting::Hunting::shifted` meets its contract. The invariant: what is shifted, and what is left, is the whole.
 use mathlib.Core.Path.{_≡_, refl}
 use Prim.Native.Nat.{_-_}
 use lib.ListN.{length, drop}
 use borrow.Author.Needs.{needs}
 use Rattle.channel.specs.Phases.{shifts}
 use Rattle.channel.proofs.Hearing.{shifts-next, shifts-done}
-use Rattle.channel.proofs.receiver.Hunting.shifted.Statement.{statement}
-use Rattle.channel.proofs.receiver.Hunting.shifted.Tie as tie
+use Rattle.channel.proofs.hunting.Hunting.shifted.Statement.{statement}
+use Rattle.channel.proofs.hunting.Hunting.shifted.Tie as tie
 
 abbrev Inv-loop : tie.InvT-loop
 Inv-loop bytes last₀ i₀ last i = shifts last (drop i bytes) ≡ shifts last₀ bytes

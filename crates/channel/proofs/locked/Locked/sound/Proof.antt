@@ -1,8 +1,8 @@
 -- `Locked::sound` meets its contract.
 use borrow.Author.Tests.{le-leb, lt-leb}
 use Rattle.channel.proofs.Checks.{two-and}
-use Rattle.channel.proofs.receiver.Locked.sound.Statement.{statement}
-use Rattle.channel.proofs.receiver.Locked.sound.Tie as tie
+use Rattle.channel.proofs.locked.Locked.sound.Statement.{statement}
+use Rattle.channel.proofs.locked.Locked.sound.Tie as tie
 
 pub sound-spec : {M : Type 1} → statement M
 sound-spec =
