@@ -1,19 +1,23 @@
 -- The lines of a listing (paper 01, "The listing program"), as ASCII.
 -- decimal              a number without leading zeros
--- line                 an answer's line
+-- line, lines          an answer's line, and line after line
 -- count                how many answers are such
 -- endLine, wrongLine   the last line
 use Prim.Native.Nat.{ℕ, zero, suc, _+_, _/_, _%_}
 use mathlib.Core.Bool.{Bool, true, false}
 use mathlib.Core.List.{List, [], _∷_, _++_}
+use mathlib.Core.Option.{some}
 use lib.Dec.{ltb}
-use lib.ListN.{length}
 use Rattle.base.specs.Choice.{pick}
 use Rattle.packet.specs.Port.{class}
-use Rattle.packet.specs.Frame.{Told, packet, refusal}
 use Rattle.packet.specs.declared.port.Class.{Class}
 use Rattle.packet.specs.declared.port.Class.the-variants.{System, Applications, M, D, Future, Barred}
-use Rattle.channel.specs.Channel.{Event, said, block, lost}
+use Rattle.packet.specs.declared.frame.Judged.{Judged}
+use Rattle.packet.specs.declared.frame.Judged.the-variants.{Packet, Refused}
+use Rattle.channel.specs.Channel.{Event}
+use Rattle.channel.specs.Called.{answered}
+use Rattle.channel.specs.declared.receiver.Answer.{Answer}
+use Rattle.channel.specs.declared.receiver.Answer.the-variants.{More, Said, Clean, Damaged, LockLost}
 
 -- the digits of n, at most k + 1 of them
 unfoldable pub decimalBy : ℕ → ℕ → List ℕ
@@ -25,7 +29,7 @@ unfoldable pub decimal : ℕ → List ℕ
 decimal n = decimalBy 19 n
 
 -- the letter of a class; a port that may not be used is never delivered
-unfoldable pub letter : Class → ℕ
+abbrev pub letter : Class → ℕ
 letter System = 83
 letter Applications = 65
 letter M = 77
@@ -34,60 +38,75 @@ letter Future = 70
 letter Barred = 70
 
 -- `P port sequence payload-length class`, or `R n`
-unfoldable pub told : Told → List ℕ
-told (packet port sequence payload) =
-    80 ∷ 32 ∷ (decimal port ++ 32 ∷ (decimal sequence ++ 32 ∷ (decimal (length payload) ++ 32 ∷ letter (class port) ∷ 10 ∷ [])))
-told (refusal n) = 82 ∷ 32 ∷ (decimal n ++ 10 ∷ [])
+unfoldable pub told : Judged → List ℕ
+told (Packet port sequence n) =
+    80 ∷ 32 ∷ (decimal port ++ 32 ∷ (decimal sequence ++ 32 ∷ (decimal n ++ 32 ∷ letter (class port) ∷ 10 ∷ [])))
+told (Refused n) = 82 ∷ 32 ∷ (decimal n ++ 10 ∷ [])
 
--- that, or `B 0` clean, `B 1` damaged, `L` lock lost
-unfoldable pub line : Event → List ℕ
-line (said t) = told t
-line (block true) = 66 ∷ 32 ∷ 48 ∷ 10 ∷ []
-line (block false) = 66 ∷ 32 ∷ 49 ∷ 10 ∷ []
-line lost = 76 ∷ 10 ∷ []
+-- that, or `B 0` clean, `B 1` damaged, `L` lock lost; "more wanted" has no line
+abbrev pub line : Answer → List ℕ
+line More = []
+line (Said j) = told j
+line Clean = 66 ∷ 32 ∷ 48 ∷ 10 ∷ []
+line Damaged = 66 ∷ 32 ∷ 49 ∷ 10 ∷ []
+line LockLost = 76 ∷ 10 ∷ []
+
+-- the answer that a call gives of an event
+abbrev pub given : Event → Answer
+given e = answered (some e)
 
 -- line after line
 unfoldable pub lines : List Event → List ℕ
 lines [] = []
-lines (e ∷ es) = line e ++ lines es
+lines (e ∷ es) = line (given e) ++ lines es
 
 -- a delivered packet
-abbrev pub isPacket : Event → Bool
-isPacket (said (packet port sequence payload)) = true
-isPacket (said (refusal n)) = false
-isPacket (block c) = false
-isPacket lost = false
+abbrev pub isPacket : Answer → Bool
+isPacket More = false
+isPacket (Said (Packet port sequence n)) = true
+isPacket (Said (Refused n)) = false
+isPacket Clean = false
+isPacket Damaged = false
+isPacket LockLost = false
 
 -- a frame refusal
-abbrev pub isRefusal : Event → Bool
-isRefusal (said (packet port sequence payload)) = false
-isRefusal (said (refusal n)) = true
-isRefusal (block c) = false
-isRefusal lost = false
+abbrev pub isRefusal : Answer → Bool
+isRefusal More = false
+isRefusal (Said (Packet port sequence n)) = false
+isRefusal (Said (Refused n)) = true
+isRefusal Clean = false
+isRefusal Damaged = false
+isRefusal LockLost = false
 
 -- a damaged block
-abbrev pub isDamaged : Event → Bool
-isDamaged (said t) = false
-isDamaged (block true) = false
-isDamaged (block false) = true
-isDamaged lost = false
+abbrev pub isDamaged : Answer → Bool
+isDamaged More = false
+isDamaged (Said j) = false
+isDamaged Clean = false
+isDamaged Damaged = true
+isDamaged LockLost = false
 
 -- a lost lock
-abbrev pub isLost : Event → Bool
-isLost (said t) = false
-isLost (block c) = false
-isLost lost = true
+abbrev pub isLost : Answer → Bool
+isLost More = false
+isLost (Said j) = false
+isLost Clean = false
+isLost Damaged = false
+isLost LockLost = true
+
+-- one where the test holds
+abbrev pub one : Bool → ℕ
+one t = pick t 1 0
 
 -- how many answers are such
-unfoldable pub count : (Event → Bool) → List Event → ℕ
+unfoldable pub count : (Answer → Bool) → List Event → ℕ
 count f [] = 0
-count f (e ∷ es) = pick (f e) 1 0 + count f es
+count f (e ∷ es) = one (f (given e)) + count f es
 
--- `E stream-bytes packets frame-refusals damaged-blocks lost-locks`, the totals counted from the answers
-unfoldable pub endLine : ℕ → List Event → List ℕ
-endLine n es =
-    69 ∷ 32 ∷ (decimal n ++ 32 ∷ (decimal (count isPacket es) ++ 32 ∷ (decimal (count isRefusal es) ++ 32 ∷ (decimal (count isDamaged es)
-    ++ 32 ∷ (decimal (count isLost es) ++ 10 ∷ [])))))
+-- `E stream-bytes packets frame-refusals damaged-blocks lost-locks`
+unfoldable pub endLine : ℕ → ℕ → ℕ → ℕ → ℕ → List ℕ
+endLine n packets refused damaged lost =
+    69 ∷ 32 ∷ (decimal n ++ 32 ∷ (decimal packets ++ 32 ∷ (decimal refused ++ 32 ∷ (decimal damaged ++ 32 ∷ (decimal lost ++ 10 ∷ [])))))
 
 -- `X offset`
 unfoldable pub wrongLine : ℕ → List ℕ

@@ -10,16 +10,20 @@ use Rattle.stream.specs.Reader.{waiting, reads}
 use Rattle.channel.specs.Channel.{Event, said, answers}
 use Rattle.listed.specs.declared.Spot.{Spot}
 use Rattle.listed.specs.Apart.{start, apart, well, onChannel}
-use Rattle.listed.specs.Lines.{lines, endLine, wrongLine}
+use Rattle.listed.specs.Lines.{lines, count, isPacket, isRefusal, isDamaged, isLost, endLine, wrongLine}
 
 -- the answers of a stream, by: is it the opportunistic channel
 unfoldable pub heard : Bool → List ℕ → List Event
 heard true bs = answers bs
 heard false bs = map said (reads waiting bs .0)
 
--- `E` where the recording may end, else `X` with the offset of the first wrong byte, or its length where it ends early
+-- `E` with the totals counted from the answers
+abbrev pub totalLine : ℕ → List Event → List ℕ
+totalLine n es = endLine n (count isPacket es) (count isRefusal es) (count isDamaged es) (count isLost es)
+
+-- that where the recording may end, else `X` with the offset of the first wrong byte, or its length where it ends early
 unfoldable pub lastLine : Spot → ℕ → List Event → List ℕ
-lastLine p n es = pick (well (p .place)) (endLine n es) (wrongLine (p .offset))
+lastLine p n es = pick (well (p .place)) (totalLine n es) (wrongLine (p .offset))
 
 -- the lines of a recording's answers, and the last line
 unfoldable pub listed : List ℕ × Spot → List Event → List ℕ

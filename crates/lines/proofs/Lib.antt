@@ -1,0 +1,4 @@
+pub mod Digits
+pub mod Writes
+pub mod Short
+pub mod Determined

@@ -1,0 +1,48 @@
+-- How long lines are.
+-- line-short   no answer's line has more than 128 bytes
+-- line-some    each but that of "more wanted" has a byte at least
+use Prim.Native.Nat.{ℕ, _+_, _≤_, _<_}
+use native.Mathlib.Omega.{arith}
+use mathlib.Core.Bool.{true, false}
+use mathlib.Core.List.{List, [], _∷_, _++_}
+use lib.ListN.{length, length-append}
+use Rattle.packet.specs.Port.{class}
+use Rattle.packet.specs.declared.frame.Judged.{Judged}
+use Rattle.packet.specs.declared.frame.Judged.the-variants.{Packet, Refused}
+use Rattle.packet.specs.Frame.{packet, refusal}
+use Rattle.channel.specs.Channel.{Event, said, block, lost}
+use Rattle.channel.specs.declared.receiver.Answer.{Answer}
+use Rattle.channel.specs.declared.receiver.Answer.the-variants.{More, Said, Clean, Damaged, LockLost}
+use Rattle.listed.specs.Lines.{decimal, letter, told, line, given}
+use Rattle.lines.proofs.Digits.{digits-short}
+
+item-short : (n k : ℕ) (rest : List ℕ) → length rest ≤ k → length (decimal n ++ rest) ≤ 20 + k
+item-short n k rest h = omega (arith, length-append (decimal n) rest, digits-short n)
+
+told-short : (j : Judged) → length (told j) ≤ 128
+unfolding told
+told-short (Packet p s n) =
+    let x = item-short n 3 (32 ∷ letter (class p) ∷ 10 ∷ []) (omega arith) in
+    let y = item-short s 24 (32 ∷ (decimal n ++ 32 ∷ letter (class p) ∷ 10 ∷ [])) (omega arith) in
+    let z = item-short p 45 (32 ∷ (decimal s ++ 32 ∷ (decimal n ++ 32 ∷ letter (class p) ∷ 10 ∷ []))) (omega arith) in
+    omega arith
+told-short (Refused n) = let x = item-short n 1 (10 ∷ []) (omega arith) in omega arith
+
+pub line-short : (a : Answer) → length (line a) ≤ 128
+line-short More = omega arith
+line-short (Said j) = told-short j
+line-short Clean = omega arith
+line-short Damaged = omega arith
+line-short LockLost = omega arith
+
+told-some : (j : Judged) → 0 < length (told j)
+unfolding told
+told-some (Packet p s n) = omega arith
+told-some (Refused n) = omega arith
+
+pub line-some : (e : Event) → 0 < length (line (given e))
+line-some (said (packet p s x)) = told-some (Packet p s (length x))
+line-some (said (refusal n)) = told-some (Refused n)
+line-some (block true) = omega arith
+line-some (block false) = omega arith
+line-some lost = omega arith

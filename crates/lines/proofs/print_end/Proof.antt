@@ -1,0 +1,22 @@
+-- `lines::print_end` meets its contract.
+use borrow.Author.Needs.{needs}
+use Prim.Native.Nat.{ℕ}
+use Rattle.base.specs.Written.{write}
+use Rattle.lines.proofs.Writes.{put-taken}
+use mathlib.Core.List.{List}
+use mathlib.Core.Path.{ap, _∙_}
+use Rattle.lines.proofs.print_end.Statement.{statement}
+use Rattle.lines.proofs.print_end.Tie as tie
+
+pub print-end-spec : {M : Type 1} → statement M
+print-end-spec =
+    tie.close
+    (tie.spec
+    (search needs)
+    (search needs)
+    (search needs)
+    (search needs)
+    (search needs)
+    (search needs)
+    (λ c. search needs)
+    (λ c. c .before .before .deliver .ensures ∙ ap (λ (bs : List ℕ). write bs (c .before .before .before .before .before .before .before .before .before .before .args .out .now)) (put-taken (c .before .before .before .before .before .before .before .put-end .ensures) (c .before .before .before .before .before .before .before .put-end .ensures .1))))
