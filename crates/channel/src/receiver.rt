@@ -91,16 +91,6 @@ fn check_last(word: &[u8], piece: &[u8], at: usize, n: usize) -> Answer
     check(&word[0..Block::WORD])
 }
 
-// Whether the buffers are as long as the receiver asks.
-fn has_room(recv: &[u8], word: &[u8]) -> bool
-    ensures { λ r. ⌜ r ≡ roomy (now (recv .entry)) (now (word .entry)) ⌝ }
-{
-    if recv.len() < Frame::RAW {
-        return false;
-    }
-    Block::WORD <= word.len()
-}
-
 impl Phase {
     // The call goes on with this state, so many bytes later.
     fn on(taken: usize, receiver: Receiver) -> Self
@@ -163,8 +153,18 @@ impl Receiver {
         }
     }
 
-    // Whether no count is beyond its limit.
-    fn sound(self) -> bool
+    /// Whether the buffers are as long as the receiver asks.
+    pub fn has_room(recv: &[u8], word: &[u8]) -> bool
+        ensures { λ r. ⌜ r ≡ roomy (now (recv .entry)) (now (word .entry)) ⌝ }
+    {
+        if recv.len() < Frame::RAW {
+            return false;
+        }
+        Block::WORD <= word.len()
+    }
+
+    /// Whether no count is beyond its limit.
+    pub fn sound(self) -> bool
         ensures { λ r. ⌜ r ≡ sound self ⌝ }
     {
         let frame = self.frame;
@@ -383,7 +383,7 @@ impl Receiver {
                 receiver: self,
             };
         }
-        if !has_room(recv, word) {
+        if !Receiver::has_room(recv, word) {
             return Hearing {
                 answer: Answer::Said(Judged::Refused(Refusal::BUFFER)),
                 taken: 0,

@@ -123,7 +123,14 @@ fn put_line(text: &mut [u8], answer: Answer) -> usize
 }
 
 // `E` and the numbers.
-fn put_end(text: &mut [u8], bytes: u64, packets: u64, refused: u64, damaged: u64, lost: u64) -> usize
+fn put_end(
+    text: &mut [u8],
+    bytes: u64,
+    packets: u64,
+    refused: u64,
+    damaged: u64,
+    lost: u64,
+) -> usize
     requires { ⌜ 128 ≤ length (now text) ⌝ }
     ensures { λ r. ⌜ Laid (now (text .entry)) 0 (endLine bytes packets refused damaged lost) (now (text .exit)) r × (r ≤ 128) ⌝ }
 {
@@ -165,7 +172,14 @@ pub fn print(answer: Answer, out: &mut [u8]) -> Written
 }
 
 /// Writes the last line of a recording that ends well.
-pub fn print_end(bytes: u64, packets: u64, refused: u64, damaged: u64, lost: u64, out: &mut [u8]) -> Written
+pub fn print_end(
+    bytes: u64,
+    packets: u64,
+    refused: u64,
+    damaged: u64,
+    lost: u64,
+    out: &mut [u8],
+) -> Written
     ensures { λ w. ⌜ outcome w (now (out .exit)) ≡ write (endLine bytes packets refused damaged lost) (now (out .entry)) ⌝ }
 {
     let mut text: [u8; 128] = [0; 128];

@@ -10,7 +10,7 @@ use Rattle.packet.specs.Port.{class}
 use Rattle.packet.specs.Escape.{escape, escapeByte, plain, plainScan, right, last, scan}
 use Rattle.packet.specs.Frame.{judgeContents, closedBy, closed, judge}
 use Rattle.listed.specs.declared.Place.the-variants.{Inside, Wrong}
-use Rattle.listed.specs.Apart.{nextAt, inStream, apart, well}
+use Rattle.listed.specs.Apart.{nextAt, inStream, apart}
 use Rattle.listed.specs.Lines.{decimal, decimalBy, told, lines, count, endLine, wrongLine}
 use Rattle.listed.specs.Listing.{heard, lastLine, listed, listing}
 
@@ -110,7 +110,7 @@ rows =
     []
 
 pub table : map (λ (r : List ℕ × List ℕ). listing (r .0)) rows ≡ map (λ (r : List ℕ × List ℕ). r .1) rows
-unfolding listing listed lastLine heard wrongLine endLine count lines told decimal decimalBy well apart inStream nextAt judge closed closedBy judgeContents scan last plainScan right plain escape escapeByte class fcs register entered
+unfolding listing listed lastLine heard wrongLine endLine count lines told decimal decimalBy apart inStream nextAt judge closed closedBy judgeContents scan last plainScan right plain escape escapeByte class fcs register entered
 table = refl
 
 pub limit :

@@ -71,7 +71,7 @@ apart p [] = ([], p)
 apart p (b ∷ bs) = keep (inStream (p .place) (p .count)) b (apart (next p b) bs)
 
 -- a recording may end before a mark, and nowhere else
-unfoldable pub well : Place → Bool
+abbrev pub well : Place → Bool
 well Mode = false
 well Mark = true
 well Second = false

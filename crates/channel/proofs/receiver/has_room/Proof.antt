@@ -1,7 +1,0 @@
--- `channel::has_room` meets its contract.
-use borrow.Author.Tests.{le-leb, lt-leb}
-use Rattle.channel.proofs.receiver.has_room.Statement.{statement}
-use Rattle.channel.proofs.receiver.has_room.Tie as tie
-
-pub has-room-spec : {M : Type 1} → statement M
-has-room-spec = tie.close (tie.spec (λ c. simp (lt-leb _ _ (c .if1 .taken))) (λ c. simp (le-leb _ _ (c .if1 .left))))

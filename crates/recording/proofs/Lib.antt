@@ -1,0 +1,9 @@
+pub mod Ears
+pub mod Spots
+pub mod Run
+pub mod Turn
+pub mod Heard
+pub mod Counting
+pub mod Printing
+pub mod Output
+pub mod Taking

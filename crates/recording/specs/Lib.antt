@@ -1,0 +1,4 @@
+pub mod Deck
+pub mod Taken
+pub mod Printed
+pub mod Stepped
