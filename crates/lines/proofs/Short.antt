@@ -1,5 +1,6 @@
 -- How long lines are.
 -- line-short   no answer's line has more than 128 bytes
+-- end-short, wrong-short   nor has the last line
 -- line-some    each but that of "more wanted" has a byte at least
 use Prim.Native.Nat.{ℕ, _+_, _≤_, _<_}
 use native.Mathlib.Omega.{arith}
@@ -13,7 +14,7 @@ use Rattle.packet.specs.Frame.{packet, refusal}
 use Rattle.channel.specs.Channel.{Event, said, block, lost}
 use Rattle.channel.specs.declared.receiver.Answer.{Answer}
 use Rattle.channel.specs.declared.receiver.Answer.the-variants.{More, Said, Clean, Damaged, LockLost}
-use Rattle.listed.specs.Lines.{decimal, letter, told, line, given}
+use Rattle.listed.specs.Lines.{decimal, letter, told, line, given, endLine, wrongLine}
 use Rattle.lines.proofs.Digits.{digits-short}
 
 item-short : (n k : ℕ) (rest : List ℕ) → length rest ≤ k → length (decimal n ++ rest) ≤ 20 + k
@@ -46,3 +47,18 @@ line-some (said (refusal n)) = told-some (Refused n)
 line-some (block true) = omega arith
 line-some (block false) = omega arith
 line-some lost = omega arith
+
+-- nor has the last line
+pub end-short : (n p r d l : ℕ) → length (endLine n p r d l) ≤ 128
+unfolding endLine
+end-short n p r d l =
+    let a = item-short l 1 (10 ∷ []) (omega arith) in
+    let b = item-short d 22 (32 ∷ (decimal l ++ 10 ∷ [])) (omega arith) in
+    let c = item-short r 43 (32 ∷ (decimal d ++ 32 ∷ (decimal l ++ 10 ∷ []))) (omega arith) in
+    let e = item-short p 64 (32 ∷ (decimal r ++ 32 ∷ (decimal d ++ 32 ∷ (decimal l ++ 10 ∷ [])))) (omega arith) in
+    let f = item-short n 85 (32 ∷ (decimal p ++ 32 ∷ (decimal r ++ 32 ∷ (decimal d ++ 32 ∷ (decimal l ++ 10 ∷ []))))) (omega arith) in
+    omega arith
+
+pub wrong-short : (n : ℕ) → length (wrongLine n) ≤ 128
+unfolding wrongLine
+wrong-short n = let a = item-short n 1 (10 ∷ []) (omega arith) in omega arith

@@ -61,20 +61,22 @@ module _ {m : Deck} {bs : List ℕ} {i : ℕ} {t : Tape} {l k : List ℕ} (so : 
     pub so-on : x .done ≡ false → So m bs (i + x .taken) (x .tape) l′ k′ × (0 < x .taken)
     so-on e =
         let y : TurnBy false (deckOf t l k) left x l′ k′ = subst (λ (u : Bool). TurnBy u (deckOf t l k) left x l′ k′) e (turn .0) in
-        let d : Option Event × ℕ × Deck = deckHear (deckOf (x .tape) l′ k′) (drop (i + x .taken) bs) in
-        (record {
-          same =
-              so .same
-              ∙ ap (after i) (ap (deckHear (deckOf t l k)) (sym left-is) ∙ y .0
-              ∙ ap (λ (z : List ℕ). after (x .taken) (deckHear (deckOf (x .tape) l′ k′) z)) (ap (drop (x .taken)) left-is ∙ drop-drop (x .taken) i bs))
-              ∙ after-after i (x .taken) d;
-          stays = so-stays;
-        }, y .1)
+        let d : Option Event × ℕ × Deck = deckHear (deckOf (x .tape) l′ k′) (drop (i + x .taken) bs) in (
+          record {
+            same =
+                so .same
+                ∙ ap (after i) (ap (deckHear (deckOf t l k)) (sym left-is) ∙ y .0
+                ∙ ap (λ (z : List ℕ). after (x .taken) (deckHear (deckOf (x .tape) l′ k′) z)) (ap (drop (x .taken)) left-is ∙ drop-drop (x .taken) i bs))
+                ∙ after-after i (x .taken) d;
+            stays = so-stays;
+          },
+          y .1,
+        )
 
     pub so-done : x .done ≡ true → HeardIs m bs (record { answer = x .answer; taken = i + x .taken; tape = x .tape }) l′ k′
     so-done e =
         let y : TurnBy true (deckOf t l k) left x l′ k′ = subst (λ (u : Bool). TurnBy u (deckOf t l k) left x l′ k′) e (turn .0) in
         let f : deckHear m bs ≡ after i (deckHear (deckOf t l k) left) =
-            so .same ∙ ap (λ (z : List ℕ). after i (deckHear (deckOf t l k) z)) (sym left-is) in
+        so .same ∙ ap (λ (z : List ℕ). after i (deckHear (deckOf t l k) z)) (sym left-is) in
         let g : deckHear m bs ≡ (deckHear (deckOf t l k) left .0, i + x .taken, deckOf (x .tape) l′ k′) = f ∙ ap (after i) (y .1) in
         ((y .0 ∙ ap answered (sym (ap (λ z. z .0) g)), g ∙ (λ j. (ap (λ z. z .0) (sym g) j, i + x .taken, deckOf (x .tape) l′ k′))), so-stays)

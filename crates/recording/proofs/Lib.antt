@@ -7,3 +7,8 @@ pub mod Counting
 pub mod Printing
 pub mod Output
 pub mod Taking
+pub mod Means
+pub mod Did
+pub mod Listing
+pub mod Ends
+pub mod Determined

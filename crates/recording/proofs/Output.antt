@@ -130,7 +130,7 @@ module _ {x : Printed} {bs old : List ℕ} {i w : ℕ} {r : Recording} {l k out 
     pub far-on : s .done ≡ false → Far x bs old (i + s .taken) (w + s .written) (s .next) l′ k′ out′ × (0 < s .written)
     far-on e =
         let y : StepBy false (deckOf (r .tape) l k) (r .totals) left (length room) s text l′ k′ =
-            subst (λ (u : Bool). StepBy u (deckOf (r .tape) l k) (r .totals) left (length room) s text l′ k′) e (step .means) in
+        subst (λ (u : Bool). StepBy u (deckOf (r .tape) l k) (r .totals) left (length room) s text l′ k′) e (step .means) in
         (go (far .fuel) refl y, omega (arith, y .1, step .written))
       where
         go : (f : ℕ) → far .fuel ≡ f → StepBy false (deckOf (r .tape) l k) (r .totals) left (length room) s text l′ k′
@@ -174,13 +174,13 @@ module _ {x : Printed} {bs old : List ℕ} {i w : ℕ} {r : Recording} {l k out 
     pub far-done : s .done ≡ true → TookIs x (record { wants = s .wants; taken = i + s .taken; written = w + s .written; next = s .next }) l′ k′ old out′
     far-done e =
         let y : StepBy true (deckOf (r .tape) l k) (r .totals) left (length room) s text l′ k′ =
-            subst (λ (u : Bool). StepBy u (deckOf (r .tape) l k) (r .totals) left (length room) s text l′ k′) e (step .means) in
+        subst (λ (u : Bool). StepBy u (deckOf (r .tape) l k) (r .totals) left (length room) s text l′ k′) e (step .means) in
         let last : Printed = printed (s .wants) (deckOf (s .next .tape) l′ k′) (s .next .totals) in
         let p : x ≡ behind (i + s .taken) (take w out ++ text) last =
-            far .same
-            ∙ ap (λ (n : ℕ). behind i (take w out) (print (far .fuel) n (deckOf (r .tape) l k) (r .totals) (drop i bs))) (sym room-length)
-            ∙ ap (behind i (take w out)) (from-left (far .fuel) (length room) ∙ y (far .fuel) (omega (arith, far .enough, room-length)))
-            ∙ behind-behind i (s .taken) (take w out) text last in
+        far .same
+        ∙ ap (λ (n : ℕ). behind i (take w out) (print (far .fuel) n (deckOf (r .tape) l k) (r .totals) (drop i bs))) (sym room-length)
+        ∙ ap (behind i (take w out)) (from-left (far .fuel) (length room) ∙ y (far .fuel) (omega (arith, far .enough, room-length)))
+        ∙ behind-behind i (s .taken) (take w out) text last in
         subst (λ (z : Printed). TookIs z (record { wants = s .wants; taken = i + s .taken; written = w + s .written; next = s .next }) l′ k′ old out′) (sym p) (
           (λ j. record { wants = s .wants; taken = sym (add-zero (i + s .taken)) j; written = text-length j; next = s .next }),
           refl,

@@ -184,9 +184,9 @@ module _ (t : Tape) (u : Totals) (l k bs out : List ℕ) (wide : length bs ≤ f
           text = line (h .answer);
           means = (
             (λ f q.
-            told f (some (o .0)) (o .1)
-            ∙ ap (λ (x : Answer). behind (h .taken) (line x) (print f (length out - length (line x)) (deckOf (h .tape) l′ k′) (counted u x) (drop (h .taken) bs))) a
-            ∙ ap (λ (x : Totals). behind (h .taken) (line (h .answer)) (print f (length out - length (line (h .answer))) (deckOf (h .tape) l′ k′) x (drop (h .taken) bs))) (sym c)),
+                told f (some (o .0)) (o .1)
+                ∙ ap (λ (x : Answer). behind (h .taken) (line x) (print f (length out - length (line x)) (deckOf (h .tape) l′ k′) (counted u x) (drop (h .taken) bs))) a
+                ∙ ap (λ (x : Totals). behind (h .taken) (line (h .answer)) (print f (length out - length (line (h .answer))) (deckOf (h .tape) l′ k′) x (drop (h .taken) bs))) (sym c)),
             i,
           );
           written = v;

@@ -128,7 +128,7 @@ module _ (t : Bool) (s : Receiver) (p : Spot) (l k bs : List ℕ) (n : ℕ) (run
       ≡ unless (x .0) (r .taken) (deck (skipped p (r .taken)) d′) (after (r .taken) (deckHear (deck (skipped p (r .taken)) d′) (drop (r .taken) bs)))
   turned =
       let f : drop (r .taken) xs ++ drop n bs ≡ drop (r .taken) bs =
-          sym (drop-append-le (r .taken) xs (drop n bs) (omega (arith, run-length, taken-most))) ∙ ap (drop (r .taken)) (take-append-drop n bs) in
+      sym (drop-append-le (r .taken) xs (drop n bs) (omega (arith, run-length, taken-most))) ∙ ap (drop (r .taken)) (take-append-drop n bs) in
       ap (deckHear (deck p d)) (sym (take-append-drop n bs))
       ∙ run-first xs (drop n bs) p d (run-fits p xs (length bs) (omega (arith, run-length)) .0)
       ∙ ap (withRest p xs (drop n bs)) (told .1)
@@ -161,7 +161,7 @@ module _ (t : Bool) (s : Receiver) (p : Spot) (l k bs : List ℕ) (n : ℕ) (run
       all-taken : (r .taken ≡ n) × (earOwes d′ ≡ 0)
       all-taken =
           let f : FitsBy earOwes earHand earEat ear-hand-one none (r .taken) d′ xs =
-              subst (λ (o : Option Event). FitsBy earOwes earHand earEat ear-hand-one o (r .taken) d′ xs) no-answer fit in
+          subst (λ (o : Option Event). FitsBy earOwes earHand earEat ear-hand-one o (r .taken) d′ xs) no-answer fit in
           (f .0 ∙ run-length, f .1)
 
       goes-on : deckHear (deck p d) bs ≡ after (r .taken) (deckHear (deck q d′) (drop (r .taken) bs))
@@ -198,16 +198,18 @@ module _ (t : Bool) (s : Receiver) (p : Spot) (l k bs : List ℕ) (n : ℕ) (run
             let b : ℕ = getD bs 0 0 in
             let c : bs ≡ b ∷ drop 1 bs = drop-cons bs 0 0 (omega arith) in
             let o : inStream (q .place) (q .count) ≡ false =
-                subst (λ (y : Spot). inStream (y .place) (y .count) ≡ false) (sym here) (run-none p (length bs) (omega arith) (sym run ∙ z)) in
-            let w : Option Event × Deck = byteBy false (deck q d′) b in
-            (goes-on
-            ∙ (λ i. after ((all-taken .0 ∙ z) i) (deckHear (deck q d′) (drop ((all-taken .0 ∙ z) i) bs)))
-            ∙ sym (after-none (deckHear (deck q d′) bs))
-            ∙ ap (deckHear (deck q d′)) c
-            ∙ hear-eat deckOwes deckHand deckEat deck-hand-one (deck q d′) b (drop 1 bs) (all-taken .1)
-            ∙ ap (λ (y : Bool). let v = byteBy y (deck q d′) b in unless (v .0) 1 (v .1) (oneMore (deckHear (v .1) (drop 1 bs)))) o
-            ∙ one-after (deckHear (w .1) (drop 1 bs))
-            ∙ ap (λ (y : Tape). after 1 (deckHear (deckOf y l′ k′) (drop 1 bs))) (sym g), omega arith)
+            subst (λ (y : Spot). inStream (y .place) (y .count) ≡ false) (sym here) (run-none p (length bs) (omega arith) (sym run ∙ z)) in
+            let w : Option Event × Deck = byteBy false (deck q d′) b in (
+              goes-on
+                  ∙ (λ i. after ((all-taken .0 ∙ z) i) (deckHear (deck q d′) (drop ((all-taken .0 ∙ z) i) bs)))
+                  ∙ sym (after-none (deckHear (deck q d′) bs))
+                  ∙ ap (deckHear (deck q d′)) c
+                  ∙ hear-eat deckOwes deckHand deckEat deck-hand-one (deck q d′) b (drop 1 bs) (all-taken .1)
+                  ∙ ap (λ (y : Bool). let v = byteBy y (deck q d′) b in unless (v .0) 1 (v .1) (oneMore (deckHear (v .1) (drop 1 bs)))) o
+                  ∙ one-after (deckHear (w .1) (drop 1 bs))
+                  ∙ ap (λ (y : Tape). after 1 (deckHear (deckOf y l′ k′) (drop 1 bs))) (sym g),
+              omega arith,
+            )
 
     -- what stays
     pub turn-stays : sound s ≡ true → roomy l k ≡ true → Stays (deck p d) bs (r .taken) tape l′ k′

@@ -11,7 +11,7 @@ step-spec =
     tie.close
     (tie.spec
     (λ c. let s = c .before .before .before .before .before in step-room (s .args .self .tape) (s .args .self .totals) (s .args .recv .now) (s .args .word .now) (s .args .piece .now) (s .args .out .now) (omega arith) (omega arith) (s .pre .0) (s .pre .1) (s .pre .2) (c .if1 .taken))
-    (λ c κs. let s = c .before .before .before .before .before .before .before .before .before in step-asks (s .args .self .tape) (s .args .self .totals) (s .args .recv .now) (s .args .word .now) (s .args .piece .now) (s .args .out .now) (omega arith) (omega arith) (s .pre .0) (s .pre .1) (s .pre .2) )
+    (λ c κs. let s = c .before .before .before .before .before .before .before .before .before in step-asks (s .args .self .tape) (s .args .self .totals) (s .args .recv .now) (s .args .word .now) (s .args .piece .now) (s .args .out .now) (omega arith) (omega arith) (s .pre .0) (s .pre .1) (s .pre .2))
     (search needs)
     (λ c. search needs)
     (λ c. search needs)
