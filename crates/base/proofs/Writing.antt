@@ -1,6 +1,7 @@
 -- Laws of calls that write.
 -- write-fits, write-short    the outcome where the output has room for the result, and where it has not
 -- Keeps, ..-keeps            a refused call leaves the output as it was
+-- write-is                   what is written is the result
 -- copied-fits                with room, copying leaves the bytes and what stood behind them
 -- copied-next, copied-done   a turn of the loop that copies, and its end
 use mathlib.Core.Path.{_≡_, refl, sym, ap, _∙_}
@@ -9,7 +10,7 @@ use mathlib.Core.List.{List, [], _∷_, _++_, append-nil}
 use Prim.Native.Nat.{ℕ, _+_, _≤_, _<_, min}
 use native.Mathlib.Omega.{arith}
 use lib.ListN.{length, take, drop, getD, set}
-use lib.Seq.{take-all, take-nil, drop-nil}
+use lib.Seq.{take-all, take-at, take-nil, drop-nil}
 use borrow.Author.Tests.{lt-ltb, le-ltb}
 use Rattle.base.specs.Choice.{pick}
 use Rattle.base.specs.declared.Written.the-variants.{Wrote, Refused}
@@ -70,3 +71,20 @@ module _ (i : ℕ) (src dst : List ℕ) {t : List ℕ} (p : take i dst ++ copied
       sym
       (ap (λ (x : List ℕ). take i dst ++ copied (drop i src) x) (over dst i k) ∙ ap (λ (x : List ℕ). take i dst ++ x) (full (drop i src))
       ∙ append-nil (take i dst) ∙ take-all i dst k) ∙ p
+
+-- where n bytes are written, they are the result
+pub write-is : (bs out : List ℕ) (n : ℕ) → write bs out .answer ≡ Wrote n → take n (write bs out .output) ≡ bs
+write-is bs out n = by-le (length bs) (length out) fits λ h e. absurd (short h e)
+  where
+    fits : length bs ≤ length out → write bs out .answer ≡ Wrote n → take n (write bs out .output) ≡ bs
+    fits h e =
+        let w = write-fits bs out h ∙ ap (outcome (Wrote (length bs))) (copied-fits bs out h) in
+        let k : Wrote (length bs) ≡ Wrote n = sym (ap (λ (o : Outcome). o .answer) w) ∙ e in
+        let m : length bs ≡ n = cc in
+        ap (λ (o : Outcome). take n (o .output)) w ∙ take-at bs (drop (length bs) out) n m
+
+    short : length out < length bs → write bs out .answer ≡ Wrote n → ⊥
+    short h e =
+        let k : Refused 23 ≡ Wrote n = sym (ap (λ (o : Outcome). o .answer) (write-short bs out h)) ∙ e in
+        let z : _≡_ {A = ℕ} 0 1 = cc in
+        omega arith

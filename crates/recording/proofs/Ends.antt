@@ -36,7 +36,7 @@ use Rattle.recording.specs.declared.recording.Wants.{Wants}
 use Rattle.recording.specs.declared.recording.Wants.the-variants.{More, Room, Refused}
 use Rattle.recording.specs.Deck.{Ear, ear, owesBy, earOwes, earHand, earEat, Deck, deck, fresh, deckOwes, deckHand, byteBy, deckEat, deckAll, deckHear}
 use Rattle.recording.specs.Printed.{longest, noTotals, counted, Printed, printed, behind, onAnswer, print, far, near, takesBy, takes, lastOf, finishing}
-use Rattle.recording.specs.Runs.{Lists, ListsAll}
+use Rattle.recording.specs.Runs.{Lists, ListsAll, Run, Fair}
 use Rattle.recording.specs.Runs.Lists.{more, room}
 use Rattle.recording.specs.Runs.ListsAll.{done, piece}
 use Rattle.recording.proofs.Ears.{ear-hand-one}
@@ -310,15 +310,15 @@ safe-on m m′ t t′ bs n k a b es s h e l =
     })
 
 -- ---- runs
-module _ (rooms : ℕ → ℕ) (fair : (i : ℕ) → (longest ≤ rooms i) × (rooms i ≤ half)) where
+module _ (rooms : ℕ → ℕ) (fair : Fair rooms) where
   -- a run on one piece; k bytes and b answers come behind it
-  pub record Ends (i : ℕ) (m : Deck) (t : Totals) (bs : List ℕ) (k b : ℕ) : Type 0 where
-    pub calls : ℕ
-    pub text : List ℕ
-    pub deck : Deck
-    pub totals : Totals
-    pub run : Lists rooms i m t bs calls text deck totals
-    pub safe : Safe deck totals k b
+  record Ends (i : ℕ) (m : Deck) (t : Totals) (bs : List ℕ) (k b : ℕ) : Type 0 where
+    calls : ℕ
+    text : List ℕ
+    deck : Deck
+    totals : Totals
+    run : Lists rooms i m t bs calls text deck totals
+    safe : Safe deck totals k b
 
   module _ (i : ℕ) (m : Deck) (t : Totals) (bs : List ℕ) (k b : ℕ) (s : Safe m t (length bs + k) (length (deckAll m bs .0) + b)) where
     abbrev r : Printed
@@ -377,15 +377,8 @@ module _ (rooms : ℕ → ℕ) (fair : (i : ℕ) → (longest ≤ rooms i) × (r
       ends-with i m t bs k b s (λ m′ t′ bs′ s′ l. ends-by n (suc i) m′ t′ bs′ k b s′ (omega arith)) (takes m t (rooms i) bs .wants) refl
 
   -- the pieces one after the other
-  pub record EndsAll (i : ℕ) (m : Deck) (t : Totals) (ps : List (List ℕ)) : Type 0 where
-    pub calls : ℕ
-    pub text : List ℕ
-    pub deck : Deck
-    pub totals : Totals
-    pub run : ListsAll rooms i m t ps calls text deck totals
-
-  ends-all : (ps : List (List ℕ)) (i : ℕ) (m : Deck) (t : Totals) → Safe m t (length (joined ps)) (length (deckAll m (joined ps) .0)) → EndsAll i m t ps
-  ends-all [] i m t s = record { calls = i; text = []; deck = m; totals = t; run = done }
+  ends-all : (ps : List (List ℕ)) (i : ℕ) (m : Deck) (t : Totals) → Safe m t (length (joined ps)) (length (deckAll m (joined ps) .0)) → Run rooms i m t ps
+  ends-all [] i m t s = record { calls = i; text = []; deck = m; totals = t; lists = done }
   ends-all (p ∷ ps) i m t s =
       let rest : List Event × Deck = deckAll (deckAll m p .1) (joined ps) in
       let a : deckAll m (p ++ joined ps) ≡ (deckAll m p .0 ++ rest .0, rest .1) = all-append deckOwes deckHand deckEat deck-hand-one m p (joined ps) in
@@ -403,11 +396,11 @@ module _ (rooms : ℕ → ℕ) (fair : (i : ℕ) → (longest ≤ rooms i) × (r
       let e : deckAll m p .1 ≡ v .deck = ap (λ x. x .1) (lists-prints rooms (v .run) .are) in
       let w = ends-all ps (v .calls) (v .deck) (v .totals)
       (subst (λ (x : Deck). Safe (v .deck) (v .totals) (length (joined ps)) (length (deckAll x (joined ps) .0))) e (v .safe)) in
-      record { calls = w .calls; text = v .text ++ w .text; deck = w .deck; totals = w .totals; run = piece (v .run) (w .run) }
+      record { calls = w .calls; text = v .text ++ w .text; deck = w .deck; totals = w .totals; lists = piece (v .run) (w .lists) }
 
   -- every cutting of a recording below 2^64 bytes is listed by a run of calls
   pub listing-ends : (recv word : List ℕ) → rawLimit ≤ length recv → wordBytes ≤ length word → (pieces : List (List ℕ)) → length (joined pieces) ≤ far
-      → EndsAll 0 (fresh recv word) noTotals pieces
+      → Run rooms 0 (fresh recv word) noTotals pieces
   listing-ends recv word a b pieces h =
       let f : length (deckAll (fresh recv word) (joined pieces) .0) ≤ few = answers-few recv word a b (joined pieces) in
       ends-all pieces 0 (fresh recv word) noTotals (record {

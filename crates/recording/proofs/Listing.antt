@@ -11,15 +11,11 @@ use mathlib.Core.Path.{_≡_, refl, sym, _∙_, ap, subst}
 use mathlib.Core.Bool.{Bool, true, false}
 use mathlib.Core.List.{List, [], _∷_, _++_}
 use lib.Dec.{eqb, ltb}
-use lib.ListN.{length, take, drop}
-use lib.Seq.{take-at}
+use lib.ListN.{length, take}
 use Rattle.base.specs.Choice.{pick}
 use Rattle.base.specs.Calls.{joined}
-use Rattle.base.specs.declared.Written.{Written}
-use Rattle.base.specs.declared.Written.the-variants.{Wrote, Refused}
-use Rattle.base.specs.Written.{write}
-use Rattle.base.proofs.Tests.{by-le}
-use Rattle.base.proofs.Writing.{write-fits, write-short, copied-fits}
+use Rattle.base.specs.declared.Written.the-variants.{Wrote}
+use Rattle.base.proofs.Writing.{write-is}
 use Rattle.packet.specs.Contents.{rawLimit}
 use Rattle.channel.specs.Sender.{wordBytes}
 use Rattle.channel.specs.Channel.{Event}
@@ -33,7 +29,7 @@ use Rattle.listed.specs.Listing.{heard, lastLine, listed, listing}
 use Rattle.recording.specs.declared.recording.Totals.{Totals}
 use Rattle.recording.specs.declared.recording.Recording.{Recording}
 use Rattle.recording.specs.Deck.{Ear, ear, earOwes, Deck, deck, fresh, deckOwes, deckAll}
-use Rattle.recording.specs.Printed.{noTotals, counted, tapeOf, lastOf, finishing}
+use Rattle.recording.specs.Printed.{noTotals, counted, recorded, lastOf, finishing}
 use Rattle.recording.specs.Runs.{ListsAll}
 use Rattle.recording.proofs.Means.{earAll, means-start, heard-all}
 use Rattle.recording.proofs.Did.{countAll, Prints, all-prints}
@@ -115,9 +111,6 @@ apart-count (b ∷ bs) p =
     omega (arith, e, apart-count bs (next p b), count-at (p .place) p b, keep-length t b r)
 
 -- ---- the last line
-abbrev recorded : Deck → Totals → Recording
-recorded m t = record { tape = tapeOf m; totals = t }
-
 last-same : (m : Deck) (n : ℕ) (es : List Event) → m .spot .count ≡ n → lastOf (recorded m (countAll noTotals es)) ≡ lastLine (m .spot) n es
 unfolding lastLine
 last-same m n es e =
@@ -149,21 +142,6 @@ module _ (recv word : List ℕ) (recv-room : rawLimit ≤ length recv) (word-roo
       ∙ ap (λ (l : List ℕ). lines (x .0) ++ l) (last-same (deck (q .1) (x .1)) (length (q .0)) (x .0) c)
       ∙ ap (λ (es : List Event). lines es ++ lastLine (q .1) (length (q .0)) es) h
 
-  numberOf : Written → ℕ
-  numberOf (Wrote n) = 1 + n
-  numberOf (Refused n) = 0
-
-  -- the finishing call, where it is not refused, writes the last line
-  finished : (bs out : List ℕ) (n : ℕ) → write bs out .answer ≡ Wrote n → take n (write bs out .output) ≡ bs
-  unfolding numberOf
-  finished bs out n e =
-      by-le (length bs) (length out)
-      (λ h.
-      let w = write-fits bs out h in
-      let k : 1 + length bs ≡ 1 + n = ap numberOf (sym (ap (λ o. o .answer) w) ∙ e) in
-      ap (λ o. take n (o .output)) w ∙ ap (take n) (copied-fits bs out h) ∙ take-at bs (drop (length bs) out) n (omega arith))
-      (λ h. let k : 0 ≡ 1 + n = ap numberOf (sym (ap (λ o. o .answer) (write-short bs out h)) ∙ e) in absurd (omega arith))
-
   module _ (rooms : ℕ → ℕ) (pieces : List (List ℕ)) {j : ℕ} {text : List ℕ} {m : Deck} {t : Totals}
       (run : ListsAll rooms 0 (fresh recv word) noTotals pieces j text m t) where
     -- a recording, cut in any way; each piece handed in by calls with any room, until more is wanted; then the finishing call:
@@ -172,7 +150,7 @@ module _ (recv word : List ℕ) (recv-room : rawLimit ≤ length recv) (word-roo
         → text ++ take n (finishing (recorded m t) out .output) ≡ listing (joined pieces)
     listing-printed out n e =
         let p : Prints (fresh recv word) noTotals (joined pieces) text m t = all-prints rooms (fresh-owes false) run in
-        ap (λ (l : List ℕ). text ++ l) (finished (lastOf (recorded m t)) out n e)
+        ap (λ (l : List ℕ). text ++ l) (write-is (lastOf (recorded m t)) out n e)
         ∙ (λ i. p .says i ++ lastOf (recorded m (p .counts i)))
         ∙ ap shown (sym (p .are)) ∙ listing-shown (joined pieces)
 

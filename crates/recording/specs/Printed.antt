@@ -107,9 +107,13 @@ takes m t room bs =
 abbrev pub tapeOf : Deck → Tape
 tapeOf m = record { spot = m .spot; channel = m .ear .channel; receiver = m .ear .board .st }
 
+-- the code's state of a deck and totals
+abbrev pub recorded : Deck → Totals → Recording
+recorded m t = record { tape = tapeOf m; totals = t }
+
 -- the code's result of a call
 abbrev pub tookOf : Printed → Took
-tookOf x = record { wants = x .wants; taken = x .taken; written = length (x .text); next = record { tape = tapeOf (x .deck); totals = x .totals } }
+tookOf x = record { wants = x .wants; taken = x .taken; written = length (x .text); next = recorded (x .deck) (x .totals) }
 
 -- r is the result of a call, l and k the receiver's buffers and out the output then, which held old before
 abbrev pub TookIs : Printed → Took → List ℕ → List ℕ → List ℕ → List ℕ → Type 0

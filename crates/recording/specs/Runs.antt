@@ -1,14 +1,15 @@
 -- A recording listed by calls: any cutting of its bytes, any room for each call.
 -- Lists      a piece is handed in until "more wanted", call after call with the room that each has
 -- ListsAll   the pieces of a recording one after the other
-use Prim.Native.Nat.{ℕ, suc}
+-- Run, Fair  such a run, and rooms with which there is one
+use Prim.Native.Nat.{ℕ, suc, _≤_}
 use mathlib.Core.Path.{_≡_}
 use mathlib.Core.List.{List, [], _∷_, _++_}
 use lib.ListN.{drop}
 use Rattle.recording.specs.declared.recording.Totals.{Totals}
 use Rattle.recording.specs.declared.recording.Wants.the-variants.{More, Room}
 use Rattle.recording.specs.Deck.{Deck}
-use Rattle.recording.specs.Printed.{takes}
+use Rattle.recording.specs.Printed.{longest, takes}
 
 -- call number i has an output of `rooms i` bytes
 module _ (rooms : ℕ → ℕ) where
@@ -24,3 +25,15 @@ module _ (rooms : ℕ → ℕ) where
     done : {i : ℕ} {m : Deck} {t : Totals} → ListsAll i m t [] i [] m t
     piece : {i j k : ℕ} {m m₁ m₂ : Deck} {t t₁ t₂ : Totals} {p text texts : List ℕ} {ps : List (List ℕ)}
         → Lists i m t p j text m₁ t₁ → ListsAll j m₁ t₁ ps k texts m₂ t₂ → ListsAll i m t (p ∷ ps) k (text ++ texts) m₂ t₂
+
+  -- such a run
+  pub record Run (i : ℕ) (m : Deck) (t : Totals) (ps : List (List ℕ)) : Type 0 where
+    pub calls : ℕ
+    pub text : List ℕ
+    pub deck : Deck
+    pub totals : Totals
+    pub lists : ListsAll i m t ps calls text deck totals
+
+-- every call has room for any line, and 2^63 bytes at most
+abbrev pub Fair : (ℕ → ℕ) → Type 0
+Fair rooms = (i : ℕ) → (longest ≤ rooms i) × (rooms i ≤ 9223372036854775808)

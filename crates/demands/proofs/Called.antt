@@ -1,0 +1,187 @@
+-- The refusals of a receiving call, 10 and 11: of the plain stream and of the channel.
+-- read-exact, hear-exact   row by row
+-- read-same, hear-same     with no byte taken, and state and buffers as they were
+use Prim.Native.Nat.{ℕ, suc, _≤_, _<_, min}
+use native.Mathlib.Omega.{arith}
+use mathlib.Core.Path.{_≡_, refl, sym, subst}
+use mathlib.Core.Bool.{Bool, true, false, _&&_}
+use mathlib.Core.Logic.{_⊎_, _↔_, ⊎-elim}
+use mathlib.Core.Logic._⊎_.{inl, inr}
+use mathlib.Core.List.{List, [], _∷_}
+use mathlib.Core.Option.{Option, some, none}
+use lib.Dec.{eqb, ltb, leb}
+use lib.ListN.{length, getD, set}
+use borrow.Author.Tests.{eqb-true, eqb-false, leb-true, leb-false}
+use Rattle.base.specs.Calls.{With}
+use Rattle.base.proofs.Calls.{with-hear}
+use Rattle.packet.specs.Contents.{rawLimit}
+use Rattle.packet.specs.Escape.{flag}
+use Rattle.packet.specs.Frame.{Told, refusal}
+use Rattle.stream.specs.Called.{Held, shut, takeBy, takeByte, owesNone, handsNone, readOn, readBy, readCall, sound as soundFrame}
+use Rattle.stream.specs.declared.frame.Frame.{Frame}
+use Rattle.stream.proofs.Cutting.{none-owed}
+use Rattle.channel.specs.Channel.{Event, said, block, lost, isMarker, shift}
+use Rattle.channel.specs.Called.{Board, heldIn, wordOn, compareOn, markOn, eatBy, eatByte, owed, asEvent, handOn, soundLock, sound, roomy, hearOn, hearBy, hearCall}
+use Rattle.channel.specs.Sender.{messageBytes, wordBytes}
+use Rattle.channel.specs.declared.hunting.Hunting.{Hunting}
+use Rattle.channel.specs.declared.locked.Locked.{Locked}
+use Rattle.channel.specs.declared.receiver.Receiver.{Receiver}
+use Rattle.channel.proofs.Cutting.{hand-one}
+use Rattle.demands.specs.Table.{Exact}
+use Rattle.demands.specs.Refusals.{FrameBeyond, Beyond, Short, ByRead, ByHear}
+use Rattle.demands.proofs.Rows.{applies, over, passed}
+use Rattle.demands.proofs.Frames.{Small, small}
+
+-- ---- two tests in one
+not-both : (a b : Bool) → a && b ≡ false → (a ≡ false) ⊎ (b ≡ false)
+not-both true b e = inr e
+not-both false b e = inl refl
+
+both-are : (a b : Bool) → a && b ≡ true → (a ≡ true) × (b ≡ true)
+both-are true b e = (refl, e)
+both-are false b e = let z : _≡_ {A = ℕ} 0 1 = cc in absurd (omega arith)
+
+not-most : (a b : ℕ) → leb a b ≡ true → b < a → ⊥
+not-most a b e h = let k : a ≤ b = leb-true a b e in omega arith
+
+-- ---- 10 and 11, as facts
+frame-beyond : (f : Frame) → soundFrame f ≡ false → FrameBeyond f
+frame-beyond f e =
+    ⊎-elim (λ h. inl (eqb-false _ _ h)) (λ h. inr (leb-false _ _ h)) (not-both (eqb (f .stored) (min (f .raw) rawLimit)) (leb (f .raw) (suc rawLimit)) e)
+
+frame-within : (f : Frame) → soundFrame f ≡ true → FrameBeyond f → ⊥
+frame-within f e =
+    let p = both-are (eqb (f .stored) (min (f .raw) rawLimit)) (leb (f .raw) (suc rawLimit)) e in
+    ⊎-elim (λ h. h (eqb-true _ _ (p .0))) (λ h. not-most _ _ (p .1) h)
+
+lock-beyond : (l : Locked) → soundLock l ≡ false → (wordBytes < l .word) ⊎ (3 < l .marker) ⊎ (messageBytes < l .handed)
+lock-beyond l e =
+    ⊎-elim (λ h. inl (leb-false _ _ h))
+    (λ h. inr (⊎-elim (λ k. inl (leb-false _ _ k)) (λ k. inr (leb-false _ _ k)) (not-both (leb (l .marker) 3) (leb (l .handed) messageBytes) h)))
+    (not-both (leb (l .word) wordBytes) (leb (l .marker) 3 && leb (l .handed) messageBytes) e)
+
+lock-within : (l : Locked) → soundLock l ≡ true → (wordBytes < l .word) ⊎ (3 < l .marker) ⊎ (messageBytes < l .handed) → ⊥
+lock-within l e =
+    let p = both-are (leb (l .word) wordBytes) (leb (l .marker) 3 && leb (l .handed) messageBytes) e in
+    let q = both-are (leb (l .marker) 3) (leb (l .handed) messageBytes) (p .1) in
+    ⊎-elim (λ h. not-most _ _ (p .0) h) (⊎-elim (λ h. not-most _ _ (q .0) h) (λ h. not-most _ _ (q .1) h))
+
+beyond : (s : Receiver) → sound s ≡ false → Beyond s
+beyond s e = ⊎-elim (λ h. inl (frame-beyond (s .frame) h)) (λ h. inr (lock-beyond (s .lock) h)) (not-both (soundFrame (s .frame)) (soundLock (s .lock)) e)
+
+within : (s : Receiver) → sound s ≡ true → Beyond s → ⊥
+within s e =
+    let p = both-are (soundFrame (s .frame)) (soundLock (s .lock)) e in
+    ⊎-elim (frame-within (s .frame) (p .0)) (lock-within (s .lock) (p .1))
+
+short : (recv word : List ℕ) → roomy recv word ≡ false → Short recv word
+short recv word e =
+    ⊎-elim (λ h. inl (leb-false _ _ h)) (λ h. inr (leb-false _ _ h)) (not-both (leb rawLimit (length recv)) (leb wordBytes (length word)) e)
+
+long : (recv word : List ℕ) → roomy recv word ≡ true → Short recv word → ⊥
+long recv word e =
+    let p = both-are (leb rawLimit (length recv)) (leb wordBytes (length word)) e in
+    ⊎-elim (λ h. not-most _ _ (p .0) h) (λ h. not-most _ _ (p .1) h)
+
+-- ---- the plain stream: a call's numbers are no frame's
+abbrev SmallHeld : Told → Held → Type 0
+SmallHeld t h = Small t
+
+small-shut : (z : Bool) (h : Held) → With SmallHeld (shut z h .0) (shut z h .1)
+small-shut true h = tt
+small-shut false h = small (h .recv) (h .st .raw)
+
+small-take : (t o : Bool) (h : Held) (b : ℕ) → With SmallHeld (takeBy t o h b .0) (takeBy t o h b .1)
+small-take false false h b = tt
+small-take true false h b = tt
+small-take false true h b = tt
+small-take true true h b = small-shut (eqb (h .st .raw) 0) h
+
+small-byte : (h : Held) (b : ℕ) → With SmallHeld (takeByte h b .0) (takeByte h b .1)
+small-byte h b = small-take (eqb b flag) (h .st .opened) h b
+
+frame-only : (o : Option Told) (h : Held) (n : ℕ) → With SmallHeld o h → 10 ≤ n → o ≡ some (refusal n) → ⊥
+frame-only o h n w k e = let s : n < 10 = subst (λ (o : Option Told). With SmallHeld o h) e w in omega arith
+
+is-read : (h : Held) (m n : ℕ) → 10 ≤ m → ByRead (some (refusal m), 0, h) n ↔ n ≡ m
+is-read h m n k = (λ e. let z : m ≡ n = cc in sym z, λ e. (subst (λ (x : ℕ). 10 ≤ x) (sym e) k, λ i. some (refusal (sym e i))))
+
+pub read-exact : (h : Held) (bs : List ℕ) → Exact ByRead (readCall h bs) ((10, FrameBeyond (h .st)) ∷ (11, length (h .recv) < rawLimit) ∷ [])
+read-exact h bs = go (soundFrame (h .st)) (leb rawLimit (length (h .recv))) refl refl
+  where
+    go : (s r : Bool) → soundFrame (h .st) ≡ s → leb rawLimit (length (h .recv)) ≡ r
+        → Exact ByRead (readBy s r h bs) ((10, FrameBeyond (h .st)) ∷ (11, length (h .recv) < rawLimit) ∷ [])
+    go false r e f = applies ByRead _ (λ n. is-read h 10 n (omega arith)) (frame-beyond (h .st) e)
+    go true false e f = over ByRead (frame-within (h .st) e) (applies ByRead _ (λ n. is-read h 11 n (omega arith)) (leb-false _ _ f))
+    go true true e f =
+        over ByRead (frame-within (h .st) e) (over ByRead (not-most _ _ f) (passed ByRead λ n b.
+        frame-only (readOn h bs .0) (readOn h bs .2) n
+        (with-hear owesNone handsNone takeByte none-owed SmallHeld (λ g. tt) small-byte h bs) (b .0) (b .1)))
+
+pub read-same : (h : Held) (bs : List ℕ) (n : ℕ) → ByRead (readCall h bs) n → readCall h bs ≡ (some (refusal n), 0, h)
+read-same h bs n = go (soundFrame (h .st)) (leb rawLimit (length (h .recv)))
+  where
+    go : (s r : Bool) → ByRead (readBy s r h bs) n → readBy s r h bs ≡ (some (refusal n), 0, h)
+    go false r b = λ i. (b .1 i, 0, h)
+    go true false b = λ i. (b .1 i, 0, h)
+    go true true b =
+        absurd (frame-only (readOn h bs .0) (readOn h bs .2) n
+        (with-hear owesNone handsNone takeByte none-owed SmallHeld (λ g. tt) small-byte h bs) (b .0) (b .1))
+
+-- ---- the channel
+abbrev SmallEvent : Event → Board → Type 0
+SmallEvent (said t) c = Small t
+SmallEvent (block t) c = Unit {0}
+SmallEvent lost c = Unit {0}
+
+small-as : (o : Option Told) (h : Held) (c : Board) → With SmallHeld o h → With SmallEvent (asEvent o) c
+small-as none h c w = tt
+small-as (some t) h c w = w
+
+small-word : (t : Bool) (c : Board) (k : List ℕ) → With SmallEvent (wordOn t c k .0) (wordOn t c k .1)
+small-word true c k = tt
+small-word false c k = tt
+
+small-compare : (t : Bool) (f : Hunting) (c : Board) → With SmallEvent (compareOn t f c .0) (compareOn t f c .1)
+small-compare true f c = tt
+small-compare false f c = tt
+
+small-mark : (t : Bool) (f : Hunting) (c : Board) → With SmallEvent (markOn t f c .0) (markOn t f c .1)
+small-mark true f c = tt
+small-mark false f c = small-compare (isMarker f) f c
+
+small-eat : (l t : Bool) (c : Board) (b : ℕ) → With SmallEvent (eatBy l t c b .0) (eatBy l t c b .1)
+small-eat false t c b = tt
+small-eat true true c b = small-word (ltb (suc (c .st .lock .word)) wordBytes) c (set (c .word) (c .st .lock .word) b)
+small-eat true false c b = small-mark (ltb (suc (c .st .lock .marker)) 4) (shift (c .st .hunting) b) c
+
+small-hear : (c : Board) (bs : List ℕ) → With SmallEvent (hearOn c bs .0) (hearOn c bs .2)
+small-hear c bs =
+    with-hear owed handOn eatByte hand-one SmallEvent
+    (λ d. let r = takeByte (heldIn d) (getD (d .word) (d .st .lock .handed) 0) in small-as (r .0) (r .1) (handOn d .1) (small-byte (heldIn d) (getD (d .word) (d .st .lock .handed) 0)))
+    (λ d b. small-eat (d .st .locked) (ltb (d .st .lock .word) wordBytes) d b) c bs
+
+event-only : (o : Option Event) (c : Board) (n : ℕ) → With SmallEvent o c → 10 ≤ n → o ≡ some (said (refusal n)) → ⊥
+event-only o c n w k e = let s : n < 10 = subst (λ (o : Option Event). With SmallEvent o c) e w in omega arith
+
+is-hear : (c : Board) (m n : ℕ) → 10 ≤ m → ByHear (some (said (refusal m)), 0, c) n ↔ n ≡ m
+is-hear c m n k = (λ e. let z : m ≡ n = cc in sym z, λ e. (subst (λ (x : ℕ). 10 ≤ x) (sym e) k, λ i. some (said (refusal (sym e i)))))
+
+pub hear-exact : (c : Board) (bs : List ℕ) → Exact ByHear (hearCall c bs) ((10, Beyond (c .st)) ∷ (11, Short (c .recv) (c .word)) ∷ [])
+hear-exact c bs = go (sound (c .st)) (roomy (c .recv) (c .word)) refl refl
+  where
+    go : (s r : Bool) → sound (c .st) ≡ s → roomy (c .recv) (c .word) ≡ r
+        → Exact ByHear (hearBy s r c bs) ((10, Beyond (c .st)) ∷ (11, Short (c .recv) (c .word)) ∷ [])
+    go false r e f = applies ByHear _ (λ n. is-hear c 10 n (omega arith)) (beyond (c .st) e)
+    go true false e f = over ByHear (within (c .st) e) (applies ByHear _ (λ n. is-hear c 11 n (omega arith)) (short (c .recv) (c .word) f))
+    go true true e f =
+        over ByHear (within (c .st) e) (over ByHear (long (c .recv) (c .word) f)
+        (passed ByHear λ n b. event-only (hearOn c bs .0) (hearOn c bs .2) n (small-hear c bs) (b .0) (b .1)))
+
+pub hear-same : (c : Board) (bs : List ℕ) (n : ℕ) → ByHear (hearCall c bs) n → hearCall c bs ≡ (some (said (refusal n)), 0, c)
+hear-same c bs n = go (sound (c .st)) (roomy (c .recv) (c .word))
+  where
+    go : (s r : Bool) → ByHear (hearBy s r c bs) n → hearBy s r c bs ≡ (some (said (refusal n)), 0, c)
+    go false r b = λ i. (b .1 i, 0, c)
+    go true false b = λ i. (b .1 i, 0, c)
+    go true true b = absurd (event-only (hearOn c bs .0) (hearOn c bs .2) n (small-hear c bs) (b .0) (b .1))

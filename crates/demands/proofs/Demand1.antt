@@ -1,0 +1,237 @@
+-- Demand 1, in the owner's words:
+--   "Sender and receiver accept every input and come to an end. Bad input gets a numbered refusal from paper 01, never trust in the
+--   caller. A refused call changes no lent memory; a refused frame leaves what that paper says."
+-- Each function promises the definition that stands here (`writing`, `readCall`, `hearCall` ..): see its `ensures`.
+-- ..-accepts    every input is accepted, and the call ends; of the other public functions: Accepting
+-- ..-ends       a byte string, however cut, is read to its end by so many calls
+-- ..-refusals   the paper's table, row by row: each number exactly when its row applies and none above it
+-- ..-keeps      what a refused call leaves
+-- frame-..      what a refused frame leaves
+use Prim.Native.Nat.{ℕ, _-_, _*_, _≤_, _<_}
+use mathlib.Core.Path.{_≡_, refl}
+use mathlib.Core.Bool.{Bool, true, false}
+use mathlib.Core.Logic.{_≢_}
+use mathlib.Core.List.{List, [], _∷_, _++_}
+use mathlib.Core.Option.{some}
+use lib.Dec.{eqb, ltb}
+use lib.ListN.{length, take, drop}
+use borrow.Author.Tests.{eqb-true, eqb-false, ltb-true}
+use Rattle.base.specs.Calls.{joined, ReadsAll}
+use Rattle.base.specs.Written.{write}
+use Rattle.base.proofs.Writing.{Keeps, write-keeps}
+use Rattle.parity.specs.Word.{clean, remainder}
+use Rattle.parity.specs.Calls.{checked, made}
+use Rattle.parity.proofs.Division.{length-remainder}
+use Rattle.parity.proofs.Refusing.{made-keeps}
+use Rattle.interleaver.specs.Matrix.{whole, turned, turning}
+use Rattle.interleaver.proofs.Round.{length-turned}
+use Rattle.interleaver.proofs.Turning.{turning-keeps}
+use Rattle.packet.specs.Contents.{payloadLimit, rawLimit}
+use Rattle.packet.specs.Escape.{flag, escape, plain}
+use Rattle.packet.specs.Port.{barred}
+use Rattle.packet.specs.Frame.{Told, refusal, closed, judge}
+use Rattle.packet.specs.Sender.{sent, writing}
+use Rattle.packet.proofs.Judging.{closed-keeps}
+use Rattle.packet.proofs.Sending.{writing-keeps}
+use Rattle.stream.specs.Called.{Held, begun, takeBy, takeByte, shut, readAll, readCall}
+use Rattle.stream.specs.Sender.{appending}
+use Rattle.stream.proofs.Sending.{appending-keeps}
+use Rattle.stream.proofs.Cutting.{read-ends}
+use Rattle.stream.proofs.Fine.{Fine}
+use Rattle.channel.specs.Channel.{Event, said}
+use Rattle.channel.specs.Called.{Board, board, freshReceiver, hearCall}
+use Rattle.channel.specs.Sender.{marker, messageBytes, wordBytes, wordOf, marked, marking, sending}
+use Rattle.channel.proofs.Sending.{marking-keeps, sending-keeps}
+use Rattle.channel.proofs.Demands.{ends}
+use Rattle.demands.specs.Accepts.{Accepts}
+use Rattle.demands.specs.Table.{Exact}
+use Rattle.demands.specs.Refusals.{Unusable, frameRows, FrameBeyond, Beyond, Short, ByFrame, ByCall, ByCheck, ByRead, ByHear}
+use Rattle.demands.proofs.Rows.{row, row-not, not-less, not-same, refuses, wrote, refuses-word, found, not-whole, is-whole}
+use Rattle.demands.proofs.Frames.{barred-is, free-is, closed-exact, judge-exact, never-nine, undone}
+use Rattle.demands.proofs.Called.{read-exact, read-same, hear-exact, hear-same}
+use Rattle.packet.proofs.write as write-call
+use Rattle.stream.proofs.begin as begin-call
+use Rattle.stream.proofs.append as append-call
+use Rattle.stream.proofs.frame.Frame.read as read-call
+use Rattle.stream.proofs.payload as payload-call
+use Rattle.channel.proofs.mark as mark-call
+use Rattle.channel.proofs.send as send-call
+use Rattle.channel.proofs.receiver.Receiver.hear as hear-call
+
+-- ---- "Sender and receiver accept every input and come to an end": the sender's calls ..
+pub write-accepts : Accepts write-call.Statement.statement write-call.Kinds.ps write-call.Reads.Asked
+write-accepts = (λ M. write-call.Met.met, λ κs a. tt)
+
+pub begin-accepts : Accepts begin-call.Statement.statement begin-call.Kinds.ps begin-call.Reads.Asked
+begin-accepts = (λ M. begin-call.Met.met, λ κs a. tt)
+
+pub append-accepts : Accepts append-call.Statement.statement append-call.Kinds.ps append-call.Reads.Asked
+append-accepts = (λ M. append-call.Met.met, λ κs a. tt)
+
+pub mark-accepts : Accepts mark-call.Statement.statement mark-call.Kinds.ps mark-call.Reads.Asked
+mark-accepts = (λ M. mark-call.Met.met, λ κs a. tt)
+
+pub send-accepts : Accepts send-call.Statement.statement send-call.Kinds.ps send-call.Reads.Asked
+send-accepts = (λ M. send-call.Met.met, λ κs a. tt)
+
+-- .. and the receiver's
+pub read-accepts : Accepts read-call.Statement.statement read-call.Kinds.ps read-call.Reads.Asked
+read-accepts = (λ M. read-call.Met.met, λ κs a. tt)
+
+pub payload-accepts : Accepts payload-call.Statement.statement payload-call.Kinds.ps payload-call.Reads.Asked
+payload-accepts = (λ M. payload-call.Met.met, λ κs a. tt)
+
+pub hear-accepts : Accepts hear-call.Statement.statement hear-call.Kinds.ps hear-call.Reads.Asked
+hear-accepts = (λ M. hear-call.Met.met, λ κs a. tt)
+
+-- and reading comes to an end: the pieces of every byte string, each handed in until "more wanted", on the channel ..
+pub hear-ends : (recv word : List ℕ) → rawLimit ≤ length recv → wordBytes ≤ length word → (pieces : List (List ℕ))
+    → (es : List Event) × (d : Board) × ReadsAll hearCall (board freshReceiver recv word) pieces es d
+hear-ends = ends
+
+-- .. and on the plain stream, from every state and buffer that pass 10 and 11
+pub plain-ends : (h : Held) → Fine h → (pieces : List (List ℕ)) → (ts : List Told) × (d : Held) × ReadsAll readCall h pieces ts d
+plain-ends h f pieces = (readAll h (joined pieces) .0, readAll h (joined pieces) .1, read-ends h f pieces)
+
+-- ---- "Bad input gets a numbered refusal": a frame, of which m raw bytes are in the receive buffer ..
+-- (9 stands where the raw bytes are not there to be judged; no byte stream gets it: `stream-never-nine`)
+pub frame-refusals : (recv : List ℕ) (m : ℕ) → Exact ByFrame (closed recv m .told)
+    ((1, rawLimit < m) ∷  -- more than 8,205 raw bytes
+    (9, length recv < m) ∷  -- receive buffer full inside a frame
+    frameRows (take m recv))  -- 2 to 8
+frame-refusals = closed-exact
+
+-- .. and of raw bytes alone: what a byte stream means is defined by these
+pub raw-refusals : (raw : List ℕ) → Exact ByFrame (judge raw) ((1, rawLimit < length raw) ∷ frameRows raw)
+raw-refusals = judge-exact
+
+pub stream-never-nine : (raw : List ℕ) → judge raw ≡ refusal 9 → ⊥
+stream-never-nine = never-nine
+
+-- a receiving call on the plain stream
+pub read-refusals : (h : Held) (bs : List ℕ) → Exact ByRead (readCall h bs)
+    ((10, FrameBeyond (h .st)) ∷  -- a count of the state is beyond its limit
+    (11, length (h .recv) < rawLimit) ∷  -- receive buffer under 8,205 bytes
+    [])
+read-refusals = read-exact
+
+-- and on the channel
+pub hear-refusals : (c : Board) (bs : List ℕ) → Exact ByHear (hearCall c bs)
+    ((10, Beyond (c .st)) ∷  -- a count of the state is beyond its limit
+    (11, Short (c .recv) (c .word)) ∷  -- receive buffer under 8,205 bytes, word buffer under 255
+    [])
+hear-refusals = hear-exact
+
+-- a packet written
+pub write-refusals : (port sequence : ℕ) (payload out : List ℕ) → Exact ByCall (writing port sequence payload out)
+    ((20, length payload ≡ 0) ∷  -- payload empty
+    (21, payloadLimit < length (escape payload)) ∷  -- payload above 8,192 bytes as escaped
+    (22, Unusable port) ∷  -- port 7D00-7EFF
+    (23, length out < length (sent port sequence payload)) ∷  -- output shorter than the result
+    [])
+unfolding writing
+write-refusals port sequence payload out =
+    row ByCall (eqb (length payload) 0) (refuses 20 out) (eqb-true _ _) (eqb-false _ _)
+    (row ByCall (ltb payloadLimit (length (escape payload))) (refuses 21 out) (ltb-true _ _) (not-less _ _)
+    (row ByCall (barred port) (refuses 22 out) (barred-is port) (free-is port) (wrote (sent port sequence payload) out _ refl)))
+
+-- a stream begun, and a packet appended to one
+pub begin-refusals : (out : List ℕ) → Exact ByCall (write (flag ∷ []) out) ((23, length out < 1) ∷ [])
+begin-refusals out = wrote (flag ∷ []) out 1 refl
+
+pub append-refusals : (at port sequence : ℕ) (payload out : List ℕ) → Exact ByCall (appending at port sequence payload out)
+    ((20, length payload ≡ 0) ∷ (21, payloadLimit < length (escape payload)) ∷ (22, Unusable port)
+    ∷ (23, length (drop at out) < length (sent port sequence payload)) ∷ [])
+append-refusals at port sequence payload out = record { says = write-refusals port sequence payload (drop at out) .says }
+
+-- parity made, and a word checked
+pub make-refusals : (r : ℕ) (message out : List ℕ) → Exact ByCall (made r message out)
+    ((30, 64 < r) ∷  -- R above 64
+    (31, length message ≢ 255 - r) ∷  -- message not 255 - R bytes
+    (23, length out < r) ∷  -- output shorter than the result
+    [])
+make-refusals r message out =
+    row ByCall (ltb 64 r) (refuses 30 out) (ltb-true _ _) (not-less _ _)
+    (row-not ByCall (eqb (length message) (255 - r)) (refuses 31 out) (eqb-false _ _) (λ e. not-same (eqb-true _ _ e))
+    (wrote (remainder r message) out r (length-remainder r message)))
+
+pub check-refusals : (r : ℕ) (word : List ℕ) → Exact ByCheck (checked r word)
+    ((30, 64 < r) ∷  -- R above 64
+    (31, length word ≢ 255) ∷  -- word not 255
+    [])
+check-refusals r word =
+    row ByCheck (ltb 64 r) (refuses-word 30) (ltb-true _ _) (not-less _ _)
+    (row-not ByCheck (eqb (length word) 255) (refuses-word 31) (eqb-false _ _) (λ e. not-same (eqb-true _ _ e)) (found (clean r word)))
+
+-- the interleaver, there and back
+pub turn-refusals : (back : Bool) (d : ℕ) (bytes out : List ℕ) → Exact ByCall (turning back d bytes out)
+    ((32, 64 < d) ∷  -- depth above 64
+    (33, (2 ≤ d) × (length bytes ≢ 255 * d)) ∷  -- input not 255 times the depth (any length at depth 0 or 1)
+    (23, length out < length bytes) ∷  -- output shorter than the result
+    [])
+turn-refusals back d bytes out =
+    row ByCall (ltb 64 d) (refuses 32 out) (ltb-true _ _) (not-less _ _)
+    (row-not ByCall (whole d (length bytes)) (refuses 33 out) (not-whole d _) (is-whole d _)
+    (wrote (turned back d bytes) out (length bytes) (length-turned back d bytes)))
+
+-- a block marked, and a whole stream sent
+pub mark-refusals : (message out : List ℕ) → Exact ByCall (marking message out)
+    ((31, length message ≢ messageBytes) ∷  -- message not 255 - R bytes, R = 32
+    (23, length out < length (marker ++ wordOf message)) ∷  -- output shorter than the result
+    [])
+mark-refusals message out =
+    row-not ByCall (eqb (length message) messageBytes) (refuses 31 out) (eqb-false _ _) (λ e. not-same (eqb-true _ _ e))
+    (wrote (marker ++ wordOf message) out _ refl)
+
+pub send-refusals : (bs out : List ℕ) → Exact ByCall (sending bs out) ((23, length out < length (marked bs)) ∷ [])
+send-refusals bs out = wrote (marked bs) out _ refl
+
+-- ---- "A refused call changes no lent memory": a call that writes leaves the output as it was ..
+pub write-keeps-out : (port sequence : ℕ) (payload out : List ℕ) → Keeps out (writing port sequence payload out)
+write-keeps-out = writing-keeps
+
+pub begin-keeps-out : (out : List ℕ) → Keeps out (write (flag ∷ []) out)
+begin-keeps-out out = write-keeps (flag ∷ []) out
+
+pub append-keeps-out : (at port sequence : ℕ) (payload out : List ℕ) → Keeps out (appending at port sequence payload out)
+append-keeps-out = appending-keeps
+
+pub make-keeps-out : (r : ℕ) (message out : List ℕ) → Keeps out (made r message out)
+make-keeps-out = made-keeps
+
+pub turn-keeps-out : (back : Bool) (d : ℕ) (bytes out : List ℕ) → Keeps out (turning back d bytes out)
+turn-keeps-out = turning-keeps
+
+pub mark-keeps-out : (message out : List ℕ) → Keeps out (marking message out)
+mark-keeps-out = marking-keeps
+
+pub send-keeps-out : (bs out : List ℕ) → Keeps out (sending bs out)
+send-keeps-out = sending-keeps
+
+-- .. and a receiving call its state and the lent buffers, with zero bytes taken
+pub read-keeps-all : (h : Held) (bs : List ℕ) (n : ℕ) → ByRead (readCall h bs) n → readCall h bs ≡ (some (refusal n), 0, h)
+read-keeps-all = read-same
+
+pub hear-keeps-all : (c : Board) (bs : List ℕ) (n : ℕ) → ByHear (hearCall c bs) n → hearCall c bs ≡ (some (said (refusal n)), 0, c)
+hear-keeps-all = hear-same
+
+-- ---- "a refused frame leaves what that paper says": refused with 1, 2 or 3, the stored raw bytes ..
+pub frame-kept : (recv : List ℕ) (m n : ℕ) → closed recv m .told ≡ refusal n → n ≤ 3 → closed recv m .recv ≡ recv
+frame-kept = closed-keeps
+
+-- .. from 4 on, escapes are undone from the buffer's start, and bytes behind the result stay ..
+pub frame-undone : (recv : List ℕ) (m n : ℕ) → closed recv m .told ≡ refusal n → 3 < n → n ≢ 9
+    → closed recv m .recv ≡ plain (take m recv) ++ drop (length (plain (take m recv))) recv
+frame-undone = undone
+
+-- .. and the reader goes on behind the flag as after any flag: counts zero
+pub frame-behind : (h : Held) → takeByte h flag .1 .st ≡ begun
+frame-behind h = go (h .st .opened)
+  where
+    empty : (z : Bool) → shut z h .1 .st ≡ begun
+    empty true = refl
+    empty false = refl
+
+    go : (o : Bool) → takeBy true o h flag .1 .st ≡ begun
+    go true = empty (eqb (h .st .raw) 0)
+    go false = refl

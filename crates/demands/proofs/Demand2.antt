@@ -1,0 +1,165 @@
+-- Demand 2, in the owner's words:
+--   "Packets, check values, escapes, parity words, interleaving and markers are exactly those of paper 01, writing and reading; a packet
+--   the sender accepts, written and read back, is the same packet."
+-- What they are is defined once, in the paper's words, and each function promises those definitions:
+--   packets         `contents`, `class` (crates/packet/specs/Contents.antt, Port.antt), `stream` (crates/stream/specs/Sender.antt)
+--   check values    `fcs` (crates/fcs/specs/Fcs.antt)
+--   escapes         `escape`, `plain`, `scan` (crates/packet/specs/Escape.antt), and `reads` (crates/stream/specs/Reader.antt)
+--   parity words    `generator`, `remainder`, `clean` (crates/parity/specs/Word.antt), over the field of crates/field/specs/Field.antt
+--   interleaving    `interleaved`, `restored` (crates/interleaver/specs/Matrix.antt)
+--   markers         `marked` (crates/channel/specs/Sender.antt), and `answers` (crates/channel/specs/Channel.antt)
+--   the listing     `listing` (crates/listed/specs/Listing.antt)
+-- Here: that they hold together. The paper's numbers are in Numbers.
+-- round-trip, round-answer           a packet written and read back
+-- stream-trip, stream-begun, stream-appended, stream-sent   a whole stream, and the calls that make it
+-- word-clean, word-only, clean-at    parity words
+-- there-and-back, back-and-there     interleaving
+-- answers-read                       what the code's answers say
+-- plain-listing, channel-listing, totals, sent-totals   the listing's lines and totals
+-- listed-by-calls, listed-at-last, finished-at-last     the listing by calls
+use Prim.Native.Nat.{ℕ, _+_, _≤_, _<_}
+use mathlib.Core.Path.{_≡_, refl, sym, _∙_, ap}
+use mathlib.Core.Bool.{true, false}
+use mathlib.Core.Logic.{_↔_}
+use mathlib.Core.List.{List, [], _∷_, _++_, map, append-nil}
+use mathlib.Core.Option.{some, none}
+use lib.ListN.{length, take}
+use Rattle.base.specs.Bytes.{Each, Bytes}
+use Rattle.base.specs.Calls.{joined}
+use Rattle.base.specs.Written.{write}
+use Rattle.base.proofs.Writing.{write-is}
+use Rattle.base.specs.declared.Written.the-variants.{Wrote}
+use Rattle.parity.specs.Word.{clean, remainder}
+use Rattle.parity.proofs.Clean.{Zero, clean-roots, roots-clean, parity-clean, clean-is}
+use Rattle.interleaver.specs.Matrix.{whole, interleaved, restored}
+use Rattle.interleaver.proofs.Round.{restored-interleaved, interleaved-restored}
+use Rattle.packet.specs.Escape.{flag}
+use Rattle.packet.specs.Frame.{packet, refusal, judged, closed, part}
+use Rattle.packet.specs.Sender.{writing}
+use Rattle.packet.specs.declared.frame.Judged.the-variants.{Packet as Delivered, Refused}
+use Rattle.stream.specs.Reader.{waiting, inside, reads}
+use Rattle.stream.specs.Sender.{Packet, Accepted, rawOf, stream, delivered, appending}
+use Rattle.stream.proofs.Streaming.{stream-read}
+use Rattle.stream.proofs.Sending.{begin-stream, append-stream}
+use Rattle.channel.specs.Sender.{parityBytes, wordOf, sending, sent}
+use Rattle.channel.specs.Channel.{Event, said, block, lost, frames, blocks, losses, isClean}
+use Rattle.channel.specs.Called.{answered}
+use Rattle.channel.specs.declared.receiver.Answer.{Answer}
+use Rattle.channel.specs.declared.receiver.Answer.the-variants.{More, Said, Clean, Damaged, LockLost}
+use Rattle.listed.specs.Apart.{most}
+use Rattle.listed.specs.Lines.{lines, isPacket, isRefusal, isDamaged, isLost, count}
+use Rattle.listed.specs.Listing.{heard, totalLine, listing}
+use Rattle.listed.proofs.Apart.{records}
+use Rattle.listed.proofs.Totals.{damaged, packets-counted, refusals-counted, each-counted, damaged-counted, lost-counted, sent-counted}
+use Rattle.packet.specs.Contents.{rawLimit}
+use Rattle.channel.specs.Sender.{wordBytes}
+use Rattle.recording.specs.declared.recording.Totals.{Totals}
+use Rattle.recording.specs.declared.recording.Recording.{Recording}
+use Rattle.recording.specs.Deck.{Deck, fresh}
+use Rattle.recording.specs.Printed.{longest, noTotals, far, lastOf, recorded, finishing}
+use Rattle.recording.specs.Runs.{ListsAll, Run, Fair}
+use Rattle.recording.proofs.Listing.{listing-printed}
+use Rattle.recording.proofs.Ends.{listing-ends, finish-ends}
+use Rattle.demands.proofs.Trips.{packet-back, judged-back, plain-listed, channel-listed}
+
+-- ---- "a packet the sender accepts, written and read back, is the same packet": where n bytes are written of a packet (numbers of two
+-- bytes, a payload of bytes), those n bytes, read behind a flag, give that packet and nothing else ..
+pub round-trip : (p : Packet) → p .port < 65536 → p .sequence < 65536 → Bytes (p .payload) → (out : List ℕ) (n : ℕ)
+    → writing (p .port) (p .sequence) (p .payload) out .answer ≡ Wrote n
+    → reads (inside []) (take n (writing (p .port) (p .sequence) (p .payload) out .output)) ≡ (delivered p ∷ [], inside [])
+round-trip = packet-back
+
+-- .. and in the code's answer: a frame of its raw bytes, wherever they came from, is judged to have its port, its sequence and its length,
+-- and the part of the receive buffer that is handed out is its payload
+pub round-answer : (p : Packet) → Accepted p → (recv : List ℕ) → take (length (rawOf p)) recv ≡ rawOf p
+    → (judged (closed recv (length (rawOf p)) .told) ≡ Delivered (p .port) (p .sequence) (length (p .payload)))
+    × (part (closed recv (length (rawOf p)) .recv) (length (p .payload)) ≡ p .payload)
+round-answer = judged-back
+
+-- a whole stream of packets that the sender accepts is read as these packets, once each, in order, and nothing else
+pub stream-trip : (ps : List Packet) → Each Accepted ps → reads waiting (stream ps) ≡ (map delivered ps, inside [])
+stream-trip ps a = ap (reads waiting) (sym (append-nil (stream ps))) ∙ stream-read ps a 0
+
+-- the sender's calls make that stream: begun, it is that of no packets ..
+pub stream-begun : (out : List ℕ) (n : ℕ) → write (flag ∷ []) out .answer ≡ Wrote n → take n (write (flag ∷ []) out .output) ≡ stream []
+stream-begun = begin-stream
+
+-- .. where the first `at` bytes are the stream of some packets, behind one more they are that of these and it ..
+pub stream-appended : (ps : List Packet) (p : Packet) (out : List ℕ) (at n : ℕ) → at ≤ length out → take at out ≡ stream ps
+    → appending at (p .port) (p .sequence) (p .payload) out .answer ≡ Wrote n
+    → take (at + n) (appending at (p .port) (p .sequence) (p .payload) out .output) ≡ stream (ps ++ p ∷ [])
+stream-appended = append-stream
+
+-- .. and sent on the channel, what is written is the marked stream of demand 3
+pub stream-sent : (ps : List Packet) (out : List ℕ) (n : ℕ) → sending (stream ps) out .answer ≡ Wrote n → take n (sending (stream ps) out .output) ≡ sent ps
+stream-sent ps out n e = write-is (sent ps) out n e
+
+-- ---- "parity words": a message with its parity behind it is clean ..
+pub word-clean : (m : List ℕ) → Bytes m → isClean (wordOf m) ≡ true
+word-clean m = parity-clean parityBytes m
+
+-- .. for every R, and with no other bytes behind it ..
+pub word-only : (r : ℕ) → r < 255 → (m p : List ℕ) → Bytes m → Bytes p → length p ≡ r → clean r (m ++ p) ≡ true ↔ p ≡ remainder r m
+word-only = clean-is
+
+-- .. and clean means zero at all R roots, alpha^1 to alpha^R
+pub clean-at : (r : ℕ) (w : List ℕ) → clean r w ≡ true ↔ Zero r w
+clean-at r w = (clean-roots r w, roots-clean r w)
+
+-- ---- "interleaving": the reverse operation restores a whole matrix, and the other way round
+pub there-and-back : (d : ℕ) (bytes : List ℕ) → whole d (length bytes) ≡ true → restored d (interleaved d bytes) ≡ bytes
+there-and-back = restored-interleaved
+
+pub back-and-there : (d : ℕ) (bytes : List ℕ) → whole d (length bytes) ≡ true → interleaved d (restored d bytes) ≡ bytes
+back-and-there = interleaved-restored
+
+-- ---- what the code's answers say, case by case: "more wanted", a packet, a refusal, a clean and a damaged block, lock lost
+pub answers-read : (port sequence n : ℕ) (payload : List ℕ) → _≡_ {A = List Answer}
+    (answered none ∷ answered (some (said (packet port sequence payload))) ∷ answered (some (said (refusal n)))
+    ∷ answered (some (block true)) ∷ answered (some (block false)) ∷ answered (some lost) ∷ [])
+    (More ∷ Said (Delivered port sequence (length payload)) ∷ Said (Refused n) ∷ Clean ∷ Damaged ∷ LockLost ∷ [])
+answers-read port sequence n payload = refl
+
+-- ---- the listing of a recording of pieces: the lines of their answers, and behind them `E` with the totals, on the plain stream ..
+pub plain-listing : (pieces : List (List ℕ)) → length (joined pieces) ≤ most
+    → listing (0x50 ∷ records pieces) ≡ lines (heard false (joined pieces)) ++ totalLine (length (joined pieces)) (heard false (joined pieces))
+plain-listing = plain-listed
+
+-- .. and on the channel
+pub channel-listing : (pieces : List (List ℕ)) → length (joined pieces) ≤ most
+    → listing (0x4F ∷ records pieces) ≡ lines (heard true (joined pieces)) ++ totalLine (length (joined pieces)) (heard true (joined pieces))
+channel-listing = channel-listed
+
+-- the totals are counted from the answers: packets and refusals are all frame answers, and each is one or the other; damaged blocks are
+-- counted among the block answers, and lost locks as often as lock is lost
+pub totals : (es : List Event)
+    → (count isPacket es + count isRefusal es ≡ length (frames es)) × (count isDamaged es ≡ damaged (blocks es)) × (count isLost es ≡ losses es)
+totals es = (
+  (λ i. packets-counted es i + refusals-counted es i) ∙ each-counted (frames es),
+  damaged-counted es,
+  lost-counted es,
+)
+
+-- of a sender's packets all are packets, and none is a refusal
+pub sent-totals : (ps : List Packet) (es : List Event) → frames es ≡ map delivered ps → (count isPacket es ≡ length ps) × (count isRefusal es ≡ 0)
+sent-totals ps es e = (
+  packets-counted es ∙ ap (λ ts. count isPacket (map said ts)) e ∙ sent-counted ps .0,
+  refusals-counted es ∙ ap (λ ts. count isRefusal (map said ts)) e ∙ sent-counted ps .1,
+)
+
+-- ---- the listing by calls: a recording cut in any way, each piece handed in until more is wanted, by calls with any room each, and then the
+-- finishing call: the bytes printed in all are its listing, whatever the lent buffers held ..
+pub listed-by-calls : (recv word : List ℕ) → rawLimit ≤ length recv → wordBytes ≤ length word → (rooms : ℕ → ℕ) (pieces : List (List ℕ))
+    → {calls : ℕ} {text : List ℕ} {m : Deck} {t : Totals} → ListsAll rooms 0 (fresh recv word) noTotals pieces calls text m t
+    → (out : List ℕ) (n : ℕ) → finishing (recorded m t) out .answer ≡ Wrote n
+    → text ++ take n (finishing (recorded m t) out .output) ≡ listing (joined pieces)
+listed-by-calls = listing-printed
+
+-- .. and such a run exists and comes to its end: a recording below 2^64 bytes, and for each call room for any line (2^63 bytes at most)
+pub listed-at-last : (rooms : ℕ → ℕ) → Fair rooms → (recv word : List ℕ) → rawLimit ≤ length recv → wordBytes ≤ length word
+    → (pieces : List (List ℕ)) → length (joined pieces) ≤ far → Run rooms 0 (fresh recv word) noTotals pieces
+listed-at-last = listing-ends
+
+-- .. the finishing call with it
+pub finished-at-last : (r : Recording) (out : List ℕ) → longest ≤ length out → finishing r out .answer ≡ Wrote (length (lastOf r))
+finished-at-last = finish-ends

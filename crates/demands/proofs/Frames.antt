@@ -1,0 +1,123 @@
+-- The refusals of a frame, row by row.
+-- closed-exact, judge-exact   of the raw bytes in a receive buffer, and of raw bytes alone
+-- small, never-nine           the number is below 10; of raw bytes alone it is never 9
+-- undone                      from 4 on, escapes are undone in the buffer
+use Prim.Native.Nat.{ℕ, _-_, _<_}
+use native.Mathlib.Omega.{arith}
+use mathlib.Core.Path.{_≡_, refl, sym, ap, subst, _∙_}
+use mathlib.Core.Bool.{Bool, true, false}
+use mathlib.Core.Logic.{_↔_, _≢_}
+use mathlib.Core.List.{List, [], _∷_, _++_}
+use lib.Dec.{eqb, ltb, leb}
+use lib.ListN.{length, take, drop, getD}
+use lib.Seq.{take-all}
+use borrow.Author.Tests.{eqb-true, eqb-false, ltb-true, leb-true, leb-false, le-ltb}
+use Rattle.base.specs.Choice.{pick}
+use Rattle.fcs.specs.Fcs.{fcs}
+use Rattle.packet.specs.Port.{barred}
+use Rattle.packet.specs.Contents.{format, payloadLimit, rawLimit, wordAt, payloadOf}
+use Rattle.packet.specs.Escape.{escape, plain, scan}
+use Rattle.packet.specs.Frame.{Told, packet, refusal, kept, judgeContents, closedBy, closed, judge}
+use Rattle.packet.specs.declared.escape.Escapes.{Escapes}
+use Rattle.packet.specs.declared.escape.Escapes.the-variants.{Right, Unfinished, Wrong}
+use Rattle.packet.proofs.Faults.{Scanned, scan-says}
+use Rattle.demands.specs.Table.{Exact}
+use Rattle.demands.specs.Refusals.{Unusable, contentsRows, frameRows, ByFrame}
+use Rattle.demands.proofs.Rows.{applies, over, row, row-not, passed, not-less, not-same, first-each}
+
+pub barred-is : (port : ℕ) → barred port ≡ true → Unusable port
+barred-is port = go (leb 0x7D00 port) refl
+  where
+    go : (t : Bool) → leb 0x7D00 port ≡ t → pick t (leb port 0x7EFF) false ≡ true → Unusable port
+    go true e h = (leb-true _ _ e, leb-true _ _ h)
+    go false e h = let z : _≡_ {A = ℕ} 0 1 = cc in absurd (omega arith)
+
+pub free-is : (port : ℕ) → barred port ≡ false → Unusable port → ⊥
+free-is port = go (leb 0x7D00 port) refl
+  where
+    go : (t : Bool) → leb 0x7D00 port ≡ t → pick t (leb port 0x7EFF) false ≡ false → Unusable port → ⊥
+    go true e h u = let k : 0x7EFF < port = leb-false _ _ h in omega (arith, u .1)
+    go false e h u = let k : port < 0x7D00 = leb-false _ _ e in omega (arith, u .0)
+
+is : (m n : ℕ) → ByFrame (refusal m) n ↔ n ≡ m
+is m n = (λ e. let k : m ≡ n = cc in sym k, λ e i. refusal (sym e i))
+
+contents-exact : (cs : List ℕ) → Exact ByFrame (judgeContents cs) (contentsRows cs)
+unfolding judgeContents
+contents-exact cs =
+    row ByFrame (ltb (length cs) 8) (is 4) (ltb-true _ _) (not-less _ _)
+    (row-not ByFrame (eqb (fcs (take (length cs - 2) cs)) (wordAt cs (length cs - 2))) (is 5) (eqb-false _ _) (λ e. not-same (eqb-true _ _ e))
+    (row-not ByFrame (eqb (getD cs 0 0) format) (is 6) (eqb-false _ _) (λ e. not-same (eqb-true _ _ e))
+    (row ByFrame (barred (wordAt cs 1)) (is 7) (barred-is _) (free-is _)
+    (row ByFrame (ltb payloadLimit (length (escape (payloadOf cs)))) (is 8) (ltb-true _ _) (not-less _ _)
+    (passed ByFrame λ n e. let z : _≡_ {A = ℕ} 0 1 = cc in omega arith)))))
+
+by-exact : (e : Escapes) (raw recv : List ℕ) → Scanned e raw → Exact ByFrame (closedBy e raw recv .told) (frameRows raw)
+unfolding closedBy
+by-exact Unfinished raw recv s = applies ByFrame _ (is 2) s
+by-exact Wrong raw recv s = over ByFrame (s .0) (applies ByFrame _ (is 3) (s .1))
+by-exact Right raw recv s = over ByFrame (s .0) (over ByFrame (s .1) (contents-exact (plain raw)))
+
+pub closed-exact : (recv : List ℕ) (m : ℕ)
+    → Exact ByFrame (closed recv m .told) ((1, rawLimit < m) ∷ (9, length recv < m) ∷ frameRows (take m recv))
+unfolding closed
+closed-exact recv m = go (ltb rawLimit m) (ltb (length recv) m) refl refl
+  where
+    go : (t u : Bool) → ltb rawLimit m ≡ t → ltb (length recv) m ≡ u
+        → Exact ByFrame (pick t (kept 1 recv) (pick u (kept 9 recv) (closedBy (scan (take m recv)) (take m recv) recv)) .told) ((1, rawLimit < m) ∷ (9, length recv < m) ∷ frameRows (take m recv))
+    go true u e f = applies ByFrame _ (is 1) (ltb-true _ _ e)
+    go false true e f = over ByFrame (not-less _ _ e) (applies ByFrame _ (is 9) (ltb-true _ _ f))
+    go false false e f = over ByFrame (not-less _ _ e) (over ByFrame (not-less _ _ f) (by-exact (scan (take m recv)) (take m recv) recv (scan-says (take m recv))))
+
+pub judge-exact : (raw : List ℕ) → Exact ByFrame (judge raw) ((1, rawLimit < length raw) ∷ frameRows raw)
+unfolding judge closed
+judge-exact raw =
+    let all : take (length raw) raw ≡ raw = take-all (length raw) raw (omega arith) in
+    let e : judge raw ≡ pick (ltb rawLimit (length raw)) (refusal 1) (closedBy (scan raw) raw raw .told) =
+    ap (λ (t : Bool). pick (ltb rawLimit (length raw)) (kept 1 raw) (pick t (kept 9 raw) (closedBy (scan (take (length raw) raw)) (take (length raw) raw) raw)) .told) (le-ltb (length raw) (length raw) (omega arith))
+    ∙ ap (λ (l : List ℕ). pick (ltb rawLimit (length raw)) (kept 1 raw) (closedBy (scan l) l raw) .told) all
+    ∙ out (ltb rawLimit (length raw)) in
+    subst (λ (t : Told). Exact ByFrame t ((1, rawLimit < length raw) ∷ frameRows raw)) (sym e)
+    (row ByFrame (ltb rawLimit (length raw)) (is 1) (ltb-true _ _) (not-less _ _) (by-exact (scan raw) raw raw (scan-says raw)))
+  where
+    out : (t : Bool) → pick t (kept 1 raw) (closedBy (scan raw) raw raw) .told ≡ pick t (refusal 1) (closedBy (scan raw) raw raw .told)
+    out true = refl
+    out false = refl
+
+-- ---- numbers of frames are below 10
+abbrev pub Small : Told → Type 0
+Small (packet port sequence payload) = Unit {0}
+Small (refusal n) = n < 10
+
+small-by : (t : Told) → ((n : ℕ) → t ≡ refusal n → n < 10) → Small t
+small-by (packet port sequence payload) h = tt
+small-by (refusal n) h = h n refl
+
+pub small : (recv : List ℕ) (m : ℕ) → Small (closed recv m .told)
+small recv m =
+    small-by (closed recv m .told) λ n e.
+    first-each (λ m. m < 10) ((1, rawLimit < m) ∷ (9, length recv < m) ∷ frameRows (take m recv)) (omega arith, (omega arith, (omega arith, (omega arith, (omega arith, (omega arith, (omega arith, (omega arith, (omega arith, tt))))))))) n
+    (closed-exact recv m .says n .0 e)
+
+pub never-nine : (raw : List ℕ) → judge raw ≡ refusal 9 → ⊥
+never-nine raw e =
+    first-each (λ m. m ≢ 9) ((1, rawLimit < length raw) ∷ frameRows raw)
+    (λ h. omega arith, (λ h. omega arith, (λ h. omega arith, (λ h. omega arith, (λ h. omega arith, (λ h. omega arith, (λ h. omega arith, (λ h. omega arith, tt)))))))) 9
+    (judge-exact raw .says 9 .0 e) refl
+
+-- ---- escapes undone
+pub undone : (recv : List ℕ) (m n : ℕ) → closed recv m .told ≡ refusal n → 3 < n → n ≢ 9
+    → closed recv m .recv ≡ plain (take m recv) ++ drop (length (plain (take m recv))) recv
+unfolding closed closedBy
+undone recv m n = go (ltb rawLimit m) (ltb (length recv) m) (scan (take m recv))
+  where
+    same : {k l : ℕ} → refusal k ≡ refusal l → k ≡ l
+    same {k} {l} e = is l k .0 (sym e)
+
+    go : (t u : Bool) (e : Escapes) → pick t (kept 1 recv) (pick u (kept 9 recv) (closedBy e (take m recv) recv)) .told ≡ refusal n → 3 < n → n ≢ 9
+        → pick t (kept 1 recv) (pick u (kept 9 recv) (closedBy e (take m recv) recv)) .recv ≡ plain (take m recv) ++ drop (length (plain (take m recv))) recv
+    go true u s e h k = let z : 1 ≡ n = same e in absurd (omega arith)
+    go false true s e h k = absurd (k (sym (same e)))
+    go false false Unfinished e h k = let z : 2 ≡ n = same e in absurd (omega arith)
+    go false false Wrong e h k = let z : 3 ≡ n = same e in absurd (omega arith)
+    go false false Right e h k = refl

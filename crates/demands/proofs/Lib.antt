@@ -1,0 +1,9 @@
+pub mod Rows
+pub mod Frames
+pub mod Called
+pub mod Trips
+pub mod Accepting
+pub mod Demand1
+pub mod Demand2
+pub mod Demand3
+pub mod Numbers

@@ -1,0 +1,4 @@
+pub mod Accepts
+pub mod Table
+pub mod Refusals
+pub mod Cuts

@@ -1,0 +1,77 @@
+-- Rows of the paper's tables ("Numbered refusals") that several calls share, or that take more than a line.
+-- frameRows             2 to 8, of the raw bytes of a frame
+-- FrameBeyond, Beyond   10: a count of the state is beyond its limit
+-- Short                 11: a lent buffer is too short
+-- ByFrame, By..         that an answer refuses by a number
+use Prim.Native.Nat.{ℕ, _-_, _≤_, _<_, min}
+use mathlib.Core.Path.{_≡_}
+use mathlib.Core.Logic.{_⊎_, _≢_}
+use mathlib.Core.List.{List, [], _∷_}
+use mathlib.Core.Option.{Option, some}
+use lib.ListN.{length, take, getD}
+use Rattle.base.specs.Written.{Outcome}
+use Rattle.base.specs.declared.Written.the-variants.{Refused}
+use Rattle.fcs.specs.Fcs.{fcs}
+use Rattle.packet.specs.Contents.{format, payloadLimit, rawLimit, wordAt, payloadOf}
+use Rattle.packet.specs.Escape.{escape, plain, last}
+use Rattle.packet.specs.Frame.{Told, refusal}
+use Rattle.packet.proofs.Faults.{Followed}
+use Rattle.parity.specs.declared.Checked.{Checked}
+use Rattle.parity.specs.declared.Checked.the-variants.{Refused as WordRefused}
+use Rattle.stream.specs.Called.{Held}
+use Rattle.stream.specs.declared.frame.Frame.{Frame}
+use Rattle.channel.specs.Channel.{Event, said}
+use Rattle.channel.specs.Called.{Board}
+use Rattle.channel.specs.Sender.{messageBytes, wordBytes}
+use Rattle.channel.specs.declared.receiver.Receiver.{Receiver}
+use Rattle.demands.specs.Table.{Row}
+
+-- 7D00-7EFF
+abbrev pub Unusable : ℕ → Type 0
+Unusable port = (0x7D00 ≤ port) × (port ≤ 0x7EFF)
+
+-- of contents cs, the bytes after undoing escapes
+abbrev pub contentsRows : List ℕ → List Row
+contentsRows cs =
+    (4, length cs < 8) ∷  -- fewer than 8 bytes after undoing escapes
+    (5, fcs (take (length cs - 2) cs) ≢ wordAt cs (length cs - 2)) ∷  -- check differs
+    (6, getD cs 0 0 ≢ format) ∷  -- format byte is not 0x21
+    (7, Unusable (wordAt cs 1)) ∷  -- port 7D00-7EFF
+    (8, payloadLimit < length (escape (payloadOf cs))) ∷  -- payload above 8,192 bytes as escaped
+    []
+
+-- of raw bytes
+abbrev pub frameRows : List ℕ → List Row
+frameRows raw =
+    (2, last 0 raw ≡ 0x7D) ∷  -- last raw byte is 7D
+    (3, Followed raw) ∷  -- 7D followed by other than 5E, 5D
+    contentsRows (plain raw)
+
+-- 10 of the frame reader: stored bytes other than the raw count or 8,205, whichever is less; raw count above 8,206
+abbrev pub FrameBeyond : Frame → Type 0
+FrameBeyond f = (f .stored ≢ min (f .raw) rawLimit) ⊎ (8206 < f .raw)
+
+-- 10 of the channel's receiver: the same; bytes of a word above 255, marker bytes above 3, message bytes handed on above 223
+abbrev pub Beyond : Receiver → Type 0
+Beyond s = FrameBeyond (s .frame) ⊎ (wordBytes < s .lock .word) ⊎ (3 < s .lock .marker) ⊎ (messageBytes < s .lock .handed)
+
+-- 11 on the channel: receive buffer under 8,205 bytes, word buffer under 255
+abbrev pub Short : List ℕ → List ℕ → Type 0
+Short recv word = (length recv < rawLimit) ⊎ (length word < wordBytes)
+
+-- a frame, a call that writes, the check of a word
+abbrev pub ByFrame : Told → ℕ → Type 0
+ByFrame t n = t ≡ refusal n
+
+abbrev pub ByCall : Outcome → ℕ → Type 0
+ByCall o n = o .answer ≡ Refused n
+
+abbrev pub ByCheck : Checked → ℕ → Type 0
+ByCheck c n = c ≡ WordRefused n
+
+-- a receiving call, on the plain stream and on the channel: from 10 on the numbers are those of calls, below they are of frames
+abbrev pub ByRead : Option Told × ℕ × Held → ℕ → Type 0
+ByRead r n = (10 ≤ n) × (r .0 ≡ some (refusal n))
+
+abbrev pub ByHear : Option Event × ℕ × Board → ℕ → Type 0
+ByHear r n = (10 ≤ n) × (r .0 ≡ some (said (refusal n)))
