@@ -87,10 +87,8 @@ pub fn judge(recv: &mut [u8], raw: usize) -> Judged {
     if raw > RAW {
         return Judged::Refused(1);
     }
-    if raw > recv.len() {
-        return Judged::Refused(9);
-    }
-    match undo(&recv[..raw]) {
+    let stored = raw.min(recv.len());
+    match undo(&recv[..stored]) {
         Err(n) => Judged::Refused(n),
         Ok(bytes) => {
             recv[..bytes.len()].copy_from_slice(&bytes);

@@ -11,7 +11,7 @@ pub enum Written {
     Refused(u8),
 }
 
-/// The paper's refusals, by number.
+/// The paper's refusals, by number; 9 is not used.
 pub struct Refusal;
 
 impl Refusal {
@@ -31,8 +31,6 @@ impl Refusal {
     pub const PORT: u8 = 7;
     /// A frame's payload is above 8,192 bytes as escaped.
     pub const PAYLOAD: u8 = 8;
-    /// The receive buffer is full inside a frame.
-    pub const FULL: u8 = 9;
     /// A count of the state is beyond its limit.
     pub const STATE: u8 = 10;
     /// A lent buffer is too short.

@@ -1,6 +1,7 @@
 -- The refusals of a receiving call, 10 and 11: of the plain stream and of the channel.
 -- read-exact, hear-exact   row by row
 -- read-same, hear-same     with no byte taken, and state and buffers as they were
+-- Given, read-given, hear-given   the numbers that are given
 use Prim.Native.Nat.{ℕ, suc, _≤_, _<_, min}
 use native.Mathlib.Omega.{arith}
 use mathlib.Core.Path.{_≡_, refl, sym, subst}
@@ -101,7 +102,7 @@ small-byte : (h : Held) (b : ℕ) → With SmallHeld (takeByte h b .0) (takeByte
 small-byte h b = small-take (eqb b flag) (h .st .opened) h b
 
 frame-only : (o : Option Told) (h : Held) (n : ℕ) → With SmallHeld o h → 10 ≤ n → o ≡ some (refusal n) → ⊥
-frame-only o h n w k e = let s : n < 10 = subst (λ (o : Option Told). With SmallHeld o h) e w in omega arith
+frame-only o h n w k e = let s : (1 ≤ n) × (n ≤ 8) = subst (λ (o : Option Told). With SmallHeld o h) e w in omega (arith, s .1)
 
 is-read : (h : Held) (m n : ℕ) → 10 ≤ m → ByRead (some (refusal m), 0, h) n ↔ n ≡ m
 is-read h m n k = (λ e. let z : m ≡ n = cc in sym z, λ e. (subst (λ (x : ℕ). 10 ≤ x) (sym e) k, λ i. some (refusal (sym e i))))
@@ -162,7 +163,7 @@ small-hear c bs =
     (λ d b. small-eat (d .st .locked) (ltb (d .st .lock .word) wordBytes) d b) c bs
 
 event-only : (o : Option Event) (c : Board) (n : ℕ) → With SmallEvent o c → 10 ≤ n → o ≡ some (said (refusal n)) → ⊥
-event-only o c n w k e = let s : n < 10 = subst (λ (o : Option Event). With SmallEvent o c) e w in omega arith
+event-only o c n w k e = let s : (1 ≤ n) × (n ≤ 8) = subst (λ (o : Option Event). With SmallEvent o c) e w in omega (arith, s .1)
 
 is-hear : (c : Board) (m n : ℕ) → 10 ≤ m → ByHear (some (said (refusal m)), 0, c) n ↔ n ≡ m
 is-hear c m n k = (λ e. let z : m ≡ n = cc in sym z, λ e. (subst (λ (x : ℕ). 10 ≤ x) (sym e) k, λ i. some (said (refusal (sym e i)))))
@@ -185,3 +186,25 @@ hear-same c bs n = go (sound (c .st)) (roomy (c .recv) (c .word))
     go false r b = λ i. (b .1 i, 0, c)
     go true false b = λ i. (b .1 i, 0, c)
     go true true b = absurd (event-only (hearOn c bs .0) (hearOn c bs .2) n (small-hear c bs) (b .0) (b .1))
+
+-- ---- the numbers that are given
+-- of a frame 1 to 8, of a call 10 and 11
+abbrev pub Given : ℕ → Type 0
+Given n = ((1 ≤ n) × (n ≤ 8)) ⊎ ((n ≡ 10) ⊎ (n ≡ 11))
+
+pub read-given : (h : Held) (bs : List ℕ) (n : ℕ) → readCall h bs .0 ≡ some (refusal n) → Given n
+read-given h bs n = go (soundFrame (h .st)) (leb rawLimit (length (h .recv)))
+  where
+    go : (s r : Bool) → readBy s r h bs .0 ≡ some (refusal n) → Given n
+    go false r e = let z : 10 ≡ n = cc in inr (inl (sym z))
+    go true false e = let z : 11 ≡ n = cc in inr (inr (sym z))
+    go true true e =
+        inl (subst (λ (o : Option Told). With SmallHeld o (readOn h bs .2)) e (with-hear owesNone handsNone takeByte none-owed SmallHeld (λ g. tt) small-byte h bs))
+
+pub hear-given : (c : Board) (bs : List ℕ) (n : ℕ) → hearCall c bs .0 ≡ some (said (refusal n)) → Given n
+hear-given c bs n = go (sound (c .st)) (roomy (c .recv) (c .word))
+  where
+    go : (s r : Bool) → hearBy s r c bs .0 ≡ some (said (refusal n)) → Given n
+    go false r e = let z : 10 ≡ n = cc in inr (inl (sym z))
+    go true false e = let z : 11 ≡ n = cc in inr (inr (sym z))
+    go true true e = inl (subst (λ (o : Option Event). With SmallEvent o (hearOn c bs .2)) e (small-hear c bs))

@@ -10,7 +10,7 @@
 use Prim.Native.Nat.{ℕ, _-_, _*_, _≤_, _<_}
 use mathlib.Core.Path.{_≡_, refl}
 use mathlib.Core.Bool.{Bool, true, false}
-use mathlib.Core.Logic.{_≢_}
+use mathlib.Core.Logic.{_⊎_, _≢_}
 use mathlib.Core.List.{List, [], _∷_, _++_}
 use mathlib.Core.Option.{some}
 use lib.Dec.{eqb, ltb}
@@ -47,8 +47,8 @@ use Rattle.demands.specs.Accepts.{Accepts}
 use Rattle.demands.specs.Table.{Exact}
 use Rattle.demands.specs.Refusals.{Unusable, frameRows, FrameBeyond, Beyond, Short, ByFrame, ByCall, ByCheck, ByRead, ByHear}
 use Rattle.demands.proofs.Rows.{row, row-not, not-less, not-same, refuses, wrote, refuses-word, found, not-whole, is-whole}
-use Rattle.demands.proofs.Frames.{barred-is, free-is, closed-exact, judge-exact, never-nine, undone}
-use Rattle.demands.proofs.Called.{read-exact, read-same, hear-exact, hear-same}
+use Rattle.demands.proofs.Frames.{barred-is, free-is, closed-exact, judge-exact, undone}
+use Rattle.demands.proofs.Called.{read-given, hear-given, read-exact, read-same, hear-exact, hear-same}
 use Rattle.packet.proofs.write as write-call
 use Rattle.stream.proofs.begin as begin-call
 use Rattle.stream.proofs.append as append-call
@@ -94,10 +94,8 @@ pub plain-ends : (h : Held) → Fine h → (pieces : List (List ℕ)) → (ts : 
 plain-ends h f pieces = (readAll h (joined pieces) .0, readAll h (joined pieces) .1, read-ends h f pieces)
 
 -- ---- "Bad input gets a numbered refusal": a frame, of which m raw bytes are in the receive buffer ..
--- (9 stands where the raw bytes are not there to be judged; no byte stream gets it: `stream-never-nine`)
 pub frame-refusals : (recv : List ℕ) (m : ℕ) → Exact ByFrame (closed recv m .told)
     ((1, rawLimit < m) ∷  -- more than 8,205 raw bytes
-    (9, length recv < m) ∷  -- receive buffer full inside a frame
     frameRows (take m recv))  -- 2 to 8
 frame-refusals = closed-exact
 
@@ -105,8 +103,13 @@ frame-refusals = closed-exact
 pub raw-refusals : (raw : List ℕ) → Exact ByFrame (judge raw) ((1, rawLimit < length raw) ∷ frameRows raw)
 raw-refusals = judge-exact
 
-pub stream-never-nine : (raw : List ℕ) → judge raw ≡ refusal 9 → ⊥
-stream-never-nine = never-nine
+-- the numbers that a receiving call gives are 1 to 8 of a frame, 10 and 11 of the call: 9 is not used. The buffer is measured on entry,
+-- and the raw count stops storage
+pub read-numbers : (h : Held) (bs : List ℕ) (n : ℕ) → readCall h bs .0 ≡ some (refusal n) → ((1 ≤ n) × (n ≤ 8)) ⊎ ((n ≡ 10) ⊎ (n ≡ 11))
+read-numbers = read-given
+
+pub hear-numbers : (c : Board) (bs : List ℕ) (n : ℕ) → hearCall c bs .0 ≡ some (said (refusal n)) → ((1 ≤ n) × (n ≤ 8)) ⊎ ((n ≡ 10) ⊎ (n ≡ 11))
+hear-numbers = hear-given
 
 -- a receiving call on the plain stream
 pub read-refusals : (h : Held) (bs : List ℕ) → Exact ByRead (readCall h bs)
@@ -220,7 +223,7 @@ pub frame-kept : (recv : List ℕ) (m n : ℕ) → closed recv m .told ≡ refus
 frame-kept = closed-keeps
 
 -- .. from 4 on, escapes are undone from the buffer's start, and bytes behind the result stay ..
-pub frame-undone : (recv : List ℕ) (m n : ℕ) → closed recv m .told ≡ refusal n → 3 < n → n ≢ 9
+pub frame-undone : (recv : List ℕ) (m n : ℕ) → closed recv m .told ≡ refusal n → 3 < n
     → closed recv m .recv ≡ plain (take m recv) ++ drop (length (plain (take m recv))) recv
 frame-undone = undone
 

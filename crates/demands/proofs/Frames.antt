@@ -1,12 +1,12 @@
 -- The refusals of a frame, row by row.
 -- closed-exact, judge-exact   of the raw bytes in a receive buffer, and of raw bytes alone
--- small, never-nine           the number is below 10; of raw bytes alone it is never 9
+-- small                       the number is one of 1 to 8
 -- undone                      from 4 on, escapes are undone in the buffer
-use Prim.Native.Nat.{ℕ, _-_, _<_}
+use Prim.Native.Nat.{ℕ, _-_, _≤_, _<_}
 use native.Mathlib.Omega.{arith}
 use mathlib.Core.Path.{_≡_, refl, sym, ap, subst, _∙_}
 use mathlib.Core.Bool.{Bool, true, false}
-use mathlib.Core.Logic.{_↔_, _≢_}
+use mathlib.Core.Logic.{_↔_}
 use mathlib.Core.List.{List, [], _∷_, _++_}
 use lib.Dec.{eqb, ltb, leb}
 use lib.ListN.{length, take, drop, getD}
@@ -59,23 +59,21 @@ by-exact Wrong raw recv s = over ByFrame (s .0) (applies ByFrame _ (is 3) (s .1)
 by-exact Right raw recv s = over ByFrame (s .0) (over ByFrame (s .1) (contents-exact (plain raw)))
 
 pub closed-exact : (recv : List ℕ) (m : ℕ)
-    → Exact ByFrame (closed recv m .told) ((1, rawLimit < m) ∷ (9, length recv < m) ∷ frameRows (take m recv))
+    → Exact ByFrame (closed recv m .told) ((1, rawLimit < m) ∷ frameRows (take m recv))
 unfolding closed
-closed-exact recv m = go (ltb rawLimit m) (ltb (length recv) m) refl refl
+closed-exact recv m = go (ltb rawLimit m) refl
   where
-    go : (t u : Bool) → ltb rawLimit m ≡ t → ltb (length recv) m ≡ u
-        → Exact ByFrame (pick t (kept 1 recv) (pick u (kept 9 recv) (closedBy (scan (take m recv)) (take m recv) recv)) .told) ((1, rawLimit < m) ∷ (9, length recv < m) ∷ frameRows (take m recv))
-    go true u e f = applies ByFrame _ (is 1) (ltb-true _ _ e)
-    go false true e f = over ByFrame (not-less _ _ e) (applies ByFrame _ (is 9) (ltb-true _ _ f))
-    go false false e f = over ByFrame (not-less _ _ e) (over ByFrame (not-less _ _ f) (by-exact (scan (take m recv)) (take m recv) recv (scan-says (take m recv))))
+    go : (t : Bool) → ltb rawLimit m ≡ t
+        → Exact ByFrame (pick t (kept 1 recv) (closedBy (scan (take m recv)) (take m recv) recv) .told) ((1, rawLimit < m) ∷ frameRows (take m recv))
+    go true e = applies ByFrame _ (is 1) (ltb-true _ _ e)
+    go false e = over ByFrame (not-less _ _ e) (by-exact (scan (take m recv)) (take m recv) recv (scan-says (take m recv)))
 
 pub judge-exact : (raw : List ℕ) → Exact ByFrame (judge raw) ((1, rawLimit < length raw) ∷ frameRows raw)
 unfolding judge closed
 judge-exact raw =
     let all : take (length raw) raw ≡ raw = take-all (length raw) raw (omega arith) in
     let e : judge raw ≡ pick (ltb rawLimit (length raw)) (refusal 1) (closedBy (scan raw) raw raw .told) =
-    ap (λ (t : Bool). pick (ltb rawLimit (length raw)) (kept 1 raw) (pick t (kept 9 raw) (closedBy (scan (take (length raw) raw)) (take (length raw) raw) raw)) .told) (le-ltb (length raw) (length raw) (omega arith))
-    ∙ ap (λ (l : List ℕ). pick (ltb rawLimit (length raw)) (kept 1 raw) (closedBy (scan l) l raw) .told) all
+    ap (λ (l : List ℕ). pick (ltb rawLimit (length raw)) (kept 1 raw) (closedBy (scan l) l raw) .told) all
     ∙ out (ltb rawLimit (length raw)) in
     subst (λ (t : Told). Exact ByFrame t ((1, rawLimit < length raw) ∷ frameRows raw)) (sym e)
     (row ByFrame (ltb rawLimit (length raw)) (is 1) (ltb-true _ _) (not-less _ _) (by-exact (scan raw) raw raw (scan-says raw)))
@@ -84,40 +82,34 @@ judge-exact raw =
     out true = refl
     out false = refl
 
--- ---- numbers of frames are below 10
+-- ---- numbers of frames are 1 to 8
 abbrev pub Small : Told → Type 0
 Small (packet port sequence payload) = Unit {0}
-Small (refusal n) = n < 10
+Small (refusal n) = (1 ≤ n) × (n ≤ 8)
 
-small-by : (t : Told) → ((n : ℕ) → t ≡ refusal n → n < 10) → Small t
+small-by : (t : Told) → ((n : ℕ) → t ≡ refusal n → (1 ≤ n) × (n ≤ 8)) → Small t
 small-by (packet port sequence payload) h = tt
 small-by (refusal n) h = h n refl
 
 pub small : (recv : List ℕ) (m : ℕ) → Small (closed recv m .told)
 small recv m =
     small-by (closed recv m .told) λ n e.
-    first-each (λ m. m < 10) ((1, rawLimit < m) ∷ (9, length recv < m) ∷ frameRows (take m recv)) (omega arith, (omega arith, (omega arith, (omega arith, (omega arith, (omega arith, (omega arith, (omega arith, (omega arith, tt))))))))) n
+    first-each (λ k. (1 ≤ k) × (k ≤ 8)) ((1, rawLimit < m) ∷ frameRows (take m recv))
+    (omega arith, (omega arith, (omega arith, (omega arith, (omega arith, (omega arith, (omega arith, (omega arith, tt)))))))) n
     (closed-exact recv m .says n .0 e)
 
-pub never-nine : (raw : List ℕ) → judge raw ≡ refusal 9 → ⊥
-never-nine raw e =
-    first-each (λ m. m ≢ 9) ((1, rawLimit < length raw) ∷ frameRows raw)
-    (λ h. omega arith, (λ h. omega arith, (λ h. omega arith, (λ h. omega arith, (λ h. omega arith, (λ h. omega arith, (λ h. omega arith, (λ h. omega arith, tt)))))))) 9
-    (judge-exact raw .says 9 .0 e) refl
-
 -- ---- escapes undone
-pub undone : (recv : List ℕ) (m n : ℕ) → closed recv m .told ≡ refusal n → 3 < n → n ≢ 9
+pub undone : (recv : List ℕ) (m n : ℕ) → closed recv m .told ≡ refusal n → 3 < n
     → closed recv m .recv ≡ plain (take m recv) ++ drop (length (plain (take m recv))) recv
 unfolding closed closedBy
-undone recv m n = go (ltb rawLimit m) (ltb (length recv) m) (scan (take m recv))
+undone recv m n = go (ltb rawLimit m) (scan (take m recv))
   where
     same : {k l : ℕ} → refusal k ≡ refusal l → k ≡ l
     same {k} {l} e = is l k .0 (sym e)
 
-    go : (t u : Bool) (e : Escapes) → pick t (kept 1 recv) (pick u (kept 9 recv) (closedBy e (take m recv) recv)) .told ≡ refusal n → 3 < n → n ≢ 9
-        → pick t (kept 1 recv) (pick u (kept 9 recv) (closedBy e (take m recv) recv)) .recv ≡ plain (take m recv) ++ drop (length (plain (take m recv))) recv
-    go true u s e h k = let z : 1 ≡ n = same e in absurd (omega arith)
-    go false true s e h k = absurd (k (sym (same e)))
-    go false false Unfinished e h k = let z : 2 ≡ n = same e in absurd (omega arith)
-    go false false Wrong e h k = let z : 3 ≡ n = same e in absurd (omega arith)
-    go false false Right e h k = refl
+    go : (t : Bool) (e : Escapes) → pick t (kept 1 recv) (closedBy e (take m recv) recv) .told ≡ refusal n → 3 < n
+        → pick t (kept 1 recv) (closedBy e (take m recv) recv) .recv ≡ plain (take m recv) ++ drop (length (plain (take m recv))) recv
+    go true s e h = let z : 1 ≡ n = same e in absurd (omega arith)
+    go false Unfinished e h = let z : 2 ≡ n = same e in absurd (omega arith)
+    go false Wrong e h = let z : 3 ≡ n = same e in absurd (omega arith)
+    go false Right e h = refl

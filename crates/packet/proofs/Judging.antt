@@ -1,6 +1,6 @@
 -- Laws of a closed frame.
 -- judge-short .. judge-packet       which answer contents have, by facts on numbers
--- closed-over, closed-full, closed-as   the same of the raw bytes in the receive buffer
+-- closed-over, closed-as, closed-stored   the same of the raw bytes in the receive buffer
 -- judge-is                          the buffer's raw bytes alone decide
 -- length-closed                     the buffer keeps its length
 -- payload-there                     a delivered payload stands in the buffer
@@ -8,13 +8,14 @@
 use mathlib.Core.Path.{_≡_, refl, sym, ap, subst, _∙_}
 use mathlib.Core.Bool.{Bool, true, false}
 use mathlib.Core.List.{List, [], _++_}
-use Prim.Native.Nat.{ℕ, _+_, _-_, _<_, _≤_}
+use Prim.Native.Nat.{ℕ, _+_, _-_, _<_, _≤_, min}
 use native.Mathlib.Omega.{arith}
 use borrow.Author.Tests.{eq-eqb, ne-eqb, lt-ltb, le-ltb, ltb-false}
 use lib.Dec.{eqb, ltb}
 use lib.ListN.{length, getD, take, drop, length-append, length-take, length-drop}
 use lib.Seq.{take-append-le, drop-append-le, length-take-le, take-all, take-take}
 use Rattle.base.specs.Choice.{pick}
+use Rattle.base.proofs.Tests.{by-le}
 use Rattle.fcs.specs.Fcs.{fcs}
 use Rattle.packet.specs.Port.{barred}
 use Rattle.packet.specs.Contents.{format, payloadLimit, rawLimit, wordAt, payloadOf}
@@ -68,13 +69,20 @@ module _ (recv : List ℕ) (n : ℕ) where
   closed-over h = simp (lt-ltb _ _ h)
 
   module _ (h : n ≤ rawLimit) where
-    pub closed-full : length recv < n → closed recv n ≡ kept 9 recv
+    pub closed-as : (e : Escapes) → scan (take n recv) ≡ e → closed recv n ≡ closedBy e (take n recv) recv
     unfolding closed
-    closed-full k = simp (le-ltb _ _ h, lt-ltb _ _ k)
+    closed-as e s = simp (le-ltb _ _ h, s)
 
-    pub closed-as : n ≤ length recv → (e : Escapes) → scan (take n recv) ≡ e → closed recv n ≡ closedBy e (take n recv) recv
-    unfolding closed
-    closed-as k e s = simp (le-ltb _ _ h, le-ltb _ _ k, s)
+    -- as many of them as the buffer holds
+    pub closed-stored : {k : ℕ} → k ≡ min n (length recv) → (e : Escapes) → scan (take k recv) ≡ e → closed recv n ≡ closedBy e (take k recv) recv
+    closed-stored {k} m e s =
+        let t : take k recv ≡ take n recv = stored-same n k m in
+        closed-as e (ap scan (sym t) ∙ s) ∙ ap (λ (raw : List ℕ). closedBy e raw recv) (sym t)
+      where
+        stored-same : (n k : ℕ) → k ≡ min n (length recv) → take k recv ≡ take n recv
+        stored-same n k m =
+            by-le n (length recv) (λ l. let z : k ≡ n = omega arith in ap (λ (i : ℕ). take i recv) z)
+            (λ l. take-all k recv (omega arith) ∙ sym (take-all n recv (omega arith)))
 
 told-by : (e : Escapes) (raw recv recv′ : List ℕ) → closedBy e raw recv .told ≡ closedBy e raw recv′ .told
 unfolding closedBy
@@ -87,10 +95,10 @@ unfolding judge
 judge-is recv n h k =
     let raw = take n recv in
     let l : length raw ≡ n = length-take-le n recv k in
-    ap (λ (c : Closed). c .told) (closed-as recv n h k (scan raw) refl) ∙ told-by (scan raw) raw recv raw
+    ap (λ (c : Closed). c .told) (closed-as recv n h (scan raw) refl) ∙ told-by (scan raw) raw recv raw
     ∙ sym
     (ap (λ (c : Closed). c .told)
-    (closed-as raw (length raw) (omega arith) (omega arith) (scan raw) (ap scan (take-all (length raw) raw (omega arith))) ∙ ap (λ (r : List ℕ). closedBy (scan raw) r raw) (take-all (length raw) raw (omega arith))))
+    (closed-as raw (length raw) (omega arith) (scan raw) (ap scan (take-all (length raw) raw (omega arith))) ∙ ap (λ (r : List ℕ). closedBy (scan raw) r raw) (take-all (length raw) raw (omega arith))))
 
 pub judge-long : (raw : List ℕ) → rawLimit < length raw → judge raw ≡ refusal 1
 unfolding judge
@@ -102,15 +110,14 @@ plain-room recv n = omega (arith, plain-short (take n recv), length-take n recv)
 
 -- a fact of every closed frame, by the ways through the definition
 module _ (recv : List ℕ) (n : ℕ) (P : Closed → Type 0)
-    (over : P (kept 1 recv)) (full : P (kept 9 recv)) (by : (e : Escapes) → P (closedBy e (take n recv) recv)) where
+    (over : P (kept 1 recv)) (by : (e : Escapes) → P (closedBy e (take n recv) recv)) where
   by-ways : P (closed recv n)
   unfolding closed
-  by-ways = go (ltb rawLimit n) (ltb (length recv) n)
+  by-ways = go (ltb rawLimit n)
     where
-      go : (t u : Bool) → P (pick t (kept 1 recv) (pick u (kept 9 recv) (closedBy (scan (take n recv)) (take n recv) recv)))
-      go true u = over
-      go false true = full
-      go false false = by (scan (take n recv))
+      go : (t : Bool) → P (pick t (kept 1 recv) (closedBy (scan (take n recv)) (take n recv) recv))
+      go true = over
+      go false = by (scan (take n recv))
 
 length-by : (recv : List ℕ) (n : ℕ) (e : Escapes) → length (closedBy e (take n recv) recv .recv) ≡ length recv
 unfolding closedBy
@@ -119,7 +126,7 @@ length-by recv n Wrong = refl
 length-by recv n Right = simp (length-append, length-drop) (omega (arith, plain-room recv n))
 
 pub length-closed : (recv : List ℕ) (n : ℕ) → length (closed recv n .recv) ≡ length recv
-length-closed recv n = by-ways recv n (λ c. length (c .recv) ≡ length recv) refl refl (length-by recv n)
+length-closed recv n = by-ways recv n (λ c. length (c .recv) ≡ length recv) refl (length-by recv n)
 
 -- ---- a delivered payload stands in the buffer
 abbrev pub There : Told → List ℕ → Type 0
@@ -158,7 +165,7 @@ there-by Wrong raw recv = tt
 there-by Right raw recv = there-contents (plain raw) (drop (length (plain raw)) recv)
 
 pub payload-there : (recv : List ℕ) (n : ℕ) → There (closed recv n .told) (closed recv n .recv)
-payload-there recv n = by-ways recv n (λ c. There (c .told) (c .recv)) tt tt (λ e. there-by e (take n recv) recv)
+payload-there recv n = by-ways recv n (λ c. There (c .told) (c .recv)) tt (λ e. there-by e (take n recv) recv)
 
 -- ---- refused with 1, 2 or 3
 abbrev KeptBy : Told → List ℕ → List ℕ → Type 0
@@ -189,4 +196,4 @@ kept-by Right raw recv = kept-contents (plain raw) (plain raw ++ drop (length (p
 pub closed-keeps : (recv : List ℕ) (raw n : ℕ) → closed recv raw .told ≡ refusal n → n ≤ 3 → closed recv raw .recv ≡ recv
 closed-keeps recv raw n e =
     subst (λ (t : Told). KeptBy t (closed recv raw .recv) recv) e
-    (by-ways recv raw (λ c. KeptBy (c .told) (c .recv) recv) (λ h. refl) (λ h. refl) (λ k. kept-by k (take raw recv) recv))
+    (by-ways recv raw (λ c. KeptBy (c .told) (c .recv) recv) (λ h. refl) (λ k. kept-by k (take raw recv) recv))

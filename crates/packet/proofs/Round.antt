@@ -144,5 +144,5 @@ module _ (port sequence : ℕ) (payload : List ℕ) where
         let cs = contents port sequence payload in
         let raw = escape cs in
         let all : take (length raw) raw ≡ raw = take-all (length raw) raw (omega arith) in
-        ap (λ (c : Closed). c .told) (closed-as raw (length raw) raw-fits (omega arith) Right (ap scan all ∙ scan-right cs))
+        ap (λ (c : Closed). c .told) (closed-as raw (length raw) raw-fits Right (ap scan all ∙ scan-right cs))
         ∙ ap judgeContents (ap plain all ∙ plain-undoes cs) ∙ judge-contents

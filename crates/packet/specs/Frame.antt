@@ -1,4 +1,4 @@
--- A closed frame (paper 01, "Numbered refusals"): the first refusal that applies of 1 to 9, or the packet.
+-- A closed frame (paper 01, "Numbered refusals"): the first refusal that applies of 1 to 8, or the packet.
 -- Told     what a frame is told to be, and judged, the answer that the code gives of it
 -- closed   what it is told to be, and what the receive buffer then holds
 -- judge    the same of raw bytes alone
@@ -54,9 +54,9 @@ closedBy Unfinished raw recv = kept 2 recv
 closedBy Wrong raw recv = kept 3 recv
 closedBy Right raw recv = record { told = judgeContents (plain raw); recv = plain raw ++ drop (length (plain raw)) recv }
 
--- n raw bytes from the start of the receive buffer: 1 more than 8,205 of them, 9 the buffer is too short for them
+-- n raw bytes from the start of the receive buffer: 1 more than 8,205 of them
 unfoldable pub closed : List ℕ → ℕ → Closed
-closed recv n = pick (ltb rawLimit n) (kept 1 recv) (pick (ltb (length recv) n) (kept 9 recv) (closedBy (scan (take n recv)) (take n recv) recv))
+closed recv n = pick (ltb rawLimit n) (kept 1 recv) (closedBy (scan (take n recv)) (take n recv) recv)
 
 -- raw bytes in a buffer that just holds them
 unfoldable pub judge : List ℕ → Told

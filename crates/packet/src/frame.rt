@@ -85,14 +85,12 @@ pub fn judge(recv: &mut [u8], raw: usize) -> Judged
     if Packet::RAW < raw {
         return Judged::Refused(Refusal::RAW);
     }
-    if recv.len() < raw {
-        return Judged::Refused(Refusal::FULL);
-    }
-    match escape::scan(&recv[..raw]) {
+    let stored = base::least(raw, recv.len());
+    match escape::scan(&recv[..stored]) {
         Escapes::Unfinished => Judged::Refused(Refusal::UNFINISHED),
         Escapes::Wrong => Judged::Refused(Refusal::ESCAPE),
         Escapes::Right => {
-            let n = escape::undo_plain(recv, raw, 0, 0);
+            let n = escape::undo_plain(recv, stored, 0, 0);
             judge_contents(&recv[..n])
         }
     }
