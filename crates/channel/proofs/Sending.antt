@@ -1,6 +1,6 @@
 -- Laws of the sender.
 -- block-put                       one block, from what its calls leave
--- mark-short, mark-fits           what the call for one block answers and leaves
+-- mark-short, mark-fits, mark-put, next-put   what the call for one block answers and leaves
 -- firstBlocks, blocks-next        the blocks passed are written, and the rest is as it was: a turn of the loop
 -- blocks-room                     and the output's length stays
 -- send-short, send-fits           what the call for a whole stream answers and leaves
@@ -97,6 +97,9 @@ module _ (m out : List ℕ) (h : length m ≡ 223) where
   pub mark-fits : {after : List ℕ} → 259 ≤ length out → after ≡ (marker ++ wordOf m) ++ drop 259 out → outcome (Wrote 259) after ≡ marking m out
   mark-fits k e = simp (eq-eqb (length m) 223 h) (wrote-fits (marker ++ wordOf m) out 259 (block-length m h) k e)
 
+  pub mark-put : {w : Written} {after : List ℕ} → 259 ≤ length out → outcome w after ≡ marking m out → after ≡ (marker ++ wordOf m) ++ drop 259 out
+  mark-put k e = ap (λ (o : Outcome). o .output) (e ∙ sym (mark-fits k refl))
+
 -- ---- a message: the next 223 bytes, or those that are left and flags behind them
 abbrev messageOf : List ℕ → List ℕ
 messageOf bs = copied bs (replicate 223 flag)
@@ -114,6 +117,12 @@ length-copied bs dst =
 
 message-length : (bs : List ℕ) → length (messageOf bs) ≡ 223
 message-length bs = length-copied bs (replicate 223 flag) ∙ length-replicate 223 flag
+
+-- the block of the next message
+pub next-put : (s out : List ℕ) {m : List ℕ} {w : Written} {after : List ℕ} → m ≡ copied s (replicate 223 flag) → 259 ≤ length out
+    → outcome w after ≡ marking m out → after ≡ (marker ++ wordOf (copied s (replicate 223 flag))) ++ drop 259 out
+next-put s out e k f =
+    mark-put (copied s (replicate 223 flag)) out (message-length s) k (f ∙ ap (λ (m : List ℕ). marking m out) e)
 
 drop-flags : (n k : ℕ) → n ≤ k → drop n (replicate k flag) ≡ replicate (k - n) flag
 drop-flags zero k h = simp sub-zero

@@ -1,4 +1,4 @@
-//! The sender's blocks: the marker, a message and its parity.
+//! The sender's blocks: the marker, a message and its parity, in one go.
 ghost use mathlib.Core.Path.{_≡_};
 ghost use Prim.Native.Nat.{_+_, _*_, _/_, _≤_, _<_};
 ghost use mathlib.Core.List.{_++_};
@@ -22,7 +22,7 @@ fn put_block(message: &[u8], out: &mut [u8])
     parity::make(Block::PARITY, message, &mut out[227..]);
 }
 
-/// Marks one block of 223 bytes.
+/// Marks one block of 223 bytes: the marker, the message and its parity.
 pub fn mark(message: &[u8], out: &mut [u8]) -> Written
     ensures { λ w. ⌜ outcome w (now (out .exit)) ≡ marking (now (message .entry)) (now (out .entry)) ⌝ }
 {
@@ -43,7 +43,7 @@ fn put_next(stream: &[u8], out: &mut [u8])
 {
     let mut message: [u8; 223] = [Packet::FLAG; 223];
     base::copy(stream, &mut message);
-    put_block(&message, out);
+    mark(&message, out);
 }
 
 // How many blocks so many bytes fill.

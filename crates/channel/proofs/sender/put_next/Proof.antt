@@ -1,10 +1,6 @@
 -- `channel::sender::put_next` meets its contract: the block of the message copied.
-use mathlib.Core.Path.{ap, _∙_}
-use mathlib.Core.List.{List, _++_}
-use Prim.Native.Nat.{ℕ}
-use lib.ListN.{drop}
 use borrow.Author.Needs.{needs}
-use Rattle.channel.specs.Sender.{marker, wordOf}
+use Rattle.channel.proofs.Sending.{next-put}
 use Rattle.channel.proofs.sender.put_next.Statement.{statement}
 use Rattle.channel.proofs.sender.put_next.Tie as tie
 
@@ -19,5 +15,5 @@ put-next-spec =
     (search needs)
     (λ c.
     let copied = c .before .before .before .before .before .before in
-    c .before .before .put-block .ensures
-    ∙ ap (λ (m : List ℕ). (marker ++ wordOf m) ++ drop 259 (copied .before .before .before .before .args .out .now)) (copied .copy .ensures)))
+    let start = copied .before .before .before .before in
+    next-put (start .args .stream .now) (start .args .out .now) (copied .copy .ensures) (start .pre) (c .before .before .mark .ensures)))
