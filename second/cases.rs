@@ -3,7 +3,8 @@
 
 use crate::packet::Judged;
 use crate::stream::Frame;
-use crate::{channel, channel_cases, fcs, interleaver, packet, parity, stream};
+use crate::repair::{altered, Found};
+use crate::{channel, channel_cases, fcs, interleaver, packet, parity, repair, stream};
 
 pub struct Case {
     pub asked: u8,
@@ -45,6 +46,16 @@ impl Case {
                 Ok(clean) => !clean as u64,
                 Err(n) => refusal(n),
             },
+            b'Y' => {
+                let n = out.len().min(self.bytes.len());
+                out[..n].copy_from_slice(&self.bytes[..n]);
+                match repair::repair(self.number, out) {
+                    Ok(Found::Clean) => 0,
+                    Ok(Found::Repaired(n)) => n as u64,
+                    Ok(Found::Beyond) => 256,
+                    Err(n) => refusal(n),
+                }
+            }
             b'I' => written(interleaver::turn(false, self.number, &self.bytes, out.len()), out),
             b'J' => written(interleaver::turn(true, self.number, &self.bytes, out.len()), out),
             b'C' => packet::class(low) as u64,
@@ -166,6 +177,7 @@ pub fn all(seed: u64) -> Vec<Case> {
     products(&mut random, &mut cases);
     parities(&mut random, &mut cases);
     words(&mut random, &mut cases);
+    repairs(&mut random, &mut cases);
     matrices(&mut random, &mut cases);
     packets(&mut random, &mut cases);
     frames(&mut random, &mut cases);
@@ -249,6 +261,32 @@ fn words(random: &mut Random, cases: &mut Vec<Case>) {
         cases.push(Case { asked: b'W', number: r, room: 0, bytes: vec![0; 255] });
         cases.push(Case { asked: b'W', number: r, room: 0, bytes: random.bytes(255) });
     }
+}
+
+/// Words that are clean, with 0 to h + 3 bytes altered for every R, words of wrong lengths, and words at random.
+fn repairs(random: &mut Random, cases: &mut Vec<Case>) {
+    for r in 0..=64 {
+        for places in 0..=r / 2 + 3 {
+            for _ in 0..2 {
+                let (_, bytes) = altered(random, r, places);
+                cases.push(Case { asked: b'Y', number: r as u64, room: 255, bytes });
+            }
+        }
+    }
+    for r in roots() {
+        for n in [0, 1, 254, 256, 300] {
+            cases.push(Case { asked: b'Y', number: r, room: n, bytes: random.bytes(n as usize) });
+        }
+        for bytes in [vec![0; 255], vec![0xFF; 255], random.bytes(255)] {
+            cases.push(Case { asked: b'Y', number: r, room: 255, bytes });
+        }
+    }
+}
+
+/// Words for bench/repair.
+pub fn altered_words(r: usize, places: usize, n: usize) -> Vec<Case> {
+    let mut random = Random::new(1);
+    (0..n).map(|_| Case { asked: b'Y', number: r as u64, room: 255, bytes: altered(&mut random, r, places).1 }).collect()
 }
 
 /// Depths as they should be and not, whole matrices and others, outputs too short by one, exact and longer.

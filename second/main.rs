@@ -4,9 +4,12 @@
 //!   second fcs HEX           the check of bytes
 //!   second parity R HEX      the parity of a message
 //!   second word R HEX        clean or damaged
+//!   second repair R HEX      what repair finds, and the word that it leaves
+//!   second test [SEED]       tests the second program's own repair
 //!   second interleave DEPTH HEX, second restore DEPTH HEX
 //!                            the bytes of a matrix, there and back
 //!   second cases [SEED]      cases for the proved code, to standard output
+//!   second words R PLACES N  N cases for repair: words altered in so many places
 //!   second compare CASES ANSWERS
 //!                            holds its own answers to those of the proved code
 
@@ -17,6 +20,7 @@ mod fcs;
 mod interleaver;
 mod packet;
 mod parity;
+mod repair;
 mod stream;
 
 use std::io::Write;
@@ -28,15 +32,19 @@ fn main() {
         ["fcs", bytes] => unhex(bytes).map(|b| println!("{:04x}", fcs::check(&b))),
         ["parity", r, bytes] => both(r, bytes).map(|(r, b)| show(parity::make(r, &b, 64))),
         ["word", r, bytes] => both(r, bytes).map(|(r, b)| show_word(r, &b)),
+        ["repair", r, bytes] => both(r, bytes).map(|(r, b)| show_repair(r, b)),
+        ["test"] => Some(test(1)),
+        ["test", seed] => number(seed).map(test),
         ["interleave", d, bytes] => both(d, bytes).map(|(d, b)| show(interleaver::turn(false, d, &b, b.len()))),
         ["restore", d, bytes] => both(d, bytes).map(|(d, b)| show(interleaver::turn(true, d, &b, b.len()))),
         ["cases"] => Some(write_cases(1)),
         ["cases", seed] => number(seed).map(write_cases),
+        ["words", r, places, n] => three(r, places, n).map(|(r, places, n)| write(cases::altered_words(r, places, n))),
         ["compare", asked, told] => std::process::exit(compare(asked, told)),
         _ => None,
     };
     if done.is_none() {
-        eprintln!("usage: second fcs HEX | parity R HEX | word R HEX | interleave DEPTH HEX | restore DEPTH HEX | cases [SEED] | compare CASES ANSWERS");
+        eprintln!("usage: second fcs HEX | parity R HEX | word R HEX | repair R HEX | test [SEED] | interleave DEPTH HEX | restore DEPTH HEX | cases [SEED] | words R PLACES N | compare CASES ANSWERS");
         std::process::exit(2);
     }
 }
@@ -80,9 +88,29 @@ fn show_word(r: u64, word: &[u8]) {
     }
 }
 
+fn show_repair(r: u64, mut word: Vec<u8>) {
+    match repair::repair(r, &mut word) {
+        Ok(found) => println!("{found:?} {}", hex(&word)),
+        Err(n) => println!("refused {n}"),
+    }
+}
+
+fn test(seed: u64) {
+    let [words, clean, repaired, beyond] = repair::test(seed);
+    println!("{words} words: {clean} clean, {repaired} repaired, {beyond} beyond repair");
+}
+
+fn three(a: &str, b: &str, c: &str) -> Option<(usize, usize, usize)> {
+    Some((a.parse().ok()?, b.parse().ok()?, c.parse().ok()?))
+}
+
 fn write_cases(seed: u64) {
+    write(cases::all(seed));
+}
+
+fn write(cases: Vec<cases::Case>) {
     let mut bytes = Vec::new();
-    for case in cases::all(seed) {
+    for case in cases {
         case.write(&mut bytes);
     }
     std::io::stdout().write_all(&bytes).expect("standard output");

@@ -12,6 +12,7 @@ use fcs::Register;
 use packet::Class;
 use packet::Judged;
 use parity::Checked;
+use repair::Mended;
 
 const HEAD: usize = 13;
 
@@ -112,6 +113,7 @@ fn tell(asked: u8, number: u64, bytes: &[u8], out: &mut [u8]) -> u64 {
         b'E' => field::power(number as usize) as u64,
         b'P' => written(parity::make(number as usize, bytes, out)),
         b'W' => checked(parity::check(number as usize, bytes)),
+        b'Y' => repaired(number as usize, bytes, out),
         b'I' => written(interleaver::interleave(number as usize, bytes, out)),
         b'J' => written(interleaver::restore(number as usize, bytes, out)),
         b'C' => class(packet::class_of(half(number))),
@@ -149,6 +151,21 @@ fn checked(c: Checked) -> u64 {
         Checked::Clean => 0,
         Checked::Damaged => 1,
         Checked::Refused(n) => refused(n),
+    }
+}
+
+// A word that the output holds, repaired there: 0 where it is clean, the places changed, or 256 where it is beyond repair.
+fn repaired(r: usize, bytes: &[u8], out: &mut [u8]) -> u64 {
+    base::copy(bytes, out);
+    mended(repair::repair(r, out))
+}
+
+fn mended(m: Mended) -> u64 {
+    match m {
+        Mended::Clean => 0,
+        Mended::Repaired(n) => n as u64,
+        Mended::Beyond => 256,
+        Mended::Refused(n) => refused(n),
     }
 }
 

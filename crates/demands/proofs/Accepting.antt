@@ -26,6 +26,10 @@ use Rattle.lines.proofs.print_wrong as lines-print-wrong
 use Rattle.recording.proofs.recording.Recording.start as recording-start
 use Rattle.recording.proofs.recording.Recording.take as recording-take
 use Rattle.recording.proofs.recording.Recording.finish as recording-finish
+use Rattle.field.proofs.inverse as field-inverse
+use Rattle.parity.proofs.value as parity-value
+use Rattle.parity.proofs.subtract as parity-subtract
+use Rattle.repair.proofs.repair as repair-repair
 
 pub base-least-accepts : Accepts base-least.Statement.statement base-least.Kinds.ps base-least.Reads.Asked
 base-least-accepts = (λ M. base-least.Met.met, λ κs a. tt)
@@ -104,3 +108,15 @@ recording-take-accepts = (λ M. recording-take.Met.met, λ κs a. tt)
 
 pub recording-finish-accepts : Accepts recording-finish.Statement.statement recording-finish.Kinds.ps recording-finish.Reads.Asked
 recording-finish-accepts = (λ M. recording-finish.Met.met, λ κs a. tt)
+
+pub field-inverse-accepts : Accepts field-inverse.Statement.statement field-inverse.Kinds.ps field-inverse.Reads.Asked
+field-inverse-accepts = (λ M. field-inverse.Met.met, λ κs a. tt)
+
+pub parity-value-accepts : Accepts parity-value.Statement.statement parity-value.Kinds.ps parity-value.Reads.Asked
+parity-value-accepts = (λ M. parity-value.Met.met, λ κs a. tt)
+
+pub parity-subtract-accepts : Accepts parity-subtract.Statement.statement parity-subtract.Kinds.ps parity-subtract.Reads.Asked
+parity-subtract-accepts = (λ M. parity-subtract.Met.met, λ κs a. tt)
+
+pub repair-repair-accepts : Accepts repair-repair.Statement.statement repair-repair.Kinds.ps repair-repair.Reads.Asked
+repair-repair-accepts = (λ M. repair-repair.Met.met, λ κs a. tt)

@@ -3,7 +3,7 @@
 -- alpha-order             alpha^255 is 1, and alpha-least: no smaller power but the first is
 -- log, log-lt, pow-log    each element but zero is a power of alpha below 255
 -- log-pow, pow-inj        and of one only
--- inverse, mul-inverse    each element but zero has an inverse
+-- mul-inverse             each element but zero has an inverse
 -- cancel                  no two elements but zero have the product zero
 use mathlib.Core.Path.{_≡_, refl, sym, ap, _∙_}
 use mathlib.Core.Bool.{Bool, true}
@@ -15,7 +15,7 @@ use lib.Dec.{T, eqb, ltb, eqb→eq, ltb→lt}
 use lib.ListN.{length, getD}
 use Rattle.base.specs.Choice.{pick, both}
 use Rattle.base.proofs.Tests.{both-l, both-r, all, all-at}
-use Rattle.field.specs.Field.{alpha, add, double, shiftAdd, mul, pow}
+use Rattle.field.specs.Field.{alpha, add, double, shiftAdd, mul, pow, inverse}
 use Rattle.field.proofs.Product.{mul-assoc, mul-comm, mul-zero, one-mul, mul-one, mul-lt, double-is}
 
 pub pow-zero : (a : ℕ) → pow a 0 ≡ 1
@@ -112,11 +112,7 @@ pub alpha-least : (k : ℕ) → k < 255 → pow alpha k ≡ 1 → k ≡ 0
 alpha-least k h e = pow-inj k 0 h (omega arith) (e ∙ sym (pow-zero alpha))
 
 -- ---- inverses
-pub inverse : ℕ → ℕ
-inverse x = pow x 254
-
 pub mul-inverse : (x : ℕ) → 0 < x → x < 256 → mul x (inverse x) ≡ 1
-unfolding inverse
 mul-inverse x h l =
     sym (pow-suc x 254) ∙ ap (λ (y : ℕ). pow y 255) (sym (pow-log x h l)) ∙ sym (pow-mul alpha 255 (log x)) ∙ ap (pow alpha) (nat-mul-comm 255 (log x)) ∙ round (log x)
 

@@ -36,12 +36,12 @@ pub product : (i j : ℕ) {a b r : ℕ} → pow alpha i ≡ a → pow alpha j �
 product i j p q e = e ∙ alpha-mod (i + j) ∙ pow-add alpha i j ∙ ap₂ mul p q
 
 -- the square of the power of half the exponent
-square : (e : ℕ) {h s : ℕ} → h ≡ pow alpha (e / 2) → s ≡ mul h h → s ≡ pow alpha (e / 2 + e / 2)
-square e p q = q ∙ ap₂ mul p p ∙ sym (pow-add alpha (e / 2) (e / 2))
+square : (a e : ℕ) {h s : ℕ} → h ≡ pow a (e / 2) → s ≡ mul h h → s ≡ pow a (e / 2 + e / 2)
+square a e p q = q ∙ ap₂ mul p p ∙ sym (pow-add a (e / 2) (e / 2))
 
-pub even-power : (e : ℕ) {h s : ℕ} → h ≡ pow alpha (e / 2) → s ≡ mul h h → e % 2 ≡ 0 → s ≡ pow alpha e
-even-power e p q z = square e p q ∙ ap (pow alpha) (omega arith)
+pub even-power : (a e : ℕ) {h s : ℕ} → h ≡ pow a (e / 2) → s ≡ mul h h → e % 2 ≡ 0 → s ≡ pow a e
+even-power a e p q z = square a e p q ∙ ap (pow a) (omega arith)
 
-pub odd-power : (e : ℕ) {h s r : ℕ} → h ≡ pow alpha (e / 2) → s ≡ mul h h → r ≡ mul s alpha → (e % 2 ≡ 0 → ⊥) → r ≡ pow alpha e
-odd-power e p q t z =
-    t ∙ ap (λ (x : ℕ). mul x alpha) (square e p q) ∙ mul-comm _ alpha ∙ sym (pow-suc alpha (e / 2 + e / 2)) ∙ ap (pow alpha) (omega arith)
+pub odd-power : (a e : ℕ) {h s r : ℕ} → h ≡ pow a (e / 2) → s ≡ mul h h → r ≡ mul s a → (e % 2 ≡ 0 → ⊥) → r ≡ pow a e
+odd-power a e p q t z =
+    t ∙ ap (λ (x : ℕ). mul x a) (square a e p q) ∙ mul-comm _ a ∙ sym (pow-suc a (e / 2 + e / 2)) ∙ ap (pow a) (omega arith)

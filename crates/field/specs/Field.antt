@@ -1,5 +1,5 @@
 -- The field of 256 elements (paper 01, "Parity words"), as numbers below 256: bit i is the coefficient of x^i.
--- add, double, mul, pow   sum, times x, product, power; defined on all numbers, of which they take the eight low bits
+-- add, double, mul, pow, inverse   sum, times x, product, power, inverse; on all numbers, of which they take the eight low bits
 use Prim.Native.Nat.{ℕ, zero, suc, _*_, _/_, _%_}
 use lib.Bits.{bitXor}
 
@@ -32,3 +32,7 @@ mul a b = shiftAdd 8 (a % 256) b
 unfoldable pub pow : ℕ → ℕ → ℕ
 pow a zero = 1
 pow a (suc n) = mul a (pow a n)
+
+-- the inverse: the power 254, since the power 255 is 1. Of zero it is zero
+abbrev pub inverse : ℕ → ℕ
+inverse a = pow a 254

@@ -1,6 +1,6 @@
-//! The field of 256 elements: sum, product, and the powers of alpha.
+//! The field of 256 elements: sum, product, inverse, and the powers of alpha.
 ghost use mathlib.Core.Path.{_≡_};
-ghost use Rattle.field.specs.Field.{alpha, add, mul, pow};
+ghost use Rattle.field.specs.Field.{alpha, add, mul, pow, inverse};
 
 mod exp;
 mod log;
@@ -30,17 +30,31 @@ pub fn times(a: u8, b: u8) -> u8
     exp::of((i + j) % 255)
 }
 
-/// Alpha to the power e, from the power of half the exponent.
-pub fn power(e: usize) -> u8
-    ensures { λ r. ⌜ r ≡ pow alpha e ⌝ }
+// a to the power e, from the power of half the exponent.
+fn raised(a: u8, e: usize) -> u8
+    ensures { λ r. ⌜ r ≡ pow a e ⌝ }
 {
     if e == 0 {
         return 1;
     }
-    let half = power(e / 2);
+    let half = raised(a, e / 2);
     let square = times(half, half);
     if e % 2 == 0 {
         return square;
     }
-    times(square, ALPHA)
+    times(square, a)
+}
+
+/// Alpha to the power e.
+pub fn power(e: usize) -> u8
+    ensures { λ r. ⌜ r ≡ pow alpha e ⌝ }
+{
+    raised(ALPHA, e)
+}
+
+/// The inverse of an element; of zero, zero.
+pub fn inverse(a: u8) -> u8
+    ensures { λ r. ⌜ r ≡ inverse a ⌝ }
+{
+    raised(a, 254)
 }

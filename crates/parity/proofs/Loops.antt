@@ -4,7 +4,7 @@ use mathlib.Core.Path.{_≡_, refl, sym, ap, ap₂, _∙_, subst}
 use mathlib.Core.Bool.{Bool, true, false}
 use mathlib.Core.List.{List, [], _∷_, _++_, append-assoc, append-nil}
 use mathlib.Core.Logic.{⊎-elim}
-use Prim.Native.Nat.{ℕ, zero, suc, _+_, _-_, _≤_, _<_}
+use Prim.Native.Nat.{ℕ, zero, suc, _+_, _-_, _≤_, _<_, min}
 use native.Mathlib.Nat.{eq-or-lt-of-le, le-of-suc-le-suc, le-antisymm, sub-zero, zero-sub, suc-sub-suc}
 use native.Mathlib.Numerals.{add-one}
 use native.Mathlib.Omega.{arith}
@@ -16,6 +16,7 @@ use borrow.Rule.Slice.PartMut.{putMid}
 use Rattle.base.specs.Choice.{both}
 use Rattle.base.specs.Written.{copied, outcome, refused, write}
 use Rattle.base.specs.declared.Written.the-variants.{Wrote}
+use Rattle.base.proofs.Tests.{by-le}
 use Rattle.base.proofs.Lists.{next, over}
 use Rattle.base.proofs.InPlace.{put, next as turn, done}
 use Rattle.base.proofs.Parts.{tail-is, tail-back, tail-length}
@@ -82,6 +83,11 @@ module _ (a b i : ℕ) (g : List ℕ) {t : List ℕ} (inv : take i g ++ onto (mu
   root-done h = sym (rw (over g i h) (append-nil (take i g) ∙ take-all i g h)) ∙ inv
 
 -- ---- subtract
+onto-nothing : (g : List ℕ) → onto g [] ≡ []
+unfolding onto
+onto-nothing [] = refl
+onto-nothing (x ∷ g) = refl
+
 module _ (c i : ℕ) (g p : List ℕ) {t : List ℕ} (inv : take i p ++ onto (scale c (drop i g)) (drop i p) ≡ t) where
   pub subtract-next : {x y : ℕ} → i < length g → i < length p → x ≡ mul c (getD g i 0) → y ≡ add x (getD p i 0)
       → take (i + 1) (set p i y) ++ onto (scale c (drop (i + 1) g)) (drop (i + 1) (set p i y)) ≡ t
@@ -89,9 +95,12 @@ module _ (c i : ℕ) (g p : List ℕ) {t : List ℕ} (inv : take i p ++ onto (sc
   subtract-next h k ex ey =
       turn (λ g p. onto (scale c g) p) (λ x y. add (mul c x) y) (λ p. refl) (λ x y g p. refl) i g p _ h k (ey ∙ ap (λ (x : ℕ). add x (getD p i 0)) ex) inv
 
-  pub subtract-done : length g ≤ i → p ≡ t
+  pub subtract-done : (n : ℕ) → n ≤ i → n ≡ min (length g) (length p) → p ≡ t
   unfolding scale onto
-  subtract-done h = done (λ g p. onto (scale c g) p) (λ x y. add (mul c x) y) (λ p. refl) (λ x y g p. refl) i g p h inv
+  subtract-done n h e =
+      by-le (length g) i (λ k. done (λ g p. onto (scale c g) p) (λ x y. add (mul c x) y) (λ p. refl) (λ x y g p. refl) i g p k inv) λ k.
+      let l : length p ≤ i = omega arith in
+      sym (rw (over p i l, onto-nothing) (append-nil (take i p) ∙ take-all i p l)) ∙ inv
 
 -- ---- reduce: the tail of p is lent, and comes back as y
 module _ (n i : ℕ) (g p : List ℕ) {c : ℕ} {y : List ℕ} (h : i < n) (k : n ≤ length p) (hc : c ≡ getD p i 0)

@@ -27,8 +27,8 @@ impl Word {
     pub const MOST: usize = 64;
 }
 
-// The value of a polynomial at a.
-fn value(p: &[u8], a: u8) -> u8
+/// The value of a polynomial at a.
+pub fn value(p: &[u8], a: u8) -> u8
     ensures { λ r. ⌜ r ≡ eval (now (p .entry)) a ⌝ }
 {
     let mut v: u8 = 0;
@@ -101,13 +101,13 @@ fn generate(r: usize) -> [u8; 65]
     g
 }
 
-// Takes c times g away from the first bytes of p.
-fn subtract(c: u8, g: &[u8], p: &mut [u8])
-    requires { ⌜ length (now g) ≤ length (now p) ⌝ }
+/// Takes c times g away from the first bytes of p, as far as p goes.
+pub fn subtract(c: u8, g: &[u8], p: &mut [u8])
     ensures { λ _. ⌜ now (p .exit) ≡ onto (scale c (now (g .entry))) (now (p .entry)) ⌝ }
 {
+    let n = base::least(g.len(), p.len());
     let mut i: usize = 0;
-    while i < g.len() {
+    while i < n {
         p[i] = field::plus(field::times(c, g[i]), p[i]);
         i += 1;
     }

@@ -1,0 +1,11 @@
+pub mod Weigh
+pub mod Few
+pub mod Apart
+pub mod Locate
+pub mod Eliminate
+pub mod Exists
+pub mod Values
+pub mod Meeting
+pub mod Promising
+pub mod Loops
+pub mod Determined

@@ -1,0 +1,34 @@
+-- `repair::rows::behind` meets its contract.
+use mathlib.Core.Path.{sym}
+use mathlib.Core.List.{[]}
+use native.Mathlib.Omega.{arith}
+use lib.ListN.{length-append}
+use lib.Seq.{length-take-le}
+use borrow.Author.Needs.{needs}
+use Rattle.repair.proofs.Loops.{behind-none, behind-some}
+use Rattle.repair.proofs.rows.behind.Statement.{statement}
+use Rattle.repair.proofs.rows.behind.Tie as tie
+
+pub behind-spec : {M : Type 1} → statement M
+behind-spec =
+    tie.close
+    (tie.spec
+    (λ c. (omega arith, c .before .pre .1, behind-none (c .before .args .t1) (c .before .args .rest .v) (c .before .args .rest .n) (c .if1 .taken)))
+    (search needs)
+    (λ c. sym (length-take-le (c .before .before .before .args .rest .n) (c .before .before .before .args .rest .v) (omega (arith, c .before .before .before .pre .0, c .before .before .before .pre .1))))
+    (search needs)
+    (λ c κs. omega (arith, length-take-le (c .before .before .before .before .args .rest .n) (c .before .before .before .before .args .rest .v) (omega (arith, c .before .before .before .before .pre .0, c .before .before .before .before .pre .1)), c .before .before .before .before .pre .0))
+    (search needs)
+    (search needs)
+    (λ c. sym (length-take-le 32 (c .before .before .before .before .before .before .args .rest .v) (omega (arith, c .before .before .before .before .before .before .pre .1))))
+    (search needs)
+    (search needs)
+    (search needs)
+    (search needs)
+    (search needs)
+    (λ c.
+    let start = c .before .before .before .before .before .before .before .before .before in (
+      omega arith,
+      omega (arith, length-append (c .before .copy .last .1 .0) []),
+      behind-some (start .args .t1) (start .args .rest .v) (start .args .rest .n) (start .pre .1) (c .before .before .before .before .before .before .before .before .if1 .left) (start .pre .0) (c .before .before .before .before .dot .ensures) (c .before .copy .ensures),
+    )))

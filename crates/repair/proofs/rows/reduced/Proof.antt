@@ -1,0 +1,21 @@
+-- `repair::rows::reduced` meets its contract.
+use native.Mathlib.Omega.{arith}
+use borrow.Author.Needs.{needs}
+use Rattle.repair.proofs.Loops.{reduced-is}
+use Rattle.repair.proofs.rows.reduced.Statement.{statement}
+use Rattle.repair.proofs.rows.reduced.Tie as tie
+
+pub reduced-spec : {M : Type 1} → statement M
+reduced-spec =
+    tie.close
+    (tie.spec
+    (search needs)
+    (search needs)
+    (search needs)
+    (search needs)
+    (search needs)
+    (search needs)
+    (search needs)
+    (search needs)
+    (search needs)
+    (λ c. reduced-is (c .before .before .before .before .before .before .before .before .before .args .t2) (omega arith) (c .before .before .before .before .before .before .before .before .before .args .t1) (c .before .before .before .before .before .copy .ensures) (c .before .subtract .ensures)))

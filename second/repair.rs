@@ -1,0 +1,164 @@
+//! Repair of words by the textbook: Berlekamp-Massey for the locator, a search for its roots, Forney's formula for the bytes.
+//! A polynomial is its coefficients, the lowest first.
+
+use crate::cases::Random;
+use crate::parity::{self, power, times, WORD};
+
+/// What repair finds, the word as it is left beside it.
+#[derive(Clone, Copy, Debug, PartialEq)]
+pub enum Found {
+    Clean,
+    Repaired(usize),
+    Beyond,
+}
+
+fn inverse(a: u8) -> u8 {
+    (1..=255).find(|&b| times(a, b) == 1).expect("an element but zero")
+}
+
+fn value(p: &[u8], x: u8) -> u8 {
+    p.iter().rev().fold(0, |v, &c| times(v, x) ^ c)
+}
+
+/// The values at the roots, by sums of powers.
+fn syndromes(r: usize, word: &[u8]) -> Vec<u8> {
+    let powers: Vec<u8> = (0..255).map(power).collect();
+    (1..=r).map(|j| (0..WORD).fold(0, |s, i| s ^ times(word[i], powers[j * (WORD - 1 - i) % 255]))).collect()
+}
+
+/// The shortest register that runs through the syndromes: its polynomial and its length.
+fn register(s: &[u8]) -> (Vec<u8>, usize) {
+    let (mut c, mut b) = (vec![1u8], vec![1u8]);
+    let (mut length, mut since, mut last) = (0, 1, 1u8);
+    for n in 0..s.len() {
+        let d = (1..c.len().min(length + 1)).fold(s[n], |d, i| d ^ times(c[i], s[n - i]));
+        if d == 0 {
+            since += 1;
+            continue;
+        }
+        let before = c.clone();
+        let factor = times(d, inverse(last));
+        c.resize(c.len().max(b.len() + since), 0);
+        for (i, &x) in b.iter().enumerate() {
+            c[i + since] ^= times(factor, x);
+        }
+        if 2 * length <= n {
+            length = n + 1 - length;
+            b = before;
+            last = d;
+            since = 1;
+        } else {
+            since += 1;
+        }
+    }
+    (c, length)
+}
+
+/// The word with its altered bytes put right, where the register tells them.
+fn corrected(r: usize, word: &[u8]) -> Option<Vec<u8>> {
+    let s = syndromes(r, word);
+    let (lambda, length) = register(&s);
+    if length > r / 2 {
+        return None;
+    }
+    let mut omega = vec![0u8; length];
+    for (i, x) in omega.iter_mut().enumerate() {
+        *x = (0..=i).fold(0, |t, k| t ^ times(s[i - k], *lambda.get(k).unwrap_or(&0)));
+    }
+    let slope: Vec<u8> = (1..lambda.len()).map(|i| if i % 2 == 1 { lambda[i] } else { 0 }).collect();
+    let (mut out, mut roots) = (word.to_vec(), 0);
+    for (i, byte) in out.iter_mut().enumerate() {
+        let x = power((255 - (WORD - 1 - i) as u64) % 255);
+        if value(&lambda, x) == 0 {
+            roots += 1;
+            let down = value(&slope, x);
+            if down == 0 {
+                return None;
+            }
+            *byte ^= times(value(&omega, x), inverse(down));
+        }
+    }
+    (roots == length).then_some(out)
+}
+
+/// Repairs a word in its place, or gives the number of a refusal.
+pub fn repair(r: u64, word: &mut [u8]) -> Result<Found, u8> {
+    if parity::check(r, word)? {
+        return Ok(Found::Clean);
+    }
+    let Some(out) = corrected(r as usize, word) else {
+        return Ok(Found::Beyond);
+    };
+    let changed = distance(word, &out);
+    if changed > r as usize / 2 || !parity::check(r, &out)? {
+        return Ok(Found::Beyond);
+    }
+    word.copy_from_slice(&out);
+    Ok(Found::Repaired(changed))
+}
+
+pub fn distance(a: &[u8], b: &[u8]) -> usize {
+    a.iter().zip(b).filter(|(x, y)| x != y).count()
+}
+
+/// A clean word with bytes altered in so many places.
+pub fn altered(random: &mut Random, r: usize, places: usize) -> (Vec<u8>, Vec<u8>) {
+    let mut clean = random.bytes(WORD - r);
+    clean.extend(parity::make(r as u64, &clean, r).unwrap());
+    let mut word = clean.clone();
+    while distance(&clean, &word) < places {
+        let at = random.below(WORD);
+        word[at] = random.byte();
+    }
+    (clean, word)
+}
+
+/// Holds repair to what is asked of it, for every R and 0 to h + 3 altered bytes: the words, and how many had each answer.
+pub fn test(seed: u64) -> [usize; 4] {
+    let mut random = Random::new(seed);
+    let mut counts = [0; 4];
+    for r in 0..=64 {
+        for places in (0..=r / 2 + 3).filter(|p| *p <= WORD) {
+            for _ in 0..3 {
+                let (clean, came) = altered(&mut random, r, places);
+                let mut word = came.clone();
+                let found = repair(r as u64, &mut word).unwrap();
+                counts[0] += 1;
+                match found {
+                    Found::Clean => {
+                        assert!(parity::check(r as u64, &came).unwrap() && word == came);
+                        counts[1] += 1;
+                    }
+                    Found::Repaired(n) => {
+                        assert!(1 <= n && n <= r / 2 && distance(&came, &word) == n);
+                        assert!(parity::check(r as u64, &word).unwrap());
+                        counts[2] += 1;
+                    }
+                    Found::Beyond => {
+                        assert!(word == came && places > r / 2 && !parity::check(r as u64, &word).unwrap());
+                        counts[3] += 1;
+                    }
+                }
+                if places <= r / 2 {
+                    assert!(word == clean && found == if places == 0 { Found::Clean } else { Found::Repaired(places) });
+                } else if places <= r {
+                    assert!(found != Found::Clean);
+                }
+                // of a few roots: no single byte, tried in every place, makes clean what was given up
+                if found == Found::Beyond && r >= 2 && r <= 6 {
+                    assert!(!near(r, &mut word));
+                }
+            }
+        }
+    }
+    counts
+}
+
+/// Whether one changed byte makes a word clean, by trying all.
+fn near(r: usize, word: &mut [u8]) -> bool {
+    let s = syndromes(r, word);
+    (0..WORD).any(|i| {
+        let points: Vec<u8> = (1..=r).map(|j| power((j * (WORD - 1 - i) % 255) as u64)).collect();
+        (1..=255u8).any(|e| (0..r).all(|j| s[j] == times(e, points[j])))
+    })
+}
