@@ -4,7 +4,7 @@
 use crate::packet::Judged;
 use crate::stream::Frame;
 use crate::repair::{altered, Found};
-use crate::{channel, channel_cases, fcs, interleaver, packet, parity, repair, stream};
+use crate::{channel, channel_cases, fcs, interleaver, listing_cases, packet, parity, repair, stream};
 
 pub struct Case {
     pub asked: u8,
@@ -28,6 +28,7 @@ impl Case {
         let mut answer = match self.asked {
             b'S' => self.read(&mut out),
             b'O' => channel_cases::hear(self.number, &self.bytes, &mut out),
+            b'L' => listing_cases::called(self.number, &self.bytes, &mut out),
             _ => self.tell(&mut out).to_le_bytes().to_vec(),
         };
         answer.extend(out);
@@ -183,6 +184,7 @@ pub fn all(seed: u64) -> Vec<Case> {
     frames(&mut random, &mut cases);
     streams(&mut random, &mut cases);
     channel_cases::all(&mut random, &mut cases);
+    listing_cases::all(&mut random, &mut cases);
     cases
 }
 
@@ -305,7 +307,7 @@ fn matrices(random: &mut Random, cases: &mut Vec<Case>) {
 }
 
 /// Ports at the edges of their classes.
-const PORTS: [u16; 21] = [
+pub const PORTS: [u16; 21] = [
     0x0000, 0x0400, 0x0401, 0x50FF, 0x5100, 0x5101, 0x5200, 0x5201, 0x5207, 0x5208, 0x52FF, 0x5300, 0x7CFF, 0x7D00, 0x7E7D, 0x7EFF, 0x7F00,
     0xFEFF, 0xFF00, 0xFFFE, 0xFFFF,
 ];

@@ -117,7 +117,7 @@ fn senders(random: &mut Random, cases: &mut Vec<Case>) {
 }
 
 /// One packet as the stream has it, half of them full of escapes.
-fn packet(random: &mut Random) -> Vec<u8> {
+pub fn packet(random: &mut Random) -> Vec<u8> {
     let n = 1 + random.below(90);
     let mut payload = random.bytes(n);
     if random.below(2) == 0 {
@@ -130,7 +130,7 @@ fn packet(random: &mut Random) -> Vec<u8> {
 }
 
 /// A stream of n bytes: packets, and now and then a fault, flags, or a marker where none should be.
-fn packets(random: &mut Random, n: usize) -> Vec<u8> {
+pub fn packets(random: &mut Random, n: usize) -> Vec<u8> {
     let mut bytes = vec![FLAG];
     while bytes.len() < n {
         match random.below(14) {
@@ -151,14 +151,14 @@ fn packets(random: &mut Random, n: usize) -> Vec<u8> {
 }
 
 /// A stream in so many blocks, the last of them filled with flags or not.
-fn sent(random: &mut Random, blocks: usize) -> Vec<u8> {
+pub fn sent(random: &mut Random, blocks: usize) -> Vec<u8> {
     let spare = [0, random.below(MESSAGE), random.below(30)][random.below(3)];
     let plain = packets(random, blocks * MESSAGE - spare);
     channel::send(&plain, usize::MAX).unwrap()
 }
 
 /// Bytes in front of the first marker: none, random ones, almost the marker, the marker too early.
-fn stray(random: &mut Random) -> Vec<u8> {
+pub fn stray(random: &mut Random) -> Vec<u8> {
     let n = random.below(40);
     match random.below(8) {
         0 | 1 => vec![],
@@ -194,7 +194,7 @@ fn everywhere(random: &mut Random, runs: &mut Vec<Run>) {
 }
 
 /// Alters so many bytes of a part, drawn anew each time.
-fn alter(random: &mut Random, part: &mut [u8], count: usize) {
+pub fn alter(random: &mut Random, part: &mut [u8], count: usize) {
     for _ in 0..count {
         let at = random.below(part.len());
         part[at] ^= 1 + random.below(255) as u8;

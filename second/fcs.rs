@@ -1,21 +1,26 @@
 //! The check of RFC 1662, by the table of its appendix C.2, which is computed here.
 
-fn table() -> [u16; 256] {
+static TABLE: [u16; 256] = table();
+
+const fn table() -> [u16; 256] {
     let mut t = [0u16; 256];
-    for (b, entry) in t.iter_mut().enumerate() {
+    let mut b = 0;
+    while b < 256 {
         let mut v = b as u16;
-        for _ in 0..8 {
+        let mut bit = 0;
+        while bit < 8 {
             v = if v & 1 == 1 { (v >> 1) ^ 0x8408 } else { v >> 1 };
+            bit += 1;
         }
-        *entry = v;
+        t[b] = v;
+        b += 1;
     }
     t
 }
 
 /// The register after further bytes.
 pub fn feed(register: u16, bytes: &[u8]) -> u16 {
-    let t = table();
-    bytes.iter().fold(register, |r, b| (r >> 8) ^ t[((r ^ *b as u16) & 0xFF) as usize])
+    bytes.iter().fold(register, |r, b| (r >> 8) ^ TABLE[((r ^ *b as u16) & 0xFF) as usize])
 }
 
 /// The check of bytes.

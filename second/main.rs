@@ -8,6 +8,13 @@
 //!   second test [SEED]       tests the second program's own repair
 //!   second interleave DEPTH HEX, second restore DEPTH HEX
 //!                            the bytes of a matrix, there and back
+//!   second list              the listing of the recording on standard input
+//!   second kinds FILE..      how often each kind of line occurs in the listings of recordings; fails where one never does
+//!   second recordings DIR [SEED]
+//!                            recordings to be listed, into a folder
+//!   second steady plain|marked MIB
+//!                            a clean recording to be timed, to standard output
+//!   second samples DIR       the recordings of samples/ with their listings
 //!   second cases [SEED]      cases for the proved code, to standard output
 //!   second words R PLACES N  N cases for repair: words altered in so many places
 //!   second compare CASES ANSWERS
@@ -18,9 +25,13 @@ mod channel;
 mod channel_cases;
 mod fcs;
 mod interleaver;
+mod kinds;
+mod listing;
+mod listing_cases;
 mod packet;
 mod parity;
 mod repair;
+mod samples;
 mod stream;
 
 use std::io::Write;
@@ -37,6 +48,12 @@ fn main() {
         ["test", seed] => number(seed).map(test),
         ["interleave", d, bytes] => both(d, bytes).map(|(d, b)| show(interleaver::turn(false, d, &b, b.len()))),
         ["restore", d, bytes] => both(d, bytes).map(|(d, b)| show(interleaver::turn(true, d, &b, b.len()))),
+        ["list"] => Some(listing::list().expect("standard input and output")),
+        ["kinds", ref files @ ..] => std::process::exit(kinds::show(files)),
+        ["recordings", dir] => Some(write_recordings(dir, 1)),
+        ["recordings", dir, seed] => number(seed).map(|seed| write_recordings(dir, seed)),
+        ["steady", kind, mib] => mode(kind).zip(number(mib)).map(|(mode, mib)| write_steady(mode, mib)),
+        ["samples", dir] => Some(samples::write(dir).expect(dir)),
         ["cases"] => Some(write_cases(1)),
         ["cases", seed] => number(seed).map(write_cases),
         ["words", r, places, n] => three(r, places, n).map(|(r, places, n)| write(cases::altered_words(r, places, n))),
@@ -44,7 +61,8 @@ fn main() {
         _ => None,
     };
     if done.is_none() {
-        eprintln!("usage: second fcs HEX | parity R HEX | word R HEX | repair R HEX | test [SEED] | interleave DEPTH HEX | restore DEPTH HEX | cases [SEED] | words R PLACES N | compare CASES ANSWERS");
+        eprintln!("usage: second fcs HEX | parity R HEX | word R HEX | repair R HEX | interleave DEPTH HEX | restore DEPTH HEX | list | kinds FILE..");
+        eprintln!("  | recordings DIR [SEED] | steady plain|marked MIB | samples DIR | cases [SEED] | compare CASES ANSWERS | test [SEED] | words R PLACES N");
         std::process::exit(2);
     }
 }
@@ -102,6 +120,29 @@ fn test(seed: u64) {
 
 fn three(a: &str, b: &str, c: &str) -> Option<(usize, usize, usize)> {
     Some((a.parse().ok()?, b.parse().ok()?, c.parse().ok()?))
+}
+
+fn mode(kind: &str) -> Option<u8> {
+    match kind {
+        "plain" => Some(listing_cases::PLAIN),
+        "marked" => Some(listing_cases::CHANNEL),
+        _ => None,
+    }
+}
+
+/// Small recordings, and two that take many reads; the marked one is shorter, since words take an emulator long.
+fn write_recordings(dir: &str, seed: u64) {
+    let mut all = listing_cases::small(seed);
+    all.push(("large-plain".to_string(), listing_cases::large(seed, listing_cases::PLAIN, 4 << 20)));
+    all.push(("large-marked".to_string(), listing_cases::large(seed, listing_cases::CHANNEL, 1 << 20)));
+    for (name, bytes) in all {
+        std::fs::write(format!("{dir}/{name}.rec"), bytes).expect(dir);
+    }
+}
+
+fn write_steady(mode: u8, mib: u64) {
+    let bytes = listing_cases::steady(mode, (mib as usize) << 20);
+    std::io::stdout().write_all(&bytes).expect("standard output");
 }
 
 fn write_cases(seed: u64) {

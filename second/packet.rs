@@ -4,7 +4,7 @@ use crate::fcs;
 
 pub const FLAG: u8 = 0x7E;
 pub const RAW: usize = 8205;
-const PAYLOAD: usize = 8192;
+pub const PAYLOAD: usize = 8192;
 
 /// What a frame is judged to be.
 #[derive(Clone, Copy, PartialEq)]

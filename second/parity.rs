@@ -3,16 +3,19 @@
 pub const WORD: usize = 255;
 
 /// The product of two elements: the bits of the plain product, reduced from the top.
-pub fn times(a: u8, b: u8) -> u8 {
+pub const fn times(a: u8, b: u8) -> u8 {
     let mut p = 0u16;
-    for i in 0..8 {
+    let mut i = 0;
+    while i < 8 {
         if b >> i & 1 == 1 {
             p ^= (a as u16) << i;
         }
+        i += 1;
     }
-    for i in (8..16).rev() {
-        if p >> i & 1 == 1 {
-            p ^= 0x11D << (i - 8);
+    while i > 0 {
+        i -= 1;
+        if p >> (i + 8) & 1 == 1 {
+            p ^= 0x11D << i;
         }
     }
     p as u8

@@ -2,9 +2,10 @@
 //!
 //! A case: what is asked (a letter), a number (8 bytes), how many bytes are lent as output and how many follow (2 bytes each),
 //! and those that follow. An answer: a number (8 bytes), and all bytes of the output. Numbers stand low byte first; the output
-//! is lent filled with 0xA5; a refusal n is told as 65,536 + n. Where a stream is asked (reading.rt) or a
-//! channel (hearing.rt), an answer is longer.
+//! is lent filled with 0xA5; a refusal n is told as 65,536 + n. Where a stream is asked (reading.rt), a
+//! channel (hearing.rt) or a recording (listing.rt), an answer is longer.
 mod hearing;
+mod listing;
 mod reading;
 
 use base::Written;
@@ -57,6 +58,10 @@ fn respond(asked: u8, number: u64, bytes: &[u8], out: &mut [u8]) -> bool {
     }
     if asked == b'O' {
         hearing::hear(number, bytes, out);
+        return io::write_all(1, out);
+    }
+    if asked == b'L' {
+        listing::list(number, bytes, out);
         return io::write_all(1, out);
     }
     print(tell(asked, number, bytes, out));

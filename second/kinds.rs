@@ -1,0 +1,54 @@
+//! How often each kind of line, refusal, class and ending occurs in the listings of recordings, so that none goes untested.
+
+use crate::listing::{self, Lister};
+use std::collections::BTreeMap;
+
+const LINES: [&str; 7] = ["P", "R", "B 0", "B 1", "L", "E", "X"];
+const REFUSALS: [&str; 8] = ["R 1", "R 2", "R 3", "R 4", "R 5", "R 6", "R 7", "R 8"];
+const CLASSES: [&str; 5] = ["class S", "class A", "class M", "class D", "class F"];
+/// The stream limit is not among them: no test hands in 4 GiB.
+const ENDINGS: [&str; 9] = [
+    "well",
+    "empty input",
+    "unknown first byte",
+    "wrong first byte of a mark",
+    "wrong second byte of a mark",
+    "end inside a mark",
+    "end before a length",
+    "end inside a length",
+    "end inside a record",
+];
+
+fn count(recording: &[u8], counts: &mut BTreeMap<String, usize>) {
+    let mut lister = Lister::new();
+    lister.feed(recording, &mut Vec::new());
+    let text = String::from_utf8(listing::listing(recording)).unwrap();
+    let mut kinds = vec![lister.ending().to_string()];
+    for line in text.lines() {
+        match line.as_bytes()[0] {
+            b'P' => kinds.extend(["P".to_string(), format!("class {}", &line[line.len() - 1..])]),
+            b'R' => kinds.extend(["R".to_string(), line.to_string()]),
+            b'B' => kinds.push(line.to_string()),
+            _ => kinds.push(line[..1].to_string()),
+        }
+    }
+    for kind in kinds {
+        *counts.entry(kind).or_default() += 1;
+    }
+}
+
+/// Prints the counts; the status is 1 where something never occurred.
+pub fn show(files: &[&str]) -> i32 {
+    let mut counts = BTreeMap::new();
+    for file in files {
+        count(&std::fs::read(file).expect(file), &mut counts);
+    }
+    let mut missing = 0;
+    for kinds in [&LINES[..], &REFUSALS, &CLASSES, &ENDINGS] {
+        let row: Vec<String> = kinds.iter().map(|k| format!("{k}: {}", counts.get(*k).unwrap_or(&0))).collect();
+        println!("{}", row.join(", "));
+        missing += kinds.iter().filter(|k| !counts.contains_key(**k)).count();
+    }
+    println!("{} recordings, {missing} kinds missing", files.len());
+    (missing > 0) as i32
+}

@@ -1,0 +1,368 @@
+//! Recordings to be listed: clean, damaged, random and malformed ones, as files for the program and as cases for the library.
+//! crates/answers/src/listing.rt has the form of a case and of its answer.
+
+use crate::cases::{self, Case, Random};
+use crate::channel::{self, BLOCK, MARKER};
+use crate::channel_cases::{alter, packet, packets, sent, stray};
+use crate::listing::{Lister, MOST};
+use crate::packet::{self, FLAG, RAW};
+use crate::{fcs, stream};
+
+pub const PLAIN: u8 = 0x50;
+pub const CHANNEL: u8 = 0x4F;
+
+/// The paper's case.
+const PAPER: [u8; 19] =
+    [0x50, 0xF5, 0x5F, 5, 0, 0x7E, 0x21, 0, 0x51, 0, 0xF5, 0x5F, 5, 0, 0, 0x41, 0xE4, 0xEC, 0x7E];
+
+/// A call writes lines while so many bytes are left, whatever the next line is.
+const LINE: usize = 128;
+
+/// A recording by name.
+pub type Named = (String, Vec<u8>);
+
+/// A stream in records, as long as `size` says.
+pub fn recorded(mode: u8, mut stream: &[u8], mut size: impl FnMut() -> usize) -> Vec<u8> {
+    let mut bytes = vec![mode];
+    while !stream.is_empty() {
+        let (record, rest) = stream.split_at(size().min(stream.len()));
+        bytes.extend([0xF5, 0x5F]);
+        bytes.extend((record.len() as u16).to_le_bytes());
+        bytes.extend(record);
+        stream = rest;
+    }
+    bytes
+}
+
+/// A stream in records of many sizes, some of them empty.
+fn cut(random: &mut Random, mode: u8, stream: &[u8]) -> Vec<u8> {
+    let most = [10, 300, 3000, 65535][random.below(4)];
+    let bytes = recorded(mode, stream, || if random.below(6) == 0 { 0 } else { 1 + random.below(most) });
+    if random.below(4) == 0 { [&bytes[..], &[0xF5, 0x5F, 0, 0]].concat() } else { bytes }
+}
+
+/// A closed frame with any format byte.
+fn frame(format: u8, port: u16, sequence: u16, payload: &[u8]) -> Vec<u8> {
+    let mut bytes = packet::contents(port, sequence, payload);
+    bytes.truncate(bytes.len() - 2);
+    bytes[0] = format;
+    bytes.extend(fcs::check(&bytes).to_le_bytes());
+    let mut raw = packet::escape(&bytes);
+    raw.push(FLAG);
+    raw
+}
+
+/// A packet for each edge of a class, then a frame for each refusal.
+fn faults() -> Vec<u8> {
+    let mut bytes = vec![FLAG];
+    for (i, port) in cases::PORTS.into_iter().enumerate() {
+        bytes.extend(frame(0x21, port, 0x7D7C + i as u16, b"~}bid"));
+    }
+    let mut altered = frame(0x21, 0x5100, 1, b"bid");
+    altered[7] ^= 1;
+    bytes.extend(altered);
+    bytes.extend(frame(0x26, 0x5100, 2, b"bid"));
+    bytes.extend([0x21, FLAG, 0x21, 0x7D, FLAG, 0x7D, 0x21, FLAG, FLAG]);
+    bytes.extend(frame(0x21, 0x5100, 0, &[0x41; 8193]));
+    bytes.extend([0x41; RAW + 1]);
+    bytes.push(FLAG);
+    bytes
+}
+
+/// Clean packets, n bytes at least.
+fn clean(random: &mut Random, n: usize) -> Vec<u8> {
+    let mut bytes = vec![FLAG];
+    while bytes.len() < n {
+        bytes.extend(packet(random));
+    }
+    bytes
+}
+
+/// Blocks that were altered on the way: bytes, markers, bytes lost or put in, or cut off.
+fn damaged(random: &mut Random, kind: usize) -> Vec<u8> {
+    let blocks = 2 + random.below(4);
+    let mut bytes = sent(random, blocks);
+    let start = BLOCK * random.below(blocks);
+    let at = random.below(bytes.len());
+    let few = 1 + random.below(5);
+    match kind % 7 {
+        0 => alter(random, &mut bytes[start + 4..start + BLOCK], few),
+        1 => alter(random, &mut bytes[start..start + 4], 1),
+        2 => drop(bytes.drain(start..start + 4)),
+        3 => drop(bytes.drain(at..(at + few).min(bytes.len()))),
+        4 => drop(bytes.splice(at..at, random.bytes(few))),
+        5 => drop(bytes.splice(start..start, MARKER[..few % 4].to_vec())),
+        _ => bytes.truncate(at),
+    }
+    [stray(random), bytes].concat()
+}
+
+/// A recording with one of its marks' bytes altered, or its first byte, or cut short.
+fn malformed(random: &mut Random, kind: usize) -> Vec<u8> {
+    let mode = [PLAIN, CHANNEL][random.below(2)];
+    let stream = if mode == PLAIN { packets(random, 300) } else { sent(random, 2) };
+    let mut sizes = Vec::new();
+    let mut bytes = recorded(mode, &stream, || {
+        sizes.push(random.below(200));
+        sizes[sizes.len() - 1]
+    });
+    let before = random.below(sizes.len());
+    let mark = 1 + sizes[..before].iter().map(|n| n + 4).sum::<usize>();
+    let at = random.below(bytes.len());
+    let other = 1 + random.below(255) as u8;
+    match kind % 5 {
+        0 => bytes[0] ^= other,
+        1 => bytes[mark] ^= other,
+        2 => bytes[mark + 1] ^= other,
+        3 => bytes.truncate(at),
+        _ => bytes[mark + 2 + random.below(2)] ^= other,
+    }
+    bytes
+}
+
+/// One recording of a kind, drawn anew each time.
+fn any(random: &mut Random, kind: usize) -> Vec<u8> {
+    let n = random.below(700);
+    match kind % 8 {
+        0 => {
+            let stream = clean(random, n);
+            cut(random, PLAIN, &stream)
+        }
+        1 => {
+            let stream = channel::send(&clean(random, n), usize::MAX).unwrap();
+            cut(random, CHANNEL, &stream)
+        }
+        2 => {
+            let stream = packets(random, n + 1);
+            cut(random, PLAIN, &stream)
+        }
+        3 | 4 => {
+            let stream = damaged(random, n);
+            cut(random, CHANNEL, &stream)
+        }
+        5 => {
+            let (mode, stream) = ([PLAIN, CHANNEL][n % 2], random.bytes(n));
+            cut(random, mode, &stream)
+        }
+        6 if n < 100 => random.bytes(n),
+        _ => malformed(random, n),
+    }
+}
+
+/// Small recordings by name, about a hundred.
+pub fn small(seed: u64) -> Vec<Named> {
+    let mut random = Random::new(seed);
+    let mut all = vec![("paper".to_string(), PAPER.to_vec())];
+    for n in 0..PAPER.len() {
+        all.push((format!("paper-first-{n:02}"), PAPER[..n].to_vec()));
+    }
+    for at in [0, 1, 2, 10, 11] {
+        let mut bytes = PAPER.to_vec();
+        bytes[at] ^= 0x0A;
+        all.push((format!("paper-wrong-{at:02}"), bytes));
+    }
+    let faults = faults();
+    all.push(("faults-plain".to_string(), cut(&mut random, PLAIN, &faults)));
+    all.push(("faults-channel".to_string(), cut(&mut random, CHANNEL, &channel::send(&faults, usize::MAX).unwrap())));
+    for kind in 0..80 {
+        all.push((format!("drawn-{kind:02}"), any(&mut random, kind)));
+    }
+    all
+}
+
+/// A stream over and over, until it has so many bytes.
+fn repeated(stream: &[u8], length: usize) -> Vec<u8> {
+    stream.repeat(length.div_ceil(stream.len()))
+}
+
+/// A recording of so many stream bytes at least: packets, now and then a fault; on the channel also damaged blocks and a lost marker.
+pub fn large(seed: u64, mode: u8, length: usize) -> Vec<u8> {
+    let mut random = Random::new(seed);
+    let mut stream = packets(&mut random, 400_000);
+    if mode == CHANNEL {
+        stream = channel::send(&stream, usize::MAX).unwrap();
+        alter(&mut random, &mut stream, 60);
+        stream.drain(9 * BLOCK..9 * BLOCK + 4);
+    }
+    recorded(mode, &repeated(&stream, length), || [0, 1, 200, 3000, 65535][random.below(5)])
+}
+
+/// A clean recording of so many stream bytes at least, to be timed: packets of up to 400 bytes, in records of 4,096.
+pub fn steady(mode: u8, length: usize) -> Vec<u8> {
+    let mut random = Random::new(1);
+    let mut stream = vec![FLAG];
+    while stream.len() < 1_000_000 {
+        let n = 1 + random.below(400);
+        stream.extend(packet::write(0x1401, random.next() as u16, &random.bytes(n), usize::MAX).unwrap());
+    }
+    if mode == CHANNEL {
+        stream = channel::send(&stream, usize::MAX).unwrap();
+    }
+    recorded(mode, &repeated(&stream, length), || 4096)
+}
+
+/// Where a recording may stand at first (bytes read, stream bytes, each total): fresh; near the stream's limit; with the offset, or the
+/// totals, near their width. crates/answers/src/listing.rt has the same.
+const STARTS: [[u64; 3]; 4] = [[0, 0, 0], [0, MOST - 300, 0], [u64::MAX - 300, 0, 0], [0, 0, u64::MAX - 140]];
+
+/// A recording to be listed by calls: how it is cut, the receive buffer, where it stands at first, the room for lines.
+struct Run {
+    /// The length of a piece, or 0: as the seed says.
+    size: usize,
+    seed: u64,
+    recv: usize,
+    start: usize,
+    room: usize,
+    bytes: Vec<u8>,
+}
+
+impl Run {
+    fn new(size: usize, room: usize, bytes: &[u8]) -> Self {
+        Run { size, seed: 0, recv: RAW, start: 0, room, bytes: bytes.to_vec() }
+    }
+
+    fn case(self) -> Case {
+        let number = self.seed | (self.size as u64) << 32 | (self.recv as u64) << 48 | (self.start as u64) << 62;
+        Case { asked: b'L', number, room: self.room as u16, bytes: self.bytes }
+    }
+}
+
+/// The lines of a recording, each with the number of bytes read when it is printed; so many stream bytes count as read at first.
+fn lines(count: u64, bytes: &[u8]) -> Vec<(usize, Vec<u8>)> {
+    let (mut lister, mut lines) = (Lister::at(0, count), Vec::new());
+    for (i, byte) in bytes.iter().enumerate() {
+        let mut out = Vec::new();
+        lister.feed(&[*byte], &mut out);
+        lines.extend(out.split_inclusive(|b| *b == b'\n').map(|line| (i + 1, line.to_vec())));
+    }
+    lines
+}
+
+/// Counts a line in the totals.
+fn count(totals: &mut [u64; 4], line: &[u8]) {
+    for (total, start) in totals.iter_mut().zip(["P", "R", "B 1", "L"]) {
+        *total += line.starts_with(start.as_bytes()) as u64;
+    }
+}
+
+/// A recording listed by calls, the room for lines lent; what is told of them.
+pub fn called(number: u64, bytes: &[u8], out: &mut [u8]) -> Vec<u8> {
+    let (size, recv) = ((number >> 32) as usize & 0xFFFF, (number >> 48) as usize & 0x3FFF);
+    let [offset, stream, total] = STARTS[(number >> 62) as usize];
+    let mut lines = lines(stream, bytes).into_iter().peekable();
+    let (mut lister, mut totals) = (Lister::at(offset, stream), [total; 4]);
+    let (mut at, mut end, mut seed) = (0, 0, number & 0x7FFFFFFF);
+    let mut told = Vec::new();
+    loop {
+        let wide = lister.holds(end - at) && totals.iter().all(|t| t.checked_add(out.len() as u64).is_some());
+        if !wide || recv < RAW {
+            tell(&mut told, &[0, 65536 + if wide { 11 } else { 10 }, 0]);
+            break;
+        }
+        let (mut taken, mut written) = (0, 0);
+        while out.len() - written >= LINE && lines.peek().is_some_and(|(read, _)| *read <= end) {
+            let (read, line) = lines.next().unwrap();
+            taken = read - at;
+            out[written..written + line.len()].copy_from_slice(&line);
+            written += line.len();
+            count(&mut totals, &line);
+        }
+        let more = out.len() - written >= LINE;
+        if more {
+            taken = end - at;
+        }
+        lister.feed(&bytes[at..at + taken], &mut Vec::new());
+        at += taken;
+        tell(&mut told, &[taken, !more as usize, written]);
+        told.extend(&out[..written]);
+        if !more && written == 0 || more && end == bytes.len() {
+            break;
+        }
+        if more {
+            let left = bytes.len() - at;
+            let (length, next) = if size > 0 { (size.min(left), seed) } else { stream::next_piece(seed, left) };
+            (end, seed) = (at + length, next);
+        }
+    }
+    let mut last = Vec::new();
+    lister.last(totals, &mut last);
+    finish(&last, out, &mut told);
+    told
+}
+
+fn tell(told: &mut Vec<u8>, numbers: &[usize]) {
+    numbers.iter().for_each(|n| told.extend((*n as u64).to_le_bytes()));
+}
+
+/// The last line with all of the room; where it fits, also with just enough, and with a byte less.
+fn finish(last: &[u8], out: &mut [u8], told: &mut Vec<u8>) {
+    let n = last.len();
+    if out.len() < n {
+        return tell(told, &[65536 + 23]);
+    }
+    out[..n].copy_from_slice(last);
+    tell(told, &[n, n, 65536 + 23]);
+}
+
+/// Every cutting of some recordings, and many recordings with some cutting, each with several rooms.
+pub fn all(random: &mut Random, cases: &mut Vec<Case>) {
+    let mut runs = Vec::new();
+    everywhere(random, &mut runs);
+    short(random, &mut runs);
+    for kind in 0..1600 {
+        let mut run = Run::new(0, [128, 128, 129, 200, 1000, 5000, random.below(128)][random.below(7)], &any(random, kind));
+        match random.below(4) {
+            0 => run.size = 1 + random.below(40),
+            1 => run.size = 1 + random.below(run.bytes.len() + 1),
+            _ => run.seed = random.next() % 0x7FFFFFFF,
+        }
+        run.recv = if random.below(50) == 0 { random.below(RAW) } else { RAW };
+        run.start = if random.below(3) == 0 { random.below(4) } else { 0 };
+        runs.push(run);
+    }
+    for stream in [faults(), channel::send(&faults(), usize::MAX).unwrap()] {
+        let mode = if stream[0] == FLAG { PLAIN } else { CHANNEL };
+        for (room, seed) in [(128, 0), (128, 5), (135, 9), (200, 6), (1000, 7)] {
+            for start in 0..STARTS.len() {
+                runs.push(Run { seed, start, ..Run::new(0, room, &cut(random, mode, &stream)) });
+            }
+        }
+    }
+    cases.extend(runs.into_iter().map(Run::case));
+}
+
+/// Recordings in pieces of every length.
+fn everywhere(random: &mut Random, runs: &mut Vec<Run>) {
+    let plain = packets(random, 150);
+    let blocks = [sent(random, 1), MARKER[..3].to_vec(), sent(random, 1)].concat();
+    let mut sizes = [5, 0, 1, 33, 2, 300, 4, 7].into_iter().cycle();
+    let recordings = [
+        PAPER.to_vec(),
+        recorded(PLAIN, &plain, || sizes.next().unwrap()),
+        recorded(CHANNEL, &blocks, || sizes.next().unwrap()),
+    ];
+    for bytes in recordings {
+        for size in 1..=bytes.len() {
+            for room in [128, 129, 200, 1000] {
+                runs.push(Run::new(size, room, &bytes));
+            }
+        }
+        for room in [0, 1, 3, 4, 20, 64, 127] {
+            runs.push(Run::new(7, room, &bytes));
+        }
+    }
+}
+
+/// Recordings cut short at every place, and every first byte.
+fn short(random: &mut Random, runs: &mut Vec<Run>) {
+    let stream = sent(random, 1);
+    let bytes = recorded(CHANNEL, &stream, || 1 + random.below(90));
+    for n in 0..=bytes.len() {
+        runs.push(Run::new(50, 128, &bytes[..n]));
+    }
+    for first in 0..=255 {
+        let mut bytes = PAPER.to_vec();
+        bytes[0] = first;
+        runs.push(Run::new(11, 128, &bytes));
+    }
+}

@@ -1,0 +1,59 @@
+//! The recordings of samples/: a morning of bids on the opportunistic channel, the same morning damaged on the way, and a recording
+//! that breaks off.
+
+use crate::channel::{self, BLOCK};
+use crate::listing;
+use crate::listing_cases::{recorded, CHANNEL, PLAIN};
+use crate::packet::{self, FLAG};
+
+/// Port, sequence and text: bids on ports for applications, between them the station's own packets.
+const MORNING: [(u16, u16, &str); 13] = [
+    (0x5100, 411, "Farm hour with the opening bids"),
+    (0x1401, 88, "06:30 CORN US 2 YELLOW 4.31 1/4 DEC BASIS -18 YARD 6"),
+    (0x1402, 51, "06:30 SOYBEANS US 1 YELLOW 10.04 1/2 NOV BASIS -32 YARD 6"),
+    (0x1403, 19, "06:31 WHEAT HRS 14.0 PROTEIN 6.12 DEC BASIS -41 YARD 6"),
+    (0x5201, 7, "Second programme: weather by county"),
+    (0x1401, 89, "06:45 CORN US 2 YELLOW 4.32 DEC BASIS -18 YARD 6"),
+    (0x1401, 90, "06:45 CORN US 2 YELLOW 4.27 3/4 DEC BASIS -22 YARD 9 ~ MOISTURE 15.5 MOST"),
+    (0x1402, 52, "06:50 SOYBEANS US 1 YELLOW 10.06 1/4 NOV BASIS -32 YARD 6"),
+    (0x0400, 1203, "clock 06:50:00"),
+    (0x1404, 4, "06:52 OATS US 2 HEAVY 3.58 DEC BASIS -25 YARD 6 {FULL AT 40 LOADS}"),
+    (0x1403, 20, "06:55 WHEAT HRS 14.0 PROTEIN 6.10 1/2 DEC BASIS -41 YARD 6"),
+    (0x5300, 0, "trial of a later service"),
+    (0x1401, 91, "07:00 CORN US 2 YELLOW 4.33 1/2 DEC BASIS -17 YARD 6"),
+];
+
+fn stream() -> Vec<u8> {
+    let mut bytes = vec![FLAG];
+    for (port, sequence, text) in MORNING {
+        bytes.extend(packet::write(port, sequence, text.as_bytes(), usize::MAX).unwrap());
+    }
+    bytes
+}
+
+/// Each recording by name.
+fn all() -> [(&'static str, Vec<u8>); 3] {
+    let clean = channel::send(&stream(), usize::MAX).unwrap();
+    let mut damaged = clean.clone();
+    // two digits of the first price, the last parity byte, and a marker that is lost
+    damaged[4 + 68] ^= 0x02;
+    damaged[4 + 70] ^= 0x07;
+    damaged[4 * BLOCK - 1] ^= 0x80;
+    damaged.drain(BLOCK..BLOCK + 4);
+    let mut malformed = recorded(PLAIN, &stream(), || 250);
+    malformed[1 + 2 * 254 + 1] = 0x00;
+    [
+        ("morning", recorded(CHANNEL, &clean, || 96)),
+        ("morning-damaged", recorded(CHANNEL, &damaged, || 96)),
+        ("malformed", malformed),
+    ]
+}
+
+/// Writes the recordings, each with its listing.
+pub fn write(dir: &str) -> std::io::Result<()> {
+    for (name, bytes) in all() {
+        std::fs::write(format!("{dir}/{name}.rec"), &bytes)?;
+        std::fs::write(format!("{dir}/{name}.listing"), listing::listing(&bytes))?;
+    }
+    Ok(())
+}
