@@ -48,6 +48,13 @@ use Rattle.channel.proofs.Sending.{lent, back}
 use Rattle.channel.proofs.Fine.{and-parts}
 use Rattle.channel.proofs.Phases.{onward, hand-run, mark-part, comparedOn, behindFour, mark-four, huntedOn, hunt-run, word-part, word-whole}
 
+-- the lock of a phase's state, as it is counted
+pub lock-as : {t : Phase} {d : Bool} {a : Answer} {n : ℕ} {f : Hunting} {k j : Locked} {r : Frame} → k ≡ j
+    → t ≡ record { done = d; answer = a; taken = n; receiver = record { locked = true; hunting = f; lock = k; frame = r } }
+    → t ≡ record { done = d; answer = a; taken = n; receiver = record { locked = true; hunting = f; lock = j; frame = r } }
+lock-as {d = d} {a = a} {n = n} {f = f} {r = r} e p =
+    p ∙ ap (λ (l : Locked). record { done = d; answer = a; taken = n; receiver = record { locked = true; hunting = f; lock = l; frame = r } }) e
+
 -- ---- the two loops
 pub shifts-next : (f : Hunting) (bs : List ℕ) (i : ℕ) {g t : Hunting} → i < length bs → g ≡ shift f (getD bs i 0) → shifts f (drop i bs) ≡ t
     → shifts g (drop (i + 1) bs) ≡ t
@@ -423,13 +430,13 @@ module _ (s : Receiver) (word piece : List ℕ) (at : ℕ) (o : s .locked ≡ tr
   board-at : (l : List ℕ) → board s l word ≡ lockedWith (s .hunting) (length before) (s .lock .handed) (s .lock .marker) (held (s .frame) l) (before ++ behind)
   board-at l i = board (record { locked = o i; hunting = s .hunting; lock = counts (sym before-length i) (s .lock .handed) (s .lock .marker); frame = s .frame }) l (parts i)
 
-  pub fill-more : s .lock .word + n < 255
+  fill-part : s .lock .word + n < 255
       → FilledIs s word bs at (record {
         answer = More;
         taken = at + n;
         receiver = record { locked = true; hunting = s .hunting; lock = counts (s .lock .word + n) (s .lock .handed) (s .lock .marker); frame = s .frame };
       }) (putMid (s .lock .word) (length word - s .lock .word) word y)
-  fill-more h l =
+  fill-part h l =
       let part : take n bs ≡ bs = take-all n bs (omega (arith, en)) in
       let q : hearOn (board s l word) bs
       ≡ (
@@ -465,6 +472,19 @@ module _ (s : Receiver) (word piece : List ℕ) (at : ℕ) (o : s .locked ≡ tr
   fill-same h e =
       let z : s .lock .word ≡ 0 = omega (arith, en) in
       ap (λ i. take i bs) (sym e) ∙ ap (λ i. take i word ++ take n bs) (sym z) ∙ sym (whole-is h)
+
+  pub fill-more : {k : Locked} → s .lock .word + n < 255 → k ≡ counts (s .lock .word + n) (s .lock .handed) (s .lock .marker)
+      → FilledIs s word bs at (record {
+        answer = More;
+        taken = at + n;
+        receiver = record { locked = true; hunting = s .hunting; lock = k; frame = s .frame };
+      }) (putMid (s .lock .word) (length word - s .lock .word) word y)
+  fill-more h e =
+      subst (λ (j : Locked). FilledIs s word bs at (record {
+        answer = More;
+        taken = at + n;
+        receiver = record { locked = true; hunting = s .hunting; lock = j; frame = s .frame };
+      }) (putMid (s .lock .word) (length word - s .lock .word) word y)) (sym e) (fill-part h)
 
   pub fill-whole : {a : Answer} {k : Locked} → 255 ≤ s .lock .word + n
       → a ≡ blockAnswer (isClean (take 255 (putMid (s .lock .word) (length word - s .lock .word) word y))) → k ≡ counts 255 0 0

@@ -206,11 +206,7 @@ impl Receiver {
         let next = Receiver {
             locked: true,
             hunting,
-            lock: Locked {
-                word: lock.word,
-                handed: from + read.taken,
-                marker: lock.marker,
-            },
+            lock: lock.handed_on(from + read.taken),
             frame: behind,
         };
         let heard = read.heard;
@@ -235,11 +231,7 @@ impl Receiver {
             let next = Receiver {
                 locked: true,
                 hunting,
-                lock: Locked {
-                    word: lock.word,
-                    handed: lock.handed,
-                    marker,
-                },
+                lock: lock.marked(marker),
                 frame,
             };
             return Phase::end(Answer::More, n, next);
@@ -331,11 +323,7 @@ impl Receiver {
                 receiver: Receiver {
                     locked: true,
                     hunting,
-                    lock: Locked {
-                        word: count,
-                        handed: lock.handed,
-                        marker: lock.marker,
-                    },
+                    lock: lock.filled(count),
                     frame,
                 },
             };

@@ -1,5 +1,5 @@
 -- `channel::receiver::Receiver::compare` meets its contract, by the law of marker bytes.
-use Rattle.channel.proofs.Hearing.{compare-more, compare-again, compare-lost}
+use Rattle.channel.proofs.Hearing.{lock-as, compare-more, compare-again, compare-lost}
 use native.Mathlib.Nat.{sub-zero}
 use borrow.Author.Needs.{needs}
 use Rattle.channel.proofs.receiver.Receiver.compare.Statement.{statement}
@@ -17,10 +17,11 @@ compare-spec =
     (search needs)
     (search needs)
     (search needs)
+    (search needs)
     (λ c.
-    let t = c .before .before .before in
+    let t = c .before .before .before .before in
     let s = t .before .before .before .before .before .before .before .before in
-    compare-more (s .args .self) (s .args .piece .now) (s .pre .0) (s .pre .1) (s .pre .2) (s .pre .3) (t .before .before .least .ensures) (rw (sub-zero (t .before .before .least .result)) at (t .shifted .ensures)) (c .before .if1 .taken) (c .end .ensures))
+    compare-more (s .args .self) (s .args .piece .now) (s .pre .0) (s .pre .1) (s .pre .2) (s .pre .3) (t .before .before .least .ensures) (rw (sub-zero (t .before .before .least .result)) at (t .shifted .ensures)) (c .before .before .if1 .taken) (lock-as (c .before .marked .ensures) (c .end .ensures)))
     (search needs)
     (search needs)
     (search needs)

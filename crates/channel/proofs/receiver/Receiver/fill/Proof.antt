@@ -21,10 +21,11 @@ fill-spec =
     (search needs)
     (search needs)
     (search needs)
+    (search needs)
     (λ c.
-    let t = c .before .before .before .before .before .before in
+    let t = c .before .before .before .before .before .before .before in
     let s = t .before .before .before .before .before .before in
-    fill-more (s .args .self) (s .args .word .now) (s .args .piece .now) (s .args .at) (s .pre .0) (s .pre .1) (s .pre .2) (s .pre .3) (t .least .ensures) (c .before .before .before .copy .ensures) (c .if1 .taken))
+    fill-more (s .args .self) (s .args .word .now) (s .args .piece .now) (s .args .at) (s .pre .0) (s .pre .1) (s .pre .2) (s .pre .3) (t .least .ensures) (c .before .before .before .before .copy .ensures) (c .before .if1 .taken) (c .filled .ensures))
     (λ c κs.
     let t = c .before .before .before .before .before .before .before in
     let s = t .before .before .before .before .before .before in
