@@ -24,6 +24,7 @@ pub record Ear : Type 0 where
   pub channel : Bool
   pub board : Board
 
+-- the ear of these
 abbrev pub ear : Bool → Board → Ear
 ear t c = record { channel = t; board = c }
 
@@ -45,12 +46,15 @@ abbrev pub eatBy : Bool → Board → ℕ → Option Event × Ear
 eatBy true c b = (eatByte c b .0, ear true (eatByte c b .1))
 eatBy false c b = plainly (takeByte (heldIn c) b) c
 
+-- moves that the ear owes
 unfoldable pub earOwes : Ear → ℕ
 earOwes d = owesBy (d .channel) (d .board)
 
+-- one of them
 unfoldable pub earHand : Ear → Option Event × Ear
 earHand d = (handOn (d .board) .0, ear (d .channel) (handOn (d .board) .1))
 
+-- a stream byte
 unfoldable pub earEat : Ear → ℕ → Option Event × Ear
 earEat d b = eatBy (d .channel) (d .board) b
 
@@ -59,6 +63,7 @@ pub record Deck : Type 0 where
   pub spot : Spot
   pub ear : Ear
 
+-- the deck of these
 abbrev pub deck : Spot → Ear → Deck
 deck p d = record { spot = p; ear = d }
 
@@ -80,9 +85,11 @@ channelAt Wrong b t = t
 abbrev pub begun : Place → ℕ → Ear → Ear
 begun q b d = ear (channelAt q b (d .channel)) (d .board)
 
+-- moves owed are the ear's
 abbrev pub deckOwes : Deck → ℕ
 deckOwes m = earOwes (m .ear)
 
+-- one of them; the recording stands where it stood
 abbrev pub deckHand : Deck → Option Event × Deck
 deckHand m = (earHand (m .ear) .0, deck (m .spot) (earHand (m .ear) .1))
 
@@ -91,6 +98,7 @@ abbrev pub byteBy : Bool → Deck → ℕ → Option Event × Deck
 byteBy true m b = (earEat (m .ear) b .0, deck (next (m .spot) b) (earEat (m .ear) b .1))
 byteBy false m b = (none, deck (next (m .spot) b) (begun (m .spot .place) b (m .ear)))
 
+-- a byte of the recording
 abbrev pub deckEat : Deck → ℕ → Option Event × Deck
 deckEat m b = byteBy (inStream (m .spot .place) (m .spot .count)) m b
 

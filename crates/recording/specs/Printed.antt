@@ -38,6 +38,7 @@ noTotals = record { packets = 0; refused = 0; damaged = 0; lost = 0 }
 abbrev pub startTape : Tape
 startTape = record { spot = start; channel = false; receiver = freshReceiver }
 
+-- .. and nothing counted
 abbrev pub begins : Recording
 begins = record { tape = startTape; totals = noTotals }
 
@@ -58,6 +59,7 @@ pub record Printed : Type 0 where
   pub deck : Deck
   pub totals : Totals
 
+-- nothing taken or printed
 abbrev pub printed : Wants → Deck → Totals → Printed
 printed w m t = record { wants = w; taken = 0; text = []; deck = m; totals = t }
 
@@ -70,7 +72,7 @@ abbrev pub onAnswer : {B : Type 0} → Option Event → B → (Answer → B) →
 onAnswer none x k = x
 onAnswer (some e) x k = k (given e)
 
--- at most f lines, into so much room: an answer is asked for where any line has room
+-- at most f lines, into so much room: an answer is asked for only where any line has room (f is the room: each line has a byte at least)
 unfoldable pub print : ℕ → ℕ → Deck → Totals → List ℕ → Printed
 print zero room m t bs = printed Room m t
 print (suc f) room m t bs =

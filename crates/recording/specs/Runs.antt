@@ -21,6 +21,7 @@ module _ (rooms : ℕ → ℕ) where
         → Lists (suc i) (takes m t (rooms i) bs .deck) (takes m t (rooms i) bs .totals) (drop (takes m t (rooms i) bs .taken) bs) j text m′ t′
         → Lists i m t bs j (takes m t (rooms i) bs .text ++ text) m′ t′
 
+  -- the pieces of a recording one after the other
   pub data ListsAll : ℕ → Deck → Totals → List (List ℕ) → ℕ → List ℕ → Deck → Totals → Type 0 where
     done : {i : ℕ} {m : Deck} {t : Totals} → ListsAll i m t [] i [] m t
     piece : {i j k : ℕ} {m m₁ m₂ : Deck} {t t₁ t₂ : Totals} {p text texts : List ℕ} {ps : List (List ℕ)}

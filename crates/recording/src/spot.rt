@@ -11,7 +11,7 @@ ghost use Rattle.recording.specs.Taken.{leftAt, runOf, onTo, skipped};
 use listed::Place;
 use listed::Spot;
 
-/// Recordings.
+/// The fixed numbers of a recording.
 pub(crate) struct Bytes;
 
 impl Bytes {
