@@ -1,6 +1,7 @@
 //! The second program: the paper's sender and receiver once more, in Rust, written from the paper and not from the proved
 //! code, so that the two can be held against each other.
 //!
+//!   second bids WORDS..      the office's sender, and a day of it (bids.rs)
 //!   second fcs HEX           the check of bytes
 //!   second parity R HEX      the parity of a message
 //!   second word R HEX        clean or damaged
@@ -20,6 +21,7 @@
 //!   second compare CASES ANSWERS
 //!                            holds its own answers to those of the proved code
 
+mod bids;
 mod cases;
 mod channel;
 mod channel_cases;
@@ -48,6 +50,7 @@ fn main() {
         ["test", seed] => number(seed).map(test),
         ["interleave", d, bytes] => both(d, bytes).map(|(d, b)| show(interleaver::turn(false, d, &b, b.len()))),
         ["restore", d, bytes] => both(d, bytes).map(|(d, b)| show(interleaver::turn(true, d, &b, b.len()))),
+        ["bids", ref rest @ ..] => std::process::exit(bids::run(rest)),
         ["list"] => Some(listing::list().expect("standard input and output")),
         ["kinds", ref files @ ..] => std::process::exit(kinds::show(files)),
         ["recordings", dir] => Some(write_recordings(dir, 1)),

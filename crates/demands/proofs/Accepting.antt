@@ -30,6 +30,12 @@ use Rattle.field.proofs.inverse as field-inverse
 use Rattle.parity.proofs.value as parity-value
 use Rattle.parity.proofs.subtract as parity-subtract
 use Rattle.repair.proofs.repair as repair-repair
+use Rattle.bid.proofs.up_to as bid-up-to
+use Rattle.bid.proofs.read as bid-read
+use Rattle.office.proofs.Office.start as office-start
+use Rattle.office.proofs.Office.hear as office-hear
+use Rattle.office.proofs.Office.close as office-close
+use Rattle.office.proofs.Office.finish as office-finish
 
 pub base-least-accepts : Accepts base-least.Statement.statement base-least.Kinds.ps base-least.Reads.Asked
 base-least-accepts = (λ M. base-least.Met.met, λ κs a. tt)
@@ -120,3 +126,21 @@ parity-subtract-accepts = (λ M. parity-subtract.Met.met, λ κs a. tt)
 
 pub repair-repair-accepts : Accepts repair-repair.Statement.statement repair-repair.Kinds.ps repair-repair.Reads.Asked
 repair-repair-accepts = (λ M. repair-repair.Met.met, λ κs a. tt)
+
+pub bid-up-to-accepts : Accepts bid-up-to.Statement.statement bid-up-to.Kinds.ps bid-up-to.Reads.Asked
+bid-up-to-accepts = (λ M. bid-up-to.Met.met, λ κs a. tt)
+
+pub bid-read-accepts : Accepts bid-read.Statement.statement bid-read.Kinds.ps bid-read.Reads.Asked
+bid-read-accepts = (λ M. bid-read.Met.met, λ κs a. tt)
+
+pub office-start-accepts : Accepts office-start.Statement.statement office-start.Kinds.ps office-start.Reads.Asked
+office-start-accepts = (λ M. office-start.Met.met, λ κs a. tt)
+
+pub office-hear-accepts : Accepts office-hear.Statement.statement office-hear.Kinds.ps office-hear.Reads.Asked
+office-hear-accepts = (λ M. office-hear.Met.met, λ κs a. tt)
+
+pub office-close-accepts : Accepts office-close.Statement.statement office-close.Kinds.ps office-close.Reads.Asked
+office-close-accepts = (λ M. office-close.Met.met, λ κs a. tt)
+
+pub office-finish-accepts : Accepts office-finish.Statement.statement office-finish.Kinds.ps office-finish.Reads.Asked
+office-finish-accepts = (λ M. office-finish.Met.met, λ κs a. tt)

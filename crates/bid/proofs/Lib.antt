@@ -1,0 +1,6 @@
+pub mod UpTo
+pub mod Decimal
+pub mod Reading
+pub mod Verdicts
+pub mod Determined
+pub mod Numbers

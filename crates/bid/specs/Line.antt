@@ -1,0 +1,107 @@
+-- A line of the office's input, `PORT SEQUENCE TEXT`: what the sender makes of it.
+-- upTo, past      the bytes before the first c, and those behind it
+-- number          one to five digits, at most 65,535
+-- port, sequence, text       the three parts of a line
+-- Verdict, verdict           no bid, refused by its number, or a packet to be sent
+-- lineLimit                  so many first bytes decide that
+-- reading                    what the call that reads a line answers
+use Prim.Native.Nat.{ℕ, _+_, _-_, _*_, min}
+use mathlib.Core.Bool.{Bool, true}
+use mathlib.Core.List.{List, [], _∷_}
+use lib.Dec.{eqb, ltb, leb}
+use lib.ListN.{length, drop}
+use Rattle.base.specs.Choice.{pick, both}
+use Rattle.packet.specs.Port.{barred}
+use Rattle.packet.specs.Contents.{payloadLimit}
+use Rattle.packet.specs.Escape.{escape}
+use Rattle.stream.specs.Sender.{Packet}
+use Rattle.bid.specs.declared.Found.{Found}
+use Rattle.bid.specs.declared.Found.the-variants.{Bid, NoBid}
+
+-- a line feed ends a line
+abbrev pub feed : ℕ
+feed = 10
+
+-- a space ends a number
+abbrev pub space : ℕ
+space = 32
+
+-- the bytes before the first c, all where there is none
+unfoldable pub upTo : ℕ → List ℕ → List ℕ
+upTo c [] = []
+upTo c (b ∷ bs) = pick (eqb b c) [] (b ∷ upTo c bs)
+
+-- the bytes behind it
+abbrev pub past : ℕ → List ℕ → List ℕ
+past c bs = drop (length (upTo c bs) + 1) bs
+
+-- 0 to 9
+abbrev pub isDigit : ℕ → Bool
+isDigit b = both (leb 48 b) (leb b 57)
+
+-- digits alone
+unfoldable pub digits : List ℕ → Bool
+digits [] = true
+digits (b ∷ bs) = both (isDigit b) (digits bs)
+
+-- the value of digits behind those of n
+unfoldable pub value : ℕ → List ℕ → ℕ
+value n [] = n
+value n (b ∷ bs) = value (n * 10 + (b - 48)) bs
+
+-- what stands for "no number"
+abbrev pub noNumber : ℕ
+noNumber = 65536
+
+-- digits behind those of n, at most 65,535
+unfoldable pub numberFrom : ℕ → List ℕ → ℕ
+numberFrom n w = pick (both (digits w) (ltb (value n w) noNumber)) (value n w) noNumber
+
+-- one to five digits, at most 65,535
+unfoldable pub number : List ℕ → ℕ
+number w = pick (both (leb 1 (length w)) (leb (length w) 5)) (numberFrom 0 w) noNumber
+
+-- up to the first space
+abbrev pub port : List ℕ → ℕ
+port l = number (upTo space l)
+
+-- from there up to the next
+abbrev pub sequence : List ℕ → ℕ
+sequence l = number (upTo space (past space l))
+
+-- all that is behind
+abbrev pub text : List ℕ → List ℕ
+text l = past space (past space l)
+
+-- what the sender says of a line
+pub data Verdict : Type 0 where
+  noBid : Verdict
+  refused : ℕ → Verdict
+  accepted : Packet → Verdict
+
+-- 20 payload empty, 21 payload too long as escaped, 22 port barred
+unfoldable pub judged : Packet → Verdict
+judged p =
+    pick (eqb (length (p .payload)) 0) (refused 20)
+    (pick (ltb payloadLimit (length (escape (p .payload)))) (refused 21)
+    (pick (barred (p .port)) (refused 22)
+    (accepted p)))
+
+-- both numbers are there
+abbrev pub isBid : List ℕ → Bool
+isBid l = both (ltb (port l) noNumber) (ltb (sequence l) noNumber)
+
+unfoldable pub verdict : List ℕ → Verdict
+verdict l = pick (isBid l) (judged (record { port = port l; sequence = sequence l; payload = text l })) noBid
+
+-- so many first bytes of a line decide what it is: two numbers with their spaces, and a text too long by one byte
+abbrev pub lineLimit : ℕ
+lineLimit = 8205
+
+-- where the text begins
+abbrev pub textAt : List ℕ → ℕ
+textAt l = min (length (upTo space l) + 1 + length (upTo space (past space l)) + 1) (length l)
+
+-- the call that reads a line
+unfoldable pub reading : List ℕ → Found
+reading l = pick (isBid l) (Bid (port l) (sequence l) (textAt l)) NoBid

@@ -1,0 +1,7 @@
+pub mod Marking
+pub mod Putting
+pub mod Hearing
+pub mod Sent
+pub mod Cutting
+pub mod Board
+pub mod Determined

@@ -1,0 +1,114 @@
+-- The office as it is called: its state and the lent buffers go in and come back, and one call gives at most one answer.
+-- begins, begun            the start
+-- hearCall, HeardIs        one call on bytes, and that the code's results are those
+-- closeCall                the end of the input
+-- finishing                the last block
+-- EndedIs, PutIs           what the private functions are promised by
+use Prim.Native.Nat.{ℕ, _+_}
+use mathlib.Core.Path.{_≡_}
+use mathlib.Core.Bool.{Bool, true, false}
+use mathlib.Core.List.{List, [], _∷_, _++_}
+use mathlib.Core.Option.{Option, some, none}
+use lib.Dec.{eqb, leb}
+use lib.ListN.{length, take, drop}
+use Rattle.base.specs.Choice.{pick, both}
+use Rattle.base.specs.Calls.{hear}
+use Rattle.base.specs.Written.{Outcome, refused, copied}
+use Rattle.channel.specs.Sender.{marked, sending}
+use Rattle.bid.specs.Line.{feed, lineLimit}
+use Rattle.office.specs.declared.Office.{Office}
+use Rattle.office.specs.declared.Answer.{Answer}
+use Rattle.office.specs.declared.Answer.the-variants.{More, Sent, NoBid, Refused}
+use Rattle.office.specs.declared.Heard.{Heard}
+use Rattle.office.specs.declared.Ended.{Ended}
+use Rattle.office.specs.Desk.{wholes, restOf, Spoken, blocks, unread, refusal, Said, Ending, Desk, desk, eat, owesNone, handsNone}
+
+-- bytes held between lines, at most
+abbrev pub heldLimit : ℕ
+heldLimit = 222
+
+-- those and a packet's
+abbrev pub holdLimit : ℕ
+holdLimit = 8428
+
+-- the marked blocks of so many
+abbrev pub outLimit : ℕ
+outLimit = 9583
+
+-- before the first byte one flag is held
+abbrev pub begins : Office
+begins = record { lines = 0; stored = 0; held = 1 }
+
+-- 10
+abbrev pub sound : Office → Bool
+sound s = both (leb (s .stored) lineLimit) (leb (s .held) heldLimit)
+
+-- 11
+abbrev pub roomy : List ℕ → List ℕ → Bool
+roomy line hold = both (leb lineLimit (length line)) (leb holdLimit (length hold))
+
+-- one call behind the refusals: the answer (none: "more wanted"), the bytes taken, the desk
+abbrev pub hearOn : Desk → List ℕ → Option Said × ℕ × Desk
+hearOn = hear owesNone handsNone eat
+
+-- the call is refused
+abbrev pub denied : ℕ → Desk → Option Said × ℕ × Desk
+denied n d = (some (d .st .lines, refusal n), 0, d)
+
+-- by: does it pass 10, 11 and 23
+abbrev pub hearBy : Bool → Bool → Bool → Desk → List ℕ → Option Said × ℕ × Desk
+hearBy false b o d bs = denied 10 d
+hearBy true false o d bs = denied 11 d
+hearBy true true false d bs = denied 23 d
+hearBy true true true d bs = hearOn d bs
+
+-- one call, with so much room in the output
+abbrev pub hearCall : ℕ → Desk → List ℕ → Option Said × ℕ × Desk
+hearCall room d bs = hearBy (sound (d .st)) (roomy (d .line) (d .hold)) (leb outLimit room) d bs
+
+-- the end of the input ends a line that is begun
+abbrev pub closeCall : ℕ → Desk → Option Said × ℕ × Desk
+closeCall room d = pick (eqb (d .st .stored) 0) (none, 0, d) (hearCall room d (feed ∷ []))
+
+-- the code's answer
+abbrev pub spoken : Spoken → Answer
+spoken (blocks bs) = Sent (length bs)
+spoken unread = NoBid
+spoken (refusal n) = Refused n
+
+abbrev pub answered : Option Said → Answer
+answered none = More
+answered (some x) = spoken (x .1)
+
+-- the output then: the blocks from its start on
+abbrev pub spokenOut : Spoken → List ℕ → List ℕ
+spokenOut (blocks bs) out = bs ++ drop (length bs) out
+spokenOut unread out = out
+spokenOut (refusal n) out = out
+
+abbrev pub answeredOut : Option Said → List ℕ → List ℕ
+answeredOut none out = out
+answeredOut (some x) out = spokenOut (x .1) out
+
+-- the code's result of a call
+abbrev pub heardOf : Option Said × ℕ × Desk → Heard
+heardOf x = record { answer = answered (x .0); taken = x .1; office = x .2 .st }
+
+-- r is the result of a call, line and hold the buffers and out′ the output then, which held out before
+abbrev pub HeardIs : Option Said × ℕ × Desk → List ℕ → Heard → List ℕ → List ℕ → List ℕ → Type 0
+HeardIs x out r line hold out′ = (r ≡ heardOf x) × (line ≡ x .2 .line) × (hold ≡ x .2 .hold) × (out′ ≡ answeredOut (x .0) out)
+
+-- the last block, filled with flags
+abbrev pub finishing : Office → List ℕ → List ℕ → Outcome
+finishing s hold out =
+    pick (sound s) (pick (leb holdLimit (length hold)) (sending (take (s .held) hold) out) (refused 11 out)) (refused 10 out)
+
+-- a line ended
+abbrev pub EndedIs : Ending → List ℕ → Ended → List ℕ → List ℕ → Type 0
+EndedIs x out r hold out′ =
+    (r ≡ record { answer = spoken (x .said); held = x .held }) × (hold ≡ x .hold) × (out′ ≡ spokenOut (x .said) out)
+
+-- whole messages put out, and the rest moved to the start
+abbrev pub PutIs : List ℕ → List ℕ → List ℕ → ℕ → List ℕ → List ℕ → Type 0
+PutIs bs old out r hold out′ =
+    (r ≡ length (marked (wholes bs))) × (hold ≡ copied (restOf bs) old) × (out′ ≡ marked (wholes bs) ++ drop (length (marked (wholes bs))) out)

@@ -1,0 +1,288 @@
+//! The office's sender, and the day that bin/day shows: bids sent, heard, heard with damage, and what a framed board would show.
+//!
+//!   second bids send               lines of bids in, the marked stream out; lines that are not sent are named on standard error
+//!   second bids files DIR [SEED]   files of bids to be sent, into a folder
+//!   second bids record SEED        a recording of the stream on standard input, in pieces as the seed has them
+//!   second bids flag N | price N | marker N
+//!                                  the stream on standard input, damaged: 7D for the byte before the flag behind packet N, a higher
+//!                                  digit in the price of packet N, or marker N spoilt
+//!   second bids seen FILE          of the listing on standard input: which bids of the file the board shows
+//!   second bids framed FILE        of the stream on standard input: which ones a framed board would show
+
+use crate::cases::Random;
+use crate::channel::{self, BLOCK, MARKER, MESSAGE};
+use crate::fcs;
+use crate::packet::{self, FLAG};
+use crate::parity::WORD;
+use std::io::{Read, Write};
+
+pub fn run(words: &[&str]) -> i32 {
+    let mut input = Vec::new();
+    if words.first() != Some(&"files") {
+        std::io::stdin().read_to_end(&mut input).expect("standard input");
+    }
+    match *words {
+        ["send"] => {
+            let (stream, named) = sent(&input);
+            put(&stream);
+            eprint!("{named}");
+        }
+        ["files", dir] => write_files(dir, 1),
+        ["files", dir, seed] => write_files(dir, seed.parse().expect("a seed")),
+        ["record", seed] => put(&recorded(&input, seed.parse().expect("a seed"))),
+        ["flag", n] => put(&spoil_flag(input, n.parse().expect("a number"))),
+        ["marker", n] => put(&spoil_marker(input, n.parse().expect("a number"))),
+        ["price", n] => put(&spoil_price(input, n.parse().expect("a number"))),
+        ["seen", file] => println!("{}", seen("The manager sees", file, &listed(&input))),
+        ["framed", file] => println!("{}", seen("A framed board:", file, &framed(&input))),
+        _ => return 2,
+    }
+    0
+}
+
+fn put(bytes: &[u8]) {
+    std::io::stdout().write_all(bytes).expect("standard output");
+}
+
+// One to five digits, at most 65,535.
+fn number(word: &[u8]) -> Option<u16> {
+    if word.len() > 5 || !word.iter().all(u8::is_ascii_digit) {
+        return None;
+    }
+    std::str::from_utf8(word).ok()?.parse().ok()
+}
+
+// A line: port, sequence and text, or none where it is no bid.
+fn bid(line: &[u8]) -> Option<(u16, u16, &[u8])> {
+    let mut parts = line.splitn(3, |b| *b == b' ');
+    let port = number(parts.next()?)?;
+    let sequence = number(parts.next()?)?;
+    Some((port, sequence, parts.next().unwrap_or(&[])))
+}
+
+// The lines of an input; what stands behind the last line feed is a line too, where it is not empty.
+fn lines(input: &[u8]) -> Vec<&[u8]> {
+    let mut lines: Vec<&[u8]> = input.split(|b| *b == b'\n').collect();
+    if lines.last().is_some_and(|l| l.is_empty()) {
+        lines.pop();
+    }
+    lines
+}
+
+/// The marked stream of the lines that are accepted, and the names of those that are not.
+pub fn sent(input: &[u8]) -> (Vec<u8>, String) {
+    let mut stream = vec![FLAG];
+    let mut named = String::new();
+    for (at, line) in lines(input).into_iter().enumerate() {
+        match bid(line) {
+            None => named += &format!("line {}: no bid\n", at + 1),
+            Some((port, sequence, text)) => match packet::write(port, sequence, text, usize::MAX) {
+                Ok(bytes) => stream.extend(bytes),
+                Err(n) => named += &format!("line {}: refused {n}\n", at + 1),
+            },
+        }
+    }
+    (channel::send(&stream, usize::MAX).expect("any room"), named)
+}
+
+// ---- files of bids
+
+fn text(random: &mut Random, n: usize) -> Vec<u8> {
+    (0..n)
+        .map(|_| match random.below(8) {
+            0 => 0x7D,
+            1 => 0x7E,
+            2 => b' ',
+            3 => random.byte(),
+            _ => b'0' + random.below(10) as u8,
+        })
+        .map(|b| if b == b'\n' { b'.' } else { b })
+        .collect()
+}
+
+// A text of so many bytes as escaped, or one less.
+fn long_text(random: &mut Random, escaped: usize) -> Vec<u8> {
+    let mut bytes = Vec::new();
+    let mut left = escaped;
+    while left > 0 {
+        let double = left > 1 && random.below(3) == 0;
+        bytes.push(if double { 0x7D + random.below(2) as u8 } else { b'a' });
+        left -= 1 + double as usize;
+    }
+    bytes
+}
+
+fn line(random: &mut Random) -> Vec<u8> {
+    let edges = ["31999", "32000", "32255", "32511", "32512", "0", "00000", "00021", "65535", "65536", "99999", "000001", "-1", "+5", "", "7x", "1e3"];
+    let word = |random: &mut Random| match random.below(4) {
+        0 => edges[random.below(edges.len())].to_string(),
+        _ => random.below(65536).to_string(),
+    };
+    let (port, sequence) = (word(random), word(random));
+    let head = format!("{port} {sequence} ").into_bytes();
+    match random.below(40) {
+        0 => Vec::new(),
+        1 => port.into_bytes(),
+        2 => format!("{port} {sequence}").into_bytes(),
+        3 => head,
+        4 => [&b" "[..], &head, b"x"].concat(),
+        5 => text(random, 30),
+        6 => {
+            let most = 8190 + random.below(6);
+            let long = long_text(random, most);
+            [&head[..], &long].concat()
+        }
+        7 => {
+            let most = 8193 + random.below(70000);
+            [&head[..], &text(random, most)].concat()
+        }
+        _ => {
+            let some = 1 + random.below(90);
+            [&head[..], &text(random, some)].concat()
+        }
+    }
+}
+
+fn write_files(dir: &str, seed: u64) {
+    let mut random = Random::new(seed);
+    std::fs::create_dir_all(dir).expect(dir);
+    let mut files = vec![Vec::new(), b"\n".to_vec(), b"20736 0 A".to_vec(), b"20736 0 A\n".to_vec()];
+    // streams of 222 to 225 bytes, and of two messages: what is filled with flags
+    for n in [204, 205, 206, 207, 427, 428, 429, 430] {
+        files.push([b"1 2 ".to_vec(), vec![b'x'; n], b"\n".to_vec()].concat());
+    }
+    for _ in 0..60 {
+        let count = random.below(60);
+        let mut file = (0..count).map(|_| line(&mut random)).collect::<Vec<_>>().join(&b'\n');
+        if random.below(3) > 0 {
+            file.push(b'\n');
+        }
+        files.push(file);
+    }
+    for (at, file) in files.iter().enumerate() {
+        std::fs::write(format!("{dir}/{at:03}.bids"), file).expect(dir);
+    }
+}
+
+// ---- a day
+
+// A recording; seed 0: one piece, else pieces of odd lengths.
+fn recorded(stream: &[u8], seed: u64) -> Vec<u8> {
+    let mut random = Random::new(seed);
+    let mut rest = stream;
+    let mut bytes = vec![0x4F];
+    while !rest.is_empty() {
+        let n = if seed == 0 { 60000 } else { 2 * random.below(60) + 1 }.min(rest.len());
+        bytes.extend([0xF5, 0x5F, (n % 256) as u8, (n / 256) as u8]);
+        bytes.extend(&rest[..n]);
+        rest = &rest[n..];
+    }
+    bytes
+}
+
+// Where message byte i stands in the marked stream.
+fn place(i: usize) -> usize {
+    i / MESSAGE * BLOCK + MARKER.len() + i % MESSAGE
+}
+
+// Where flag n stands among the message bytes; the first is flag 0.
+fn flag(stream: &[u8], n: usize) -> usize {
+    let count = stream.len() / BLOCK * MESSAGE;
+    (0..count).filter(|i| stream[place(*i)] == FLAG).nth(n).expect("so many flags")
+}
+
+// The byte before the flag behind packet n becomes 7D.
+fn spoil_flag(mut stream: Vec<u8>, n: usize) -> Vec<u8> {
+    let at = flag(&stream, n) - 1;
+    stream[place(at)] = 0x7D;
+    stream
+}
+
+// The digit before the point in packet n is one higher.
+fn spoil_price(mut stream: Vec<u8>, n: usize) -> Vec<u8> {
+    let point = (flag(&stream, n - 1)..flag(&stream, n)).find(|i| stream[place(*i)] == b'.').expect("a price");
+    stream[place(point - 1)] += 1;
+    stream
+}
+
+// Marker n (the first is marker 0) loses a byte's worth.
+fn spoil_marker(mut stream: Vec<u8>, n: usize) -> Vec<u8> {
+    stream[n * BLOCK + 1] ^= 0x10;
+    stream
+}
+
+// Port, sequence and length of a bid.
+type Shown = (u16, u16, usize);
+
+// The packets of a listing.
+fn listed(listing: &[u8]) -> Vec<Shown> {
+    let text = String::from_utf8_lossy(listing);
+    let packet = |l: &str| {
+        let mut words = l.strip_prefix("P ")?.split(' ');
+        Some((words.next()?.parse().ok()?, words.next()?.parse().ok()?, words.next()?.parse().ok()?))
+    };
+    text.lines().filter_map(packet).collect()
+}
+
+// What a framed board shows: it locks as ours does, and 7D hides whatever byte follows it, a flag too.
+fn framed(stream: &[u8]) -> Vec<Shown> {
+    let mut shown = Vec::new();
+    let mut at = 0;
+    while at + BLOCK <= stream.len() {
+        if stream[at..at + 4] != MARKER {
+            at += 1;
+            continue;
+        }
+        let mut messages = Vec::new();
+        while at + BLOCK <= stream.len() && stream[at..at + 4] == MARKER {
+            messages.extend(&stream[at + 4..at + 4 + WORD][..MESSAGE]);
+            at += BLOCK;
+        }
+        shown.extend(unframed(&messages));
+    }
+    shown
+}
+
+fn unframed(bytes: &[u8]) -> Vec<Shown> {
+    let mut shown = Vec::new();
+    let mut frame: Option<Vec<u8>> = None;
+    let mut hidden = false;
+    for byte in bytes {
+        if hidden {
+            hidden = false;
+            frame.iter_mut().for_each(|f| f.push(byte ^ 0x20));
+        } else if *byte == FLAG {
+            let closed = frame.replace(Vec::new()).unwrap_or_default();
+            if closed.len() > 7 && fcs::check(&closed[..closed.len() - 2]).to_le_bytes() == closed[closed.len() - 2..] {
+                let number = |i: usize| u16::from_le_bytes([closed[i], closed[i + 1]]);
+                shown.push((number(1), number(3), closed.len() - 7));
+            }
+        } else if *byte == 0x7D {
+            hidden = true;
+        } else {
+            frame.iter_mut().for_each(|f| f.push(*byte));
+        }
+    }
+    shown
+}
+
+// Which of the bids that were sent are shown.
+fn seen(who: &str, file: &str, shown: &[Shown]) -> String {
+    let input = std::fs::read(file).expect(file);
+    let all: Vec<Shown> = lines(&input)
+        .into_iter()
+        .filter_map(bid)
+        .filter(|(port, sequence, text)| packet::write(*port, *sequence, text, usize::MAX).is_ok())
+        .map(|(port, sequence, text)| (port, sequence, text.len()))
+        .collect();
+    let missing: Vec<u16> = all.iter().filter(|s| !shown.contains(s)).map(|s| s.1).collect();
+    let wrong = shown.iter().filter(|s| !all.contains(s)).count();
+    let lost = match missing[..] {
+        [] => "none is lost".to_string(),
+        [one] => format!("bid {one} is lost"),
+        [first, .., last] if usize::from(last - first) + 1 == missing.len() => format!("bids {first} to {last} are lost"),
+        _ => format!("bids {} are lost", missing.iter().map(u16::to_string).collect::<Vec<_>>().join(", ")),
+    };
+    let none = if wrong == 0 { "none".to_string() } else { wrong.to_string() };
+    format!("{who:17} {} of {} bids; {lost}; {none} wrong.", shown.len() - wrong, all.len())
+}
