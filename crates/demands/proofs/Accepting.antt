@@ -27,6 +27,7 @@ use Rattle.recording.proofs.recording.Recording.start as recording-start
 use Rattle.recording.proofs.recording.Recording.take as recording-take
 use Rattle.recording.proofs.recording.Recording.finish as recording-finish
 use Rattle.field.proofs.inverse as field-inverse
+use Rattle.field.proofs.value as field-value
 use Rattle.parity.proofs.value as parity-value
 use Rattle.parity.proofs.subtract as parity-subtract
 use Rattle.repair.proofs.repair as repair-repair
@@ -117,6 +118,9 @@ recording-finish-accepts = (λ M. recording-finish.Met.met, λ κs a. tt)
 
 pub field-inverse-accepts : Accepts field-inverse.Statement.statement field-inverse.Kinds.ps field-inverse.Reads.Asked
 field-inverse-accepts = (λ M. field-inverse.Met.met, λ κs a. tt)
+
+pub field-value-accepts : Accepts field-value.Statement.statement field-value.Kinds.ps field-value.Reads.Asked
+field-value-accepts = (λ M. field-value.Met.met, λ κs a. tt)
 
 pub parity-value-accepts : Accepts parity-value.Statement.statement parity-value.Kinds.ps parity-value.Reads.Asked
 parity-value-accepts = (λ M. parity-value.Met.met, λ κs a. tt)

@@ -2,10 +2,11 @@
 -- the rule of each is proved here, over the whole table.
 -- exp-table, log-table     the rule of each table
 -- product                  a product by logarithms
+-- less                     a power of alpha without one round of 255
 -- even-power, odd-power    a power from that of half the exponent
 use mathlib.Core.Path.{_≡_, sym, ap, ap₂, _∙_}
 use mathlib.Core.List.{List, [], _∷_}
-use Prim.Native.Nat.{ℕ, zero, suc, _+_, _-_, _/_, _%_, _<_}
+use Prim.Native.Nat.{ℕ, zero, suc, _+_, _-_, _/_, _%_, _≤_, _<_}
 use native.Mathlib.Nat.{not-suc-le-zero, le-of-suc-le-suc, add-zero, add-suc, suc-add}
 use native.Mathlib.Omega.{arith}
 use lib.ListN.{getD}
@@ -34,6 +35,9 @@ log-table a h l = rw here (log-lt a h l, pow-log a h l)
 
 pub product : (i j : ℕ) {a b r : ℕ} → pow alpha i ≡ a → pow alpha j ≡ b → r ≡ pow alpha ((i + j) % 255) → r ≡ mul a b
 product i j p q e = e ∙ alpha-mod (i + j) ∙ pow-add alpha i j ∙ ap₂ mul p q
+
+pub less : (e : ℕ) → 255 ≤ e → pow alpha (e - 255) ≡ pow alpha e
+less e h = sym (alpha-mod (e - 255)) ∙ ap (pow alpha) (omega arith) ∙ alpha-mod e
 
 -- the square of the power of half the exponent
 square : (a e : ℕ) {h s : ℕ} → h ≡ pow a (e / 2) → s ≡ mul h h → s ≡ pow a (e / 2 + e / 2)

@@ -4,7 +4,7 @@ ghost use Prim.Native.Nat.{_<_};
 ghost use Rattle.field.specs.Field.{alpha, pow};
 
 // EXP[k] is alpha to the power k.
-const EXP: [u8; 255] = [
+pub const EXP: [u8; 255] = [
     1,
     2,
     4,

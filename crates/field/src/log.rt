@@ -4,7 +4,7 @@ ghost use Prim.Native.Nat.{_<_};
 ghost use Rattle.field.specs.Field.{alpha, pow};
 
 // LOG[a - 1] is the k below 255 for which alpha to the power k is a.
-const LOG: [u8; 255] = [
+pub const LOG: [u8; 255] = [
     0,
     1,
     25,

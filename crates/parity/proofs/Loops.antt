@@ -28,16 +28,6 @@ use Rattle.parity.proofs.Sums.{length-onto}
 use Rattle.parity.proofs.Generator.{length-generator, generator-monic}
 use Rattle.parity.proofs.Division.{divide-step, length-remainder}
 
--- ---- value
-module _ (a v i : ℕ) (p : List ℕ) {t : ℕ} (inv : horner a v (drop i p) ≡ t) where
-  pub horner-next : {x y : ℕ} → i < length p → x ≡ mul v a → y ≡ add x (getD p i 0) → horner a y (drop (i + 1) p) ≡ t
-  unfolding horner
-  horner-next h ex ey = rw (ey, ex) (rw (next p i h) at inv)
-
-  pub horner-done : length p ≤ i → v ≡ t
-  unfolding horner
-  horner-done h = rw (over p i h) at inv
-
 -- ---- zero_at
 both-false : (b : Bool) → both b false ≡ false
 both-false true = refl
@@ -50,9 +40,9 @@ not-clean w j (suc r) h n =
     ⊎-elim (λ (e : j ≡ r). ap (λ (b : Bool). both b (clean r w)) (ne-eqb _ 0 (subst (λ (k : ℕ). eval w (pow alpha (suc k)) ≡ 0 → ⊥) e n)))
     (λ (l : j < r). ap (both (eqb (eval w (pow alpha (suc r))) 0)) (not-clean w j r l n) ∙ both-false (eqb (eval w (pow alpha (suc r))) 0)) (eq-or-lt-of-le (le-of-suc-le-suc h))
 
-module _ (w : List ℕ) (j : ℕ) {a v : ℕ} (ha : a ≡ pow alpha (j + 1)) (hv : v ≡ eval w a) where
+module _ (w : List ℕ) (j : ℕ) {v : ℕ} (hv : v ≡ eval w (pow alpha (j + 1))) where
   at-root : v ≡ eval w (pow alpha (suc j))
-  at-root = hv ∙ ap (eval w) (ha ∙ ap (pow alpha) (add-one j))
+  at-root = hv ∙ ap (λ (k : ℕ). eval w (pow alpha k)) (add-one j)
 
   pub clean-next : v ≡ 0 → clean j w ≡ true → clean (j + 1) w ≡ true
   unfolding clean

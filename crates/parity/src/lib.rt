@@ -4,6 +4,7 @@ ghost use mathlib.Core.List.{_∷_, _++_};
 ghost use Prim.Native.Nat.{_+_, _-_, _≤_};
 ghost use lib.ListN.{length, drop, replicate};
 ghost use Rattle.base.specs.Written.{copied, outcome};
+ghost use Rattle.field.specs.Field.{alpha, pow};
 ghost use Rattle.parity.specs.Word.{eval, clean, scale, onto, generator, divide, remainder};
 ghost use Rattle.parity.specs.Calls.{checked, made};
 use base::Refusal;
@@ -27,17 +28,11 @@ impl Word {
     pub const MOST: usize = 64;
 }
 
-/// The value of a polynomial at a.
-pub fn value(p: &[u8], a: u8) -> u8
-    ensures { λ r. ⌜ r ≡ eval (now (p .entry)) a ⌝ }
+/// The value of a polynomial at alpha to the power j.
+pub fn value(j: usize, p: &[u8]) -> u8
+    ensures { λ r. ⌜ r ≡ eval (now (p .entry)) (pow alpha j) ⌝ }
 {
-    let mut v: u8 = 0;
-    let mut i: usize = 0;
-    while i < p.len() {
-        v = field::plus(field::times(v, a), p[i]);
-        i += 1;
-    }
-    v
+    field::value(j, p)
 }
 
 // Whether a word is zero at the roots 1 to r.
@@ -46,7 +41,7 @@ fn zero_at(r: usize, word: &[u8]) -> bool
 {
     let mut j: usize = 0;
     while j < r {
-        if value(word, field::power(j + 1)) != 0 {
+        if value(j + 1, word) != 0 {
             return false;
         }
         j += 1;

@@ -55,13 +55,13 @@ sums-more w (suc n) j =
     ap (λ (t : List ℕ). eval w (pow alpha j) ∷ t) (sums-more w n (suc j) ∙ ap (λ (t : ℕ). sumsFrom w (suc j) n ++ eval w (pow alpha t) ∷ []) (suc-plus j n ∙ sym (plus-suc j n)))
 
 module _ (w : List ℕ) (j : ℕ) (s : List ℕ) (inv : s ≡ sumsFrom w 1 j ++ replicate (64 - j) 0) where
-  pub sums-next : {x v : ℕ} → j < 64 → x ≡ pow alpha (j + 1) → v ≡ eval w x → set s j v ≡ sumsFrom w 1 (j + 1) ++ replicate (64 - (j + 1)) 0
-  sums-next {x} {v} h ex ev =
+  pub sums-next : {v : ℕ} → j < 64 → v ≡ eval w (pow alpha (j + 1)) → set s j v ≡ sumsFrom w 1 (j + 1) ++ replicate (64 - (j + 1)) 0
+  sums-next {v} h ev =
       ap (λ (t : List ℕ). set t j v) (inv ∙ ap (λ (n : ℕ). sumsFrom w 1 j ++ replicate n 0) more)
       ∙ set-at (sumsFrom w 1 j) 0 (replicate (64 - (j + 1)) 0) v j (length-sums-from w j 1)
       ∙ sym (append-assoc (sumsFrom w 1 j) (v ∷ []) (replicate (64 - (j + 1)) 0))
       ∙ ap (λ (t : List ℕ). t ++ replicate (64 - (j + 1)) 0)
-      (ap (λ (t : ℕ). sumsFrom w 1 j ++ t ∷ []) (ev ∙ ap (eval w) (ex ∙ ap (pow alpha) (nat-add-comm j 1))) ∙ sym (sums-more w j 1) ∙ ap (sumsFrom w 1) (sym (add-one j)))
+      (ap (λ (t : ℕ). sumsFrom w 1 j ++ t ∷ []) (ev ∙ ap (λ (k : ℕ). eval w (pow alpha k)) (nat-add-comm j 1)) ∙ sym (sums-more w j 1) ∙ ap (sumsFrom w 1) (sym (add-one j)))
     where
       more : 64 - j ≡ suc (64 - (j + 1))
       more = omega arith
@@ -371,10 +371,5 @@ module _ (r : ℕ) (w : List ℕ) (l : length w ≡ 255) {copy : List ℕ} (left
     mend-refused m e = rw e at near
 
 -- ---- repair
--- the members of a slice of bytes are bytes
-pub bytes-of : (xs : List ℕ) → ((i : ℕ) → getD xs i 0 < 256) → Bytes xs
-bytes-of [] h = tt
-bytes-of (x ∷ xs) h = (h 0, bytes-of xs (λ i. h (suc i)))
-
 pub repair-damaged : (r : ℕ) (w : List ℕ) → Bytes w → {c : Checked} → c ≡ checked r w → c ≡ check.Damaged → (a : Mended) (o : List ℕ) → (a, o) ≡ mended r w → Promised r w a o
 repair-damaged r w b ec e a o em = subst (λ (m : Mended × List ℕ). Promised r w (m .0) (m .1)) (sym em) (mended-promised r w b (sym ec ∙ e))

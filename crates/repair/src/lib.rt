@@ -44,7 +44,7 @@ fn sums(r: usize, word: &[u8]) -> [u8; 64]
     let mut s = [0u8; 64];
     let mut j: usize = 0;
     while j < r {
-        s[j] = parity::value(word, field::power(j + 1));
+        s[j] = parity::value(j + 1, word);
         j += 1;
     }
     s

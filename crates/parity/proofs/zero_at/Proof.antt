@@ -22,12 +22,11 @@ zero-at-spec =
     (λ c. unfold clean in (omega arith, refl))
     (omega arith)
     (search needs)
-    (search needs)
-    (λ c. clean-fails _ _ (c .before .before .power .ensures) (c .before .value .ensures) _ (omega arith) (c .if1 .taken))
+    (λ c. clean-fails _ _ (c .before .value .ensures) _ (omega arith) (c .if1 .taken))
     (omega arith)
     (omega arith)
     (λ c. (
       omega arith,
-      clean-next _ _ (c .before .before .power .ensures) (c .before .value .ensures) (c .if1 .left) (c .before .before .before .before .loop .inv .1),
+      clean-next _ _ (c .before .value .ensures) (c .if1 .left) (c .before .before .before .loop .inv .1),
     ))
     (λ c. clean-done _ _ _ (c .before .loop .inv .0) (omega arith) (c .before .loop .inv .1)))

@@ -2,7 +2,8 @@
 use mathlib.Core.Path.{refl, sym, _∙_}
 use borrow.Author.Needs.{needs}
 use Rattle.repair.proofs.Apart.{checked-damaged}
-use Rattle.repair.proofs.Loops.{bytes-of, repair-damaged}
+use Rattle.parity.proofs.Values.{bytes-of}
+use Rattle.repair.proofs.Loops.{repair-damaged}
 use Rattle.repair.proofs.repair.Statement.{statement}
 use Rattle.repair.proofs.repair.Tie as tie
 

@@ -26,6 +26,5 @@ sums-spec =
     (search needs)
     (search needs)
     (search needs)
-    (search needs)
-    (λ c. (omega arith, sums-next _ _ _ (c .before .before .before .loop .inv .1) (omega arith) (c .before .power .ensures) (c .value .ensures)))
+    (λ c. (omega arith, sums-next _ _ _ (c .before .before .loop .inv .1) (omega arith) (c .value .ensures)))
     (λ c. sums-done _ _ _ (c .before .loop .inv .1) _ (c .before .loop .inv .0) (c .loop-test .left)))
