@@ -4,7 +4,6 @@ use Prim.Native.Nat.{ℕ}
 use mathlib.Core.Path.{_≡_, refl}
 use mathlib.Core.List.{List, [], _∷_, map}
 use Rattle.fcs.specs.Fcs.{fcs, register, entered}
-use Rattle.packet.specs.Port.{class}
 use Rattle.packet.specs.Escape.{escape, escapeByte}
 use Rattle.packet.specs.Contents.{contents, checked}
 use Rattle.stream.specs.Sender.{stream}

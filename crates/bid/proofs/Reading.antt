@@ -8,7 +8,7 @@ use native.Mathlib.Omega.{arith}
 use native.Mathlib.Nat.{sub-zero}
 use mathlib.Core.Path.{_≡_, refl, sym, _∙_, ap}
 use mathlib.Core.Bool.{Bool, true, false}
-use mathlib.Core.List.{List, [], _∷_}
+use mathlib.Core.List.{List, []}
 use lib.Dec.{ltb}
 use lib.ListN.{length, take, drop}
 use lib.Seq.{drop-drop}
@@ -17,10 +17,9 @@ use Rattle.base.specs.Choice.{pick, both}
 use Rattle.base.proofs.Lists.{over}
 use Rattle.base.proofs.Parts.{tail-is}
 use Rattle.base.proofs.Tests.{by-le}
-use Rattle.bid.specs.declared.Found.{Found}
 use Rattle.bid.specs.declared.Found.the-variants.{Bid, NoBid}
 use Rattle.bid.specs.Line.{space, upTo, past, noNumber, number, port, sequence, text, isBid, textAt, reading}
-use Rattle.bid.proofs.UpTo.{up-to-is, up-to-short}
+use Rattle.bid.proofs.UpTo.{up-to-is}
 use Rattle.bid.proofs.Decimal.{number-none, not-both}
 
 -- no second part

@@ -12,14 +12,14 @@ use mathlib.Core.List.{List, [], _∷_}
 use lib.Dec.{ltb}
 use lib.ListN.{length, take, drop, length-drop}
 use lib.Seq.{take-all, take-nil, length-take-le}
-use borrow.Author.Tests.{eq-eqb, ne-eqb, lt-ltb, le-ltb, ltb-true}
+use borrow.Author.Tests.{eq-eqb, ne-eqb, lt-ltb, le-ltb}
 use Rattle.base.specs.Bytes.{IsByte, Bytes}
 use Rattle.base.specs.Choice.{pick, both}
 use Rattle.base.proofs.Bytes.{each-drop}
 use Rattle.base.proofs.Tests.{by-eq, by-le}
 use Rattle.packet.specs.Port.{barred}
 use Rattle.packet.specs.Contents.{payloadLimit}
-use Rattle.packet.specs.Escape.{escape, plain}
+use Rattle.packet.specs.Escape.{escape}
 use Rattle.packet.proofs.Escaping.{plain-short}
 use Rattle.packet.proofs.Round.{plain-undoes}
 use Rattle.stream.specs.Sender.{Packet, Accepted}

@@ -10,7 +10,7 @@ use lib.ListN.{length, replicate}
 use Rattle.base.specs.Bytes.{Each, IsByte, Bytes}
 use Rattle.base.proofs.Bytes.{each-append}
 use Rattle.base.proofs.Tests.{by-eq}
-use Rattle.stream.specs.Sender.{Packet, Accepted, stream, delivered}
+use Rattle.stream.specs.Sender.{Accepted, stream, delivered}
 use Rattle.channel.specs.Sender.{messagesOf}
 use Rattle.channel.specs.Channel.{answers, frames, blocks, losses, FirstMarker}
 use Rattle.channel.proofs.Streaming.{whole-stream}

@@ -7,15 +7,14 @@
 use Prim.Native.Nat.{ℕ, suc, _≤_}
 use native.Mathlib.Omega.{arith}
 use mathlib.Core.Path.{_≡_, refl, sym, _∙_, ap, subst}
-use mathlib.Core.Bool.{Bool}
 use mathlib.Core.List.{List, [], _∷_, _++_, append-assoc}
 use mathlib.Core.Option.{Option, some, none}
-use lib.Dec.{eqb, leb}
-use lib.ListN.{length, take, drop, length-append, length-drop}
+use lib.Dec.{eqb}
+use lib.ListN.{length, take, drop, length-drop}
 use borrow.Author.Tests.{le-leb}
 use Rattle.base.specs.Choice.{pick}
 use Rattle.base.specs.Calls.{joined, tell, ReadsAll}
-use Rattle.base.specs.Written.{Outcome, refused, copied}
+use Rattle.base.specs.Written.{refused, copied}
 use Rattle.base.proofs.Calls.{cut-guarded, cut-guarded-ends}
 use Rattle.base.proofs.Writing.{copied-fits}
 use Rattle.packet.specs.Escape.{flag}
@@ -23,7 +22,7 @@ use Rattle.stream.specs.Sender.{behind}
 use Rattle.channel.specs.Sender.{marked, sending}
 use Rattle.bid.specs.Line.{feed, lineLimit}
 use Rattle.bid.specs.Input.{packetsOf, complaints}
-use Rattle.office.specs.Desk.{sentFor, Said, Desk, desk, soFar, waiting, eat, owesNone, handsNone, deskAll, sentBy, complaintsBy}
+use Rattle.office.specs.Desk.{sentFor, Said, Desk, desk, waiting, eat, owesNone, handsNone, deskAll, sentBy, complaintsBy}
 use Rattle.office.specs.Called.{holdLimit, outLimit, begins, hearOn, hearCall, closeCall, finishing}
 use Rattle.office.proofs.Hearing.{call-on}
 use Rattle.office.proofs.Sent.{sent-append, Fine, fine-sound, fine-roomy, fine-eat, lastOf, closed, says, names}

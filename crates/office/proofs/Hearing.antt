@@ -6,15 +6,15 @@
 -- call-unsound .. call-on       refusals 10, 11 and 23, or let on
 -- close-none, close-line        the end of the input
 -- finish-unsound .. finish-on   the last block
-use Prim.Native.Nat.{ℕ, zero, suc, _+_, _-_, _≤_, _<_, min}
+use Prim.Native.Nat.{ℕ, suc, _+_, _-_, _≤_, _<_, min}
 use native.Mathlib.Omega.{arith}
 use native.Mathlib.Nat.{sub-zero}
 use mathlib.Core.Path.{_≡_, refl, sym, _∙_, ap, subst}
 use mathlib.Core.Bool.{Bool, true, false, true≢false}
 use mathlib.Core.List.{List, [], _∷_, _++_, append-assoc, append-nil}
-use mathlib.Core.Option.{Option, some, none}
-use lib.Dec.{eqb, leb}
-use lib.ListN.{length, take, drop, set, length-append, length-drop, take-append-drop}
+use mathlib.Core.Option.{Option, none}
+use lib.Dec.{leb}
+use lib.ListN.{length, take, drop, length-drop, take-append-drop}
 use lib.Seq.{sets, sets-eq, length-sets, take-nil, take-all, length-take-le, drop-drop, drop-append-le}
 use borrow.Author.Tests.{eq-eqb, ne-eqb, le-leb, lt-leb, leb-true}
 use borrow.Rule.Slice.PartMut.{putMid}
@@ -31,8 +31,8 @@ use Rattle.office.specs.declared.Office.{Office}
 use Rattle.office.specs.declared.Answer.the-variants.{More, Refused}
 use Rattle.office.specs.declared.Heard.{Heard}
 use Rattle.office.specs.declared.Ended.{Ended}
-use Rattle.office.specs.Desk.{refusal, Said, Ending, endingBy, Desk, desk, soFar, kept, behindLine, endingOf, ended, eat}
-use Rattle.office.specs.Called.{heldLimit, holdLimit, outLimit, sound, roomy, hearOn, denied, hearBy, hearCall, closeCall, spoken, spokenOut, answered, answeredOut, HeardIs, finishing, EndedIs}
+use Rattle.office.specs.Desk.{Said, endingBy, Desk, desk, kept, endingOf, ended, eat}
+use Rattle.office.specs.Called.{heldLimit, holdLimit, outLimit, sound, roomy, hearOn, denied, hearBy, hearCall, closeCall, HeardIs, finishing, EndedIs}
 
 -- ---- bytes of a line stored
 module _ (line bs : List ℕ) (at : ℕ) (h : at ≤ lineLimit) (room : lineLimit ≤ length line) where

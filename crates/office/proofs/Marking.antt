@@ -3,13 +3,13 @@
 -- marked-length      259 bytes for each whole message
 -- wholes-length, rest-short, wholes-rest   the whole messages among bytes, and the rest
 -- marked-rest        whole messages may go out first
-use Prim.Native.Nat.{ℕ, zero, suc, _+_, _-_, _*_, _/_, _%_, _≤_, _<_}
+use Prim.Native.Nat.{ℕ, zero, suc, _+_, _*_, _/_, _≤_}
 use native.Mathlib.Omega.{arith}
 use native.Mathlib.Nat.{suc-add, zero-add}
 use mathlib.Core.Path.{_≡_, refl, sym, _∙_, ap}
 use mathlib.Core.List.{List, [], _∷_, _++_, map, append-nil, append-assoc}
 use lib.ListN.{length, take, drop, replicate, length-append, length-drop, take-append-drop, length-replicate}
-use lib.Seq.{take-append-le, drop-append-le, take-all, length-take-le}
+use lib.Seq.{take-append-le, drop-append-le, length-take-le}
 use Rattle.packet.specs.Escape.{flag}
 use Rattle.parity.specs.Word.{remainder}
 use Rattle.parity.proofs.Division.{length-remainder}

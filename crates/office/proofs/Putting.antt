@@ -2,11 +2,10 @@
 -- put-is, put-not                whole messages put out, the rest moved
 -- send-asks, send-is, send-not   a bid
 -- line-asks, line-bid, line-none a line's end
-use Prim.Native.Nat.{ℕ, _+_, _-_, _*_, _/_, _%_, _≤_, _<_}
+use Prim.Native.Nat.{ℕ, _+_, _-_, _*_, _/_, _%_, _≤_}
 use native.Mathlib.Omega.{arith}
 use native.Mathlib.Nat.{sub-zero}
 use mathlib.Core.Path.{_≡_, refl, sym, _∙_, ap, subst}
-use mathlib.Core.Bool.{Bool, true, false}
 use mathlib.Core.List.{List, [], _∷_, _++_, append-assoc}
 use lib.ListN.{length, take, drop, replicate, length-append, length-drop, length-replicate}
 use lib.Seq.{take-take, take-at, length-take-le, drop-drop}
@@ -17,7 +16,7 @@ use Rattle.base.proofs.Parts.{tail-is}
 use Rattle.base.proofs.Tests.{by-eq, by-le}
 use Rattle.base.proofs.Writing.{write-fits, copied-fits}
 use Rattle.packet.specs.Port.{barred}
-use Rattle.packet.specs.Contents.{payloadLimit, contents}
+use Rattle.packet.specs.Contents.{payloadLimit}
 use Rattle.packet.specs.Escape.{flag, escape}
 use Rattle.packet.specs.Sender.{framed, sent, writing}
 use Rattle.packet.proofs.Sending.{Wrote-is, wrote-is, write-empty, write-long, write-barred, write-free}
@@ -25,13 +24,13 @@ use Rattle.packet.proofs.Round.{raw-fits}
 use Rattle.stream.specs.Sender.{Packet, rawOf, appending}
 use Rattle.stream.proofs.Sending.{appending-keeps}
 use Rattle.channel.specs.Sender.{marked, sending}
-use Rattle.bid.specs.Line.{port, sequence, text, textAt, reading, Verdict, noBid, refused, accepted, judged, verdict}
+use Rattle.bid.specs.Line.{port, sequence, text, reading, Verdict, refused, accepted, judged, verdict}
 use Rattle.bid.specs.declared.Found.the-variants.{Bid, NoBid}
-use Rattle.bid.proofs.Reading.{text-is, Bid-is, bid-found, bid-missed}
+use Rattle.bid.proofs.Reading.{text-is, bid-found, bid-missed}
 use Rattle.bid.proofs.Verdicts.{judged-empty, judged-long, judged-barred, judged-free, bidOf, verdict-none, verdict-bid, drop-take, bool}
 use Rattle.office.specs.declared.Answer.the-variants.{Sent, NoBid as Unread, Refused}
 use Rattle.office.specs.declared.Ended.{Ended}
-use Rattle.office.specs.Desk.{wholeBytes, wholes, restOf, putOut, endingBy}
+use Rattle.office.specs.Desk.{wholeBytes, wholes, restOf, endingBy}
 use Rattle.office.specs.Called.{heldLimit, holdLimit, outLimit, EndedIs, PutIs}
 use Rattle.office.proofs.Marking.{marked-length, wholes-length, rest-short}
 

@@ -3,30 +3,28 @@
 -- Fine, fine-eat          what passes 10 and 11
 -- Shows, shows-kept       the line so far
 -- says, names             an input, byte by byte
-use Prim.Native.Nat.{ℕ, suc, _+_, _-_, _*_, _/_, _≤_, _<_, min}
+use Prim.Native.Nat.{ℕ, suc, _+_, _-_, _*_, _/_, _≤_, min}
 use native.Mathlib.Omega.{arith}
-use mathlib.Core.Path.{_≡_, refl, sym, _∙_, ap, ap₂, subst}
-use mathlib.Core.Bool.{Bool, true, false}
+use mathlib.Core.Path.{_≡_, refl, sym, _∙_, ap, subst}
+use mathlib.Core.Bool.{Bool, true}
 use mathlib.Core.List.{List, [], _∷_, _++_, map, append-assoc, append-nil}
 use mathlib.Core.Option.{Option, some, none}
-use lib.Dec.{eqb, leb}
-use lib.ListN.{length, take, drop, set, length-append, length-drop, length-take}
+use lib.Dec.{eqb}
+use lib.ListN.{length, take, drop, length-append, length-drop, length-take}
 use lib.Seq.{sets, length-sets, take-nil, take-all, take-at, length-take-le, take-append-le, take-suc-set}
 use borrow.Author.Tests.{eq-eqb, ne-eqb, le-leb}
 use Rattle.base.specs.Choice.{pick, both}
 use Rattle.base.specs.Calls.{tell}
-use Rattle.base.specs.Written.{copied}
 use Rattle.base.proofs.Tests.{by-eq, by-le}
 use Rattle.base.proofs.Writing.{copied-fits}
 use Rattle.packet.specs.Escape.{flag}
-use Rattle.stream.specs.Sender.{Packet, rawOf, behind}
+use Rattle.stream.specs.Sender.{rawOf, behind}
 use Rattle.channel.specs.Sender.{marked}
 use Rattle.bid.specs.Line.{feed, lineLimit, Verdict, noBid, refused, accepted, verdict}
 use Rattle.bid.specs.Input.{linesFrom, packets, numbered, complaintsFrom}
 use Rattle.bid.proofs.Verdicts.{verdict-first}
-use Rattle.office.specs.declared.Office.{Office}
-use Rattle.office.specs.Desk.{wholes, restOf, Spoken, blocks, unread, refusal, Said, Ending, putOut, endingBy, Desk, desk, soFar, waiting, kept, behindLine, endingOf, ended, eat, deskAll, sentBy, complaintsBy}
-use Rattle.office.specs.Called.{heldLimit, holdLimit, outLimit, sound, roomy, hearOn}
+use Rattle.office.specs.Desk.{wholes, restOf, Spoken, blocks, unread, refusal, Said, putOut, endingBy, Desk, soFar, waiting, kept, endingOf, ended, eat, deskAll, sentBy, complaintsBy}
+use Rattle.office.specs.Called.{heldLimit, holdLimit, sound, roomy, hearOn}
 use Rattle.office.proofs.Marking.{rest-short, marked-rest}
 use Rattle.office.proofs.Hearing.{eat-feed, eat-other}
 

@@ -4,7 +4,7 @@
 -- closeCall                the end of the input
 -- finishing                the last block
 -- EndedIs, PutIs           what the private functions are promised by
-use Prim.Native.Nat.{ℕ, _+_}
+use Prim.Native.Nat.{ℕ}
 use mathlib.Core.Path.{_≡_}
 use mathlib.Core.Bool.{Bool, true, false}
 use mathlib.Core.List.{List, [], _∷_, _++_}
@@ -21,7 +21,7 @@ use Rattle.office.specs.declared.Answer.{Answer}
 use Rattle.office.specs.declared.Answer.the-variants.{More, Sent, NoBid, Refused}
 use Rattle.office.specs.declared.Heard.{Heard}
 use Rattle.office.specs.declared.Ended.{Ended}
-use Rattle.office.specs.Desk.{wholes, restOf, Spoken, blocks, unread, refusal, Said, Ending, Desk, desk, eat, owesNone, handsNone}
+use Rattle.office.specs.Desk.{wholes, restOf, Spoken, blocks, unread, refusal, Said, Ending, Desk, eat, owesNone, handsNone}
 
 -- bytes held between lines, at most
 abbrev pub heldLimit : ℕ

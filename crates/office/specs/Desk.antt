@@ -15,7 +15,7 @@ use Rattle.base.specs.Choice.{pick}
 use Rattle.base.specs.Calls.{all}
 use Rattle.base.specs.Written.{copied}
 use Rattle.packet.specs.Escape.{flag}
-use Rattle.stream.specs.Sender.{Packet, rawOf}
+use Rattle.stream.specs.Sender.{rawOf}
 use Rattle.channel.specs.Sender.{messageBytes, marked, sent}
 use Rattle.bid.specs.Line.{feed, lineLimit, Verdict, noBid, refused, accepted, verdict}
 use Rattle.bid.specs.Input.{numbered, packetsOf}

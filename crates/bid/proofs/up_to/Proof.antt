@@ -1,5 +1,5 @@
 -- `bid::up_to` meets its contract. The invariant: what is counted, and what is left before a c, is the whole.
-use mathlib.Core.Path.{_≡_, refl}
+use mathlib.Core.Path.{_≡_}
 use Prim.Native.Nat.{_+_, _-_}
 use native.Mathlib.Omega.{arith}
 use lib.ListN.{length, drop}

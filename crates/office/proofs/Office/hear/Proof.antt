@@ -1,5 +1,5 @@
 -- `office::Office::hear` meets its contract: refused with 10, 11 or 23, or let on.
-use mathlib.Core.Path.{sym, _∙_, subst}
+use mathlib.Core.Path.{sym, _∙_}
 use borrow.Author.Needs.{needs}
 use borrow.Author.Tests.{not-true, not-false}
 use lib.ListN.{length}
