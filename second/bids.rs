@@ -3,9 +3,9 @@
 //!   second bids send               lines of bids in, the marked stream out; lines that are not sent are named on standard error
 //!   second bids files DIR [SEED]   files of bids to be sent, into a folder
 //!   second bids record SEED        a recording of the stream on standard input, in pieces as the seed has them
-//!   second bids flag N | price N | marker N
+//!   second bids flag N | price N | parity N | marker N
 //!                                  the stream on standard input, damaged: 7D for the byte before the flag behind packet N, a higher
-//!                                  digit in the price of packet N, or marker N spoilt
+//!                                  digit in the price of packet N, half of the parity of block N, or marker N spoilt
 //!   second bids seen FILE          of the listing on standard input: which bids of the file the board shows
 //!   second bids framed FILE        of the stream on standard input: which ones a framed board would show
 
@@ -32,6 +32,7 @@ pub fn run(words: &[&str]) -> i32 {
         ["record", seed] => put(&recorded(&input, seed.parse().expect("a seed"))),
         ["flag", n] => put(&spoil_flag(input, n.parse().expect("a number"))),
         ["marker", n] => put(&spoil_marker(input, n.parse().expect("a number"))),
+        ["parity", n] => put(&spoil_parity(input, n.parse().expect("a number"))),
         ["price", n] => put(&spoil_price(input, n.parse().expect("a number"))),
         ["seen", file] => println!("{}", seen("The manager sees", file, &listed(&input))),
         ["framed", file] => println!("{}", seen("A framed board:", file, &framed(&input))),
@@ -202,6 +203,13 @@ fn spoil_flag(mut stream: Vec<u8>, n: usize) -> Vec<u8> {
 fn spoil_price(mut stream: Vec<u8>, n: usize) -> Vec<u8> {
     let point = (flag(&stream, n - 1)..flag(&stream, n)).find(|i| stream[place(*i)] == b'.').expect("a price");
     stream[place(point - 1)] += 1;
+    stream
+}
+
+// Sixteen parity bytes of block n (the first is block 0) are altered: with one damaged byte more it is beyond repair.
+fn spoil_parity(mut stream: Vec<u8>, n: usize) -> Vec<u8> {
+    let end = (n + 1) * BLOCK;
+    stream[end - 16..end].iter_mut().for_each(|b| *b ^= 0x55);
     stream
 }
 

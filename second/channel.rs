@@ -2,6 +2,7 @@
 
 use crate::packet::{Judged, FLAG, RAW};
 use crate::parity::{self, WORD};
+use crate::repair::{self, Found};
 use crate::stream::Frame;
 
 pub const MARKER: [u8; 4] = [0x7D, 0x3A, 0xE2, 0x42];
@@ -32,8 +33,8 @@ pub fn send(stream: &[u8], room: usize) -> Result<Vec<u8>, u8> {
 #[derive(Clone, Copy)]
 pub enum Answer {
     Said(Judged),
-    /// A whole word, clean or not.
-    Block { clean: bool },
+    /// A whole word, and what repair found of it.
+    Block(Found),
     LockLost,
 }
 
@@ -72,7 +73,7 @@ impl Receiver {
         None
     }
 
-    /// Takes one byte while no word is left to hand on.
+    /// Takes one byte while no word is left to hand on. A whole word is repaired in its buffer, where that can be done.
     fn take(&mut self, word: &mut [u8], byte: u8) -> Option<Answer> {
         if self.locked && self.word < WORD {
             word[self.word] = byte;
@@ -81,7 +82,7 @@ impl Receiver {
                 return None;
             }
             (self.handed, self.marker) = (0, 0);
-            return Some(Answer::Block { clean: parity::check(ROOTS, &word[..WORD]) == Ok(true) });
+            return Some(Answer::Block(repair::repair(ROOTS, &mut word[..WORD]).expect("32 roots, 255 bytes")));
         }
         self.hunted = [self.hunted[1], self.hunted[2], self.hunted[3], byte];
         if self.locked {

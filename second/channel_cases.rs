@@ -2,9 +2,10 @@
 //! crates/answers/src/hearing.rt has the form of a heard channel.
 
 use crate::cases::{self, Case, Random};
-use crate::channel::{self, Answer, Receiver, BLOCK, MARKER, MESSAGE};
+use crate::channel::{self, Answer, Receiver, BLOCK, MARKER, MESSAGE, ROOTS};
 use crate::packet::{self, Judged, FLAG, RAW};
 use crate::parity::{self, WORD};
+use crate::repair::Found;
 use crate::stream::{self, Frame};
 
 /// One channel to be heard: the receiver, how the bytes are cut, the lent buffers and the bytes.
@@ -76,9 +77,10 @@ pub fn hear(number: u64, bytes: &[u8], recv: &mut [u8]) -> Vec<u8> {
 /// An answer as a number; 0 is kept for "more wanted".
 fn code(answer: Answer) -> u64 {
     match answer {
-        Answer::Block { clean: true } => 1,
-        Answer::Block { clean: false } => 2,
+        Answer::Block(Found::Clean) => 1,
+        Answer::Block(Found::Beyond) => 2,
         Answer::LockLost => 3,
+        Answer::Block(Found::Repaired(n)) => 256 + n as u64,
         Answer::Said(j) => cases::judged(j),
     }
 }
@@ -88,6 +90,8 @@ pub fn all(random: &mut Random, cases: &mut Vec<Case>) {
     let mut runs = Vec::new();
     everywhere(random, &mut runs);
     changed(random, &mut runs);
+    repaired(random, &mut runs);
+    between(random, &mut runs);
     nearly(random, &mut runs);
     slipped(random, &mut runs);
     states(random, &mut runs);
@@ -171,8 +175,12 @@ pub fn stray(random: &mut Random) -> Vec<u8> {
 }
 
 /// How a run is cut: not at all, once, or in many pieces.
-fn cut(random: &mut Random, mut run: Run) -> Run {
+fn cut(random: &mut Random, run: Run) -> Run {
     let kind = random.below(3);
+    cut_as(kind, random, run)
+}
+
+fn cut_as(kind: usize, random: &mut Random, mut run: Run) -> Run {
     if kind > 0 {
         run.first = random.below(run.bytes.len() + 1);
     }
@@ -183,45 +191,109 @@ fn cut(random: &mut Random, mut run: Run) -> Run {
     run
 }
 
-/// One block cut at every place; behind it nothing, a wrong marker, a marker one byte late, or a marker and some of a word.
+/// One block cut at every place; behind it nothing, a wrong marker, a marker one byte late, or a marker and some of a word. The block is
+/// as sent, repaired, or beyond repair.
 fn everywhere(random: &mut Random, runs: &mut Vec<Run>) {
-    for (before, behind) in [(&[][..], &[][..]), (&MARKER[..3], &[0x43, FLAG]), (&[0x7D], &MARKER), (&MARKER, &[FLAG, 0x21])] {
-        let bytes = [&sent(random, 1), before, behind].concat();
+    for (places, before, behind) in [
+        (0, &[][..], &[][..]),
+        (0, &MARKER[..3], &[0x43, FLAG]),
+        (0, &[0x7D], &MARKER),
+        (0, &MARKER, &[FLAG, 0x21]),
+        (16, &[], &[]),
+        (16, &MARKER, &[FLAG, 0x21]),
+        (17, &MARKER, &[FLAG, 0x21]),
+    ] {
+        let mut block = sent(random, 1);
+        alter(random, &mut block[4..], places);
+        let bytes = [&block, before, behind].concat();
         for first in 0..=bytes.len() {
             runs.push(Run { first, ..Run::whole(bytes.clone()) });
         }
     }
 }
 
-/// Alters so many bytes of a part, drawn anew each time.
+/// Alters so many bytes of a part, each in a place of its own.
 pub fn alter(random: &mut Random, part: &mut [u8], count: usize) {
+    let mut places: Vec<usize> = (0..part.len()).collect();
     for _ in 0..count {
-        let at = random.below(part.len());
+        let at = places.swap_remove(random.below(places.len()));
         part[at] ^= 1 + random.below(255) as u8;
     }
 }
 
+/// Damages a word: mostly in 1 to 16 places, which is repaired, else in 17 to 20, or all of it.
+pub fn damage(random: &mut Random, word: &mut [u8]) {
+    let (few, many) = (1 + random.below(16), 17 + random.below(4));
+    match random.below(6) {
+        0 => word.fill_with(|| random.byte()),
+        1 => alter(random, word, many),
+        _ => alter(random, word, few),
+    }
+}
+
+/// Damages every word of a stream in blocks.
+pub fn damage_all(random: &mut Random, blocks: &mut [u8]) {
+    blocks.chunks_mut(BLOCK).for_each(|block| damage(random, &mut block[4..]));
+}
+
 /// Streams with stray bytes in front and blocks, markers or lengths changed on the way.
 fn changed(random: &mut Random, runs: &mut Vec<Run>) {
-    for i in 0..2400 {
+    for i in 0..2880 {
         let blocks = 2 + random.below(5) * random.below(2);
         let mut bytes = sent(random, blocks);
         let start = BLOCK * random.below(blocks);
         let at = random.below(bytes.len());
         let few = 1 + random.below(5);
         let many = 2 + random.below(60);
-        match i % 10 {
+        match i % 12 {
             0 => {}
-            1 | 2 => alter(random, &mut bytes[start + 4..start + BLOCK], 1),
+            1 | 2 => damage(random, &mut bytes[start + 4..start + BLOCK]),
             3 => alter(random, &mut bytes[start + 4..start + BLOCK], many),
             4 => bytes[start + 4..start + BLOCK].fill_with(|| random.byte()),
             5 => alter(random, &mut bytes[start..start + 4], 1),
             6 => bytes[start..start + 4].fill_with(|| random.byte()),
             7 => drop(bytes.drain(at..(at + few).min(bytes.len()))),
             8 => drop(bytes.splice(at..at, random.bytes(few))),
+            9 => damage_all(random, &mut bytes),
+            10 => {
+                damage_all(random, &mut bytes);
+                alter(random, &mut bytes[start..start + 4], 1);
+            }
             _ => bytes.truncate(at),
         }
         let bytes = [stray(random), bytes].concat();
+        runs.push(cut(random, Run::whole(bytes)));
+    }
+}
+
+/// Words altered in 0 to 20 places, cut in every way. Behind them nothing, or some of a further block: the word buffer is told as repair
+/// left it.
+fn repaired(random: &mut Random, runs: &mut Vec<Run>) {
+    for places in 0..=20 {
+        for i in 0..12 {
+            let mut bytes = sent(random, 3);
+            bytes.truncate(2 * BLOCK + [0, 3, 4, 100][i / 3]);
+            for start in [0, BLOCK] {
+                alter(random, &mut bytes[start + 4..start + BLOCK], places);
+            }
+            runs.push(cut_as(i % 3, random, Run::whole(bytes)));
+        }
+    }
+}
+
+/// Words on the way between two clean ones that differ in 33 places: repaired to the nearer one.
+fn between(random: &mut Random, runs: &mut Vec<Run>) {
+    for steps in 0..=33 {
+        let mut way = vec![0; MESSAGE];
+        way[0] = 1 + random.below(255) as u8;
+        way.extend(parity::make(ROOTS, &way, 64).unwrap());
+        way.rotate_left(random.below(WORD)); // a clean word turned round is clean
+        let mut places: Vec<usize> = (0..WORD).filter(|at| way[*at] != 0).collect();
+        let mut bytes = sent(random, 1);
+        for _ in 0..steps {
+            let at = places.swap_remove(random.below(places.len()));
+            bytes[4 + at] ^= way[at];
+        }
         runs.push(cut(random, Run::whole(bytes)));
     }
 }
@@ -280,7 +352,8 @@ fn any(random: &mut Random) -> Receiver {
     }
 }
 
-/// Any state, a whole word in the buffer, and the rest of a marker or any part of a stream to hear.
+/// Any state, a whole word in the buffer, and the rest of a marker or any part of a stream to hear. The word in the buffer has had its
+/// answer: it is handed on as it stands, also where it is not clean.
 fn states(random: &mut Random, runs: &mut Vec<Run>) {
     for _ in 0..1800 {
         let receiver = any(random);
@@ -289,6 +362,9 @@ fn states(random: &mut Random, runs: &mut Vec<Run>) {
             alter(random, &mut word, 3);
         }
         let mut bytes = sent(random, 2);
+        if random.below(3) == 0 {
+            damage(random, &mut bytes[4..BLOCK]);
+        }
         let from = [receiver.marker.min(4), random.below(5), random.below(bytes.len())][random.below(3)];
         bytes.drain(..from);
         bytes.truncate(random.below(bytes.len() + 1));
@@ -297,17 +373,17 @@ fn states(random: &mut Random, runs: &mut Vec<Run>) {
     }
 }
 
-/// A word begun before, whose rest is heard: mostly clean where the two parts belong together.
+/// A word begun before, whose rest is heard: the two parts belong together, and the word is clean, repaired or beyond repair.
 fn begun(random: &mut Random, runs: &mut Vec<Run>) {
     for i in 0..300 {
         let mut word = sent(random, 1).split_off(4);
+        if i % 4 < 2 {
+            damage(random, &mut word);
+        }
         let there = if i < 20 { [0, 1, 222, 223, 224, 253, 254][i % 7] } else { random.below(WORD) };
         let mut bytes = word.split_off(there);
         bytes.extend(sent(random, 1));
         word.resize(WORD + i % 3, 0x33);
-        if i % 4 == 0 {
-            alter(random, &mut word[..there + 1], 1);
-        }
         let mut receiver = any(random);
         (receiver.locked, receiver.word) = (true, there);
         receiver.frame = Frame { opened: i % 2 == 0, raw: 0, stored: 0 };
@@ -321,7 +397,11 @@ fn buffers(random: &mut Random, runs: &mut Vec<Run>) {
         for length in [0, 1, 223, 254, 255, 256, 300] {
             for i in 0..6 {
                 let receiver = if i < 2 { Receiver::fresh() } else { any(random) };
-                let bytes = [stray(random), sent(random, 1)].concat();
+                let mut block = sent(random, 1);
+                if i % 2 == 1 {
+                    damage(random, &mut block[4..]);
+                }
+                let bytes = [stray(random), block].concat();
                 let run = Run { receiver, word: random.bytes(length), room, ..Run::whole(bytes) };
                 runs.push(cut(random, run));
             }
@@ -329,19 +409,19 @@ fn buffers(random: &mut Random, runs: &mut Vec<Run>) {
     }
 }
 
-/// Frames of the greatest length and beyond, over many blocks, each once more with one byte altered.
+/// Frames of the greatest length and beyond, over many blocks: as sent, with a word repaired, and with one beyond repair.
 fn longest(random: &mut Random, runs: &mut Vec<Run>) {
     let escaped = packet::escape(&packet::contents(0x5100, 0x7E7D, &[0x7E; 4096]));
     let plain = packet::escape(&packet::contents(0x5101, 2, &[0x41; 8192]));
     let beyond = packet::escape(&packet::contents(0x5102, 3, &[0x41; 8193]));
     for frame in [escaped, plain, beyond, vec![0x41; 8205], vec![0x41; 8206], vec![0x7D; 9000]] {
         let bytes = [&[FLAG][..], &frame, &[FLAG], &packet(random)].concat();
-        let mut bytes = channel::send(&bytes, usize::MAX).unwrap();
-        let run = Run::whole(bytes.clone());
-        runs.push(cut(random, run));
-        let at = BLOCK * (1 + random.below(30));
-        alter(random, &mut bytes[at..at + BLOCK], 1);
-        let seed = 1 + random.next() % 0x7FFFFFFE;
-        runs.push(Run { seed, first: 0, ..Run::whole(bytes) });
+        for places in [0, 1, 16, 17] {
+            let mut bytes = channel::send(&bytes, usize::MAX).unwrap();
+            let at = BLOCK * (1 + random.below(30));
+            alter(random, &mut bytes[at + 4..at + BLOCK], places);
+            runs.push(cut(random, Run::whole(bytes.clone())));
+            runs.push(cut_as(2, random, Run::whole(bytes)));
+        }
     }
 }

@@ -5,6 +5,7 @@ use crate::channel::{MARKER, MESSAGE, ROOTS};
 use crate::fcs;
 use crate::packet::{self, Judged, FLAG, PAYLOAD, RAW};
 use crate::parity::{self, WORD};
+use crate::repair::{self, Found};
 use std::io::{ErrorKind, Read, Write};
 
 /// A stream has at most so many bytes.
@@ -40,6 +41,7 @@ pub struct Lister {
 struct Totals {
     packets: u64,
     refused: u64,
+    /// Blocks beyond repair.
     damaged: u64,
     lost: u64,
 }
@@ -233,12 +235,22 @@ impl Channel {
     }
 }
 
-/// A whole word: the block's line, then those of its message bytes.
+/// A whole word: the block's line, then those of its message bytes. Only a word that is not clean is copied, to be repaired.
 fn word(bytes: &[u8], frames: &mut Frames, totals: &mut Totals, out: &mut Vec<u8>) {
-    let damaged = !clean(bytes);
-    totals.damaged += damaged as u64;
-    line(out, b'B', &[damaged as u64], b"");
-    frames.take(&bytes[..MESSAGE], totals, out);
+    if clean(bytes) {
+        line(out, b'B', &[0], b"");
+        return frames.take(&bytes[..MESSAGE], totals, out);
+    }
+    let mut word = bytes.to_vec();
+    match repair::repair(ROOTS, &mut word) {
+        Ok(Found::Repaired(n)) => line(out, b'B', &[n as u64], b""),
+        Ok(Found::Beyond) => {
+            totals.damaged += 1;
+            line(out, b'B', &[], b" X");
+        }
+        other => panic!("{other:?} of a word that is not clean"),
+    }
+    frames.take(&word[..MESSAGE], totals, out);
 }
 
 /// The generator's 32 coefficients below its leading one, times each byte; the highest stands in the low byte of the first number.

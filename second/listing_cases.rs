@@ -3,7 +3,7 @@
 
 use crate::cases::{self, Case, Random};
 use crate::channel::{self, BLOCK, MARKER};
-use crate::channel_cases::{alter, packet, packets, sent, stray};
+use crate::channel_cases::{alter, damage, damage_all, packet, packets, sent, stray};
 use crate::listing::{Lister, MOST};
 use crate::packet::{self, FLAG, RAW};
 use crate::{fcs, stream};
@@ -78,20 +78,25 @@ fn clean(random: &mut Random, n: usize) -> Vec<u8> {
     bytes
 }
 
-/// Blocks that were altered on the way: bytes, markers, bytes lost or put in, or cut off.
+/// Blocks that were altered on the way: words, markers, bytes lost or put in, or cut off.
 fn damaged(random: &mut Random, kind: usize) -> Vec<u8> {
     let blocks = 2 + random.below(4);
     let mut bytes = sent(random, blocks);
     let start = BLOCK * random.below(blocks);
     let at = random.below(bytes.len());
     let few = 1 + random.below(5);
-    match kind % 7 {
-        0 => alter(random, &mut bytes[start + 4..start + BLOCK], few),
+    match kind % 9 {
+        0 => damage(random, &mut bytes[start + 4..start + BLOCK]),
         1 => alter(random, &mut bytes[start..start + 4], 1),
         2 => drop(bytes.drain(start..start + 4)),
         3 => drop(bytes.drain(at..(at + few).min(bytes.len()))),
         4 => drop(bytes.splice(at..at, random.bytes(few))),
         5 => drop(bytes.splice(start..start, MARKER[..few % 4].to_vec())),
+        6 => damage_all(random, &mut bytes),
+        7 => {
+            damage_all(random, &mut bytes);
+            alter(random, &mut bytes[start..start + 4], 1);
+        }
         _ => bytes.truncate(at),
     }
     [stray(random), bytes].concat()
@@ -149,7 +154,14 @@ fn any(random: &mut Random, kind: usize) -> Vec<u8> {
     }
 }
 
-/// Small recordings by name, about a hundred.
+/// Clean packets in blocks, each word altered in so many places.
+fn altered(random: &mut Random, places: usize) -> Vec<u8> {
+    let mut bytes = channel::send(&clean(random, 500), usize::MAX).unwrap();
+    bytes.chunks_mut(BLOCK).for_each(|block| alter(random, &mut block[4..], places));
+    bytes
+}
+
+/// Small recordings by name, more than a hundred.
 pub fn small(seed: u64) -> Vec<Named> {
     let mut random = Random::new(seed);
     let mut all = vec![("paper".to_string(), PAPER.to_vec())];
@@ -164,6 +176,10 @@ pub fn small(seed: u64) -> Vec<Named> {
     let faults = faults();
     all.push(("faults-plain".to_string(), cut(&mut random, PLAIN, &faults)));
     all.push(("faults-channel".to_string(), cut(&mut random, CHANNEL, &channel::send(&faults, usize::MAX).unwrap())));
+    for places in 0..=20 {
+        let stream = altered(&mut random, places);
+        all.push((format!("altered-{places:02}"), cut(&mut random, CHANNEL, &stream)));
+    }
     for kind in 0..80 {
         all.push((format!("drawn-{kind:02}"), any(&mut random, kind)));
     }
@@ -175,12 +191,17 @@ fn repeated(stream: &[u8], length: usize) -> Vec<u8> {
     stream.repeat(length.div_ceil(stream.len()))
 }
 
-/// A recording of so many stream bytes at least: packets, now and then a fault; on the channel also damaged blocks and a lost marker.
+/// A recording of so many stream bytes at least: packets, now and then a fault; on the channel also damaged words, bytes altered anywhere
+/// and a lost marker.
 pub fn large(seed: u64, mode: u8, length: usize) -> Vec<u8> {
     let mut random = Random::new(seed);
     let mut stream = packets(&mut random, 400_000);
     if mode == CHANNEL {
         stream = channel::send(&stream, usize::MAX).unwrap();
+        for _ in 0..60 {
+            let start = BLOCK * random.below(stream.len() / BLOCK);
+            damage(&mut random, &mut stream[start + 4..start + BLOCK]);
+        }
         alter(&mut random, &mut stream, 60);
         stream.drain(9 * BLOCK..9 * BLOCK + 4);
     }
@@ -240,7 +261,7 @@ fn lines(count: u64, bytes: &[u8]) -> Vec<(usize, Vec<u8>)> {
 
 /// Counts a line in the totals.
 fn count(totals: &mut [u64; 4], line: &[u8]) {
-    for (total, start) in totals.iter_mut().zip(["P", "R", "B 1", "L"]) {
+    for (total, start) in totals.iter_mut().zip(["P", "R", "B X", "L"]) {
         *total += line.starts_with(start.as_bytes()) as u64;
     }
 }
@@ -335,11 +356,15 @@ pub fn all(random: &mut Random, cases: &mut Vec<Case>) {
 fn everywhere(random: &mut Random, runs: &mut Vec<Run>) {
     let plain = packets(random, 150);
     let blocks = [sent(random, 1), MARKER[..3].to_vec(), sent(random, 1)].concat();
+    let mut damaged = blocks.clone();
+    alter(random, &mut damaged[4..BLOCK], 16);
+    alter(random, &mut damaged[BLOCK + 3 + 4..], 17);
     let mut sizes = [5, 0, 1, 33, 2, 300, 4, 7].into_iter().cycle();
     let recordings = [
         PAPER.to_vec(),
         recorded(PLAIN, &plain, || sizes.next().unwrap()),
         recorded(CHANNEL, &blocks, || sizes.next().unwrap()),
+        recorded(CHANNEL, &damaged, || sizes.next().unwrap()),
     ];
     for bytes in recordings {
         for size in 1..=bytes.len() {

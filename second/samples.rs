@@ -35,10 +35,10 @@ fn stream() -> Vec<u8> {
 fn all() -> [(&'static str, Vec<u8>); 3] {
     let clean = channel::send(&stream(), usize::MAX).unwrap();
     let mut damaged = clean.clone();
-    // two digits of the first price, the last parity byte, and a marker that is lost
-    damaged[4 + 68] ^= 0x02;
-    damaged[4 + 70] ^= 0x07;
-    damaged[4 * BLOCK - 1] ^= 0x80;
+    // twenty bytes around the first price, beyond repair; two digits of the last price, repaired; a marker that is lost
+    damaged[4 + 60..4 + 80].iter_mut().for_each(|b| *b ^= 0x80);
+    damaged[3 * BLOCK + 4 + 27] ^= 0x02;
+    damaged[3 * BLOCK + 4 + 29] ^= 0x07;
     damaged.drain(BLOCK..BLOCK + 4);
     let mut malformed = recorded(PLAIN, &stream(), || 250);
     malformed[1 + 2 * 254 + 1] = 0x00;

@@ -1,8 +1,8 @@
 //! A channel heard in pieces. The number of the case is as for a stream (reading.rt). Its bytes begin with a head: whether the
 //! receiver is locked, its four hunted bytes, then in 16 bits each the counts of word, handed on and marker, the length of the first
 //! piece and that of the word buffer. The word buffer's bytes follow, then those to be heard; the output is the receive buffer. Each
-//! call is told as the bytes taken and its answer (0: more wanted, 1: clean, 2: damaged, 3: lock lost), a delivered payload behind
-//! it; at the end the state's numbers, the hunted bytes and the word buffer.
+//! call is told as the bytes taken and its answer (0: more wanted, 1: clean, 2: beyond repair, 3: lock lost, 256 + n: repaired in n
+//! places), a delivered payload behind it; at the end the state's numbers, the hunted bytes and the word buffer.
 use crate::reading;
 use channel::Answer;
 use channel::Hunting;
@@ -138,7 +138,8 @@ fn call(p: Place, bytes: &[u8], recv: &mut [u8], word: &mut [u8]) -> Place {
         Answer::More => more(r, seed, next, end, bytes.len()),
         Answer::Said(j) => onward(r, seed, next, end, reading::deliver(j, recv)),
         Answer::Clean => onward(r, seed, next, end, true),
-        Answer::Damaged => onward(r, seed, next, end, true),
+        Answer::Repaired(_) => onward(r, seed, next, end, true),
+        Answer::Beyond => onward(r, seed, next, end, true),
         Answer::LockLost => onward(r, seed, next, end, true),
     }
 }
@@ -147,10 +148,16 @@ fn code(answer: Answer) -> u64 {
     match answer {
         Answer::More => 0,
         Answer::Clean => 1,
-        Answer::Damaged => 2,
+        Answer::Repaired(n) => repaired(n),
+        Answer::Beyond => 2,
         Answer::LockLost => 3,
         Answer::Said(j) => crate::judged(j),
     }
+}
+
+// A number of its own: all others are below 4, or 65,536 and more.
+fn repaired(n: usize) -> u64 {
+    256 + n as u64 % 256
 }
 
 // Behind a piece: the next one of n bytes in all, or the end.

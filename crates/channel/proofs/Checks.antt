@@ -2,21 +2,32 @@
 -- two-and, three-and                        tests in a row that hold, and the last one
 -- owes-some, owes-none                      message bytes owed
 -- told-clean, told-damaged, told-refused    the word check's answer: a word of 255 bytes is never refused
-use Prim.Native.Nat.{ℕ, _-_}
+-- told-mended                               repair's answer, and the word it leaves
+-- settled-clean, settled-mended             the word at the start of the word buffer
+use Prim.Native.Nat.{ℕ, _-_, _≤_}
 use native.Mathlib.Omega.{arith}
 use mathlib.Core.Path.{_≡_, refl, sym, _∙_, ap}
 use mathlib.Core.Bool.{Bool, true, false, _&&_}
-use mathlib.Core.List.{List}
-use lib.ListN.{length}
+use mathlib.Core.List.{List, _++_}
+use lib.ListN.{length, take, drop, take-append-drop}
+use lib.Seq.{length-take-le}
 use borrow.Author.Tests.{eq-eqb, ne-eqb}
+use borrow.Rule.Slice.PartMut.{putMid}
 use Rattle.base.specs.Choice.{pick}
+use Rattle.base.specs.Bytes.{Bytes}
+use Rattle.parity.specs.Word.{clean}
 use Rattle.parity.specs.Calls.{checked}
 use Rattle.parity.specs.declared.Checked.{Checked}
-use Rattle.parity.specs.declared.Checked.the-variants.{Clean, Damaged, Refused}
+use Rattle.parity.specs.declared.Checked.the-variants as check
+use Rattle.repair.specs.declared.Mended.{Mended}
+use Rattle.repair.specs.Promise.{Promised}
+use Rattle.repair.proofs.Apart.{checked-is}
 use Rattle.channel.specs.declared.receiver.Receiver.{Receiver}
 use Rattle.channel.specs.declared.receiver.Answer.the-variants as answer
-use Rattle.channel.specs.Channel.{isClean}
-use Rattle.channel.specs.Called.{owedBy, owes, blockAnswer}
+use Rattle.channel.specs.Sender.{parityBytes, wordBytes}
+use Rattle.channel.specs.Channel.{conditionBy, condition, mend}
+use Rattle.channel.specs.Called.{owedBy, owes, mendIn, blockAnswer}
+use Rattle.channel.proofs.Words.{condition-clean, mend-clean, never-refused, block-determined}
 
 pub two-and : {a b x : Bool} → a ≡ true → b ≡ true → x ≡ a && (b && x)
 two-and p q = rw (p, q)
@@ -31,27 +42,43 @@ module _ (s : Receiver) (o : s .locked ≡ true) where
   pub owes-none : (s .lock .word ≡ 255 → ⊥) → 0 ≡ owes s
   owes-none w = λ i. owedBy (sym o i) (sym (ne-eqb (s .lock .word) 255 w) i) (s .lock .handed)
 
-clean-by : (t : Bool) → pick t Clean Damaged ≡ Clean → answer.Clean ≡ blockAnswer t
-clean-by true e = refl
-clean-by false e = absurd (let z : _≡_ {A = ℕ} 0 1 = cc in omega arith)
+true-by : (t : Bool) → pick t check.Clean check.Damaged ≡ check.Clean → true ≡ t
+true-by true e = refl
+true-by false e = absurd (let z : _≡_ {A = ℕ} 0 1 = cc in omega arith)
 
-damaged-by : (t : Bool) → pick t Clean Damaged ≡ Damaged → answer.Damaged ≡ blockAnswer t
-damaged-by true e = absurd (let z : _≡_ {A = ℕ} 0 1 = cc in omega arith)
-damaged-by false e = refl
+false-by : (t : Bool) → pick t check.Clean check.Damaged ≡ check.Damaged → false ≡ t
+false-by true e = absurd (let z : _≡_ {A = ℕ} 0 1 = cc in omega arith)
+false-by false e = refl
 
-not-refused : (t : Bool) (n : ℕ) → pick t Clean Damaged ≡ Refused n → ⊥
-not-refused true n e = let z : _≡_ {A = ℕ} 0 1 = cc in omega arith
-not-refused false n e = let z : _≡_ {A = ℕ} 0 1 = cc in omega arith
+module _ (w : List ℕ) (h : length w ≡ wordBytes) (r : Checked) (e : r ≡ checked parityBytes w) where
+  is-check : r ≡ pick (clean parityBytes w) check.Clean check.Damaged
+  is-check = e ∙ checked-is parityBytes w (omega arith) h
 
-module _ (w : List ℕ) (h : length w ≡ 255) (r : Checked) (e : r ≡ checked 32 w) where
-  is-check : r ≡ pick (isClean w) Clean Damaged
-  is-check = e ∙ ap (λ t. pick t (pick (isClean w) Clean Damaged) (Refused 31)) (eq-eqb (length w) 255 h)
+  pub told-clean : r ≡ check.Clean → true ≡ clean parityBytes w
+  told-clean f = true-by (clean parityBytes w) (sym is-check ∙ f)
 
-  pub told-clean : r ≡ Clean → answer.Clean ≡ blockAnswer (isClean w)
-  told-clean f = clean-by (isClean w) (sym is-check ∙ f)
+  pub told-damaged : r ≡ check.Damaged → false ≡ clean parityBytes w
+  told-damaged f = false-by (clean parityBytes w) (sym is-check ∙ f)
 
-  pub told-damaged : r ≡ Damaged → answer.Damaged ≡ blockAnswer (isClean w)
-  told-damaged f = damaged-by (isClean w) (sym is-check ∙ f)
+  pub told-refused : (n : ℕ) → r ≡ check.Refused n → false ≡ clean parityBytes w
+  told-refused n f = absurd (never-refused w h n (clean parityBytes w) (sym is-check ∙ f))
 
-  pub told-refused : (n : ℕ) → r ≡ Refused n → answer.Damaged ≡ blockAnswer (isClean w)
-  told-refused n f = absurd (not-refused (isClean w) n (sym is-check ∙ f))
+-- what repair finds of the word w, and leaves of it
+module _ (w : List ℕ) (h : length w ≡ wordBytes) (b : Bytes w) {a x : Mended} {o : List ℕ} (p : Promised parityBytes w a o) where
+  pub told-mended : a ≡ x → (blockAnswer (conditionBy x) ≡ blockAnswer (condition w)) × (o ≡ mend w)
+  told-mended e =
+      let s = block-determined w h b a o p in
+      (ap (λ y. blockAnswer (conditionBy y)) (sym e) ∙ ap blockAnswer (s .0), s .1)
+
+-- the word at the start of the buffer k: clean ..
+module _ (k : List ℕ) (h : wordBytes ≤ length k) where
+  pub settled-clean : true ≡ clean parityBytes (take wordBytes k) → (answer.Clean ≡ blockAnswer (condition (take wordBytes k))) × (k ≡ mendIn k)
+  settled-clean e =
+      let l : length (take wordBytes k) ≡ wordBytes = length-take-le wordBytes k h in (
+        ap blockAnswer (sym (condition-clean (take wordBytes k) l (sym e))),
+        sym (take-append-drop wordBytes k) ∙ ap (λ x. x ++ drop wordBytes k) (sym (mend-clean (take wordBytes k) l (sym e))),
+      )
+
+  -- .. or lent to repair
+  pub settled-mended : {y : List ℕ} → y ≡ mend (take wordBytes k) → putMid 0 wordBytes k y ≡ mendIn k
+  settled-mended e = ap (λ x. x ++ drop wordBytes k) e

@@ -5,7 +5,6 @@
 -- earlier-answers, later-answers, other-blocks    one block altered harms no other
 use Prim.Native.Nat.{ℕ, _≤_}
 use mathlib.Core.Path.{_≡_, refl, sym, _∙_, ap}
-use mathlib.Core.Bool.{true}
 use mathlib.Core.List.{List, [], _∷_, _++_, map}
 use lib.ListN.{length, replicate}
 use Rattle.base.specs.Bytes.{Each}
@@ -13,9 +12,9 @@ use Rattle.base.specs.Calls.{joined, ReadsAll}
 use Rattle.packet.specs.Escape.{flag}
 use Rattle.packet.specs.Contents.{rawLimit}
 use Rattle.stream.specs.Reader.{waiting, reads}
-use Rattle.stream.specs.Sender.{Packet, Accepted, stream, delivered, openedFrom}
-use Rattle.channel.specs.Sender.{wordBytes, framed, messagesOf, sentWords, sent}
-use Rattle.channel.specs.Channel.{Event, frames, blocks, losses, isClean, start, hears, answers, IsWord, carried, FirstMarker}
+use Rattle.stream.specs.Sender.{Packet, Accepted, delivered, openedFrom}
+use Rattle.channel.specs.Sender.{wordBytes, framed, sentWords, sent}
+use Rattle.channel.specs.Channel.{clean, condition, Event, frames, blocks, losses, start, hears, answers, IsWord, carried, FirstMarker}
 use Rattle.channel.specs.Called.{Board, board, freshReceiver, hearCall, hearAll, boardOf, inUse}
 use Rattle.channel.proofs.Fine.{fine-fresh}
 use Rattle.channel.proofs.Cutting.{hear-ends, hear-cut}
@@ -57,7 +56,7 @@ every-cut-means {bs} {es} {d} c =
 -- it delivers the sent packets once each, in order, and nothing else; every block is clean, and no lock is lost
 pub delivers : (stray : List ℕ) (ps : List Packet) → Each Accepted ps → FirstMarker stray (sent ps)
     → {es : List Event} {d : Board} → Cuts (stray ++ sent ps) es d
-    → (frames es ≡ map delivered ps) × (blocks es ≡ replicate (length (messagesOf (stream ps))) true) × (losses es ≡ 0)
+    → (frames es ≡ map delivered ps) × (blocks es ≡ replicate (length (sentWords ps)) clean) × (losses es ≡ 0)
 delivers stray ps a f c =
     let e = every-cut-means c .0 in
     let w = whole-stream stray ps a f in
@@ -80,14 +79,14 @@ module _ (stray : List ℕ) (ps : List Packet) (accepted : Each Accepted ps) (fi
       )
 
   -- behind a flag in a later block, the first or any other, the frame answers are exactly the sent packets opened from that flag on,
-  -- once each and in order: `pre` are the later blocks' message bytes before the flag; up to it they are those of the bytes as received
+  -- once each and in order: `pre` are the later blocks' message bytes before the flag; up to it they are those of the messages as repair leaves them
   pub later-answers : (pre post : List ℕ) → carried later ≡ pre ++ flag ∷ post
       → frames es ≡ reads waiting (carried (earlier ++ v ∷ []) ++ pre ++ flag ∷ []) .0
       ++ map delivered (openedFrom ps (length (carried (earlier ++ w ∷ []) ++ pre)))
   later-answers pre post e = ap frames (every-cut-means altered .0) ∙ later-exact stray ps accepted first earlier later w v one any pre post e
 
   -- the other blocks are still clean, and no lock is lost
-  pub other-blocks : (blocks es ≡ replicate (length earlier) true ++ isClean v ∷ replicate (length later) true) × (losses es ≡ 0)
+  pub other-blocks : (blocks es ≡ replicate (length earlier) clean ++ condition v ∷ replicate (length later) clean) × (losses es ≡ 0)
   other-blocks =
       let e = every-cut-means altered .0 in
       let o = others-clean stray ps accepted first earlier later w v one any in

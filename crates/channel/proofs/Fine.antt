@@ -18,7 +18,8 @@ use Rattle.channel.specs.declared.hunting.Hunting.{Hunting}
 use Rattle.channel.specs.Sender.{messageBytes, wordBytes}
 use Rattle.channel.specs.Channel.{shift, isMarker, zeros}
 use Rattle.channel.specs.Called.{Board, board, heldIn, huntingWith, freshReceiver, lockedWith, sound, roomy}
-use Rattle.channel.specs.Called.{huntOn, wordOn, compareOn, markOn, eatBy, eatByte, owedBy, owed, handOn}
+use Rattle.channel.specs.Called.{huntOn, mendIn, wordOn, compareOn, markOn, eatBy, eatByte, owedBy, owed, handOn}
+use Rattle.channel.proofs.Words.{mendIn-length}
 
 -- what 10 asks of the state, and 11 of the buffers
 pub record Fine (c : Board) : Type 0 where
@@ -101,7 +102,8 @@ fine-word : (t : Bool) (c : Board) (k : List ℕ) → ltb (suc (c .st .lock .wor
 fine-word true c k e i h =
     let l : suc (c .st .lock .word) < wordBytes = ltb-true _ _ e in
     fine-locked _ _ _ _ (heldIn c) k (omega arith) (i .handed) (i .marker) (i .frame) h
-fine-word false c k e i h = fine-locked _ wordBytes 0 0 (heldIn c) k (omega arith) (omega arith) (omega arith) (i .frame) h
+fine-word false c k e i h =
+    fine-locked _ wordBytes 0 0 (heldIn c) (mendIn k) (omega arith) (omega arith) (omega arith) (i .frame) (omega (arith, mendIn-length k))
 
 fine-by : (l t : Bool) (c : Board) (b : ℕ) → Fine c → Fine (eatBy l t c b .1)
 fine-by false t c b i = fine-hunt (isMarker (shift (c .st .hunting) b)) (shift (c .st .hunting) b) c i

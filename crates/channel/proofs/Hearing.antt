@@ -41,10 +41,11 @@ use Rattle.channel.specs.declared.receiver.Answer.the-variants.{More, Sa
 use Rattle.channel.specs.declared.receiver.Hearing.{Hearing}
 use Rattle.channel.specs.declared.receiver.Phase.{Phase}
 use Rattle.channel.specs.declared.hunting.Found.{Found}
-use Rattle.channel.specs.Channel.{Event, block, isClean, shift, isMarker}
-use Rattle.channel.specs.Called.{Board, board, counts, lockedWith, owedBy, owes, asEvent, hearOn, soundLock, sound, roomy, hearBy, hearCall, blockAnswer, hearingOf, HearingIs}
+use Rattle.channel.specs.Channel.{condition, Event, block, shift, isMarker}
+use Rattle.channel.specs.Called.{Board, board, counts, lockedWith, owedBy, owes, asEvent, hearOn, soundLock, sound, roomy, hearBy, hearCall, mendIn, blockAnswer, hearingOf, HearingIs}
 use Rattle.channel.specs.Phases.{shifts, later, hunted, ended, PhaseBy, HandedIs, SoughtIs, FilledIs}
 use Rattle.channel.proofs.Sending.{lent, back}
+use Rattle.channel.proofs.Words.{mendIn-is}
 use Rattle.channel.proofs.Fine.{and-parts}
 use Rattle.channel.proofs.Phases.{onward, hand-run, mark-part, comparedOn, behindFour, mark-four, huntedOn, hunt-run, word-part, word-whole}
 
@@ -486,30 +487,28 @@ module _ (s : Receiver) (word piece : List ℕ) (at : ℕ) (o : s .locked ≡ tr
         receiver = record { locked = true; hunting = s .hunting; lock = j; frame = s .frame };
       }) (putMid (s .lock .word) (length word - s .lock .word) word y)) (sym e) (fill-part h)
 
-  pub fill-whole : {a : Answer} {k : Locked} → 255 ≤ s .lock .word + n
-      → a ≡ blockAnswer (isClean (take 255 (putMid (s .lock .word) (length word - s .lock .word) word y))) → k ≡ counts 255 0 0
+  pub fill-whole : {a : Answer} {k : Locked} {z : List ℕ} → 255 ≤ s .lock .word + n
+      → (a ≡ blockAnswer (condition (take 255 (putMid (s .lock .word) (length word - s .lock .word) word y))))
+      × (z ≡ mendIn (putMid (s .lock .word) (length word - s .lock .word) word y)) → k ≡ counts 255 0 0
       → FilledIs s word bs at (record {
         answer = a;
         taken = at + n;
         receiver = record { locked = true; hunting = s .hunting; lock = k; frame = s .frame };
-      }) (putMid (s .lock .word) (length word - s .lock .word) word y)
-  fill-whole {a} {k} h ea ek l =
+      }) z
+  fill-whole {a} {k} {z} h ea ek l =
       let q : hearOn (board s l word) bs
-      ≡ (
-        some (block (isClean (before ++ take n bs))),
-        n,
-        board (record { locked = true; hunting = s .hunting; lock = k; frame = s .frame }) l (putMid (s .lock .word) (length word - s .lock .word) word y),
-      ) =
+      ≡ (some (block (condition (before ++ take n bs))), n, board (record { locked = true; hunting = s .hunting; lock = k; frame = s .frame }) l z) =
       (λ i. hearOn (board-at l i) (sym (take-append-drop n bs) i))
       ∙ word-whole (s .hunting) (s .lock .handed) (s .lock .marker) (held (s .frame) l) (take n bs) before behind (drop n bs)
       (omega (arith, before-length)) (omega (arith, before-length, some-length, en)) (omega (arith, some-length, en, length-drop (s .lock .word) word))
       ∙ (λ i. (
-        some (block (isClean (before ++ take n bs))),
+        some (block (condition (before ++ take n bs))),
         some-length i,
-        board (record { locked = true; hunting = s .hunting; lock = sym ek i; frame = s .frame }) l (sym filled-is i),
+        board (record { locked = true; hunting = s .hunting; lock = sym ek i; frame = s .frame }) l
+            (sym (ea .1 ∙ ap mendIn filled-is ∙ mendIn-is (before ++ take n bs) (drop (length (take n bs)) behind) (whole-length h)) i),
       )) in (
         (λ i. record {
-          answer = (ea ∙ ap (λ x. blockAnswer (isClean x)) (whole-is h)) i;
+          answer = (ea .0 ∙ ap (λ x. blockAnswer (condition x)) (whole-is h)) i;
           taken = at + n;
           receiver = record { locked = true; hunting = s .hunting; lock = k; frame = s .frame };
         }) ∙ ap (λ x. hearingOf (after at x)) (sym q),

@@ -24,9 +24,10 @@ use Rattle.stream.specs.Called.{Held, held, takeByte, readOn}
 use Rattle.channel.specs.declared.hunting.Hunting.{Hunting}
 use Rattle.channel.specs.declared.locked.Locked.{Locked}
 use Rattle.channel.specs.declared.hunting.Found.{Found}
-use Rattle.channel.specs.Channel.{Event, block, lost, isClean, shift, isMarker}
+use Rattle.channel.specs.Channel.{condition, mend, Event, block, lost, shift, isMarker}
 use Rattle.channel.specs.Called.{Board, board, huntingWith, lockedWith, huntOn, wordOn, compareOn, markOn, eatBy, eatByte, owed, asEvent, handOn, hearOn}
 use Rattle.channel.specs.Phases.{shifts, later, hunted}
+use Rattle.channel.proofs.Words.{mendIn-is}
 use Rattle.channel.proofs.Cutting.{hand-one}
 
 -- one new byte, where nothing is owed
@@ -172,19 +173,23 @@ module _ (f : Hunting) (h m : ℕ) (g : Held) where
   -- .. and all that are wanted
   pub word-whole : (v u k bs : List ℕ) → length u < 255 → length u + length v ≡ 255 → length v ≤ length k
       → hearOn (lockedWith f (length u) h m g (u ++ k)) (v ++ bs)
-      ≡ (some (block (isClean (u ++ v))), length v, lockedWith f 255 0 0 g (u ++ v ++ drop (length v) k))
+      ≡ (some (block (condition (u ++ v))), length v, lockedWith f 255 0 0 g (mend (u ++ v) ++ drop (length v) k))
   word-whole [] u k bs l e r = absurd (omega arith)
   word-whole (b ∷ v) u [] bs l e r = absurd (omega arith)
   word-whole (b ∷ []) u (x ∷ k) bs l e r =
       word-one false u x k b bs l (le-ltb (suc (length u)) 255 (omega arith))
-      ∙ (λ i. (some (block (isClean (take-at (u ++ b ∷ []) k 255 (length-append u (b ∷ []) ∙ e) i))), 1, lockedWith f 255 0 0 g (u ++ b ∷ [] ++ k)))
+      ∙ (λ i. (
+        some (block (condition (take-at (u ++ b ∷ []) k 255 (length-append u (b ∷ []) ∙ e) i))),
+        1,
+        lockedWith f 255 0 0 g (mendIn-is (u ++ b ∷ []) k (length-append u (b ∷ []) ∙ e) i),
+      ))
   word-whole (b ∷ c ∷ v) u (x ∷ k) bs l e r =
       let n : suc (length u) ≡ length (u ++ b ∷ []) = omega (arith, length-append u (b ∷ [])) in
       word-one true u x k b (c ∷ v ++ bs) l (lt-ltb (suc (length u)) 255 (omega arith))
       ∙ ap (λ q. oneMore (hearOn (lockedWith f q h m g (u ++ b ∷ [] ++ k)) (c ∷ v ++ bs))) n
       ∙ ap oneMore (word-whole (c ∷ v) (u ++ b ∷ []) k bs (omega arith) (omega arith) (omega arith))
       ∙ (λ i. (
-        some (block (isClean (append-snoc u b (c ∷ v) i))),
+        some (block (condition (append-snoc u b (c ∷ v) i))),
         suc (suc (length v)),
-        lockedWith f 255 0 0 g (append-snoc u b (c ∷ v) i ++ drop (suc (length v)) k),
+        lockedWith f 255 0 0 g (mend (append-snoc u b (c ∷ v) i) ++ drop (suc (length v)) k),
       ))

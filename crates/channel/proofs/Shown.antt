@@ -21,10 +21,11 @@ use Rattle.stream.specs.Called.{Held, takeByte, heldOf}
 use Rattle.stream.proofs.Shown.{shown-byte, tell-end, held-use, held-st}
 use Rattle.channel.specs.declared.hunting.Hunting.{Hunting}
 use Rattle.channel.specs.Sender.{messageBytes, wordBytes}
-use Rattle.channel.specs.Channel.{Event, said, block, message, isClean, shift, isMarker}
+use Rattle.channel.specs.Channel.{condition, mend, Event, said, block, message, shift, isMarker}
 use Rattle.channel.specs.Channel.{Chan, hunting, inWord, inMark, whole, hunt, grow, compared, behindWord, step, hears}
-use Rattle.channel.specs.Called.{Board, counts, huntingWith, lockedWith, huntOn, wordOn, compareOn, markOn, eatBy, eatByte}
+use Rattle.channel.specs.Called.{Board, counts, huntingWith, lockedWith, huntOn, mendIn, wordOn, compareOn, markOn, eatBy, eatByte}
 use Rattle.channel.specs.Called.{owedBy, owed, asEvent, handWith, handOn, hearAll, boardOf, inUse}
+use Rattle.channel.proofs.Words.{mend-length, mendIn-is}
 use Rattle.channel.proofs.Cutting.{hand-one}
 
 -- a word that is begun is not whole, and one behind which marker bytes stand is; those are not four yet
@@ -124,13 +125,13 @@ not-whole n f g l h =
 -- what a whole word owes
 whole-owed : (w : List ℕ) (f : Hunting) (r : Reading) (j k : List ℕ) → length w ≡ wordBytes → rawLimit ≤ length (heldOf r j .recv)
     → (m : List ℕ)
-    × (D (lockedWith f wordBytes 0 0 (heldOf r j) (w ++ k)) ≡ (map said (reads r (message w) .0), boardOf (inMark f w 0 (whole w r .1)) m k))
+    × (D (lockedWith f wordBytes 0 0 (heldOf r j) (mend w ++ k)) ≡ (map said (reads r (message w) .0), boardOf (inMark f (mend w) 0 (whole w r .1)) m k))
     × (rawLimit ≤ length (heldOf (reads r (message w) .1) m .recv))
 whole-owed w f r j k l h =
-    let n : length (message w) ≡ messageBytes = length-take-le messageBytes w (omega arith) in
-    let p : w ++ k ≡ message w ++ (drop messageBytes w ++ k) =
-    ap (λ y. y ++ k) (sym (take-append-drop messageBytes w)) ∙ append-assoc (message w) (drop messageBytes w) k in
-    let d = shown-drain (message w) [] (drop messageBytes w ++ k) f r j h (omega arith) in (
+    let n : length (message w) ≡ messageBytes = length-take-le messageBytes (mend w) (omega (arith, mend-length w)) in
+    let p : mend w ++ k ≡ message w ++ (drop messageBytes (mend w) ++ k) =
+    ap (λ y. y ++ k) (sym (take-append-drop messageBytes (mend w))) ∙ append-assoc (message w) (drop messageBytes (mend w)) k in
+    let d = shown-drain (message w) [] (drop messageBytes (mend w) ++ k) f r j h (omega arith) in (
       d .0,
       (λ i. drain owed handOn eatByte (sym n i) (lockedWith f wordBytes 0 0 (heldOf r j) (p i)) (R []))
           ∙ d .1
@@ -141,14 +142,14 @@ whole-owed w f r j k l h =
 -- and with the block's answer before it, where the word buffer is l
 whole-word : (w : List ℕ) (f : Hunting) (r : Reading) (j k l : List ℕ) → l ≡ w ++ k → length w ≡ wordBytes → rawLimit ≤ length (heldOf r j .recv)
     → (m : List ℕ)
-    × (tell (some (block (isClean (take wordBytes l)))) (D (lockedWith f wordBytes 0 0 (heldOf r j) l))
-    ≡ (whole w r .0, boardOf (inMark f w 0 (whole w r .1)) m k))
+    × (tell (some (block (condition (take wordBytes l)))) (D (lockedWith f wordBytes 0 0 (heldOf r j) (mendIn l)))
+    ≡ (whole w r .0, boardOf (inMark f (mend w) 0 (whole w r .1)) m k))
     × (rawLimit ≤ length (heldOf (reads r (message w) .1) m .recv))
 whole-word w f r j k l e n h =
     let d = whole-owed w f r j k n h in
     let c : take wordBytes l ≡ w = ap (take wordBytes) e ∙ take-at w k wordBytes n in (
       d .0,
-      (λ i. tell (some (block (isClean (c i)))) ((ap (λ y. D (lockedWith f wordBytes 0 0 (heldOf r j) y)) e ∙ d .1) i)),
+      (λ i. tell (some (block (condition (c i)))) ((ap (λ y. D (lockedWith f wordBytes 0 0 (heldOf r j) y)) (ap mendIn e ∙ mendIn-is w k n) ∙ d .1) i)),
       d .2,
     )
 
@@ -173,12 +174,13 @@ now-word false f w r j (x ∷ k) b e l h i =
     let n : suc (length w) ≡ length (w ++ b ∷ []) = omega (arith, length-append w (b ∷ [])) in
     let m : wordBytes ≤ suc (length w) = ltb-false _ _ e in
     let s : set (w ++ x ∷ k) (length w) b ≡ (w ++ b ∷ []) ++ k = stored w x k b in
-    let d = whole-word (w ++ b ∷ []) f r j k (set (w ++ x ∷ k) (length w) b) s (omega arith) h in (
+    let d = whole-word (w ++ b ∷ []) f r j k (set (w ++ x ∷ k) (length w) b) s (omega arith) h in
+    let q : length (mend (w ++ b ∷ [])) ≡ length (w ++ b ∷ []) = mend-length (w ++ b ∷ []) in (
       d .0,
       k,
       d .1,
       omega arith,
-      (d .2, subst (λ y. wordBytes ≤ length y) s (rw length-set i)),
+      (d .2, omega (arith, length-append (mend (w ++ b ∷ [])) k)),
     )
 
 -- one byte of the channel receiver

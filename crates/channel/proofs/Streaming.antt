@@ -1,5 +1,5 @@
 -- Laws of the receiver without a limit: a sender's whole marked stream gives its packets, and one altered block harms no other.
--- received                                 after stray bytes, the answers are those of the words
+-- received                                 after stray bytes, the answers are those of the words, and so is the state behind them
 -- whole-stream                             a whole marked stream gives its packets, once each, in order, and nothing else
 -- earlier-same, later-exact, others-clean  one block altered: the answers of the earlier ones, those behind a flag of a later one,
 --                                          and that the others stay clean
@@ -29,21 +29,26 @@ use Rattle.stream.proofs.Streaming.{synchronised, stream-read, from-flag}
 use Rattle.channel.specs.declared.hunting.Hunting.{Hunting}
 use Rattle.channel.specs.Sender.{marker, messageBytes, parityBytes, wordBytes, wordOf, framed}
 use Rattle.channel.specs.Sender.{fillers, filled, cutUp, messagesOf, sentWords, sent}
-use Rattle.channel.specs.Channel.{Event, said, frames, blocks, losses, message, isClean, shift, isMarker, zeros}
+use Rattle.channel.specs.Channel.{clean, condition, mend, Event, said, frames, blocks, losses, message, shift, isMarker, zeros}
 use Rattle.channel.specs.Channel.{Chan, hunting, inWord, inMark, start, whole, hunt, grow, step, hears, answers}
 use Rattle.channel.specs.Channel.{IsWord, carried, FirstMarker}
+use Rattle.channel.proofs.Words.{condition-clean, mend-clean}
 use Rattle.channel.proofs.Fine.{and-parts}
 
 -- the last four as bytes, and the marker as the last four
 abbrev bytesOf : Hunting → List ℕ
 bytesOf f = f .a ∷ f .b ∷ f .c ∷ f .d ∷ []
 
-abbrev theMarker : Hunting
+abbrev pub theMarker : Hunting
 theMarker = record { a = 0x7D; b = 0x3A; c = 0xE2; d = 0x42 }
 
 -- a message: 223 bytes
-abbrev IsMessage : List ℕ → Type 0
+abbrev pub IsMessage : List ℕ → Type 0
 IsMessage m = (length m ≡ messageBytes) × Bytes m
+
+-- a word that is found clean
+abbrev pub IsClean : List ℕ → Type 0
+IsClean w = condition w ≡ clean
 
 -- a string is heard one part after the other
 pub hears-append : (s : Chan) (bs cs : List ℕ) → hears s (bs ++ cs) ≡ andThen (hears s bs) (λ t. hears t cs)
@@ -57,17 +62,17 @@ zero-is-not : {x : ℕ} → _≡_ {A = ℕ} 0 (suc x) → ⊥
 zero-is-not e = omega arith
 
 word-read : (v w : List ℕ) (f : Hunting) (r : Reading) (cs : List ℕ) → length w < wordBytes → length w + length v ≡ wordBytes
-    → hears (inWord f w r) (v ++ cs) ≡ andThen (whole (w ++ v) r .0, inMark f (w ++ v) 0 (whole (w ++ v) r .1)) (λ t. hears t cs)
+    → hears (inWord f w r) (v ++ cs) ≡ andThen (whole (w ++ v) r .0, inMark f (mend (w ++ v)) 0 (whole (w ++ v) r .1)) (λ t. hears t cs)
 word-read [] w f r cs h e = absurd (omega arith)
 word-read (b ∷ []) w f r cs h e = rw (le-ltb (suc (length w)) wordBytes (omega arith)) refl
 word-read (b ∷ c ∷ v) w f r cs h e =
     let l : length (w ++ b ∷ []) ≡ length w + 1 = length-append w (b ∷ []) in
     ap (λ t. andThen (grow t f (w ++ b ∷ []) r) (λ t. hears t (c ∷ v ++ cs))) (lt-ltb (suc (length w)) wordBytes (omega arith))
     ∙ word-read (c ∷ v) (w ++ b ∷ []) f r cs (omega arith) (omega arith)
-    ∙ ap (λ u. andThen (whole u r .0, inMark f u 0 (whole u r .1)) (λ t. hears t cs)) (append-snoc w b (c ∷ v))
+    ∙ ap (λ u. andThen (whole u r .0, inMark f (mend u) 0 (whole u r .1)) (λ t. hears t cs)) (append-snoc w b (c ∷ v))
 
 block-read : (w : List ℕ) → IsWord w → (f : Hunting) (u : List ℕ) (r : Reading) (cs : List ℕ)
-    → hears (inMark f u 0 r) (marker ++ (w ++ cs)) ≡ andThen (whole w r .0, inMark theMarker w 0 (whole w r .1)) (λ t. hears t cs)
+    → hears (inMark f u 0 r) (marker ++ (w ++ cs)) ≡ andThen (whole w r .0, inMark theMarker (mend w) 0 (whole w r .1)) (λ t. hears t cs)
 block-read w h f u r cs = word-read w [] theMarker r cs (lit< tt) (omega arith)
 
 -- words one after the other
@@ -75,12 +80,17 @@ abbrev pub wholes : List (List ℕ) → Reading → List Event × Reading
 wholes [] r = ([], r)
 wholes (w ∷ ws) r = andThen (whole w r) (wholes ws)
 
+-- .. and the state behind them, where they come behind the word u
+abbrev pub behindWords : Hunting → List ℕ → List (List ℕ) → Reading → Chan
+behindWords f u [] r = inMark f u 0 r
+behindWords f u (w ∷ ws) r = behindWords theMarker (mend w) ws (whole w r .1)
+
 framed-read : (ws : List (List ℕ)) → Each IsWord ws → (f : Hunting) (u : List ℕ) (r : Reading)
-    → hears (inMark f u 0 r) (framed ws) .0 ≡ wholes ws r .0
+    → hears (inMark f u 0 r) (framed ws) ≡ (wholes ws r .0, behindWords f u ws r)
 framed-read [] h f u r = refl
 framed-read (w ∷ ws) h f u r =
-    ap (λ x. x .0) (block-read w (h .0) f u r (framed ws))
-    ∙ ap (λ x. whole w r .0 ++ x) (framed-read ws (h .1) theMarker w (whole w r .1))
+    block-read w (h .0) f u r (framed ws)
+    ∙ ap (λ (x : List Event × Chan). (whole w r .0 ++ x .0, x .1)) (framed-read ws (h .1) theMarker (mend w) (whole w r .1))
 
 frames-whole : (xs : List Told) (es : List Event) → frames (map said xs ++ es) ≡ xs ++ frames es
 frames-whole [] es = refl
@@ -95,19 +105,19 @@ losses-whole [] es = refl
 losses-whole (x ∷ xs) es = losses-whole xs es
 
 -- the frame answers are those of the messages, put together
-frames-wholes : (ws : List (List ℕ)) (r : Reading) → frames (wholes ws r .0) ≡ reads r (joined (map message ws)) .0
+pub frames-wholes : (ws : List (List ℕ)) (r : Reading) → frames (wholes ws r .0) ≡ reads r (joined (map message ws)) .0
 frames-wholes [] r = refl
 frames-wholes (w ∷ ws) r =
     frames-whole (reads r (message w) .0) (wholes ws (whole w r .1) .0)
     ∙ ap (λ l. reads r (message w) .0 ++ l) (frames-wholes ws (whole w r .1))
     ∙ sym (ap (λ x. x .0) (run-append read r (message w) (joined (map message ws))))
 
-blocks-wholes : (ws : List (List ℕ)) (r : Reading) → blocks (wholes ws r .0) ≡ map isClean ws
+pub blocks-wholes : (ws : List (List ℕ)) (r : Reading) → blocks (wholes ws r .0) ≡ map condition ws
 blocks-wholes [] r = refl
 blocks-wholes (w ∷ ws) r =
-    ap (λ l. isClean w ∷ l) (blocks-whole (reads r (message w) .0) (wholes ws (whole w r .1) .0) ∙ blocks-wholes ws (whole w r .1))
+    ap (λ l. condition w ∷ l) (blocks-whole (reads r (message w) .0) (wholes ws (whole w r .1) .0) ∙ blocks-wholes ws (whole w r .1))
 
-losses-wholes : (ws : List (List ℕ)) (r : Reading) → losses (wholes ws r .0) ≡ 0
+pub losses-wholes : (ws : List (List ℕ)) (r : Reading) → losses (wholes ws r .0) ≡ 0
 losses-wholes [] r = refl
 losses-wholes (w ∷ ws) r = losses-whole (reads r (message w) .0) (wholes ws (whole w r .1) .0) ∙ losses-wholes ws (whole w r .1)
 
@@ -146,9 +156,9 @@ from-start stray cs h = hunted stray cs zeros go
 
 -- a fresh receiver that hears stray bytes and then words, each with the marker before it: the answers are those of the words
 pub received : (stray : List ℕ) (ws : List (List ℕ)) → ws ≢ [] → Each IsWord ws → FirstMarker stray (framed ws)
-    → hears start (stray ++ framed ws) .0 ≡ wholes ws waiting .0
+    → hears start (stray ++ framed ws) ≡ (wholes ws waiting .0, behindWords zeros [] ws waiting)
 received stray [] n h m = absurd (n refl)
-received stray (w ∷ ws) n h m = ap (λ x. x .0) (from-start stray (w ++ framed ws) m) ∙ framed-read (w ∷ ws) h zeros [] waiting
+received stray (w ∷ ws) n h m = from-start stray (w ++ framed ws) m ∙ framed-read (w ∷ ws) h zeros [] waiting
 
 -- where the marker first appears does not hang on what follows the first marker
 first-marker : (stray cs ds : List ℕ) → FirstMarker stray (marker ++ cs) → FirstMarker stray (marker ++ ds)
@@ -168,7 +178,7 @@ first-marker stray cs ds h xs ys e = go (leb (length stray) (length xs)) refl
         h xs (take d ys ++ cs)
         (sym (append-assoc stray marker cs) ∙ ap (λ x. x ++ cs) (sym left ∙ ap (take n) e ∙ right) ∙ append-assoc xs (marker ++ take d ys) cs)
 
-first-markers : (stray : List ℕ) (us ws : List (List ℕ)) → us ≢ [] → ws ≢ [] → FirstMarker stray (framed us) → FirstMarker stray (framed ws)
+pub first-markers : (stray : List ℕ) (us ws : List (List ℕ)) → us ≢ [] → ws ≢ [] → FirstMarker stray (framed us) → FirstMarker stray (framed ws)
 first-markers stray [] ws m n h = absurd (m refl)
 first-markers stray (u ∷ us) [] m n h = absurd (n refl)
 first-markers stray (u ∷ us) (w ∷ ws) m n h = first-marker stray (u ++ framed us) (w ++ framed ws) h
@@ -208,29 +218,37 @@ cut-each (suc q) bs e h = (
   cut-each q (drop messageBytes bs) (cut-rest q bs e) (each-drop IsByte messageBytes bs h),
 )
 
+-- a word that is sent: 255 bytes, clean, and left as it is
+module _ (m : List ℕ) (h : IsMessage m) where
+  pub sent-word : IsWord (wordOf m)
+  sent-word = length-append m (remainder parityBytes m) ∙ (λ i. h .0 i + length-remainder parityBytes m i)
+
+  sent-condition : condition (wordOf m) ≡ clean
+  sent-condition = condition-clean (wordOf m) sent-word (parity-clean parityBytes m (h .1))
+
+  sent-mend : mend (wordOf m) ≡ wordOf m
+  sent-mend = mend-clean (wordOf m) sent-word (parity-clean parityBytes m (h .1))
+
 words-each : (ms : List (List ℕ)) → Each IsMessage ms → Each IsWord (map wordOf ms)
 words-each [] h = tt
-words-each (m ∷ ms) h = (length-append m (remainder parityBytes m) ∙ (λ i. h .0 .0 i + length-remainder parityBytes m i), words-each ms (h .1))
+words-each (m ∷ ms) h = (sent-word m (h .0), words-each ms (h .1))
 
 words-messages : (ms : List (List ℕ)) → Each IsMessage ms → carried (map wordOf ms) ≡ joined ms
 words-messages [] h = refl
-words-messages (m ∷ ms) h = λ i. take-at m (remainder parityBytes m) messageBytes (h .0 .0) i ++ words-messages ms (h .1) i
+words-messages (m ∷ ms) h =
+    λ i. (ap (take messageBytes) (sent-mend m (h .0)) ∙ take-at m (remainder parityBytes m) messageBytes (h .0 .0)) i ++ words-messages ms (h .1) i
 
-words-clean : (ms : List (List ℕ)) → Each IsMessage ms → map isClean (map wordOf ms) ≡ replicate (length ms) true
-words-clean [] h = refl
-words-clean (m ∷ ms) h = λ i. parity-clean parityBytes m (h .0 .1) i ∷ words-clean ms (h .1) i
-
-words-clean-each : (ms : List (List ℕ)) → Each IsMessage ms → Each (λ u. isClean u ≡ true) (map wordOf ms)
+words-clean-each : (ms : List (List ℕ)) → Each IsMessage ms → Each IsClean (map wordOf ms)
 words-clean-each [] h = tt
-words-clean-each (m ∷ ms) h = (parity-clean parityBytes m (h .0 .1), words-clean-each ms (h .1))
+words-clean-each (m ∷ ms) h = (sent-condition m (h .0), words-clean-each ms (h .1))
 
-all-clean : (ws : List (List ℕ)) → Each (λ u. isClean u ≡ true) ws → map isClean ws ≡ replicate (length ws) true
+all-clean : (ws : List (List ℕ)) → Each IsClean ws → map condition ws ≡ replicate (length ws) clean
 all-clean [] h = refl
 all-clean (w ∷ ws) h = λ i. h .0 i ∷ all-clean ws (h .1) i
 
-one-altered : (us : List (List ℕ)) (w v : List ℕ) (ws : List (List ℕ)) → Each (λ u. isClean u ≡ true) (us ++ w ∷ ws)
-    → map isClean (us ++ v ∷ ws) ≡ replicate (length us) true ++ isClean v ∷ replicate (length ws) true
-one-altered [] w v ws h = ap (λ l. isClean v ∷ l) (all-clean ws (h .1))
+one-altered : (us : List (List ℕ)) (w v : List ℕ) (ws : List (List ℕ)) → Each IsClean (us ++ w ∷ ws)
+    → map condition (us ++ v ∷ ws) ≡ replicate (length us) clean ++ condition v ∷ replicate (length ws) clean
+one-altered [] w v ws h = ap (λ l. condition v ∷ l) (all-clean ws (h .1))
 one-altered (u ∷ us) w v ws h = λ i. h .0 i ∷ one-altered us w v ws (h .1) i
 
 behind-bytes : (ps : List Packet) → Each Accepted ps → Each IsByte (behind ps)
@@ -239,37 +257,37 @@ behind-bytes (p ∷ ps) a = each-append IsByte (rawOf p) (flag ∷ behind ps) (r
 
 -- ---- what is sent of packets that the sender takes
 module _ (ps : List Packet) (a : Each Accepted ps) where
-  sent-messages : Each IsMessage (messagesOf (stream ps))
+  pub sent-messages : Each IsMessage (messagesOf (stream ps))
   sent-messages =
       let n : ℕ = fillers (length (stream ps)) in
       cut-each _ (filled (stream ps)) (fill-multiple (stream ps))
       (each-append IsByte (stream ps) (replicate n flag) (lit< tt, behind-bytes ps a) (each-replicate IsByte n flag (lit< tt)))
 
-  sent-clean-each : Each (λ u. isClean u ≡ true) (sentWords ps)
+  pub sent-clean-each : Each IsClean (sentWords ps)
   sent-clean-each = words-clean-each (messagesOf (stream ps)) sent-messages
 
-  sent-each : Each IsWord (sentWords ps)
+  pub sent-each : Each IsWord (sentWords ps)
   sent-each = words-each (messagesOf (stream ps)) sent-messages
 
-  sent-bytes : carried (sentWords ps) ≡ filled (stream ps)
+  pub sent-bytes : carried (sentWords ps) ≡ filled (stream ps)
   sent-bytes =
       words-messages (messagesOf (stream ps)) sent-messages
       ∙ cut-joined _ (filled (stream ps)) (fill-multiple (stream ps))
 
-  sent-some : sentWords ps ≢ []
+  pub sent-some : sentWords ps ≢ []
   sent-some e = nil≢cons (sym (ap carried e) ∙ sent-bytes)
 
-  sent-clean : map isClean (sentWords ps) ≡ replicate (length (messagesOf (stream ps))) true
-  sent-clean = words-clean (messagesOf (stream ps)) sent-messages
+  sent-clean : map condition (sentWords ps) ≡ replicate (length (sentWords ps)) clean
+  sent-clean = all-clean (sentWords ps) sent-clean-each
 
 -- stray bytes and then a sender's whole marked stream, the marker first appearing where that stream begins: the sent packets are
 -- delivered once each, in order, and nothing else; every block is clean, and no lock is lost
 pub whole-stream : (stray : List ℕ) (ps : List Packet) → Each Accepted ps → FirstMarker stray (sent ps)
     → (frames (answers (stray ++ sent ps)) ≡ map delivered ps)
-    × (blocks (answers (stray ++ sent ps)) ≡ replicate (length (messagesOf (stream ps))) true)
+    × (blocks (answers (stray ++ sent ps)) ≡ replicate (length (sentWords ps)) clean)
     × (losses (answers (stray ++ sent ps)) ≡ 0)
 whole-stream stray ps a h =
-    let e = received stray (sentWords ps) (sent-some ps a) (sent-each ps a) h in (
+    let e = ap (λ x. x .0) (received stray (sentWords ps) (sent-some ps a) (sent-each ps a) h) in (
       ap frames e ∙ frames-wholes (sentWords ps) waiting
           ∙ ap (λ l. reads waiting l .0) (sent-bytes ps a)
           ∙ ap (λ x. x .0) (stream-read ps a (fillers (length (stream ps)))),
@@ -307,12 +325,12 @@ module _ (stray : List ℕ) (ps : List Packet) (accepted : Each Accepted ps) (fi
 
   -- the other blocks are clean, and no lock is lost
   pub others-clean : (blocks (answers (stray ++ framed (earlier ++ v ∷ later)))
-      ≡ replicate (length earlier) true ++ isClean v ∷ replicate (length later) true)
+      ≡ replicate (length earlier) clean ++ condition v ∷ replicate (length later) clean)
       × (losses (answers (stray ++ framed (earlier ++ v ∷ later))) ≡ 0)
   others-clean =
-      let e = received stray (earlier ++ v ∷ later) (some-words earlier v later) altered-each altered-first in (
+      let e = ap (λ x. x .0) (received stray (earlier ++ v ∷ later) (some-words earlier v later) altered-each altered-first) in (
         ap blocks e ∙ blocks-wholes (earlier ++ v ∷ later) waiting
-            ∙ one-altered earlier w v later (subst (Each (λ u. isClean u ≡ true)) one (sent-clean-each ps accepted)),
+            ∙ one-altered earlier w v later (subst (Each IsClean) one (sent-clean-each ps accepted)),
         ap losses e ∙ losses-wholes (earlier ++ v ∷ later) waiting,
       )
 
@@ -331,7 +349,7 @@ module _ (stray : List ℕ) (ps : List Packet) (accepted : Each Accepted ps) (fi
       ≡ reads waiting (carried (earlier ++ v ∷ []) ++ pre ++ flag ∷ []) .0
       ++ map delivered (openedFrom ps (length (carried (earlier ++ w ∷ []) ++ pre)))
   later-exact pre post e =
-      ap frames (received stray (earlier ++ v ∷ later) (some-words earlier v later) altered-each altered-first)
+      ap (λ x. frames (x .0)) (received stray (earlier ++ v ∷ later) (some-words earlier v later) altered-each altered-first)
       ∙ frames-wholes (earlier ++ v ∷ later) waiting
       ∙ ap (λ l. reads waiting l .0) (split-at-flag v pre post e ∙ sym (append-snoc (carried (earlier ++ v ∷ []) ++ pre) flag post))
       ∙ ap (λ x. x .0) (run-append read waiting (carried (earlier ++ v ∷ []) ++ pre ++ flag ∷ []) post)

@@ -11,7 +11,7 @@ use mathlib.Core.Path.{_≡_}
 use mathlib.Core.Bool.{Bool, true, false, _&&_}
 use mathlib.Core.List.{List, _++_}
 use mathlib.Core.Option.{Option, some, none}
-use lib.ListN.{length, take, getD, set}
+use lib.ListN.{length, take, drop, getD, set}
 use lib.Dec.{eqb, ltb, leb}
 use Rattle.base.specs.Calls.{all, hear}
 use Rattle.packet.specs.Contents.{rawLimit}
@@ -21,10 +21,11 @@ use Rattle.channel.specs.declared.hunting.Hunting.{Hunting}
 use Rattle.channel.specs.declared.locked.Locked.{Locked}
 use Rattle.channel.specs.declared.receiver.Receiver.{Receiver}
 use Rattle.channel.specs.declared.receiver.Answer.{Answer}
-use Rattle.channel.specs.declared.receiver.Answer.the-variants.{More, Said, Clean, Damaged, LockLost}
+use Rattle.channel.specs.declared.receiver.Answer.the-variants.{More, Said, Clean, Repaired, Beyond, LockLost}
 use Rattle.channel.specs.declared.receiver.Hearing.{Hearing}
 use Rattle.channel.specs.Sender.{messageBytes, wordBytes}
-use Rattle.channel.specs.Channel.{Event, said, block, lost, isClean, shift, isMarker, zeros, Chan, hunting, inWord, inMark}
+use Rattle.channel.specs.Channel.{Condition, clean, repaired, beyond, condition, mend}
+use Rattle.channel.specs.Channel.{Event, said, block, lost, shift, isMarker, zeros, Chan, hunting, inWord, inMark}
 
 -- state, receive buffer and word buffer
 pub record Board : Type 0 where
@@ -32,6 +33,7 @@ pub record Board : Type 0 where
   pub recv : List ℕ
   pub word : List ℕ
 
+-- .. put together
 abbrev pub board : Receiver → List ℕ → List ℕ → Board
 board s recv word = record { st = s; recv = recv; word = word }
 
@@ -60,10 +62,14 @@ abbrev pub huntOn : Bool → Hunting → Board → Board
 huntOn true f c = lockedWith f 0 0 0 (heldIn c) (c .word)
 huntOn false f c = board (record { locked = false; hunting = f; lock = c .st .lock; frame = c .st .frame }) (c .recv) (c .word)
 
+-- the word buffer, the whole word at its start as repair leaves it
+abbrev pub mendIn : List ℕ → List ℕ
+mendIn k = mend (take wordBytes k) ++ drop wordBytes k
+
 -- a byte of a word, by: is it not whole yet. A whole word gives the block's answer
 abbrev pub wordOn : Bool → Board → List ℕ → Option Event × Board
 wordOn true c k = (none, lockedWith (c .st .hunting) (suc (c .st .lock .word)) (c .st .lock .handed) (c .st .lock .marker) (heldIn c) k)
-wordOn false c k = (some (block (isClean (take wordBytes k))), lockedWith (c .st .hunting) wordBytes 0 0 (heldIn c) k)
+wordOn false c k = (some (block (condition (take wordBytes k))), lockedWith (c .st .hunting) wordBytes 0 0 (heldIn c) (mendIn k))
 
 -- four marker bytes, by: are they the marker. Lock lost: any open packet is dropped, and they are hunted in
 abbrev pub compareOn : Bool → Hunting → Board → Option Event × Board
@@ -95,6 +101,7 @@ owedBy false t h = 0
 abbrev pub owes : Receiver → ℕ
 owes s = owedBy (s .locked) (eqb (s .lock .word) wordBytes) (s .lock .handed)
 
+-- .. of those on the board
 abbrev pub owed : Board → ℕ
 owed c = owes (c .st)
 
@@ -103,6 +110,7 @@ abbrev pub asEvent : Option Told → Option Event
 asEvent none = none
 asEvent (some a) = some (said a)
 
+-- by what the frame reader makes of a byte: one more is handed on
 abbrev pub handWith : Option Told × Held → Board → Option Event × Board
 handWith r c = (asEvent (r .0), lockedWith (c .st .hunting) (c .st .lock .word) (suc (c .st .lock .handed)) (c .st .lock .marker) (r .1) (c .word))
 
@@ -141,9 +149,10 @@ abbrev pub hearCall : Board → List ℕ → Option Event × ℕ × Board
 hearCall c bs = hearBy (sound (c .st)) (roomy (c .recv) (c .word)) c bs
 
 -- the code's answer to a block
-abbrev pub blockAnswer : Bool → Answer
-blockAnswer true = Clean
-blockAnswer false = Damaged
+abbrev pub blockAnswer : Condition → Answer
+blockAnswer clean = Clean
+blockAnswer (repaired n) = Repaired n
+blockAnswer beyond = Beyond
 
 -- the code's answer
 abbrev pub answered : Option Event → Answer

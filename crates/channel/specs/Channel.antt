@@ -1,5 +1,6 @@
 -- What a received byte string means on the opportunistic channel (paper 01, "Opportunistic channel"), byte by byte, to a receiver
--- whose memory has no limit: markers, words, and the frames in their messages.
+-- whose memory has no limit: markers, words, repaired where they are damaged, and the frames in their messages.
+-- Condition, condition, mend      a block's answer; that of a word, and the word as it is left: what repair promises (proofs/Words)
 -- Event, frames, blocks, losses   an answer, and the answers of each kind
 -- Chan, step, hears, answers      the state, one byte, a byte string, all answers of a fresh receiver
 -- FirstMarker                     where the marker first appears
@@ -11,15 +12,38 @@ use lib.ListN.{length, take}
 use lib.Dec.{eqb, ltb}
 use Rattle.base.specs.Calls.{andThen, joined}
 use Rattle.packet.specs.Frame.{Told}
-use Rattle.parity.specs.Word.{clean}
+use Rattle.repair.specs.declared.Mended.{Mended}
+use Rattle.repair.specs.declared.Mended.the-variants.{Clean, Repaired, Beyond, Refused}
+use Rattle.repair.specs.Way.{repaired as repairedWord}
 use Rattle.stream.specs.Reader.{Reading, waiting, reads}
 use Rattle.channel.specs.Sender.{marker, messageBytes, parityBytes, wordBytes}
 use Rattle.channel.specs.declared.hunting.Hunting.{Hunting}
 
--- an answer: a frame's or a refused call's; a block's (true: clean); lock lost
+-- a block's answer: clean; repaired, with the count of changed places; beyond repair
+pub data Condition : Type 0 where
+  clean : Condition
+  repaired : ℕ → Condition
+  beyond : Condition
+
+-- by what repair finds: a word of 255 bytes is not refused
+abbrev pub conditionBy : Mended → Condition
+conditionBy Clean = clean
+conditionBy (Repaired n) = repaired n
+conditionBy Beyond = beyond
+conditionBy (Refused n) = beyond
+
+-- the answer to a word: what repair finds of it, with 32 parity bytes ..
+abbrev pub condition : List ℕ → Condition
+condition w = conditionBy (repairedWord parityBytes w .0)
+
+-- .. and the word as repair leaves it: repaired, or beyond repair as it came
+abbrev pub mend : List ℕ → List ℕ
+mend w = repairedWord parityBytes w .1
+
+-- an answer: a frame's or a refused call's; a block's; lock lost
 pub data Event : Type 0 where
   said : Told → Event
-  block : Bool → Event
+  block : Condition → Event
   lost : Event
 
 -- the frame answers among them ..
@@ -30,7 +54,7 @@ frames (block c ∷ es) = frames es
 frames (lost ∷ es) = frames es
 
 -- .. the block answers ..
-abbrev pub blocks : List Event → List Bool
+abbrev pub blocks : List Event → List Condition
 blocks [] = []
 blocks (said a ∷ es) = blocks es
 blocks (block c ∷ es) = c ∷ blocks es
@@ -43,13 +67,9 @@ losses (said a ∷ es) = losses es
 losses (block c ∷ es) = losses es
 losses (lost ∷ es) = suc (losses es)
 
--- the message of a word
+-- the message of a word, as repair leaves it
 abbrev pub message : List ℕ → List ℕ
-message w = take messageBytes w
-
--- a word is clean: zero at its 32 roots
-abbrev pub isClean : List ℕ → Bool
-isClean w = clean parityBytes w
+message w = take messageBytes (mend w)
 
 -- one byte more among the last four
 abbrev pub shift : Hunting → ℕ → Hunting
@@ -75,7 +95,7 @@ start = hunting zeros
 
 -- a whole word: the block's answer, and then those of its message bytes
 abbrev pub whole : List ℕ → Reading → List Event × Reading
-whole w r = (block (isClean w) ∷ map said (reads r (message w) .0), reads r (message w) .1)
+whole w r = (block (condition w) ∷ map said (reads r (message w) .0), reads r (message w) .1)
 
 -- hunting, by: are the last four the marker
 abbrev pub hunt : Bool → Hunting → Chan
@@ -85,7 +105,7 @@ hunt false f = hunting f
 -- a byte of a word, by: is it not whole yet
 abbrev pub grow : Bool → Hunting → List ℕ → Reading → List Event × Chan
 grow true f w r = ([], inWord f w r)
-grow false f w r = (whole w r .0, inMark f w 0 (whole w r .1))
+grow false f w r = (whole w r .0, inMark f (mend w) 0 (whole w r .1))
 
 -- four marker bytes, by: are they the marker. Lock lost: any open packet is dropped, and they are hunted in
 abbrev pub compared : Bool → Hunting → Reading → List Event × Chan

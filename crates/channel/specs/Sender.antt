@@ -31,6 +31,10 @@ parityBytes = 32
 abbrev pub wordBytes : ℕ
 wordBytes = whole
 
+-- bytes of a block: the marker, and a word behind it
+abbrev pub blockBytes : ℕ
+blockBytes = 4 + wordBytes
+
 -- a message with its parity behind it
 abbrev pub wordOf : List ℕ → List ℕ
 wordOf m = m ++ remainder parityBytes m

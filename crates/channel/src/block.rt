@@ -17,6 +17,9 @@ impl Block {
     /// Its message bytes.
     pub const MESSAGE: usize = Self::WORD - Self::PARITY;
 
+    /// Where they stand in a block.
+    pub const PARITY_AT: usize = 4 + Self::MESSAGE;
+
     /// Bytes of a block.
     pub const LENGTH: usize = 4 + Self::WORD;
 }

@@ -1,5 +1,6 @@
 //! Lock: how far a word, its handing on and the next marker are.
 ghost use mathlib.Core.Path.{_≡_};
+ghost use Rattle.channel.specs.Sender.{wordBytes};
 ghost use Rattle.channel.specs.Called.{counts, soundLock};
 use crate::block::Block;
 
@@ -24,7 +25,7 @@ impl Locked {
 
     // A whole word: nothing of it is handed on yet.
     pub(crate) fn whole() -> Self
-        ensures { λ r. ⌜ r ≡ counts 255 0 0 ⌝ }
+        ensures { λ r. ⌜ r ≡ counts wordBytes 0 0 ⌝ }
     {
         Locked {
             word: Block::WORD,

@@ -3,7 +3,9 @@ ghost use mathlib.Core.Path.{_≡_};
 ghost use mathlib.Core.Bool.{true, false};
 ghost use Prim.Native.Nat.{_+_, _≤_, _<_};
 ghost use lib.ListN.{length, take, drop};
-ghost use Rattle.channel.specs.Channel.{isClean};
+ghost use Rattle.parity.specs.Word.{clean};
+ghost use Rattle.channel.specs.Sender.{messageBytes, parityBytes, wordBytes};
+ghost use Rattle.channel.specs.Channel.{condition, mend};
 ghost use Rattle.channel.specs.Called.{
   board,
   counts,
@@ -12,6 +14,7 @@ ghost use Rattle.channel.specs.Called.{
   soundLock,
   sound,
   roomy,
+  mendIn,
   blockAnswer,
   hearOn,
   hearCall,
@@ -24,6 +27,7 @@ use crate::locked::Locked;
 use base::Refusal;
 use packet::Judged;
 use parity::Checked;
+use repair::Mended;
 use stream::Frame;
 use stream::Heard;
 
@@ -43,8 +47,10 @@ pub enum Answer {
     Said(Judged),
     /// A whole word, clean.
     Clean,
-    /// A whole word, damaged.
-    Damaged,
+    /// A whole word in which so many bytes were put right.
+    Repaired(usize),
+    /// A whole word that is beyond repair.
+    Beyond,
     LockLost,
 }
 
@@ -65,30 +71,56 @@ struct Phase {
     receiver: Receiver,
 }
 
-// The answer to a word.
-fn check(word: &[u8]) -> Answer
-    requires { ⌜ length (now word) ≡ 255 ⌝ }
-    ensures { λ r. ⌜ r ≡ blockAnswer (isClean (now (word .entry))) ⌝ }
+// Whether a word is clean.
+fn is_clean(word: &[u8]) -> bool
+    requires { ⌜ length (now word) ≡ wordBytes ⌝ }
+    ensures { λ r. ⌜ r ≡ clean parityBytes (now (word .entry)) ⌝ }
 {
     match parity::check(Block::PARITY, word) {
-        Checked::Clean => Answer::Clean,
-        Checked::Damaged => Answer::Damaged,
-        Checked::Refused(_) => Answer::Damaged,
+        Checked::Clean => true,
+        Checked::Damaged => false,
+        Checked::Refused(_) => false,
     }
 }
 
-// The answer to the word whose last n bytes stand in the piece from `at` on: where those are all its bytes, it is checked there.
-fn check_last(word: &[u8], piece: &[u8], at: usize, n: usize) -> Answer
-    requires { ⌜ 255 ≤ length (now word) ⌝ }
+// Whether the word is clean whose last n bytes stand in the piece from `at` on: where those are all its bytes, it is checked there.
+fn is_clean_last(word: &[u8], piece: &[u8], at: usize, n: usize) -> bool
+    requires { ⌜ wordBytes ≤ length (now word) ⌝ }
     requires { ⌜ at + n ≤ length (now piece) ⌝ }
-    requires { ⌜ (n ≡ 255 → take 255 (drop at (now piece)) ≡ take 255 (now word)) ⌝ }
-    ensures { λ r. ⌜ r ≡ blockAnswer (isClean (take 255 (now (word .entry)))) ⌝ }
+    requires { ⌜ (n ≡ wordBytes → take wordBytes (drop at (now piece)) ≡ take wordBytes (now word)) ⌝ }
+    ensures { λ r. ⌜ r ≡ clean parityBytes (take wordBytes (now (word .entry))) ⌝ }
 {
     if n == Block::WORD {
         let end = at + Block::WORD;
-        return check(&piece[at..end]);
+        return is_clean(&piece[at..end]);
     }
-    check(&word[0..Block::WORD])
+    is_clean(&word[0..Block::WORD])
+}
+
+// The answer to a word, which is repaired in its place.
+fn mend(word: &mut [u8]) -> Answer
+    requires { ⌜ length (now word) ≡ wordBytes ⌝ }
+    ensures { λ r. ⌜ (r ≡ blockAnswer (condition (now (word .entry)))) × (now (word .exit) ≡ mend (now (word .entry))) ⌝ }
+{
+    match repair::repair(Block::PARITY, word) {
+        Mended::Clean => Answer::Clean,
+        Mended::Repaired(n) => Answer::Repaired(n),
+        Mended::Beyond => Answer::Beyond,
+        Mended::Refused(_) => Answer::Beyond,
+    }
+}
+
+// The answer to the word at the start of the buffer: a clean one costs the check alone.
+fn settle(word: &mut [u8], piece: &[u8], at: usize, n: usize) -> Answer
+    requires { ⌜ wordBytes ≤ length (now word) ⌝ }
+    requires { ⌜ at + n ≤ length (now piece) ⌝ }
+    requires { ⌜ (n ≡ wordBytes → take wordBytes (drop at (now piece)) ≡ take wordBytes (now word)) ⌝ }
+    ensures { λ r. ⌜ (r ≡ blockAnswer (condition (take wordBytes (now (word .entry))))) × (now (word .exit) ≡ mendIn (now (word .entry))) ⌝ }
+{
+    if is_clean_last(word, piece, at, n) {
+        return Answer::Clean;
+    }
+    mend(&mut word[0..Block::WORD])
 }
 
 impl Phase {
@@ -177,7 +209,7 @@ impl Receiver {
 
     // Message bytes of a stored word that are not handed on yet.
     fn owed(self) -> usize
-        requires { ⌜ self .lock .handed ≤ 223 ⌝ }
+        requires { ⌜ self .lock .handed ≤ messageBytes ⌝ }
         ensures { λ r. ⌜ r ≡ owes self ⌝ }
     {
         let lock = self.lock;
@@ -218,7 +250,7 @@ impl Receiver {
 
     // Locked, behind a word: up to four bytes that should be the marker.
     fn compare(self, piece: &[u8]) -> Phase
-        requires { ⌜ (self .locked ≡ true) × (self .lock .word ≡ 255) × (self .lock .marker ≤ 3) × (owes self ≡ 0) ⌝ }
+        requires { ⌜ (self .locked ≡ true) × (self .lock .word ≡ wordBytes) × (self .lock .marker ≤ 3) × (owes self ≡ 0) ⌝ }
         ensures { λ r. ⌜ SoughtIs self (now (piece .entry)) r ⌝ }
     {
         let lock = self.lock;
@@ -305,7 +337,7 @@ impl Receiver {
 
     // Bytes of a word, from `at` on. The whole word gives the block's answer.
     fn fill(self, word: &mut [u8], piece: &[u8], at: usize) -> Hearing
-        requires { ⌜ (self .locked ≡ true) × (self .lock .word < 255) × (255 ≤ length (now word)) × (at ≤ length (now piece)) ⌝ }
+        requires { ⌜ (self .locked ≡ true) × (self .lock .word < wordBytes) × (wordBytes ≤ length (now word)) × (at ≤ length (now piece)) ⌝ }
         ensures { λ r. ⌜ FilledIs self (now (word .entry)) (drop at (now (piece .entry))) at r (now (word .exit)) ⌝ }
     {
         let lock = self.lock;
@@ -328,7 +360,7 @@ impl Receiver {
                 },
             };
         }
-        let answer = check_last(word, piece, at, n);
+        let answer = settle(word, piece, at, n);
         Hearing {
             answer,
             taken,

@@ -5,7 +5,7 @@ ghost use mathlib.Core.List.{_++_};
 ghost use lib.ListN.{length, drop, replicate};
 ghost use Rattle.base.specs.Written.{outcome, copied};
 ghost use Rattle.packet.specs.Escape.{flag};
-ghost use Rattle.channel.specs.Sender.{marker, wordOf, fillers, marking, sending};
+ghost use Rattle.channel.specs.Sender.{marker, messageBytes, blockBytes, wordOf, fillers, marking, sending};
 use crate::block::Block;
 use base::Refusal;
 use base::Written;
@@ -13,13 +13,13 @@ use packet::Packet;
 
 // Writes one block: the marker, the message and its parity.
 fn put_block(message: &[u8], out: &mut [u8])
-    requires { ⌜ (length (now message) ≡ 223) × (259 ≤ length (now out)) ⌝ }
-    ensures { λ _. ⌜ now (out .exit) ≡ (marker ++ wordOf (now (message .entry))) ++ drop 259 (now (out .entry)) ⌝ }
+    requires { ⌜ (length (now message) ≡ messageBytes) × (blockBytes ≤ length (now out)) ⌝ }
+    ensures { λ _. ⌜ now (out .exit) ≡ (marker ++ wordOf (now (message .entry))) ++ drop blockBytes (now (out .entry)) ⌝ }
 {
     let marker = Block::MARKER;
     base::copy(&marker, out);
     base::copy(message, &mut out[4..]);
-    parity::make(Block::PARITY, message, &mut out[227..]);
+    parity::make(Block::PARITY, message, &mut out[Block::PARITY_AT..]);
 }
 
 /// Marks one block of 223 bytes: the marker, the message and its parity.
@@ -38,17 +38,17 @@ pub fn mark(message: &[u8], out: &mut [u8]) -> Written
 
 // Writes the block of the next 223 bytes, or of those that are left and flags behind them.
 fn put_next(stream: &[u8], out: &mut [u8])
-    requires { ⌜ 259 ≤ length (now out) ⌝ }
-    ensures { λ _. ⌜ now (out .exit) ≡ (marker ++ wordOf (copied (now (stream .entry)) (replicate 223 flag))) ++ drop 259 (now (out .entry)) ⌝ }
+    requires { ⌜ blockBytes ≤ length (now out) ⌝ }
+    ensures { λ _. ⌜ now (out .exit) ≡ (marker ++ wordOf (copied (now (stream .entry)) (replicate messageBytes flag))) ++ drop blockBytes (now (out .entry)) ⌝ }
 {
-    let mut message: [u8; 223] = [Packet::FLAG; 223];
+    let mut message: [u8; Block::MESSAGE] = [Packet::FLAG; Block::MESSAGE];
     base::copy(stream, &mut message);
     mark(&message, out);
 }
 
 // How many blocks so many bytes fill.
 fn blocks_of(n: usize) -> usize
-    ensures { λ r. ⌜ (r ≡ (n + fillers n) / 223) × (223 * r < n + 223) ⌝ }
+    ensures { λ r. ⌜ (r ≡ (n + fillers n) / messageBytes) × (messageBytes * r < n + messageBytes) ⌝ }
 {
     if n % Block::MESSAGE == 0 {
         return n / Block::MESSAGE;

@@ -23,6 +23,9 @@ use Rattle.parity.specs.Word.{clean, remainder}
 use Rattle.parity.specs.Calls.{checked, made}
 use Rattle.parity.proofs.Division.{length-remainder}
 use Rattle.parity.proofs.Refusing.{made-keeps}
+use Rattle.repair.specs.declared.Mended.{Mended}
+use Rattle.repair.specs.declared.Mended.the-variants.{Refused as RepairRefused}
+use Rattle.repair.specs.Promise.{Promised}
 use Rattle.interleaver.specs.Matrix.{whole, turned, turning}
 use Rattle.interleaver.proofs.Round.{length-turned}
 use Rattle.interleaver.proofs.Turning.{turning-keeps}
@@ -45,8 +48,8 @@ use Rattle.channel.proofs.Sending.{marking-keeps, sending-keeps}
 use Rattle.channel.proofs.Demands.{ends}
 use Rattle.demands.specs.Accepts.{Accepts}
 use Rattle.demands.specs.Table.{Exact}
-use Rattle.demands.specs.Refusals.{Unusable, frameRows, FrameBeyond, Beyond, Short, ByFrame, ByCall, ByCheck, ByRead, ByHear}
-use Rattle.demands.proofs.Rows.{row, row-not, not-less, not-same, refuses, wrote, refuses-word, found, not-whole, is-whole}
+use Rattle.demands.specs.Refusals.{Unusable, frameRows, FrameBeyond, Beyond, Short, ByFrame, ByCall, ByCheck, ByRepair, ByRead, ByHear}
+use Rattle.demands.proofs.Rows.{row, row-not, not-less, not-same, refuses, wrote, refuses-word, found, repair-as-check, not-whole, is-whole}
 use Rattle.demands.proofs.Frames.{barred-is, free-is, closed-exact, judge-exact, undone}
 use Rattle.demands.proofs.Called.{read-given, hear-given, read-exact, read-same, hear-exact, hear-same}
 use Rattle.packet.proofs.write as write-call
@@ -165,6 +168,19 @@ pub check-refusals : (r : ℕ) (word : List ℕ) → Exact ByCheck (checked r wo
 check-refusals r word =
     row ByCheck (ltb 64 r) (refuses-word 30) (ltb-true _ _) (not-less _ _)
     (row-not ByCheck (eqb (length word) 255) (refuses-word 31) (eqb-false _ _) (λ e. not-same (eqb-true _ _ e)) (found (clean r word)))
+
+-- the repair of a word, whatever it may answer by its promise; a word refused is left as it came
+pub repair-refusals : (r : ℕ) (word : List ℕ) (a : Mended) (left : List ℕ) → Promised r word a left → Exact ByRepair a
+    ((30, 64 < r) ∷  -- R above 64
+    (31, length word ≢ 255) ∷  -- word not 255
+    [])
+repair-refusals r word a left p =
+    let c = check-refusals r word in
+    let s = repair-as-check r word a left p in
+    record { says = λ n. (λ e. c .says n .0 (s n .0 e), λ f. s n .1 (c .says n .1 f)) }
+
+pub repair-keeps : (r n : ℕ) (word left : List ℕ) → Promised r word (RepairRefused n) left → left ≡ word
+repair-keeps r n word left p = p .1
 
 -- the interleaver, there and back
 pub turn-refusals : (back : Bool) (d : ℕ) (bytes out : List ℕ) → Exact ByCall (turning back d bytes out)

@@ -30,6 +30,8 @@ use Rattle.base.specs.Written.{write}
 use Rattle.base.proofs.Writing.{write-is}
 use Rattle.base.specs.declared.Written.the-variants.{Wrote}
 use Rattle.parity.specs.Word.{clean, remainder}
+use Rattle.repair.specs.declared.Mended.{Mended}
+use Rattle.repair.specs.Promise.{Promised}
 use Rattle.parity.proofs.Clean.{Zero, clean-roots, roots-clean, parity-clean, clean-is}
 use Rattle.interleaver.specs.Matrix.{whole, interleaved, restored}
 use Rattle.interleaver.proofs.Round.{restored-interleaved, interleaved-restored}
@@ -42,10 +44,11 @@ use Rattle.stream.specs.Sender.{Packet, Accepted, rawOf, stream, delivered, app
 use Rattle.stream.proofs.Streaming.{stream-read}
 use Rattle.stream.proofs.Sending.{begin-stream, append-stream}
 use Rattle.channel.specs.Sender.{parityBytes, wordOf, sending, sent}
-use Rattle.channel.specs.Channel.{Event, said, block, lost, frames, blocks, losses, isClean}
+use Rattle.channel.specs.Channel.{clean as cleanBlock, repaired, beyond, conditionBy, condition, mend, IsWord, Event, said, block, lost, frames, blocks, losses}
 use Rattle.channel.specs.Called.{answered}
+use Rattle.channel.proofs.Words.{asMended, block-promised, block-determined}
 use Rattle.channel.specs.declared.receiver.Answer.{Answer}
-use Rattle.channel.specs.declared.receiver.Answer.the-variants.{More, Said, Clean, Damaged, LockLost}
+use Rattle.channel.specs.declared.receiver.Answer.the-variants.{More, Said, Clean, Repaired, Beyond, LockLost}
 use Rattle.listed.specs.Apart.{most}
 use Rattle.listed.specs.Lines.{lines, isPacket, isRefusal, isDamaged, isLost, count}
 use Rattle.listed.specs.Listing.{heard, totalLine, listing}
@@ -95,7 +98,7 @@ pub stream-sent : (ps : List Packet) (out : List ℕ) (n : ℕ) → sending (str
 stream-sent ps out n e = write-is (sent ps) out n e
 
 -- ---- "parity words": a message with its parity behind it is clean ..
-pub word-clean : (m : List ℕ) → Bytes m → isClean (wordOf m) ≡ true
+pub word-clean : (m : List ℕ) → Bytes m → clean parityBytes (wordOf m) ≡ true
 word-clean m = parity-clean parityBytes m
 
 -- .. for every R, and with no other bytes behind it ..
@@ -113,12 +116,22 @@ there-and-back = restored-interleaved
 pub back-and-there : (d : ℕ) (bytes : List ℕ) → whole d (length bytes) ≡ true → interleaved d (restored d bytes) ≡ bytes
 back-and-there = interleaved-restored
 
--- ---- what the code's answers say, case by case: "more wanted", a packet, a refusal, a clean and a damaged block, lock lost
-pub answers-read : (port sequence n : ℕ) (payload : List ℕ) → _≡_ {A = List Answer}
+-- ---- what the code's answers say, case by case: "more wanted", a packet, a refusal, a clean block, one repaired, one beyond
+-- repair, lock lost
+pub answers-read : (port sequence n k : ℕ) (payload : List ℕ) → _≡_ {A = List Answer}
     (answered none ∷ answered (some (said (packet port sequence payload))) ∷ answered (some (said (refusal n)))
-    ∷ answered (some (block true)) ∷ answered (some (block false)) ∷ answered (some lost) ∷ [])
-    (More ∷ Said (Delivered port sequence (length payload)) ∷ Said (Refused n) ∷ Clean ∷ Damaged ∷ LockLost ∷ [])
-answers-read port sequence n payload = refl
+    ∷ answered (some (block cleanBlock)) ∷ answered (some (block (repaired k))) ∷ answered (some (block beyond)) ∷ answered (some lost) ∷ [])
+    (More ∷ Said (Delivered port sequence (length payload)) ∷ Said (Refused n) ∷ Clean ∷ Repaired k ∷ Beyond ∷ LockLost ∷ [])
+answers-read port sequence n k payload = refl
+
+-- the block's answer and the word that is read then are what repair promises of a word of 255 bytes: clean, and left; repaired, the left
+-- word clean and the only one within 16 places; beyond repair, and left as it came ..
+pub block-answer : (w : List ℕ) → IsWord w → Bytes w → Promised parityBytes w (asMended (condition w)) (mend w)
+block-answer = block-promised
+
+-- .. and no other answer and word meet that promise
+pub block-only : (w : List ℕ) → IsWord w → Bytes w → (a : Mended) (o : List ℕ) → Promised parityBytes w a o → (conditionBy a ≡ condition w) × (o ≡ mend w)
+block-only = block-determined
 
 -- ---- the listing of a recording of pieces: the lines of their answers, and behind them `E` with the totals, on the plain stream ..
 pub plain-listing : (pieces : List (List ℕ)) → length (joined pieces) ≤ most
@@ -130,8 +143,8 @@ pub channel-listing : (pieces : List (List ℕ)) → length (joined pieces) ≤ 
     → listing (0x4F ∷ records pieces) ≡ lines (heard true (joined pieces)) ++ totalLine (length (joined pieces)) (heard true (joined pieces))
 channel-listing = channel-listed
 
--- the totals are counted from the answers: packets and refusals are all frame answers, and each is one or the other; damaged blocks are
--- counted among the block answers, and lost locks as often as lock is lost
+-- the totals are counted from the answers: packets and refusals are all frame answers, and each is one or the other; blocks beyond
+-- repair are counted among the block answers, and lost locks as often as lock is lost
 pub totals : (es : List Event)
     → (count isPacket es + count isRefusal es ≡ length (frames es)) × (count isDamaged es ≡ damaged (blocks es)) × (count isLost es ≡ losses es)
 totals es = (

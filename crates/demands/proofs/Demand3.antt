@@ -12,7 +12,6 @@
 use Prim.Native.Nat.{ℕ}
 use native.Mathlib.Omega.{arith}
 use mathlib.Core.Path.{_≡_, refl, sym, _∙_, ap}
-use mathlib.Core.Bool.{true}
 use mathlib.Core.List.{List, [], _∷_, _++_, map, append-nil}
 use lib.ListN.{length, replicate}
 use Rattle.base.specs.Bytes.{Each}
@@ -28,8 +27,8 @@ use Rattle.stream.proofs.Cutting.{read-cut}
 use Rattle.stream.proofs.Shown.{shown-plain, held-use, held-st}
 use Rattle.stream.proofs.Delivery.{ThereHeld, payload-held}
 use Rattle.stream.proofs.Streaming.{ignored, stream-read, opened-behind}
-use Rattle.channel.specs.Sender.{framed, messagesOf, sentWords, sent}
-use Rattle.channel.specs.Channel.{Event, frames, blocks, losses, isClean, start, hears, answers, IsWord, carried, FirstMarker}
+use Rattle.channel.specs.Sender.{framed, sentWords, sent}
+use Rattle.channel.specs.Channel.{clean, condition, Event, frames, blocks, losses, start, hears, answers, IsWord, carried, FirstMarker}
 use Rattle.channel.specs.Called.{Board, hearCall, boardOf, inUse}
 use Rattle.channel.proofs.Demands.{Cuts, every-cut-means, delivers, earlier-answers, later-answers}
 use Rattle.channel.proofs.Demands as channel-demands
@@ -63,7 +62,7 @@ plain-payload = payload-held
 -- nothing else": the marker first appearing where that stream begins. Every block is clean, and no lock is lost
 pub whole-stream : (stray : List ℕ) (ps : List Packet) → Each Accepted ps → FirstMarker stray (sent ps)
     → {es : List Event} {d : Board} → Cuts (stray ++ sent ps) es d
-    → (frames es ≡ map delivered ps) × (blocks es ≡ replicate (length (messagesOf (stream ps))) true) × (losses es ≡ 0)
+    → (frames es ≡ map delivered ps) × (blocks es ≡ replicate (length (sentWords ps)) clean) × (losses es ≡ 0)
 whole-stream = delivers
 
 -- on the plain stream: stray bytes with no flag, and then the sender's whole stream
@@ -83,15 +82,15 @@ module _ (stray : List ℕ) (ps : List Packet) (accepted : Each Accepted ps) (fi
   earlier-blocks unaltered until = earlier-answers stray ps accepted first earlier later w v one any altered unaltered until
 
   -- ".. and behind the first flag of a later block the frame answers are exactly the packets opened from that flag on": behind the first,
-  -- and behind every other. `pre` are the later blocks' message bytes before the flag; up to the flag the answers are those of the bytes as
-  -- received; `openedFrom` is said in numbers of the stream's bytes: see `opened`
+  -- and behind every other. `pre` are the later blocks' message bytes before the flag; up to the flag the answers are those of the
+  -- messages as repair leaves them; `openedFrom` is said in numbers of the stream's bytes: see `opened`
   pub behind-flag : (pre post : List ℕ) → carried later ≡ pre ++ flag ∷ post
       → frames es ≡ reads waiting (carried (earlier ++ v ∷ []) ++ pre ++ flag ∷ []) .0
       ++ map delivered (openedFrom ps (length (carried (earlier ++ w ∷ []) ++ pre)))
   behind-flag = later-answers stray ps accepted first earlier later w v one any altered
 
-  -- the other blocks are still clean, and no lock is lost
-  pub other-blocks : (blocks es ≡ replicate (length earlier) true ++ isClean v ∷ replicate (length later) true) × (losses es ≡ 0)
+  -- the other blocks are still clean, that one is what repair finds of it, and no lock is lost
+  pub other-blocks : (blocks es ≡ replicate (length earlier) clean ++ condition v ∷ replicate (length later) clean) × (losses es ≡ 0)
   other-blocks = channel-demands.other-blocks stray ps accepted first earlier later w v one any altered
 
 -- "opened from that flag on": what stands in the stream behind the flag at place n is the frames of `openedFrom ps n`, and nothing else

@@ -6,7 +6,7 @@
 -- first-each      what a table gives is one of its numbers
 use Prim.Native.Nat.{ℕ, _*_, _<_, _≤_}
 use native.Mathlib.Omega.{arith}
-use mathlib.Core.Path.{_≡_, refl, sym, subst}
+use mathlib.Core.Path.{_≡_, refl, sym, _∙_, ap, subst}
 use mathlib.Core.Bool.{Bool, true, false}
 use mathlib.Core.Logic.{_↔_, _≢_, ⊎-elim}
 use mathlib.Core.Logic._⊎_.{inl, inr}
@@ -19,9 +19,13 @@ use Rattle.base.specs.Choice.{pick}
 use Rattle.base.specs.Written.{refused, write}
 use Rattle.base.specs.declared.Written.the-variants.{Refused}
 use Rattle.parity.specs.declared.Checked.the-variants.{Clean, Damaged, Refused as WordRefused}
+use Rattle.parity.specs.Calls.{checked}
+use Rattle.repair.specs.declared.Mended.{Mended}
+use Rattle.repair.specs.declared.Mended.the-variants as repair
+use Rattle.repair.specs.Promise.{Promised}
 use Rattle.interleaver.specs.Matrix.{whole}
 use Rattle.demands.specs.Table.{Row, First, Exact}
-use Rattle.demands.specs.Refusals.{ByCall, ByCheck}
+use Rattle.demands.specs.Refusals.{ByCall, ByCheck, ByRepair}
 
 module _ {A : Type 0} (By : A → ℕ → Type 0) where
   pub applies : {m : ℕ} {C : Type 0} {x : A} (rows : List Row) → ((n : ℕ) → By x n ↔ n ≡ m) → C → Exact By x ((m, C) ∷ rows)
@@ -66,6 +70,26 @@ refuses-word m n = (λ e. let k : m ≡ n = cc in sym k, λ e i. WordRefused (sy
 pub found : (t : Bool) → Exact ByCheck (pick t Clean Damaged) []
 found true = passed ByCheck λ n e. let z : _≡_ {A = ℕ} 0 1 = cc in omega arith
 found false = passed ByCheck λ n e. let z : _≡_ {A = ℕ} 0 1 = cc in omega arith
+
+-- the repair of a word refuses as the check does
+pub repair-as-check : (r : ℕ) (w : List ℕ) (a : Mended) (o : List ℕ) → Promised r w a o → (n : ℕ) → ByRepair a n ↔ ByCheck (checked r w) n
+repair-as-check r w repair.Clean o p n = (λ e. let z : _≡_ {A = ℕ} 0 1 = cc in absurd (omega arith), λ e. absurd (apart (sym (p .0) ∙ e)))
+  where
+    apart : Clean ≡ WordRefused n → ⊥
+    apart e = let z : _≡_ {A = ℕ} 0 1 = cc in omega arith
+repair-as-check r w (repair.Repaired k) o p n = (λ e. let z : _≡_ {A = ℕ} 0 1 = cc in absurd (omega arith), λ e. absurd (apart (sym (p .0) ∙ e)))
+  where
+    apart : Damaged ≡ WordRefused n → ⊥
+    apart e = let z : _≡_ {A = ℕ} 0 1 = cc in omega arith
+repair-as-check r w repair.Beyond o p n = (λ e. let z : _≡_ {A = ℕ} 0 1 = cc in absurd (omega arith), λ e. absurd (apart (sym (p .0) ∙ e)))
+  where
+    apart : Damaged ≡ WordRefused n → ⊥
+    apart e = let z : _≡_ {A = ℕ} 0 1 = cc in omega arith
+repair-as-check r w (repair.Refused m) o p n =
+    (λ e. p .0 ∙ ap WordRefused (let k : m ≡ n = cc in k), λ e. ap repair.Refused (same (sym (p .0) ∙ e)))
+  where
+    same : WordRefused m ≡ WordRefused n → m ≡ n
+    same e = cc
 
 -- ---- the interleaver's matrix
 pub not-whole : (d n : ℕ) → whole d n ≡ false → (2 ≤ d) × (n ≢ 255 * d)

@@ -18,6 +18,8 @@ use Rattle.packet.specs.Frame.{Told, refusal}
 use Rattle.packet.proofs.Faults.{Followed}
 use Rattle.parity.specs.declared.Checked.{Checked}
 use Rattle.parity.specs.declared.Checked.the-variants.{Refused as WordRefused}
+use Rattle.repair.specs.declared.Mended.{Mended}
+use Rattle.repair.specs.declared.Mended.the-variants.{Refused as RepairRefused}
 use Rattle.stream.specs.Called.{Held}
 use Rattle.stream.specs.declared.frame.Frame.{Frame}
 use Rattle.channel.specs.Channel.{Event, said}
@@ -68,6 +70,10 @@ ByCall o n = o .answer ≡ Refused n
 
 abbrev pub ByCheck : Checked → ℕ → Type 0
 ByCheck c n = c ≡ WordRefused n
+
+-- the repair of a word
+abbrev pub ByRepair : Mended → ℕ → Type 0
+ByRepair a n = a ≡ RepairRefused n
 
 -- a receiving call, on the plain stream and on the channel: from 10 on the numbers are those of calls, below they are of frames
 abbrev pub ByRead : Option Told × ℕ × Held → ℕ → Type 0

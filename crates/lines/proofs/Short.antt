@@ -4,16 +4,15 @@
 -- line-some    each but that of "more wanted" has a byte at least
 use Prim.Native.Nat.{ℕ, _+_, _≤_, _<_}
 use native.Mathlib.Omega.{arith}
-use mathlib.Core.Bool.{true, false}
 use mathlib.Core.List.{List, [], _∷_, _++_}
 use lib.ListN.{length, length-append}
 use Rattle.packet.specs.Port.{class}
 use Rattle.packet.specs.declared.frame.Judged.{Judged}
 use Rattle.packet.specs.declared.frame.Judged.the-variants.{Packet, Refused}
 use Rattle.packet.specs.Frame.{packet, refusal}
-use Rattle.channel.specs.Channel.{Event, said, block, lost}
+use Rattle.channel.specs.Channel.{clean, repaired, beyond, Event, said, block, lost}
 use Rattle.channel.specs.declared.receiver.Answer.{Answer}
-use Rattle.channel.specs.declared.receiver.Answer.the-variants.{More, Said, Clean, Damaged, LockLost}
+use Rattle.channel.specs.declared.receiver.Answer.the-variants.{More, Said, Clean, Repaired, Beyond, LockLost}
 use Rattle.listed.specs.Lines.{decimal, letter, told, line, given, endLine, wrongLine}
 use Rattle.lines.proofs.Digits.{digits-short}
 
@@ -33,7 +32,8 @@ pub line-short : (a : Answer) → length (line a) ≤ 128
 line-short More = omega arith
 line-short (Said j) = told-short j
 line-short Clean = omega arith
-line-short Damaged = omega arith
+line-short (Repaired n) = let x = item-short n 1 (10 ∷ []) (omega arith) in omega arith
+line-short Beyond = omega arith
 line-short LockLost = omega arith
 
 told-some : (j : Judged) → 0 < length (told j)
@@ -44,8 +44,9 @@ told-some (Refused n) = omega arith
 pub line-some : (e : Event) → 0 < length (line (given e))
 line-some (said (packet p s x)) = told-some (Packet p s (length x))
 line-some (said (refusal n)) = told-some (Refused n)
-line-some (block true) = omega arith
-line-some (block false) = omega arith
+line-some (block clean) = omega arith
+line-some (block (repaired n)) = omega arith
+line-some (block beyond) = omega arith
 line-some lost = omega arith
 
 -- nor has the last line

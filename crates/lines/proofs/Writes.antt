@@ -1,7 +1,7 @@
 -- Lines as they are written: what stands in a buffer behind each part.
 -- laid-last, laid-two         one byte more, two bytes
 -- number-last, number-more    a number's last digit, and those before it
--- packet-put, refused-put, block-put, end-put, wrong-put   lines from their parts
+-- packet-put, refused-put, block-put, repaired-put, end-put, wrong-put   lines from their parts
 -- put-taken                   the bytes put are those delivered
 use Prim.Native.Nat.{ℕ, _+_, _-_, _/_, _%_, _≤_, _<_}
 use native.Mathlib.Nat.{sub-zero}
@@ -13,7 +13,8 @@ use Rattle.base.specs.Laid.{Laid}
 use Rattle.base.proofs.Laid.{laid-append, laid-take}
 use Rattle.packet.specs.Port.{class}
 use Rattle.packet.specs.declared.frame.Judged.the-variants.{Packet, Refused}
-use Rattle.listed.specs.Lines.{decimal, letter, told, endLine, wrongLine}
+use Rattle.channel.specs.declared.receiver.Answer.the-variants.{Repaired}
+use Rattle.listed.specs.Lines.{decimal, letter, told, line, endLine, wrongLine}
 use Rattle.lines.proofs.Digits.{wide, last-digit, more-digits, digits-short}
 
 laid-one : (l : List ℕ) (at b : ℕ) → Laid l at (b ∷ []) (set l at b) (at + 1)
@@ -72,6 +73,9 @@ refused-put n u v = (laid-append u (v .0), omega (arith, u .ends, v .1))
 
 pub block-put : {l l₁ l₂ : List ℕ} {a b : ℕ} (k : ℕ) → Laid l 0 (66 ∷ 32 ∷ []) l₁ a → Laid l₁ a (k ∷ 10 ∷ []) l₂ b → Put l (66 ∷ 32 ∷ k ∷ 10 ∷ []) l₂ b
 block-put k u v = (laid-append u v, omega (arith, u .ends, v .ends))
+
+pub repaired-put : {l l₁ l₂ : List ℕ} {a b : ℕ} (n : ℕ) → Laid l 0 (66 ∷ 32 ∷ []) l₁ a → Item l₁ a n 10 l₂ b → Put l (line (Repaired n)) l₂ b
+repaired-put n u v = (laid-append u (v .0), omega (arith, u .ends, v .1))
 
 end-parts : (n p r d l : ℕ)
     → (69 ∷ 32 ∷ []) ++ (decimal n ++ (32 ∷ [])) ++ (decimal p ++ (32 ∷ [])) ++ (decimal r ++ (32 ∷ [])) ++ (decimal d ++ (32 ∷ [])) ++ (decimal l ++ (10 ∷ [])) ≡ endLine n p r d l

@@ -6,6 +6,7 @@ ghost use lib.ListN.{length};
 ghost use Rattle.base.specs.Laid.{Laid};
 ghost use Rattle.base.specs.Written.{outcome, write};
 ghost use Rattle.packet.specs.declared.frame.Judged.the-variants.{Packet};
+ghost use Rattle.channel.specs.declared.receiver.Answer.the-variants.{Repaired};
 ghost use Rattle.listed.specs.Lines.{decimal, letter, told, line, endLine, wrongLine};
 use base::Refusal;
 use base::Written;
@@ -108,6 +109,15 @@ fn put_block(text: &mut [u8], b: u8) -> usize
     put_two(text, a, b, b'\n')
 }
 
+// `B` and the count of changed places.
+fn put_repaired(text: &mut [u8], count: usize) -> usize
+    requires { ⌜ 128 ≤ length (now text) ⌝ }
+    ensures { λ r. ⌜ Laid (now (text .entry)) 0 (line (Repaired count)) (now (text .exit)) r × (r ≤ 128) ⌝ }
+{
+    let a = put_two(text, 0, b'B', b' ');
+    put_item(text, a, count as u64, b'\n')
+}
+
 // An answer's line.
 fn put_line(text: &mut [u8], answer: Answer) -> usize
     requires { ⌜ 128 ≤ length (now text) ⌝ }
@@ -117,7 +127,8 @@ fn put_line(text: &mut [u8], answer: Answer) -> usize
         Answer::More => 0,
         Answer::Said(judged) => put_told(text, judged),
         Answer::Clean => put_block(text, b'0'),
-        Answer::Damaged => put_block(text, b'1'),
+        Answer::Repaired(count) => put_repaired(text, count),
+        Answer::Beyond => put_block(text, b'X'),
         Answer::LockLost => put_two(text, 0, b'L', b'\n'),
     }
 }

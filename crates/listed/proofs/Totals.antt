@@ -1,17 +1,16 @@
 -- The totals of the last line, counted from the answers.
 -- packets-counted, refusals-counted   they are counted among the frame answers ..
 -- each-counted                        .. of which each is one or the other
--- damaged-counted, lost-counted       damaged blocks among the block answers, and lost locks
+-- damaged-counted, lost-counted       blocks beyond repair among the block answers, and lost locks
 -- sent-counted                        of a sender's packets, all are packets
 use Prim.Native.Nat.{ℕ, suc, _+_}
 use native.Mathlib.Omega.{arith}
 use mathlib.Core.Path.{_≡_, refl}
-use mathlib.Core.Bool.{Bool, true, false}
 use mathlib.Core.List.{List, [], _∷_, map}
 use lib.ListN.{length}
 use Rattle.packet.specs.Frame.{Told, packet, refusal}
 use Rattle.stream.specs.Sender.{Packet, delivered}
-use Rattle.channel.specs.Channel.{Event, said, block, lost, frames, blocks, losses}
+use Rattle.channel.specs.Channel.{Condition, clean, repaired, beyond, Event, said, block, lost, frames, blocks, losses}
 use Rattle.listed.specs.Lines.{isPacket, isRefusal, isDamaged, isLost, count}
 
 pub packets-counted : (es : List Event) → count isPacket es ≡ count isPacket (map said (frames es))
@@ -19,8 +18,9 @@ unfolding count
 packets-counted [] = refl
 packets-counted (said (packet port sequence payload) ∷ es) = omega (arith, packets-counted es)
 packets-counted (said (refusal n) ∷ es) = omega (arith, packets-counted es)
-packets-counted (block true ∷ es) = omega (arith, packets-counted es)
-packets-counted (block false ∷ es) = omega (arith, packets-counted es)
+packets-counted (block clean ∷ es) = omega (arith, packets-counted es)
+packets-counted (block (repaired n) ∷ es) = omega (arith, packets-counted es)
+packets-counted (block beyond ∷ es) = omega (arith, packets-counted es)
 packets-counted (lost ∷ es) = omega (arith, packets-counted es)
 
 pub refusals-counted : (es : List Event) → count isRefusal es ≡ count isRefusal (map said (frames es))
@@ -28,8 +28,9 @@ unfolding count
 refusals-counted [] = refl
 refusals-counted (said (packet port sequence payload) ∷ es) = omega (arith, refusals-counted es)
 refusals-counted (said (refusal n) ∷ es) = omega (arith, refusals-counted es)
-refusals-counted (block true ∷ es) = omega (arith, refusals-counted es)
-refusals-counted (block false ∷ es) = omega (arith, refusals-counted es)
+refusals-counted (block clean ∷ es) = omega (arith, refusals-counted es)
+refusals-counted (block (repaired n) ∷ es) = omega (arith, refusals-counted es)
+refusals-counted (block beyond ∷ es) = omega (arith, refusals-counted es)
 refusals-counted (lost ∷ es) = omega (arith, refusals-counted es)
 
 pub each-counted : (ts : List Told) → count isPacket (map said ts) + count isRefusal (map said ts) ≡ length ts
@@ -38,26 +39,29 @@ each-counted [] = refl
 each-counted (packet port sequence payload ∷ ts) = omega (arith, each-counted ts)
 each-counted (refusal n ∷ ts) = omega (arith, each-counted ts)
 
--- how many of them are false: damaged
-abbrev pub damaged : List Bool → ℕ
+-- how many of them are beyond repair
+abbrev pub damaged : List Condition → ℕ
 damaged [] = 0
-damaged (true ∷ cs) = damaged cs
-damaged (false ∷ cs) = suc (damaged cs)
+damaged (clean ∷ cs) = damaged cs
+damaged (repaired n ∷ cs) = damaged cs
+damaged (beyond ∷ cs) = suc (damaged cs)
 
 pub damaged-counted : (es : List Event) → count isDamaged es ≡ damaged (blocks es)
 unfolding count
 damaged-counted [] = refl
 damaged-counted (said t ∷ es) = omega (arith, damaged-counted es)
-damaged-counted (block true ∷ es) = omega (arith, damaged-counted es)
-damaged-counted (block false ∷ es) = omega (arith, damaged-counted es)
+damaged-counted (block clean ∷ es) = omega (arith, damaged-counted es)
+damaged-counted (block (repaired n) ∷ es) = omega (arith, damaged-counted es)
+damaged-counted (block beyond ∷ es) = omega (arith, damaged-counted es)
 damaged-counted (lost ∷ es) = omega (arith, damaged-counted es)
 
 pub lost-counted : (es : List Event) → count isLost es ≡ losses es
 unfolding count
 lost-counted [] = refl
 lost-counted (said t ∷ es) = omega (arith, lost-counted es)
-lost-counted (block true ∷ es) = omega (arith, lost-counted es)
-lost-counted (block false ∷ es) = omega (arith, lost-counted es)
+lost-counted (block clean ∷ es) = omega (arith, lost-counted es)
+lost-counted (block (repaired n) ∷ es) = omega (arith, lost-counted es)
+lost-counted (block beyond ∷ es) = omega (arith, lost-counted es)
 lost-counted (lost ∷ es) = omega (arith, lost-counted es)
 
 pub sent-counted : (ps : List Packet)

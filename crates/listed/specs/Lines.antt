@@ -17,7 +17,7 @@ use Rattle.packet.specs.declared.frame.Judged.the-variants.{Packet, Refused}
 use Rattle.channel.specs.Channel.{Event}
 use Rattle.channel.specs.Called.{answered}
 use Rattle.channel.specs.declared.receiver.Answer.{Answer}
-use Rattle.channel.specs.declared.receiver.Answer.the-variants.{More, Said, Clean, Damaged, LockLost}
+use Rattle.channel.specs.declared.receiver.Answer.the-variants.{More, Said, Clean, Repaired, Beyond, LockLost}
 
 -- the digits of n, at most k + 1 of them
 unfoldable pub decimalBy : ℕ → ℕ → List ℕ
@@ -43,12 +43,13 @@ told (Packet port sequence n) =
     80 ∷ 32 ∷ (decimal port ++ 32 ∷ (decimal sequence ++ 32 ∷ (decimal n ++ 32 ∷ letter (class port) ∷ 10 ∷ [])))
 told (Refused n) = 82 ∷ 32 ∷ (decimal n ++ 10 ∷ [])
 
--- that, or `B 0` clean, `B 1` damaged, `L` lock lost; "more wanted" has no line
+-- that; `B 0` clean, `B count` repaired, `B X` beyond repair; `L` lock lost; "more wanted" has no line
 abbrev pub line : Answer → List ℕ
 line More = []
 line (Said j) = told j
 line Clean = 66 ∷ 32 ∷ 48 ∷ 10 ∷ []
-line Damaged = 66 ∷ 32 ∷ 49 ∷ 10 ∷ []
+line (Repaired n) = 66 ∷ 32 ∷ (decimal n ++ 10 ∷ [])
+line Beyond = 66 ∷ 32 ∷ 88 ∷ 10 ∷ []
 line LockLost = 76 ∷ 10 ∷ []
 
 -- the answer that a call gives of an event
@@ -66,7 +67,8 @@ isPacket More = false
 isPacket (Said (Packet port sequence n)) = true
 isPacket (Said (Refused n)) = false
 isPacket Clean = false
-isPacket Damaged = false
+isPacket (Repaired n) = false
+isPacket Beyond = false
 isPacket LockLost = false
 
 -- a frame refusal
@@ -75,15 +77,17 @@ isRefusal More = false
 isRefusal (Said (Packet port sequence n)) = false
 isRefusal (Said (Refused n)) = true
 isRefusal Clean = false
-isRefusal Damaged = false
+isRefusal (Repaired n) = false
+isRefusal Beyond = false
 isRefusal LockLost = false
 
--- a damaged block
+-- a damaged block: one beyond repair
 abbrev pub isDamaged : Answer → Bool
 isDamaged More = false
 isDamaged (Said j) = false
 isDamaged Clean = false
-isDamaged Damaged = true
+isDamaged (Repaired n) = false
+isDamaged Beyond = true
 isDamaged LockLost = false
 
 -- a lost lock
@@ -91,7 +95,8 @@ abbrev pub isLost : Answer → Bool
 isLost More = false
 isLost (Said j) = false
 isLost Clean = false
-isLost Damaged = false
+isLost (Repaired n) = false
+isLost Beyond = false
 isLost LockLost = true
 
 -- one where the test holds

@@ -4,15 +4,14 @@
 -- bids-heard         the board
 use Prim.Native.Nat.{ℕ}
 use mathlib.Core.Path.{_≡_, refl, sym, subst}
-use mathlib.Core.Bool.{true}
 use mathlib.Core.List.{List, [], _∷_, _++_, map}
 use lib.ListN.{length, replicate}
 use Rattle.base.specs.Bytes.{Each, IsByte, Bytes}
 use Rattle.base.proofs.Bytes.{each-append}
 use Rattle.base.proofs.Tests.{by-eq}
-use Rattle.stream.specs.Sender.{Accepted, stream, delivered}
-use Rattle.channel.specs.Sender.{messagesOf}
-use Rattle.channel.specs.Channel.{answers, frames, blocks, losses, FirstMarker}
+use Rattle.stream.specs.Sender.{Accepted, delivered}
+use Rattle.channel.specs.Sender.{sentWords}
+use Rattle.channel.specs.Channel.{clean, answers, frames, blocks, losses, FirstMarker}
 use Rattle.channel.proofs.Streaming.{whole-stream}
 use Rattle.bid.specs.Line.{feed, Verdict, noBid, refused, accepted, verdict}
 use Rattle.bid.specs.Input.{linesFrom, linesOf, packets, packetsOf}
@@ -44,6 +43,6 @@ packets-accepted input h = each-accepted (linesOf input) (line-bytes input [] tt
 -- stray bytes, and then what the office sends, the marker first appearing where that begins
 pub bids-heard : (stray input : List ℕ) → Bytes input → FirstMarker stray (sentFor input)
     → (frames (answers (stray ++ sentFor input)) ≡ map delivered (packetsOf input))
-    × (blocks (answers (stray ++ sentFor input)) ≡ replicate (length (messagesOf (stream (packetsOf input)))) true)
+    × (blocks (answers (stray ++ sentFor input)) ≡ replicate (length (sentWords (packetsOf input))) clean)
     × (losses (answers (stray ++ sentFor input)) ≡ 0)
 bids-heard stray input h m = whole-stream stray (packetsOf input) (packets-accepted input h) m

@@ -18,7 +18,7 @@ use Rattle.base.proofs.Calls.{after-none, FitsBy, Fits, fits, inv-hear, hear-ea
 use Rattle.packet.specs.Frame.{packet, refusal}
 use Rattle.stream.specs.Called.{takeByte}
 use Rattle.stream.proofs.Fine.{fine-take}
-use Rattle.channel.specs.Channel.{Event, said, block, lost}
+use Rattle.channel.specs.Channel.{clean, repaired, beyond, Event, said, block, lost}
 use Rattle.channel.specs.Called.{Board, board, heldIn, sound, roomy, answered, eatByte, handOn}
 use Rattle.channel.specs.declared.receiver.Receiver.{Receiver}
 use Rattle.channel.specs.declared.receiver.Hearing.{Hearing}
@@ -70,8 +70,9 @@ pub more-none : (o : Option Event) → isMore (answered o) ≡ true → o ≡ no
 more-none none e = refl
 more-none (some (said (packet p s x))) e = absurd (true≢false (sym e))
 more-none (some (said (refusal n))) e = absurd (true≢false (sym e))
-more-none (some (block true)) e = absurd (true≢false (sym e))
-more-none (some (block false)) e = absurd (true≢false (sym e))
+more-none (some (block clean)) e = absurd (true≢false (sym e))
+more-none (some (block (repaired n))) e = absurd (true≢false (sym e))
+more-none (some (block beyond)) e = absurd (true≢false (sym e))
 more-none (some lost) e = absurd (true≢false (sym e))
 
 pub more-some : (o : Option Event) → isMore (answered o) ≡ false → (e : Event) × (o ≡ some e)

@@ -15,7 +15,7 @@ use Rattle.channel.specs.Channel.{Event}
 use Rattle.channel.specs.Called.{board, sound, roomy, answered}
 use Rattle.channel.specs.declared.receiver.Receiver.{Receiver}
 use Rattle.channel.specs.declared.receiver.Answer.{Answer}
-use Rattle.channel.specs.declared.receiver.Answer.the-variants.{More, Said, Clean, Damaged, LockLost}
+use Rattle.channel.specs.declared.receiver.Answer.the-variants.{More, Said, Clean, Repaired, Beyond, LockLost}
 use Rattle.channel.specs.declared.receiver.Hearing.{Hearing}
 use Rattle.listed.specs.declared.Place.{Place}
 use Rattle.listed.specs.declared.Place.the-variants.{Mode, Mark, Second, Low, High, Inside, Wrong}
@@ -65,7 +65,8 @@ abbrev pub isMore : Answer → Bool
 isMore More = true
 isMore (Said j) = false
 isMore Clean = false
-isMore Damaged = false
+isMore (Repaired n) = false
+isMore Beyond = false
 isMore LockLost = false
 
 -- the deck of a tape and the buffers lent

@@ -101,7 +101,8 @@ fn is_packet(answer: Answer) -> bool
         Answer::More => false,
         Answer::Said(judged) => says_packet(judged),
         Answer::Clean => false,
-        Answer::Damaged => false,
+        Answer::Repaired(_) => false,
+        Answer::Beyond => false,
         Answer::LockLost => false,
     }
 }
@@ -113,7 +114,8 @@ fn is_refusal(answer: Answer) -> bool
         Answer::More => false,
         Answer::Said(judged) => says_refusal(judged),
         Answer::Clean => false,
-        Answer::Damaged => false,
+        Answer::Repaired(_) => false,
+        Answer::Beyond => false,
         Answer::LockLost => false,
     }
 }
@@ -125,7 +127,8 @@ fn is_damaged(answer: Answer) -> bool
         Answer::More => false,
         Answer::Said(_) => false,
         Answer::Clean => false,
-        Answer::Damaged => true,
+        Answer::Repaired(_) => false,
+        Answer::Beyond => true,
         Answer::LockLost => false,
     }
 }
@@ -137,7 +140,8 @@ fn is_lost(answer: Answer) -> bool
         Answer::More => false,
         Answer::Said(_) => false,
         Answer::Clean => false,
-        Answer::Damaged => false,
+        Answer::Repaired(_) => false,
+        Answer::Beyond => false,
         Answer::LockLost => true,
     }
 }

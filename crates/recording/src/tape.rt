@@ -48,7 +48,8 @@ pub(crate) fn is_more(answer: Answer) -> bool
         Answer::More => true,
         Answer::Said(_) => false,
         Answer::Clean => false,
-        Answer::Damaged => false,
+        Answer::Repaired(_) => false,
+        Answer::Beyond => false,
         Answer::LockLost => false,
     }
 }

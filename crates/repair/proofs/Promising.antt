@@ -4,10 +4,13 @@
 -- one-restored      one altered byte is always repaired when r is 2 or more
 -- beyond-exactly    "beyond repair" is given exactly when no clean word lies within h places
 -- promised-is       it is met by `repaired` (specs/Way) and by nothing else
+-- left-length       the word that `repaired` leaves is as long as the one that came
+-- clean-left        a clean word is left as it came
 -- brought-back      the word that `repaired` leaves of a clean word with at most h bytes altered is that word
 use mathlib.Core.Path.{_≡_, refl, sym, ap, _∙_}
 use mathlib.Core.Logic.{_↔_}
 use mathlib.Core.Bool.{Bool, true, false}
+use lib.Dec.{ltb}
 use mathlib.Core.List.{List, [], _∷_}
 use Prim.Native.Nat.{ℕ, zero, suc, _≤_, _<_}
 use native.Mathlib.Nat.{pos-of-ne-zero}
@@ -23,7 +26,8 @@ use Rattle.parity.specs.declared.Checked.the-variants as check
 use Rattle.repair.specs.declared.Mended.{Mended}
 use Rattle.repair.specs.declared.Mended.the-variants.{Clean, Repaired, Beyond, Refused}
 use Rattle.repair.specs.Promise.{distance, half, CleanWord, Near, Promised}
-use Rattle.repair.specs.Way.{repaired}
+use Rattle.repair.specs.Way.{amended, settled, mended, repairedBy, repaired}
+use Rattle.parity.proofs.Sums.{length-onto}
 use Rattle.repair.proofs.Apart.{distance-self, distance-zero, distance-sym, distance-set, checked-clean, checked-is, altered-damaged}
 use Rattle.repair.proofs.Meeting.{repaired-promised}
 
@@ -108,6 +112,36 @@ beyond-exactly r w h b l (Refused n) o p = (λ e. absurd (let z : _≡_ {A = ℕ
 
 pub promised-is : (r : ℕ) (w : List ℕ) → Bytes w → (a : Mended) (o : List ℕ) → Promised r w a o → (a ≡ repaired r w .0) × (o ≡ repaired r w .1)
 promised-is r w b a o p = determined r w a (repaired r w .0) o (repaired r w .1) p (repaired-promised r w b)
+
+settled-length : (c : Checked) (w v : List ℕ) → length v ≡ length w → length (settled c w v .1) ≡ length w
+settled-length check.Clean w v e = e
+settled-length check.Damaged w v e = refl
+settled-length (check.Refused n) w v e = refl
+
+amended-length : (r : ℕ) (w : List ℕ) → length (amended r w) ≡ length w
+unfolding amended
+amended-length r w = length-onto _ w
+
+mended-length : (r : ℕ) (w : List ℕ) → length (mended r w .1) ≡ length w
+unfolding mended
+mended-length r w = by (ltb (half r) (distance w (amended r w)))
+  where
+    by : (t : Bool) → length (pick t (Beyond, w) (settled (checked r (amended r w)) w (amended r w)) .1) ≡ length w
+    by true = refl
+    by false = settled-length (checked r (amended r w)) w (amended r w) (amended-length r w)
+
+pub left-length : (r : ℕ) (w : List ℕ) → length (repaired r w .1) ≡ length w
+unfolding repaired
+left-length r w = by (checked r w)
+  where
+    by : (c : Checked) → length (repairedBy c r w .1) ≡ length w
+    by check.Clean = refl
+    by check.Damaged = mended-length r w
+    by (check.Refused n) = refl
+
+pub clean-left : (r : ℕ) (w : List ℕ) → r ≤ 64 → length w ≡ 255 → clean r w ≡ true → repaired r w ≡ (Clean, w)
+unfolding repaired
+clean-left r w h l e = ap (λ (c : Checked). repairedBy c r w) (checked-is r w h l ∙ ap (λ (t : Bool). pick t check.Clean check.Damaged) e)
 
 pub brought-back : (r : ℕ) (v : List ℕ) → CleanWord r v → (w : List ℕ) → Bytes w → length w ≡ 255 → distance v w ≤ half r → repaired r w .1 ≡ v
 brought-back r v hv w b l few =

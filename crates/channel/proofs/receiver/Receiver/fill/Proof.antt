@@ -40,6 +40,7 @@ fill-spec =
     (search needs)
     (search needs)
     (λ c.
-    let t = c .before .before .before .before .before .before .before .before .before in
+    let d = c .before .before .before .before .before in
+    let t = d .before .before .before .before .before .before in
     let s = t .before .before .before .before .before .before in
-    fill-whole (s .args .self) (s .args .word .now) (s .args .piece .now) (s .args .at) (s .pre .0) (s .pre .1) (s .pre .2) (s .pre .3) (t .least .ensures) (c .before .before .before .before .before .before .copy .ensures) (c .before .before .before .if1 .left) (c .before .check-last .ensures) (c .whole .ensures)))
+    fill-whole (s .args .self) (s .args .word .now) (s .args .piece .now) (s .args .at) (s .pre .0) (s .pre .1) (s .pre .2) (s .pre .3) (t .least .ensures) (d .before .before .before .copy .ensures) (d .if1 .left) (c .before .before .before .settle .ensures) (c .whole .ensures)))

@@ -1,11 +1,11 @@
--- `channel::check` meets its contract: a word of 255 bytes is never refused.
+-- `channel::receiver::is_clean` meets its contract: a word of 255 bytes is never refused.
 use borrow.Author.Needs.{needs}
 use Rattle.channel.proofs.Checks.{told-clean, told-damaged, told-refused}
-use Rattle.channel.proofs.receiver.check.Statement.{statement}
-use Rattle.channel.proofs.receiver.check.Tie as tie
+use Rattle.channel.proofs.receiver.is_clean.Statement.{statement}
+use Rattle.channel.proofs.receiver.is_clean.Tie as tie
 
-pub check-spec : {M : Type 1} → statement M
-check-spec =
+pub is-clean-spec : {M : Type 1} → statement M
+is-clean-spec =
     tie.close
     (tie.spec
     (search needs)
