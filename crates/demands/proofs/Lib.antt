@@ -6,4 +6,6 @@ pub mod Accepting
 pub mod Demand1
 pub mod Demand2
 pub mod Demand3
+pub mod Altered
+pub mod Guarantee
 pub mod Numbers

@@ -1,0 +1,90 @@
+-- What parity guarantees, as a dealer asked for it (request W12):
+--   "State and prove: a clean word with 1 to R bytes altered is never clean. And 'beyond repair' is given exactly when no clean word lies
+--   within h places. It follows for demand 3 that if at most 16 bytes of each opportunistic word are altered and no marker is, the
+--   receiver delivers just what was sent."
+-- `Promised r w a o` (crates/repair/specs/Promise.antt) is what the public function `repair` promises of the word w: the answer a, the word o.
+-- never-clean              a clean word with 1 to R bytes altered is never clean, for every R to 64
+-- beyond-exactly           "beyond repair" is given exactly when no clean word lies within h places
+-- delivered-as-sent        at most 16 bytes of each word altered, no marker: the packets, the block answers, no lock lost ..
+-- same-state               .. and the final state is that of the stream as sent
+use Prim.Native.Nat.{ℕ, _≤_, _<_}
+use native.Mathlib.Omega.{arith}
+use mathlib.Core.Path.{_≡_, sym, _∙_, ap, subst}
+use mathlib.Core.Bool.{true}
+use mathlib.Core.Logic.{_↔_, _≢_}
+use mathlib.Core.List.{List, [], _++_, map}
+use lib.ListN.{length}
+use Rattle.base.specs.Bytes.{Each, Bytes}
+use Rattle.parity.specs.Word.{clean}
+use Rattle.parity.specs.Calls.{checked}
+use Rattle.parity.specs.declared.Checked.the-variants as check
+use Rattle.repair.specs.declared.Mended.{Mended}
+use Rattle.repair.specs.declared.Mended.the-variants.{Beyond}
+use Rattle.repair.specs.Promise.{distance, half, CleanWord, Near, Promised}
+use Rattle.repair.proofs.Apart.{checked-clean, altered-damaged}
+use Rattle.repair.proofs.Promising as promising
+use Rattle.stream.specs.Reader.{waiting, reads}
+use Rattle.stream.specs.Sender.{Packet, Accepted, stream, delivered}
+use Rattle.stream.proofs.Streaming.{stream-read}
+use Rattle.channel.specs.Sender.{parityBytes, framed, fillers, messagesOf, sentWords, sent}
+use Rattle.channel.specs.Channel.{zeros, Event, frames, blocks, losses, start, hears, IsWord, FirstMarker}
+use Rattle.channel.specs.Called.{Board, boardOf, inUse}
+use Rattle.channel.proofs.Streaming.{wholes, behindWords, frames-wholes, blocks-wholes, losses-wholes, first-markers, sent-messages, sent-each, sent-bytes, sent-some}
+use Rattle.channel.proofs.Streaming.{received as heard-words}
+use Rattle.channel.proofs.Demands.{Cuts, every-cut-means}
+use Rattle.demands.specs.Guarantee.{altered, Repairable, Received, received}
+use Rattle.demands.proofs.Altered.{altered-is, repairable-half, half-repairable, sent-clean-words, carried-received, answers-received, behind-received, words-received, some-received}
+
+-- ---- "a clean word with 1 to R bytes altered is never clean": the check finds it damaged
+pub never-clean : (r : ℕ) (v : List ℕ) → CleanWord r v → (w : List ℕ) → IsWord w → Bytes w → 0 < altered v w → altered v w ≤ r
+    → checked r w ≡ check.Damaged
+never-clean r v c w l b some few =
+    let e = altered-is v w (checked-clean r v (c .1) .1) l in
+    altered-damaged r v c w b l (subst (λ (n : ℕ). 0 < n) e some) (subst (λ (n : ℕ). n ≤ r) e few)
+
+-- ---- "'beyond repair' is given exactly when no clean word lies within h places", of whatever `repair` may answer
+pub beyond-exactly : (r : ℕ) (w : List ℕ) → r ≤ 64 → IsWord w → Bytes w → (a : Mended) (o : List ℕ) → Promised r w a o
+    → (a ≡ Beyond) ↔ ((v : List ℕ) → CleanWord r v → Repairable r (altered w v) → ⊥)
+beyond-exactly r w h l b a o p =
+    let x = promising.beyond-exactly r w h b l a o p in (
+      λ e v c k. x .0 e v (c, subst (λ (n : ℕ). n ≤ half r) (places v c) (repairable-half r (altered w v) k)),
+      λ f. x .1 (λ v near. f v (near .0) (subst (Repairable r) (sym (places v (near .0))) (half-repairable r (distance w v) (near .1)))),
+    )
+  where
+    places : (v : List ℕ) → CleanWord r v → altered w v ≡ distance w v
+    places v c = altered-is w v l (checked-clean r v (c .1) .1)
+
+-- ---- "if at most 16 bytes of each opportunistic word are altered and no marker is, the receiver delivers just what was sent": stray bytes,
+-- and then a sender's whole marked stream, the marker first appearing where that begins; its words come in as vs; cut in every way
+module _ (stray : List ℕ) (ps : List Packet) (accepted : Each Accepted ps) (first : FirstMarker stray (sent ps))
+    (vs : List (List ℕ)) (came : Received (sentWords ps) vs) where
+  words : Each (CleanWord parityBytes) (sentWords ps)
+  words = sent-clean-words (messagesOf (stream ps)) (sent-messages ps accepted)
+
+  some : vs ≢ []
+  some = some-received (sentWords ps) vs came (sent-some ps accepted)
+
+  heard : hears start (stray ++ framed vs) ≡ (wholes vs waiting .0, behindWords zeros [] vs waiting)
+  heard = heard-words stray vs some (words-received (sentWords ps) vs came) (first-markers stray (sentWords ps) vs (sent-some ps accepted) some first)
+
+  module _ {es : List Event} {d : Board} (cuts : Cuts (stray ++ framed vs) es d) where
+    -- the frame answers are the sent packets, once each, in order, and nothing else; each block is clean, or repaired in exactly the places
+    -- altered; no lock is lost
+    pub delivered-as-sent : (frames es ≡ map delivered ps) × (blocks es ≡ received (sentWords ps) vs) × (losses es ≡ 0)
+    delivered-as-sent =
+        let e = every-cut-means cuts .0 ∙ ap (λ x. x .0) heard in (
+          ap frames e ∙ frames-wholes vs waiting
+              ∙ ap (λ l. reads waiting l .0) (carried-received (sentWords ps) vs words came ∙ sent-bytes ps accepted)
+              ∙ ap (λ x. x .0) (stream-read ps accepted (fillers (length (stream ps)))),
+          ap blocks e ∙ blocks-wholes vs waiting ∙ answers-received (sentWords ps) vs words came,
+          ap losses e ∙ losses-wholes vs waiting,
+        )
+
+    -- the final state is that of the stream as sent, in all that counts: the state's numbers, the hunted bytes, the bytes in use
+    pub same-state : {fs : List Event} {g : Board} → Cuts (stray ++ sent ps) fs g → inUse d ≡ inUse g
+    same-state unaltered =
+        every-cut-means cuts .1
+        ∙ ap (λ x. inUse (boardOf x [] []))
+        (ap (λ x. x .1) heard ∙ behind-received (sentWords ps) vs words came zeros [] waiting
+        ∙ sym (ap (λ x. x .1) (heard-words stray (sentWords ps) (sent-some ps accepted) (sent-each ps accepted) first)))
+        ∙ sym (every-cut-means unaltered .1)
