@@ -1,6 +1,7 @@
 pub mod Lists
 pub mod Bytes
 pub mod Tests
+pub mod Bits
 pub mod InPlace
 pub mod Parts
 pub mod Writing

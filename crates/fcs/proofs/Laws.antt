@@ -2,14 +2,14 @@
 -- fcs-lt                 it has sixteen bits
 -- register-append        feeding in parts is feeding the whole
 -- check-parts            and so is the check of two parts, by the code's `Register`
--- bit-next .. byte-done  a turn and the end of the loop over a byte's bits, and of the loop over bytes
-use Prim.Native.Nat.{ℕ, suc, _+_, _-_, _/_, _%_, _<_, _≤_}
+-- byte-next, byte-done   a turn and the end of the loop over bytes
+use Prim.Native.Nat.{ℕ, _+_, _<_, _≤_}
 use mathlib.Core.List.{List, [], _∷_, _++_}
 use mathlib.Core.Path.{_≡_, refl, sym, ap, _∙_}
 use native.Mathlib.Omega.{arith}
 use lib.ListN.{length, drop, getD}
 use Rattle.base.proofs.Lists.{next, over}
-use Rattle.fcs.specs.Fcs.{ones, complement, fcs, register, entered, shifted, fresh, fed}
+use Rattle.fcs.specs.Fcs.{ones, complement, fcs, register, entered, fresh, fed}
 use Rattle.fcs.specs.declared.Register.{Register}
 
 pub fcs-lt : (bs : List ℕ) → fcs bs < 65536
@@ -26,14 +26,6 @@ unfolding fcs
 check-parts a b e₀ e₁ e₂ e =
     e ∙ ap (λ (r : Register). complement (r .bits)) (e₂ ∙ ap (λ (r : Register). fed r b) (e₁ ∙ ap (λ (r : Register). fed r a) e₀))
     ∙ ap complement (sym (register-append ones a b))
-
-pub bit-next : (i r b : ℕ) {s t : ℕ} → i < 8 → s ≡ shifted r (b % 2) → entered (8 - i) r b ≡ t → entered (8 - (i + 1)) s (b / 2) ≡ t
-unfolding entered
-bit-next i r b h e p = let k : 8 - i ≡ suc (8 - (i + 1)) = omega arith in rw e (rw k at p)
-
-pub bit-done : (i r b : ℕ) {t : ℕ} → 8 ≤ i → entered (8 - i) r b ≡ t → r ≡ t
-unfolding entered
-bit-done i r b h p = let e : 8 - i ≡ 0 = omega arith in rw e at p
 
 pub byte-next : (i r : ℕ) (bs : List ℕ) {s t : ℕ} → i < length bs → s ≡ entered 8 r (getD bs i 0) → register r (drop i bs) ≡ t → register s (drop (i + 1) bs) ≡ t
 unfolding register

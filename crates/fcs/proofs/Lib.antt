@@ -1,3 +1,4 @@
 pub mod Laws
+pub mod Entering
 pub mod Numbers
 pub mod Determined

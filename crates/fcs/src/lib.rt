@@ -1,6 +1,6 @@
 //! The check of a frame: the 16-bit FCS of RFC 1662.
 ghost use mathlib.Core.Path.{_≡_};
-ghost use Rattle.fcs.specs.Fcs.{complement, shifted, entered, fcs, fresh, fed};
+ghost use Rattle.fcs.specs.Fcs.{complement, entered, fcs, fresh, fed};
 
 /// The check's register, for bytes that lie in several places.
 pub struct Register {
@@ -8,8 +8,6 @@ pub struct Register {
 }
 
 impl Register {
-    const POLYNOMIAL: u16 = 0x8408;
-
     const ONES: u16 = 0xFFFF;
 
     /// The register before the first byte.
@@ -40,29 +38,14 @@ impl Register {
     }
 }
 
-// One bit enters the register.
-fn shift(register: u16, bit: u8) -> u16
-    ensures { λ r. ⌜ r ≡ shifted register bit ⌝ }
-{
-    if register % 2 == bit as u16 {
-        return register / 2;
-    }
-    (register / 2) ^ Register::POLYNOMIAL
-}
-
-// One byte enters the register, its low bit first.
+// One byte enters the register, its eight bits at once: `y` has the bits that call for the polynomial, which is added for each.
 fn enter(register: u16, byte: u8) -> u16
     ensures { λ r. ⌜ r ≡ entered 8 register byte ⌝ }
 {
-    let mut bits = register;
-    let mut rest = byte;
-    let mut i: usize = 0;
-    while i < 8 {
-        bits = shift(bits, rest % 2);
-        rest = rest / 2;
-        i += 1;
-    }
-    bits
+    let mixed = register ^ (byte as u16);
+    let x = mixed % 256;
+    let y = x ^ (x * 16 % 256);
+    (mixed / 256) ^ ((y * 256) ^ (y * 8) ^ (y / 16))
 }
 
 /// The check of bytes.

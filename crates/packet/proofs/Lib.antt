@@ -1,5 +1,6 @@
 pub mod Classes
 pub mod Escaping
+pub mod Runs
 pub mod Judging
 pub mod Faults
 pub mod Sending

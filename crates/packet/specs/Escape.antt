@@ -1,6 +1,7 @@
 -- Escapes (paper 01, "Packet and frame").
 -- escape           7E becomes 7D 5E, 7D becomes 7D 5D, and no other byte is escaped
 -- plain, escaped   on reading: plain and escaped reading hand over to each other until the raw bytes run out
+-- run              the bytes that plain reading passes over before it hands over
 -- scan             whether every escape is right
 use Prim.Native.Nat.{ℕ}
 use mathlib.Core.Bool.{Bool, true}
@@ -36,6 +37,11 @@ unfoldable mutual
   pub escaped : List ℕ → List ℕ
   escaped [] = []
   escaped (b ∷ bs) = restored b ∷ plain bs
+
+-- the bytes before the first 7D, all where there is none: plain reading passes over them at once
+unfoldable pub run : List ℕ → List ℕ
+run [] = []
+run (b ∷ bs) = pick (eqb b 0x7D) [] (b ∷ run bs)
 
 -- the bytes that may stand behind 7D
 unfoldable pub right : ℕ → Bool

@@ -3,7 +3,7 @@ ghost use mathlib.Core.Path.{_≡_};
 ghost use Prim.Native.Nat.{_+_, _<_, _≤_};
 ghost use lib.ListN.{length, take, drop};
 ghost use Rattle.base.specs.Laid.{Laid};
-ghost use Rattle.packet.specs.Escape.{escape, escapeByte, plain, escaped, plainScan, escapedScan, scan, restored};
+ghost use Rattle.packet.specs.Escape.{escape, escapeByte, plain, escaped, run, plainScan, escapedScan, scan, restored};
 
 /// What the escapes of raw bytes are.
 pub enum Escapes {
@@ -14,18 +14,31 @@ pub enum Escapes {
     Wrong,
 }
 
+// The place of the first 7D of raw[at..], or the end.
+fn escape_from(raw: &[u8], at: usize) -> usize
+    requires { ⌜ at ≤ length (now raw) ⌝ }
+    ensures { λ r. ⌜ r ≡ at + length (run (drop at (now (raw .entry)))) ⌝ }
+{
+    let mut i = at;
+    while i < raw.len() {
+        if raw[i] == 0x7D {
+            return i;
+        }
+        i += 1;
+    }
+    i
+}
+
 // Plain reading of raw[at..].
 fn scan_plain(raw: &[u8], at: usize) -> Escapes
     requires { ⌜ at ≤ length (now raw) ⌝ }
     ensures { λ r. ⌜ r ≡ plainScan (drop at (now (raw .entry))) ⌝ }
 {
-    if at == raw.len() {
+    let i = escape_from(raw, at);
+    if i == raw.len() {
         return Escapes::Right;
     }
-    if raw[at] == 0x7D {
-        return scan_escaped(raw, at + 1);
-    }
-    scan_plain(raw, at + 1)
+    scan_escaped(raw, i + 1)
 }
 
 // Escaped reading of raw[at..], behind a 7D.
@@ -64,20 +77,35 @@ fn restored(b: u8) -> u8
     if b == 0x5E { 0x7E } else { 0x7D }
 }
 
+// Moves the bytes of recv[from..n] before the first 7D to the places from `to` on; how many.
+fn move_run(recv: &mut [u8], n: usize, from: usize, to: usize) -> usize
+    requires { ⌜ (n ≤ length (now recv)) × (from ≤ n) × (to ≤ from) ⌝ }
+    ensures { λ r. ⌜ Laid (now (recv .entry)) to (run (drop from (take n (now (recv .entry))))) (now (recv .exit)) (to + r) ⌝ }
+{
+    let mut i: usize = 0;
+    while from + i < n {
+        let b = recv[from + i];
+        if b == 0x7D {
+            return i;
+        }
+        recv[to + i] = b;
+        i += 1;
+    }
+    i
+}
+
 // Plain reading of recv[from..n]: stored, escapes undone, from `to` on; the place behind.
 pub fn undo_plain(recv: &mut [u8], n: usize, from: usize, to: usize) -> usize
     requires { ⌜ (n ≤ length (now recv)) × (from ≤ n) × (to ≤ from) ⌝ }
     ensures { λ r. ⌜ Laid (now (recv .entry)) to (plain (drop from (take n (now (recv .entry))))) (now (recv .exit)) r ⌝ }
 {
-    if from == n {
-        return to;
+    let k = move_run(recv, n, from, to);
+    let at = from + k;
+    let end = to + k;
+    if at == n {
+        return end;
     }
-    let b = recv[from];
-    if b == 0x7D {
-        return undo_escaped(recv, n, from + 1, to);
-    }
-    recv[to] = b;
-    undo_plain(recv, n, from + 1, to + 1)
+    undo_escaped(recv, n, at + 1, end)
 }
 
 // Escaped reading of the same, behind a 7D.

@@ -1,25 +1,16 @@
--- `fcs::enter` meets its contract. The invariant: the bits that are left give what all eight give.
-use mathlib.Core.Path.{_≡_, refl}
-use Prim.Native.Nat.{_-_}
+-- `fcs::enter` meets its contract: a byte enters at once as its bits do one by one.
+use native.Mathlib.Omega.{arith}
 use borrow.Author.Needs.{needs}
-use Rattle.fcs.specs.Fcs.{entered}
-use Rattle.fcs.proofs.Laws.{bit-next, bit-done}
+use lib.Bits.{bitXor}
+use Rattle.fcs.proofs.Entering.{folded-lt, byte-enters}
 use Rattle.fcs.proofs.enter.Statement.{statement}
 use Rattle.fcs.proofs.enter.Tie as tie
-
-abbrev Inv-loop : tie.InvT-loop
-Inv-loop register byte bits₀ rest₀ i₀ bits rest i = entered (8 - i) bits rest ≡ entered 8 register byte
-
-abbrev μ-loop : tie.MeasureT-loop
-μ-loop register byte bits₀ rest₀ i₀ bits rest i = 8 - i
 
 pub enter-spec : {M : Type 1} → statement M
 enter-spec =
     tie.close
-    (tie.spec Inv-loop μ-loop
-    (λ c. refl)
+    (tie.spec
     (search needs)
-    (search needs)
-    (search needs)
-    (λ c. bit-next _ _ _ (c .before .loop-test .taken) (c .shift .ensures) (c .before .before .loop .inv))
-    (λ c. bit-done _ _ _ (c .loop-test .left) (c .before .loop .inv)))
+    (λ c. omega (arith, folded-lt (bitXor (c .args .register) (c .args .byte))))
+    (λ c. omega (arith, folded-lt (bitXor (c .args .register) (c .args .byte))))
+    (λ c. byte-enters (c .args .register) (c .args .byte) (omega arith)))

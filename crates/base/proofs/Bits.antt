@@ -1,0 +1,54 @@
+-- Laws of single bits, and of `bitXor`, the sum bit by bit, on all numbers.
+-- bit, bit-ind          a remainder by 2 is a bit; a fact of 0 and of 1 is a fact of each bit
+-- xor-half, xor-odd     the rest and the low bit of a sum
+-- xor-assoc, xor-swap   associative; the last of three goes to the middle
+-- xor-parts             a number is the sum of its bits from k on and its k low bits
+use mathlib.Core.Path.{_≡_, refl, sym, ap, ap₂, _∙_}
+use Prim.Native.Nat.{ℕ, zero, suc, _+_, _*_, _/_, _%_, _^_, _<_}
+use native.Mathlib.Nat.{mod-lt}
+use native.Mathlib.Omega.{arith}
+use lib.Arith.{bin-ind, digits-mod}
+use lib.Bits.{bitXor, differ, xor-step, xor-comm, xor-shr, xor-shifted}
+use lib.Pow.{split, pow-pos}
+
+pub bit-ind : (P : ℕ → Type 0) → P 0 → P 1 → (n : ℕ) → n < 2 → P n
+bit-ind P p q zero h = p
+bit-ind P p q (suc zero) h = q
+bit-ind P p q (suc (suc n)) h = absurd (omega arith)
+
+pub bit : (n : ℕ) → n % 2 < 2
+bit n = mod-lt n (omega arith)
+
+differ-lt : (x y : ℕ) → x < 2 → y < 2 → differ x y < 2
+differ-lt x y hx hy = bit-ind (λ (a : ℕ). differ a y < 2) hy (bit-ind (λ (b : ℕ). differ 1 b < 2) (omega arith) (omega arith) y hy) x hx
+
+differ-assoc : (x y z : ℕ) → x < 2 → y < 2 → z < 2 → differ (differ x y) z ≡ differ x (differ y z)
+differ-assoc x y z hx hy hz =
+    bit-ind (λ (a : ℕ). differ (differ a y) z ≡ differ a (differ y z)) refl
+    (bit-ind (λ (b : ℕ). differ (differ 1 b) z ≡ differ 1 (differ b z)) refl
+    (bit-ind (λ (c : ℕ). differ (differ 1 1) c ≡ differ 1 (differ 1 c)) refl refl z hz) y hy)
+    x hx
+
+pub xor-half : (a b : ℕ) → bitXor a b / 2 ≡ bitXor (a / 2) (b / 2)
+xor-half a b = xor-shr a b 1
+
+pub xor-odd : (a b : ℕ) → bitXor a b % 2 ≡ differ (a % 2) (b % 2)
+xor-odd a b = ap (λ (x : ℕ). x % 2) (xor-step a b) ∙ digits-mod _ (differ-lt (a % 2) (b % 2) (bit a) (bit b))
+
+pub xor-assoc : (a b c : ℕ) → bitXor (bitXor a b) c ≡ bitXor a (bitXor b c)
+xor-assoc a =
+    bin-ind (λ (n : ℕ). (b c : ℕ) → bitXor (bitXor n b) c ≡ bitXor n (bitXor b c)) (λ b c. refl)
+    (λ n ih b c.
+    xor-step (bitXor n b) c
+    ∙ ap₂ (λ (x y : ℕ). x * 2 + y)
+    (ap (λ (x : ℕ). bitXor x (c / 2)) (xor-half n b) ∙ ih (b / 2) (c / 2) ∙ ap (λ (x : ℕ). bitXor (n / 2) x) (sym (xor-half b c)))
+    (ap (λ (x : ℕ). differ x (c % 2)) (xor-odd n b)
+    ∙ differ-assoc (n % 2) (b % 2) (c % 2) (bit n) (bit b) (bit c)
+    ∙ ap (λ (x : ℕ). differ (n % 2) x) (sym (xor-odd b c)))
+    ∙ sym (xor-step n (bitXor b c))) a
+
+pub xor-swap : (a b c : ℕ) → bitXor (bitXor a b) c ≡ bitXor (bitXor a c) b
+xor-swap a b c = xor-assoc a b c ∙ ap (bitXor a) (xor-comm b c) ∙ sym (xor-assoc a c b)
+
+pub xor-parts : (n k : ℕ) → n ≡ bitXor (n / 2 ^ k * 2 ^ k) (n % 2 ^ k)
+xor-parts n k = sym (xor-shifted (n / 2 ^ k) k (n % 2 ^ k) (mod-lt n (pow-pos k)) ∙ split n k)

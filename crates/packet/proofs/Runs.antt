@@ -1,0 +1,136 @@
+-- Laws of `run`, the bytes before the first 7D.
+-- run-stop, run-more, run-none   a 7D, another byte, no byte: what a loop over bytes needs
+-- found-more .. moved-done       the loop that looks for a 7D, and the loop that moves a run
+-- scan-ends, scan-hands          plain reading ends behind the run, or hands over behind the 7D that follows it
+-- undo-ends, undo-hands          the same where escapes are undone
+use mathlib.Core.Path.{_≡_, refl, sym, ap, _∙_}
+use Prim.Native.Nat.{ℕ, suc, _+_, _-_, _<_, _≤_}
+use mathlib.Core.List.{List, [], _∷_, _++_}
+use native.Mathlib.Nat.{add-zero}
+use native.Mathlib.Omega.{arith}
+use borrow.Author.Tests.{eq-eqb, ne-eqb}
+use lib.ListN.{length, take, drop, getD, set, length-drop, length-take}
+use lib.Seq.{sets, drop-drop}
+use Rattle.base.specs.Laid.{Laid}
+use Rattle.base.proofs.Laid.{laid-none, laid-more, laid-append}
+use Rattle.base.proofs.Lists.{next, part-next, part-set}
+use Rattle.base.proofs.Tests.{by-eq}
+use Rattle.packet.specs.Escape.{run, plain, escaped, plainScan, escapedScan}
+use Rattle.packet.specs.declared.escape.Escapes.{Escapes}
+use Rattle.packet.specs.declared.escape.Escapes.the-variants.{Right}
+
+module _ {bs cs : List ℕ} {b : ℕ} (e : bs ≡ b ∷ cs) where
+  pub run-stop : b ≡ 0x7D → run bs ≡ []
+  unfolding run
+  run-stop h = rw e (simp (eq-eqb _ _ h))
+
+  pub run-more : (b ≡ 0x7D → ⊥) → run bs ≡ b ∷ run cs
+  unfolding run
+  run-more n = rw e (simp (ne-eqb _ _ n))
+
+pub run-none : {bs : List ℕ} → bs ≡ [] → run bs ≡ []
+unfolding run
+run-none e = rw e
+
+run-short : (bs : List ℕ) → length (run bs) ≤ length bs
+unfolding run
+run-short [] = omega arith
+run-short (b ∷ bs) = by-eq b 0x7D (λ e. simp (eq-eqb _ _ e) (omega arith)) (λ n. simp (ne-eqb _ _ n) (omega (arith, run-short bs)))
+
+plain-all : (bs : List ℕ) → length bs ≤ length (run bs) → plain bs ≡ run bs
+unfolding run plain
+plain-all [] h = refl
+plain-all (b ∷ bs) h =
+    by-eq b 0x7D (λ e. absurd (let k = simp (eq-eqb b 0x7D e) at h in omega (arith, k)))
+    (λ n. let k = simp (ne-eqb b 0x7D n) at h in simp (ne-eqb b 0x7D n) (ap (λ (x : List ℕ). b ∷ x) (plain-all bs (omega (arith, k)))))
+
+plain-run : (bs : List ℕ) → length (run bs) < length bs → plain bs ≡ run bs ++ escaped (drop (suc (length (run bs))) bs)
+unfolding run plain
+plain-run [] h = absurd (omega arith)
+plain-run (b ∷ bs) h =
+    by-eq b 0x7D (λ e. simp (eq-eqb b 0x7D e))
+    (λ n. let k = simp (ne-eqb b 0x7D n) at h in simp (ne-eqb b 0x7D n) (ap (λ (x : List ℕ). b ∷ x) (plain-run bs (omega (arith, k)))))
+
+scan-all : (bs : List ℕ) → length bs ≤ length (run bs) → plainScan bs ≡ Right
+unfolding run plainScan
+scan-all [] h = refl
+scan-all (b ∷ bs) h =
+    by-eq b 0x7D (λ e. absurd (let k = simp (eq-eqb b 0x7D e) at h in omega (arith, k)))
+    (λ n. let k = simp (ne-eqb b 0x7D n) at h in simp (ne-eqb b 0x7D n) (scan-all bs (omega (arith, k))))
+
+scan-run : (bs : List ℕ) → length (run bs) < length bs → plainScan bs ≡ escapedScan (drop (suc (length (run bs))) bs)
+unfolding run plainScan
+scan-run [] h = absurd (omega arith)
+scan-run (b ∷ bs) h =
+    by-eq b 0x7D (λ e. simp (eq-eqb b 0x7D e))
+    (λ n. let k = simp (ne-eqb b 0x7D n) at h in simp (ne-eqb b 0x7D n) (scan-run bs (omega (arith, k))))
+
+-- ---- the loop that looks for a 7D
+module _ (l : List ℕ) (i : ℕ) {t : ℕ} (inv : i + length (run (drop i l)) ≡ t) where
+  pub found-more : i < length l → (getD l i 0 ≡ 0x7D → ⊥) → i + 1 + length (run (drop (i + 1) l)) ≡ t
+  found-more h n = omega (arith, ap length (run-more (next l i h) n))
+
+  pub found : run (drop i l) ≡ [] → i ≡ t
+  found e = omega (arith, ap length e)
+
+-- ---- the loop that moves a run: i bytes are moved, and what moves the rest moves all
+abbrev pub Moved : List ℕ → ℕ → ℕ → ℕ → List ℕ → ℕ → Type 0
+Moved l₀ n from to l i = (a : List ℕ) (e : ℕ) → Laid l (to + i) (run (drop (from + i) (take n l))) a e → Laid l₀ to (run (drop from (take n l₀))) a e
+
+pub moved-none : (l : List ℕ) (n from to : ℕ) → Moved l n from to l 0
+moved-none l n from to a e h = simp add-zero at h
+
+module _ (l₀ l : List ℕ) (n from to i : ℕ) (inv : Moved l₀ n from to l i) where
+  pub moved-more : from + i < n → n ≤ length l → to ≤ from → (getD l (from + i) 0 ≡ 0x7D → ⊥)
+      → Moved l₀ n from to (set l (to + i) (getD l (from + i) 0)) (i + 1)
+  moved-more h k w m a e laid =
+      let at : to + (i + 1) ≡ to + i + 1 = omega arith in
+      let behind : from + (i + 1) ≡ from + i + 1 = omega arith in
+      inv a e
+      (rw (run-more (part-next l (from + i) n h k) m)
+      (laid-more _ (rw (part-set l (from + i + 1) n (to + i) (getD l (from + i) 0) (omega arith) (omega arith)) at (rw behind at (rw at at laid)))))
+
+  pub moved-done : run (drop (from + i) (take n l)) ≡ [] → Laid l₀ to (run (drop from (take n l₀))) l (to + i)
+  moved-done e = inv l (to + i) (rw e (laid-none l (to + i)))
+
+-- ---- handing over
+-- stores before a place leave what is left
+part-sets : (l bs : List ℕ) (i n j : ℕ) → j + length bs ≤ i → j + length bs ≤ n → drop i (take n (sets l j bs)) ≡ drop i (take n l)
+part-sets l [] i n j h k = refl
+part-sets l (b ∷ bs) i n j h k = part-sets (set l j b) bs i n (suc j) (omega arith) (omega arith) ∙ part-set l i n j b (omega arith) (omega arith)
+
+module _ (l : List ℕ) (at : ℕ) {i : ℕ} (e : i ≡ at + length (run (drop at l))) where
+  pub found-within : at ≤ length l → i ≤ length l
+  found-within h = omega (arith, run-short (drop at l), length-drop at l)
+
+  pub scan-ends : i ≡ length l → Right ≡ plainScan (drop at l)
+  scan-ends h = sym (scan-all (drop at l) (omega (arith, length-drop at l)))
+
+  pub scan-hands : {s : Escapes} → i < length l → s ≡ escapedScan (drop (i + 1) l) → s ≡ plainScan (drop at l)
+  scan-hands h p = p ∙ ap escapedScan here ∙ sym (scan-run (drop at l) (omega (arith, length-drop at l)))
+    where
+      here : drop (i + 1) l ≡ drop (suc (length (run (drop at l)))) (drop at l)
+      here = let k : i + 1 ≡ at + suc (length (run (drop at l))) = omega arith in rw k (sym (drop-drop (suc (length (run (drop at l)))) at l))
+
+module _ (l m : List ℕ) (n from to k : ℕ) (h : Laid l to (run (drop from (take n l))) m (to + k)) where
+  moved-length : n ≤ length l → (k ≡ length (run (drop from (take n l)))) × (length (drop from (take n l)) ≡ n - from)
+  moved-length w = (omega arith, omega (arith, length-drop from (take n l), length-take n l))
+
+  pub moved-within : n ≤ length l → from ≤ n → from + k ≤ n
+  moved-within w u = omega (arith, moved-length w .0, moved-length w .1, run-short (drop from (take n l)))
+
+  pub undo-ends : n ≤ length l → from + k ≡ n → Laid l to (plain (drop from (take n l))) m (to + k)
+  undo-ends w e = rw (plain-all (drop from (take n l)) (omega (arith, moved-length w .0, moved-length w .1))) h
+
+  pub undo-hands : {after : List ℕ} {end : ℕ} → n ≤ length l → from + k < n → to ≤ from
+      → Laid m (to + k) (escaped (drop (from + k + 1) (take n m))) after end → Laid l to (plain (drop from (take n l))) after end
+  undo-hands w u v p =
+      rw (plain-run (drop from (take n l)) (omega (arith, moved-length w .0, moved-length w .1))) (laid-append h (rw here at p))
+    where
+      here : drop (from + k + 1) (take n m) ≡ drop (suc (length (run (drop from (take n l))))) (drop from (take n l))
+      here =
+          let e : from + k + 1 ≡ from + suc (length (run (drop from (take n l)))) = omega (arith, moved-length w .0) in
+          ap (λ (x : List ℕ). drop (from + k + 1) (take n x)) (h .holds)
+          ∙ part-sets l (run (drop from (take n l))) (from + k + 1) n to (omega (arith, moved-length w .0)) (omega (arith, moved-length w .0))
+          ∙ ap (λ (x : ℕ). drop x (take n l)) e
+          ∙ sym (drop-drop (suc (length (run (drop from (take n l))))) from (take n l))
