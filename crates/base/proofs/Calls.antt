@@ -1,6 +1,7 @@
 -- Laws of reading by calls, proved once for any reader whose `hand` makes one of the owed moves.
 -- law                               the law of a call: its answer is the first, and the others are had from its state and the bytes left
 -- fits, more-iff                    "more wanted" exactly when all bytes are taken and no answer is owed
+-- none-owed                         of a reader that never owes a move: it fits that
 -- hear-hand, hear-eat, hear-end     one move of a call, as a loop makes it
 -- cut, cut-ends                     every way of cutting yields the answers and the final state of the uncut string, and comes to its end
 -- cut-guarded, cut-guarded-ends     the same of a call that looks at its state first
@@ -12,7 +13,7 @@ use mathlib.Core.List.{List, [], _∷_, _++_, nil≢cons, cons≢nil, head-eq-of
 use mathlib.Core.Option.{Option, some, none, Option·none-ne-some}
 use mathlib.Core.Logic.{_↔_}
 use lib.ListN.{length, drop}
-use Rattle.base.specs.Calls.{joined, tell, andThen, unless, oneMore, after, With, Reads, ReadsAll}
+use Rattle.base.specs.Calls.{joined, tell, andThen, unless, oneMore, after, With, owesNone, Reads, ReadsAll}
 use Rattle.base.specs.Calls.Reads.{more, answer}
 use Rattle.base.specs.Calls.ReadsAll.{done, piece}
 use Rattle.base.specs.Calls as calls
@@ -33,6 +34,9 @@ after-more n r = let e : n + suc (r .1) ≡ n + 1 + r .1 = omega arith in λ i. 
 
 pub after-after : {A S : Type 0} (m n : ℕ) (r : Option A × ℕ × S) → after m (after n r) ≡ after (m + n) r
 after-after m n r = λ i. (r .0, sym (add-assoc m n (r .1)) i, r .2)
+
+pub none-owed : {S : Type 0} (s : S) (n : ℕ) → owesNone s ≡ suc n → owesNone s ≡ n
+none-owed s n e = omega arith
 
 module _ {S A : Type 0} (eat : S → ℕ → Option A × S) where
   abbrev run : S → List ℕ → List A × S

@@ -1,4 +1,5 @@
 pub mod Lists
+pub mod UpTo
 pub mod Bytes
 pub mod Tests
 pub mod Bits

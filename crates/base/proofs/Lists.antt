@@ -2,13 +2,15 @@
 -- next, over             the member at the place, and what is left behind it; nothing, at the end
 -- part-next, part-over   the same of the first n members
 -- part-set               a store before the place leaves what is left
-use mathlib.Core.Path.{_≡_}
+-- drop-take              of the first m members, those from a place on
+use mathlib.Core.Path.{_≡_, sym, ap}
 use mathlib.Core.List.{List, [], _∷_}
-use Prim.Native.Nat.{ℕ, _+_, _<_, _≤_}
+use Prim.Native.Nat.{ℕ, zero, suc, _+_, _-_, _<_, _≤_}
+use native.Mathlib.Nat.{sub-zero, suc-sub-suc}
 use native.Mathlib.Numerals.{add-one}
 use native.Mathlib.Omega.{arith}
 use lib.ListN.{length, take, drop, getD, set, drop-of-length-le, length-take}
-use lib.Seq.{drop-cons, slice-cons, take-set-lt, drop-set-lt}
+use lib.Seq.{drop-cons, slice-cons, take-set-lt, drop-set-lt, take-nil}
 
 pub next : (l : List ℕ) (i : ℕ) → i < length l → drop i l ≡ getD l i 0 ∷ drop (i + 1) l
 next l i h = rw (add-one, drop-cons l i 0)
@@ -24,3 +26,9 @@ part-over l i n h = drop-of-length-le (take n l) {i = i} (simp length-take (omeg
 
 pub part-set : (l : List ℕ) (i n j b : ℕ) → j < i → j < n → drop i (take n (set l j b)) ≡ drop i (take n l)
 part-set l i n j b h k = rw (take-set-lt n l j b k) (drop-set-lt i (take n l) j b h)
+
+pub drop-take : (n m : ℕ) (l : List ℕ) → drop n (take m l) ≡ take (m - n) (drop n l)
+drop-take zero m l = simp sub-zero
+drop-take (suc n) zero l = let e : 0 - suc n ≡ 0 = omega arith in ap (λ (k : ℕ). take k (drop (suc n) l)) (sym e)
+drop-take (suc n) (suc m) [] = sym (take-nil (suc m - suc n))
+drop-take (suc n) (suc m) (b ∷ l) = simp suc-sub-suc (drop-take n m l)

@@ -1,24 +1,28 @@
 -- A part of a list that was lent and came back as y: `&mut w[s..]` lends `take (length w - s) (drop s w)`, and w is then
 -- `putMid s (length w - s) w y`.
 -- tail-is       what is lent is the tail
+-- tail-put      w is then its head, and what came back
 -- tail-back     what came back is the tail then
 -- tail-length   the length stays
 use mathlib.Core.Path.{_≡_, sym, ap, _∙_}
 use mathlib.Core.List.{List, _++_, append-nil}
 use Prim.Native.Nat.{ℕ, _-_, _≤_}
 use native.Mathlib.Omega.{arith}
-use lib.ListN.{length, take, drop, length-drop, drop-of-length-le}
+use lib.ListN.{length, take, drop, length-drop}
 use lib.Seq.{take-all, drop-at, length-take-le}
 use borrow.Rule.Slice.PartMut.{putMid, same-len-mid}
+use Rattle.base.proofs.Lists.{over}
 
 pub tail-is : (s : ℕ) (w : List ℕ) → take (length w - s) (drop s w) ≡ drop s w
 tail-is s w = take-all (length w - s) (drop s w) (omega (arith, length-drop s w))
 
+pub tail-put : (s : ℕ) (w y : List ℕ) → putMid s (length w - s) w y ≡ take s w ++ y
+tail-put s w y =
+    ap (λ (z : List ℕ). take s w ++ (y ++ z)) (over (drop s w) (length w - s) (omega (arith, length-drop s w)))
+    ∙ ap (λ (z : List ℕ). take s w ++ z) (append-nil y)
+
 pub tail-back : (s : ℕ) (w y : List ℕ) → s ≤ length w → drop s (putMid s (length w - s) w y) ≡ y
-tail-back s w y h =
-    drop-at (take s w) _ s (length-take-le s w h)
-    ∙ ap (λ (z : List ℕ). y ++ z) (drop-of-length-le (drop s w) {i = length w - s} (omega (arith, length-drop s w)))
-    ∙ append-nil y
+tail-back s w y h = ap (drop s) (tail-put s w y) ∙ drop-at (take s w) y s (length-take-le s w h)
 
 pub tail-length : (s : ℕ) (w y : List ℕ) → length y ≡ length (drop s w) → length (putMid s (length w - s) w y) ≡ length w
 tail-length s w y h = same-len-mid s (length w - s) w y (h ∙ ap length (sym (tail-is s w)))

@@ -1,8 +1,11 @@
 -- by-eq, by-le     two cases: two numbers are equal or not; one is at most the other, or above it
+-- by-test          .. and a test holds or not
 -- both-l, both-r   the two halves of `both`
+-- both-false       `both` where the second test fails
+-- and-parts        two tests that hold together
 -- all, all-at      a test at each number below n, computed once, holds at each of them: how a whole table's rule is proved
 use mathlib.Core.Path.{_≡_, refl, sym, subst}
-use mathlib.Core.Bool.{Bool, true, false}
+use mathlib.Core.Bool.{Bool, true, false, _&&_, false≢true}
 use mathlib.Core.Logic.{⊎-elim}
 use Prim.Native.Nat.{ℕ, zero, suc, _≤_, _<_}
 use native.Mathlib.Nat.{not-suc-le-zero, le-of-suc-le-suc, eq-or-lt-of-le}
@@ -24,6 +27,10 @@ by-le {P} a b f g = go (leb a b) refl
     go true e = f (leb-true a b e)
     go false e = g (leb-false a b e)
 
+pub by-test : {P : Type 0} (t : Bool) → (t ≡ true → P) → (t ≡ false → P) → P
+by-test true f g = f refl
+by-test false f g = g refl
+
 pub both-l : (a b : Bool) → T (both a b) → T a
 both-l true b t = tt
 both-l false b t = t
@@ -31,6 +38,14 @@ both-l false b t = t
 pub both-r : (a b : Bool) → T (both a b) → T b
 both-r true b t = t
 both-r false b t = absurd t
+
+pub both-false : (t : Bool) → both t false ≡ false
+both-false true = refl
+both-false false = refl
+
+pub and-parts : (a b : Bool) → a && b ≡ true → (a ≡ true) × (b ≡ true)
+and-parts true b e = (refl, e)
+and-parts false b e = absurd (false≢true e)
 
 abbrev pub all : ℕ → (ℕ → Bool) → Bool
 all zero p = true

@@ -1,6 +1,7 @@
 -- Laws of calls that write.
 -- write-fits, write-short    the outcome where the output has room for the result, and where it has not
 -- Keeps, ..-keeps            a refused call leaves the output as it was
+-- room-wrote, room-never     with room the result is written, and no call is refused
 -- write-is                   what is written is the result
 -- copied-fits                with room, copying leaves the bytes and what stood behind them
 -- copied-next, copied-done   a turn of the loop that copies, and its end
@@ -13,6 +14,7 @@ use lib.ListN.{length, take, drop, getD, set}
 use lib.Seq.{take-all, take-at, take-nil, drop-nil}
 use borrow.Author.Tests.{lt-ltb, le-ltb}
 use Rattle.base.specs.Choice.{pick}
+use Rattle.base.specs.declared.Written.{Written}
 use Rattle.base.specs.declared.Written.the-variants.{Wrote, Refused}
 use Rattle.base.specs.Written.{Outcome, outcome, refused, write, copied}
 use Rattle.base.proofs.Lists.{over}
@@ -72,16 +74,31 @@ module _ (i : ℕ) (src dst : List ℕ) {t : List ℕ} (p : take i dst ++ copied
       (ap (λ (x : List ℕ). take i dst ++ copied (drop i src) x) (over dst i k) ∙ ap (λ (x : List ℕ). take i dst ++ x) (full (drop i src))
       ∙ append-nil (take i dst) ∙ take-all i dst k) ∙ p
 
+-- where there is room, an answer and an output of the call
+module _ (bs out : List ℕ) {w : Written} {after : List ℕ} (h : length bs ≤ length out) (e : outcome w after ≡ write bs out) where
+  there : outcome w after ≡ outcome (Wrote (length bs)) (bs ++ drop (length bs) out)
+  there = e ∙ write-fits bs out h ∙ ap (outcome (Wrote (length bs))) (copied-fits bs out h)
+
+  pub room-wrote : {n : ℕ} → w ≡ Wrote n → (n ≡ length bs) × (after ≡ bs ++ drop (length bs) out)
+  room-wrote {n} f =
+      let k : Wrote n ≡ Wrote (length bs) = sym f ∙ ap (λ (o : Outcome). o .answer) there in
+      let m : n ≡ length bs = cc in
+      (m, ap (λ (o : Outcome). o .output) there)
+
+  pub room-never : {n : ℕ} → w ≡ Refused n → ⊥
+  room-never {n} f =
+      let k : Refused n ≡ Wrote (length bs) = sym f ∙ ap (λ (o : Outcome). o .answer) there in
+      let z : _≡_ {A = ℕ} 0 1 = cc in
+      omega arith
+
 -- where n bytes are written, they are the result
 pub write-is : (bs out : List ℕ) (n : ℕ) → write bs out .answer ≡ Wrote n → take n (write bs out .output) ≡ bs
 write-is bs out n = by-le (length bs) (length out) fits λ h e. absurd (short h e)
   where
     fits : length bs ≤ length out → write bs out .answer ≡ Wrote n → take n (write bs out .output) ≡ bs
     fits h e =
-        let w = write-fits bs out h ∙ ap (outcome (Wrote (length bs))) (copied-fits bs out h) in
-        let k : Wrote (length bs) ≡ Wrote n = sym (ap (λ (o : Outcome). o .answer) w) ∙ e in
-        let m : length bs ≡ n = cc in
-        ap (λ (o : Outcome). take n (o .output)) w ∙ take-at bs (drop (length bs) out) n m
+        let r = room-wrote bs out h refl e in
+        ap (take n) (r .1) ∙ take-at bs (drop (length bs) out) n (sym (r .0))
 
     short : length out < length bs → write bs out .answer ≡ Wrote n → ⊥
     short h e =

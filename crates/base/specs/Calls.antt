@@ -2,6 +2,7 @@
 -- it takes one byte (`eat`).
 -- run, all          what it makes of a whole byte string: its answers, and the state behind it
 -- hear              what one call makes of it: at most one answer, with the bytes taken and the state
+-- owesNone, handsNone   of a reader that never owes a move
 -- Reads, ReadsAll   a piece handed in until "more wanted", and pieces one after the other
 use Prim.Native.Nat.{ℕ, zero, suc, _+_}
 use mathlib.Core.Path.{_≡_}
@@ -42,8 +43,16 @@ abbrev pub With : {S A : Type 0} → (A → S → Type 0) → Option A → S →
 With Q none s = Unit {0}
 With Q (some a) s = Q a s
 
--- a reader that owes nothing: byte by byte
+-- a reader that never owes a move ..
+abbrev pub owesNone : {S : Type 0} → S → ℕ
+owesNone s = 0
+
+-- .. and so never makes one
+abbrev pub handsNone : {S A : Type 0} → S → Option A × S
+handsNone s = (none, s)
+
 module _ {S A : Type 0} (eat : S → ℕ → Option A × S) where
+  -- all that such a reader makes of a byte string, byte by byte
   abbrev pub run : S → List ℕ → List A × S
   run s [] = ([], s)
   run s (b ∷ bs) = tell (eat s b .0) (run (eat s b .1) bs)
@@ -82,6 +91,7 @@ module _ {S A : Type 0} (pend : S → ℕ) (hand : S → Option A × S) (eat : S
   first zero s k = k s
   first (suc n) s k = unless (hand s .0) 0 (hand s .1) (first n (hand s .1) k)
 
+  -- one call where nothing is owed
   abbrev pub wait : List ℕ → S → Option A × ℕ × S
   wait [] s = (none, 0, s)
   wait (b ∷ bs) s = unless (eat s b .0) 1 (eat s b .1) (oneMore (first (pend (eat s b .1)) (eat s b .1) (wait bs)))
@@ -90,6 +100,7 @@ module _ {S A : Type 0} (pend : S → ℕ) (hand : S → Option A × S) (eat : S
   abbrev pub hear : S → List ℕ → Option A × ℕ × S
   hear s bs = first (pend s) s (wait bs)
 
+  -- by: is there an answer
   abbrev pub toldBy : Option A → ℕ → S → List ℕ → List A × S
   toldBy none n s bs = ([], s)
   toldBy (some a) n s bs = tell (some a) (all s (drop n bs))

@@ -1,7 +1,9 @@
-//! What several crates share: the answer of a call that writes, and the copying of bytes.
+//! What several crates share: the answer of a call that writes, the copying of bytes, the bytes before the first of a kind.
 ghost use mathlib.Core.Path.{_≡_};
-ghost use Prim.Native.Nat.{min};
+ghost use Prim.Native.Nat.{_≤_, min};
+ghost use lib.ListN.{length};
 ghost use Rattle.base.specs.Written.{copied};
+ghost use Rattle.base.specs.UpTo.{upTo};
 
 /// What a call that writes answers.
 pub enum Written {
@@ -58,6 +60,20 @@ pub fn least(a: usize, b: usize) -> usize
     ensures { λ r. ⌜ r ≡ min a b ⌝ }
 {
     if a < b { a } else { b }
+}
+
+/// How many bytes stand before the first `c`.
+pub fn up_to(bytes: &[u8], c: u8) -> usize
+    ensures { λ r. ⌜ (r ≡ length (upTo c (now (bytes .entry)))) × (r ≤ length (now (bytes .entry))) ⌝ }
+{
+    let mut i: usize = 0;
+    while i < bytes.len() {
+        if bytes[i] == c {
+            return i;
+        }
+        i += 1;
+    }
+    i
 }
 
 /// Stores the bytes of `src` from the start of `dst` on, as many as there is room for.

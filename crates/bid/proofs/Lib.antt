@@ -1,4 +1,3 @@
-pub mod UpTo
 pub mod Decimal
 pub mod Reading
 pub mod Verdicts

@@ -7,7 +7,8 @@ use Rattle.fcs.specs.Fcs.{fcs, register, entered}
 use Rattle.packet.specs.Escape.{escape, escapeByte}
 use Rattle.packet.specs.Contents.{contents, checked}
 use Rattle.stream.specs.Sender.{stream}
-use Rattle.bid.specs.Line.{upTo, digits, value, numberFrom, number, judged, verdict}
+use Rattle.base.specs.UpTo.{upTo}
+use Rattle.bid.specs.Line.{digits, value, numberFrom, number, judged, verdict}
 use Rattle.bid.specs.Input.{linesFrom, packets, packetsOf, complaintsFrom, complaints}
 
 -- an input, the stream of what is sent, the complaints

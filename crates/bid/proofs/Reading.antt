@@ -1,8 +1,9 @@
 -- Laws of a line that is read.
--- bid-short                            no space: no bid
--- bid-no-port, bid-no-sequence, bid-is the ways of the call that reads a line
--- text-is                              where the text stands
--- Bid-is, bid-found, bid-missed        what a line read shows
+-- no-sequence                               no space: no second part
+-- bid-no-port, bid-no-sequence, bid-both    by its two numbers a line is a bid, or none
+-- read-short, read-no-port, read-no-sequence, read-bid    the ways of the call that reads a line
+-- text-is                                   where the text stands
+-- Bid-is, bid-found, bid-missed             what a line read shows
 use Prim.Native.Nat.{ℕ, _+_, _-_, _≤_, _<_, min}
 use native.Mathlib.Omega.{arith}
 use native.Mathlib.Nat.{sub-zero}
@@ -14,13 +15,14 @@ use lib.ListN.{length, take, drop}
 use lib.Seq.{drop-drop}
 use borrow.Author.Tests.{lt-ltb, le-ltb}
 use Rattle.base.specs.Choice.{pick, both}
+use Rattle.base.specs.UpTo.{upTo}
 use Rattle.base.proofs.Lists.{over}
 use Rattle.base.proofs.Parts.{tail-is}
-use Rattle.base.proofs.Tests.{by-le}
+use Rattle.base.proofs.Tests.{by-le, both-false}
+use Rattle.base.proofs.UpTo.{up-to-is}
 use Rattle.bid.specs.declared.Found.the-variants.{Bid, NoBid}
-use Rattle.bid.specs.Line.{space, upTo, past, noNumber, number, port, sequence, text, isBid, textAt, reading}
-use Rattle.bid.proofs.UpTo.{up-to-is}
-use Rattle.bid.proofs.Decimal.{number-none, not-both}
+use Rattle.bid.specs.Line.{space, past, noNumber, number, port, sequence, text, isBid, textAt, reading}
+use Rattle.bid.proofs.Decimal.{number-none}
 
 -- no second part
 pub no-sequence : (l : List ℕ) → length (upTo space l) ≡ length l → sequence l ≡ noNumber
@@ -31,7 +33,7 @@ no-sequence l e =
 
 -- a part that is no number
 pub bid-no-sequence : (l : List ℕ) → noNumber ≤ sequence l → isBid l ≡ false
-bid-no-sequence l h = ap (both (ltb (port l) noNumber)) (le-ltb _ _ h) ∙ not-both (ltb (port l) noNumber)
+bid-no-sequence l h = ap (both (ltb (port l) noNumber)) (le-ltb _ _ h) ∙ both-false (ltb (port l) noNumber)
 
 pub bid-no-port : (l : List ℕ) → noNumber ≤ port l → isBid l ≡ false
 bid-no-port l h = ap (λ (t : Bool). both t (ltb (sequence l) noNumber)) (le-ltb _ _ h)

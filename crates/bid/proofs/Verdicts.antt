@@ -3,28 +3,29 @@
 -- verdict-none, verdict-bid      by what the line is read as
 -- verdict-first                  the first 8,205 bytes of a line decide
 -- accepted-is                    an accepted line is a packet that the sender takes
-use Prim.Native.Nat.{ℕ, zero, suc, _+_, _-_, _≤_, _<_}
+use Prim.Native.Nat.{ℕ, _+_, _-_, _≤_, _<_}
 use native.Mathlib.Omega.{arith}
-use native.Mathlib.Nat.{sub-zero, suc-sub-suc}
-use mathlib.Core.Path.{_≡_, refl, sym, _∙_, ap, subst}
+use mathlib.Core.Path.{_≡_, sym, _∙_, ap, subst}
 use mathlib.Core.Bool.{Bool, true, false}
-use mathlib.Core.List.{List, [], _∷_}
+use mathlib.Core.List.{List}
 use lib.Dec.{ltb}
 use lib.ListN.{length, take, drop, length-drop}
-use lib.Seq.{take-all, take-nil, length-take-le}
-use borrow.Author.Tests.{eq-eqb, ne-eqb, lt-ltb, le-ltb}
+use lib.Seq.{take-all, length-take-le}
 use Rattle.base.specs.Bytes.{IsByte, Bytes}
 use Rattle.base.specs.Choice.{pick, both}
 use Rattle.base.proofs.Bytes.{each-drop}
-use Rattle.base.proofs.Tests.{by-eq, by-le}
+use Rattle.base.specs.UpTo.{upTo}
+use Rattle.base.proofs.Lists.{drop-take}
+use Rattle.base.proofs.UpTo.{up-to-take, up-to-long}
+use Rattle.base.proofs.Tests.{by-eq, by-le, by-test}
 use Rattle.packet.specs.Port.{barred}
 use Rattle.packet.specs.Contents.{payloadLimit}
 use Rattle.packet.specs.Escape.{escape}
 use Rattle.packet.proofs.Escaping.{plain-short}
 use Rattle.packet.proofs.Round.{plain-undoes}
+use Rattle.packet.proofs.Sending.{refusing-empty, refusing-long, refusing-barred, refusing-free}
 use Rattle.stream.specs.Sender.{Packet, Accepted}
-use Rattle.bid.specs.Line.{space, upTo, past, noNumber, number, port, sequence, text, isBid, lineLimit, Verdict, noBid, refused, accepted, judged, verdict}
-use Rattle.bid.proofs.UpTo.{up-to-take, up-to-long}
+use Rattle.bid.specs.Line.{space, past, noNumber, number, port, sequence, text, isBid, lineLimit, Verdict, noBid, refused, accepted, judged, verdict}
 use Rattle.bid.proofs.Decimal.{number-long}
 use Rattle.bid.proofs.Reading.{bid-no-port, bid-no-sequence, bid-both}
 
@@ -32,21 +33,21 @@ use Rattle.bid.proofs.Reading.{bid-no-port, bid-no-sequence, bid-both}
 module _ (p : Packet) where
   pub judged-empty : length (p .payload) ≡ 0 → judged p ≡ refused 20
   unfolding judged
-  judged-empty e = simp (eq-eqb _ _ e)
+  judged-empty = refusing-empty (p .port) (p .payload) refused (accepted p)
 
   module _ (some : length (p .payload) ≡ 0 → ⊥) where
     pub judged-long : payloadLimit < length (escape (p .payload)) → judged p ≡ refused 21
     unfolding judged
-    judged-long h = simp (ne-eqb _ _ some, lt-ltb _ _ h)
+    judged-long = refusing-long (p .port) (p .payload) refused (accepted p) some
 
     module _ (short : length (escape (p .payload)) ≤ payloadLimit) where
       pub judged-barred : barred (p .port) ≡ true → judged p ≡ refused 22
       unfolding judged
-      judged-barred e = simp (ne-eqb _ _ some, le-ltb _ _ short) (ap (λ (t : Bool). pick t (refused 22) (accepted p)) e)
+      judged-barred = refusing-barred (p .port) (p .payload) refused (accepted p) some short
 
       pub judged-free : barred (p .port) ≡ false → judged p ≡ accepted p
       unfolding judged
-      judged-free e = simp (ne-eqb _ _ some, le-ltb _ _ short) (ap (λ (t : Bool). pick t (refused 22) (accepted p)) e)
+      judged-free = refusing-free (p .port) (p .payload) refused (accepted p) some short
 
 -- the packet of a line
 abbrev pub bidOf : List ℕ → Packet
@@ -66,12 +67,6 @@ escape-least bs = omega (arith, plain-short (escape bs), ap length (plain-undoes
 
 long-text : (p : Packet) → payloadLimit < length (p .payload) → judged p ≡ refused 21
 long-text p h = judged-long p (λ e. omega arith) (omega (arith, escape-least (p .payload)))
-
-pub drop-take : (n m : ℕ) (l : List ℕ) → drop n (take m l) ≡ take (m - n) (drop n l)
-drop-take zero m l = simp sub-zero
-drop-take (suc n) zero l = let e : 0 - suc n ≡ 0 = omega arith in ap (λ (k : ℕ). take k (drop (suc n) l)) (sym e)
-drop-take (suc n) (suc m) [] = sym (take-nil (suc m - suc n))
-drop-take (suc n) (suc m) (b ∷ l) = simp suc-sub-suc (drop-take n m l)
 
 -- a word among the first n bytes: the same, or too long for a number
 word-first : (n : ℕ) (l : List ℕ) → 5 < n → 5 < length (upTo space l) → number (upTo space (take n l)) ≡ noNumber
@@ -147,17 +142,13 @@ not-accepted p n e = let z : _≡_ {A = ℕ} 0 1 = cc in omega arith
 same-packet : (q p : Packet) → accepted q ≡ accepted p → q ≡ p
 same-packet q p e = cc
 
-pub bool : {P : Type 0} (t : Bool) → (t ≡ true → P) → (t ≡ false → P) → P
-bool true f g = f refl
-bool false f g = g refl
-
 judged-is : (q p : Packet) → judged q ≡ accepted p → q .port < 65536 → q .sequence < 65536 → Bytes (q .payload) → Accepted p
 judged-is q p e h k b =
     by-eq (length (q .payload)) 0 (λ z. absurd (not-accepted p 20 (sym (judged-empty q z) ∙ e)))
     (λ z.
     by-le (length (escape (q .payload))) payloadLimit
     (λ s.
-    bool (barred (q .port)) (λ t. absurd (not-accepted p 22 (sym (judged-barred q z s t) ∙ e)))
+    by-test (barred (q .port)) (λ t. absurd (not-accepted p 22 (sym (judged-barred q z s t) ∙ e)))
     (λ t.
     subst Accepted (same-packet q p (sym (judged-free q z s t) ∙ e))
     (record { some = z; short = s; free = t; port-fits = h; sequence-fits = k; bytes = b })))

@@ -50,5 +50,6 @@ complaintsFrom k (noBid ∷ vs) = (numbered k, 0) ∷ complaintsFrom (numbered k
 complaintsFrom k (refused n ∷ vs) = (numbered k, n) ∷ complaintsFrom (numbered k) vs
 complaintsFrom k (accepted p ∷ vs) = complaintsFrom (numbered k) vs
 
+-- the same of the lines of an input
 abbrev pub complaints : List ℕ → List (ℕ × ℕ)
 complaints bs = complaintsFrom 0 (verdicts bs)

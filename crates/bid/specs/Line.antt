@@ -1,5 +1,5 @@
 -- A line of the office's input, `PORT SEQUENCE TEXT`: what the sender makes of it.
--- upTo, past      the bytes before the first c, and those behind it
+-- past            the bytes behind the first c
 -- number          one to five digits, at most 65,535
 -- port, sequence, text       the three parts of a line
 -- Verdict, verdict           no bid, refused by its number, or a packet to be sent
@@ -8,12 +8,11 @@
 use Prim.Native.Nat.{ℕ, _+_, _-_, _*_, min}
 use mathlib.Core.Bool.{Bool, true}
 use mathlib.Core.List.{List, [], _∷_}
-use lib.Dec.{eqb, ltb, leb}
+use lib.Dec.{ltb, leb}
 use lib.ListN.{length, drop}
 use Rattle.base.specs.Choice.{pick, both}
-use Rattle.packet.specs.Port.{barred}
-use Rattle.packet.specs.Contents.{payloadLimit}
-use Rattle.packet.specs.Escape.{escape}
+use Rattle.base.specs.UpTo.{upTo}
+use Rattle.packet.specs.Sender.{refusing}
 use Rattle.stream.specs.Sender.{Packet}
 use Rattle.bid.specs.declared.Found.{Found}
 use Rattle.bid.specs.declared.Found.the-variants.{Bid, NoBid}
@@ -26,12 +25,7 @@ feed = 10
 abbrev pub space : ℕ
 space = 32
 
--- the bytes before the first c, all where there is none
-unfoldable pub upTo : ℕ → List ℕ → List ℕ
-upTo c [] = []
-upTo c (b ∷ bs) = pick (eqb b c) [] (b ∷ upTo c bs)
-
--- the bytes behind it
+-- the bytes behind the first c
 abbrev pub past : ℕ → List ℕ → List ℕ
 past c bs = drop (length (upTo c bs) + 1) bs
 
@@ -73,24 +67,21 @@ sequence l = number (upTo space (past space l))
 abbrev pub text : List ℕ → List ℕ
 text l = past space (past space l)
 
--- what the sender says of a line
+-- what the sender can say of a line
 pub data Verdict : Type 0 where
   noBid : Verdict
   refused : ℕ → Verdict
   accepted : Packet → Verdict
 
--- 20 payload empty, 21 payload too long as escaped, 22 port barred
+-- what it says of a packet: 20, 21 and 22 as where one is written
 unfoldable pub judged : Packet → Verdict
-judged p =
-    pick (eqb (length (p .payload)) 0) (refused 20)
-    (pick (ltb payloadLimit (length (escape (p .payload)))) (refused 21)
-    (pick (barred (p .port)) (refused 22)
-    (accepted p)))
+judged p = refusing (p .port) (p .payload) refused (accepted p)
 
 -- both numbers are there
 abbrev pub isBid : List ℕ → Bool
 isBid l = both (ltb (port l) noNumber) (ltb (sequence l) noNumber)
 
+-- what it says of a line: where it is a bid, of its packet
 unfoldable pub verdict : List ℕ → Verdict
 verdict l = pick (isBid l) (judged (record { port = port l; sequence = sequence l; payload = text l })) noBid
 

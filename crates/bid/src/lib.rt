@@ -1,8 +1,6 @@
 //! A line of the office's input, `PORT SEQUENCE TEXT`, read.
 ghost use mathlib.Core.Path.{_≡_};
-ghost use Prim.Native.Nat.{_≤_};
-ghost use lib.ListN.{length};
-ghost use Rattle.bid.specs.Line.{upTo, number, numberFrom, reading};
+ghost use Rattle.bid.specs.Line.{number, numberFrom, reading};
 
 /// What a line is read as.
 pub enum Found {
@@ -34,20 +32,6 @@ impl Line {
 
     /// So many first bytes of a line tell what the sender says of it.
     pub const LONGEST: usize = 8205;
-}
-
-/// How many bytes stand before the first `c`.
-pub fn up_to(bytes: &[u8], c: u8) -> usize
-    ensures { λ r. ⌜ (r ≡ length (upTo c (now (bytes .entry)))) × (r ≤ length (now (bytes .entry))) ⌝ }
-{
-    let mut i: usize = 0;
-    while i < bytes.len() {
-        if bytes[i] == c {
-            return i;
-        }
-        i += 1;
-    }
-    i
 }
 
 // The value of digits.
@@ -90,13 +74,13 @@ fn number(word: &[u8]) -> u32
 pub fn read(line: &[u8]) -> Found
     ensures { λ r. ⌜ r ≡ reading (now (line .entry)) ⌝ }
 {
-    let a = up_to(line, Line::SPACE);
+    let a = base::up_to(line, Line::SPACE);
     if a == line.len() {
         return Found::NoBid;
     }
     let port = number(&line[0..a]);
     let from = a + 1;
-    let e = up_to(&line[from..], Line::SPACE);
+    let e = base::up_to(&line[from..], Line::SPACE);
     let end = from + e;
     let sequence = number(&line[from..end]);
     if Line::NO_NUMBER <= port {

@@ -20,9 +20,9 @@ use lib.Dec.{eqb, leb}
 use borrow.Author.Tests.{le-leb, leb-true, eqb-true}
 use borrow.Rule.Slice.PartMut.{putMid}
 use Rattle.base.specs.Choice.{pick}
-use Rattle.base.specs.Calls.{after, unless}
+use Rattle.base.specs.Calls.{after, unless, owesNone, handsNone}
 use Rattle.base.specs.Written.{copied}
-use Rattle.base.proofs.Calls.{after-none, FitsBy, fits}
+use Rattle.base.proofs.Calls.{after-none, none-owed, FitsBy, fits}
 use Rattle.base.proofs.Writing.{copied-fits}
 use Rattle.packet.specs.Contents.{rawLimit}
 use Rattle.packet.specs.Frame.{Told, judged}
@@ -30,9 +30,9 @@ use Rattle.packet.specs.declared.frame.Judged.{Judged}
 use Rattle.stream.specs.declared.frame.Frame.{Frame}
 use Rattle.stream.specs.declared.frame.Read.{Read}
 use Rattle.stream.specs.declared.frame.Heard.the-variants as heard
-use Rattle.stream.specs.Called.{Held, held, fresh, takeByte, owesNone, handsNone, readOn, readCall, ReadIs, sound as soundFrame, answered as frameAnswered}
+use Rattle.stream.specs.Called.{Held, held, fresh, takeByte, readOn, readCall, ReadIs, sound as soundFrame, answered as frameAnswered}
 use Rattle.stream.proofs.Fine.{fine-of}
-use Rattle.stream.proofs.Cutting.{none-owed, read-agrees}
+use Rattle.stream.proofs.Cutting.{read-agrees}
 use Rattle.channel.specs.declared.hunting.Hunting.{Hunting}
 use Rattle.channel.specs.declared.locked.Locked.{Locked}
 use Rattle.channel.specs.declared.receiver.Receiver.{Receiver}

@@ -20,7 +20,7 @@ use Rattle.base.specs.Written.{Outcome, outcome, refused, write, copied}
 use Rattle.base.specs.declared.Written.{Written}
 use Rattle.base.specs.declared.Written.the-variants.{Wrote}
 use Rattle.base.proofs.Lists.{over}
-use Rattle.base.proofs.Parts.{tail-is}
+use Rattle.base.proofs.Parts.{tail-is, tail-put}
 use Rattle.base.proofs.Tests.{by-le}
 use Rattle.base.proofs.Writing.{write-fits, write-short, copied-fits, Keeps, write-keeps, refused-keeps, pick-keeps}
 use Rattle.packet.specs.Escape.{flag}
@@ -35,9 +35,7 @@ module _ (p rest o : List ℕ) (s : ℕ) (e : o ≡ p ++ rest) (l : length p ≡
   lent = tail-is s o ∙ ap (drop s) e ∙ drop-at p rest s l
 
   pub back : (y : List ℕ) → putMid s (length o - s) o y ≡ p ++ y
-  back y =
-      ap₂ (λ (a b : List ℕ). a ++ (y ++ b)) (ap (take s) e ∙ take-at p rest s l) (over (drop s o) (length o - s) (omega (arith, length-drop s o)))
-      ∙ ap (λ (b : List ℕ). p ++ b) (append-nil y)
+  back y = tail-put s o y ∙ ap (λ (a : List ℕ). a ++ y) (ap (take s) e ∙ take-at p rest s l)
 
 -- ---- bytes written, and no room for them
 module _ (bs out : List ℕ) (n : ℕ) (l : length bs ≡ n) where

@@ -1,6 +1,7 @@
 -- Every public function accepts every input and comes to an end: those that Demand1 does not name.
 use Rattle.demands.specs.Accepts.{Accepts}
 use Rattle.base.proofs.least as base-least
+use Rattle.base.proofs.up_to as base-up-to
 use Rattle.base.proofs.copy as base-copy
 use Rattle.fcs.proofs.fcs as fcs-fcs
 use Rattle.fcs.proofs.Register.fresh as fcs-fresh
@@ -31,7 +32,6 @@ use Rattle.field.proofs.value as field-value
 use Rattle.parity.proofs.value as parity-value
 use Rattle.parity.proofs.subtract as parity-subtract
 use Rattle.repair.proofs.repair as repair-repair
-use Rattle.bid.proofs.up_to as bid-up-to
 use Rattle.bid.proofs.read as bid-read
 use Rattle.office.proofs.Office.start as office-start
 use Rattle.office.proofs.Office.hear as office-hear
@@ -40,6 +40,9 @@ use Rattle.office.proofs.Office.finish as office-finish
 
 pub base-least-accepts : Accepts base-least.Statement.statement base-least.Kinds.ps base-least.Reads.Asked
 base-least-accepts = (λ M. base-least.Met.met, λ κs a. tt)
+
+pub base-up-to-accepts : Accepts base-up-to.Statement.statement base-up-to.Kinds.ps base-up-to.Reads.Asked
+base-up-to-accepts = (λ M. base-up-to.Met.met, λ κs a. tt)
 
 pub base-copy-accepts : Accepts base-copy.Statement.statement base-copy.Kinds.ps base-copy.Reads.Asked
 base-copy-accepts = (λ M. base-copy.Met.met, λ κs a. tt)
@@ -130,9 +133,6 @@ parity-subtract-accepts = (λ M. parity-subtract.Met.met, λ κs a. tt)
 
 pub repair-repair-accepts : Accepts repair-repair.Statement.statement repair-repair.Kinds.ps repair-repair.Reads.Asked
 repair-repair-accepts = (λ M. repair-repair.Met.met, λ κs a. tt)
-
-pub bid-up-to-accepts : Accepts bid-up-to.Statement.statement bid-up-to.Kinds.ps bid-up-to.Reads.Asked
-bid-up-to-accepts = (λ M. bid-up-to.Met.met, λ κs a. tt)
 
 pub bid-read-accepts : Accepts bid-read.Statement.statement bid-read.Kinds.ps bid-read.Reads.Asked
 bid-read-accepts = (λ M. bid-read.Met.met, λ κs a. tt)

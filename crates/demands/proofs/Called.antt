@@ -1,4 +1,5 @@
 -- The refusals of a receiving call, 10 and 11: of the plain stream and of the channel.
+-- beyond, within, short, long   10 and 11 as facts
 -- read-exact, hear-exact   row by row
 -- read-same, hear-same     with no byte taken, and state and buffers as they were
 -- Given, read-given, hear-given   the numbers that are given
@@ -13,14 +14,14 @@ use mathlib.Core.Option.{Option, some, none}
 use lib.Dec.{eqb, ltb, leb}
 use lib.ListN.{length, getD, set}
 use borrow.Author.Tests.{eqb-true, eqb-false, leb-true, leb-false}
-use Rattle.base.specs.Calls.{With}
-use Rattle.base.proofs.Calls.{with-hear}
+use Rattle.base.specs.Calls.{With, owesNone, handsNone}
+use Rattle.base.proofs.Calls.{none-owed, with-hear}
+use Rattle.base.proofs.Tests.{and-parts}
 use Rattle.packet.specs.Contents.{rawLimit}
 use Rattle.packet.specs.Escape.{flag}
 use Rattle.packet.specs.Frame.{Told, refusal}
-use Rattle.stream.specs.Called.{Held, shut, takeBy, takeByte, owesNone, handsNone, readOn, readBy, readCall, sound as soundFrame}
+use Rattle.stream.specs.Called.{Held, shut, takeBy, takeByte, readOn, readBy, readCall, sound as soundFrame}
 use Rattle.stream.specs.declared.frame.Frame.{Frame}
-use Rattle.stream.proofs.Cutting.{none-owed}
 use Rattle.channel.specs.Channel.{Event, said, block, lost, isMarker, shift}
 use Rattle.channel.specs.Called.{Board, heldIn, wordOn, compareOn, markOn, eatBy, eatByte, owed, asEvent, handOn, soundLock, sound, roomy, hearOn, hearBy, hearCall}
 use Rattle.channel.specs.Sender.{messageBytes, wordBytes}
@@ -34,15 +35,11 @@ use Rattle.demands.proofs.Rows.{applies, over, passed}
 use Rattle.demands.proofs.Frames.{Small, small}
 
 -- ---- two tests in one
-not-both : (a b : Bool) → a && b ≡ false → (a ≡ false) ⊎ (b ≡ false)
+pub not-both : (a b : Bool) → a && b ≡ false → (a ≡ false) ⊎ (b ≡ false)
 not-both true b e = inr e
 not-both false b e = inl refl
 
-both-are : (a b : Bool) → a && b ≡ true → (a ≡ true) × (b ≡ true)
-both-are true b e = (refl, e)
-both-are false b e = let z : _≡_ {A = ℕ} 0 1 = cc in absurd (omega arith)
-
-not-most : (a b : ℕ) → leb a b ≡ true → b < a → ⊥
+pub not-most : (a b : ℕ) → leb a b ≡ true → b < a → ⊥
 not-most a b e h = let k : a ≤ b = leb-true a b e in omega arith
 
 -- ---- 10 and 11, as facts
@@ -52,7 +49,7 @@ frame-beyond f e =
 
 frame-within : (f : Frame) → soundFrame f ≡ true → FrameBeyond f → ⊥
 frame-within f e =
-    let p = both-are (eqb (f .stored) (min (f .raw) rawLimit)) (leb (f .raw) (suc rawLimit)) e in
+    let p = and-parts (eqb (f .stored) (min (f .raw) rawLimit)) (leb (f .raw) (suc rawLimit)) e in
     ⊎-elim (λ h. h (eqb-true _ _ (p .0))) (λ h. not-most _ _ (p .1) h)
 
 lock-beyond : (l : Locked) → soundLock l ≡ false → (wordBytes < l .word) ⊎ (3 < l .marker) ⊎ (messageBytes < l .handed)
@@ -63,25 +60,25 @@ lock-beyond l e =
 
 lock-within : (l : Locked) → soundLock l ≡ true → (wordBytes < l .word) ⊎ (3 < l .marker) ⊎ (messageBytes < l .handed) → ⊥
 lock-within l e =
-    let p = both-are (leb (l .word) wordBytes) (leb (l .marker) 3 && leb (l .handed) messageBytes) e in
-    let q = both-are (leb (l .marker) 3) (leb (l .handed) messageBytes) (p .1) in
+    let p = and-parts (leb (l .word) wordBytes) (leb (l .marker) 3 && leb (l .handed) messageBytes) e in
+    let q = and-parts (leb (l .marker) 3) (leb (l .handed) messageBytes) (p .1) in
     ⊎-elim (λ h. not-most _ _ (p .0) h) (⊎-elim (λ h. not-most _ _ (q .0) h) (λ h. not-most _ _ (q .1) h))
 
-beyond : (s : Receiver) → sound s ≡ false → Beyond s
+pub beyond : (s : Receiver) → sound s ≡ false → Beyond s
 beyond s e = ⊎-elim (λ h. inl (frame-beyond (s .frame) h)) (λ h. inr (lock-beyond (s .lock) h)) (not-both (soundFrame (s .frame)) (soundLock (s .lock)) e)
 
-within : (s : Receiver) → sound s ≡ true → Beyond s → ⊥
+pub within : (s : Receiver) → sound s ≡ true → Beyond s → ⊥
 within s e =
-    let p = both-are (soundFrame (s .frame)) (soundLock (s .lock)) e in
+    let p = and-parts (soundFrame (s .frame)) (soundLock (s .lock)) e in
     ⊎-elim (frame-within (s .frame) (p .0)) (lock-within (s .lock) (p .1))
 
-short : (recv word : List ℕ) → roomy recv word ≡ false → Short recv word
+pub short : (recv word : List ℕ) → roomy recv word ≡ false → Short recv word
 short recv word e =
     ⊎-elim (λ h. inl (leb-false _ _ h)) (λ h. inr (leb-false _ _ h)) (not-both (leb rawLimit (length recv)) (leb wordBytes (length word)) e)
 
-long : (recv word : List ℕ) → roomy recv word ≡ true → Short recv word → ⊥
+pub long : (recv word : List ℕ) → roomy recv word ≡ true → Short recv word → ⊥
 long recv word e =
-    let p = both-are (leb rawLimit (length recv)) (leb wordBytes (length word)) e in
+    let p = and-parts (leb rawLimit (length recv)) (leb wordBytes (length word)) e in
     ⊎-elim (λ h. not-most _ _ (p .0) h) (λ h. not-most _ _ (p .1) h)
 
 -- ---- the plain stream: a call's numbers are no frame's

@@ -46,12 +46,18 @@ use Rattle.channel.specs.Called.{Board, board, freshReceiver, hearCall}
 use Rattle.channel.specs.Sender.{marker, messageBytes, wordBytes, wordOf, marked, marking, sending}
 use Rattle.channel.proofs.Sending.{marking-keeps, sending-keeps}
 use Rattle.channel.proofs.Demands.{ends}
+use Rattle.recording.specs.declared.recording.Totals.{Totals}
+use Rattle.recording.specs.declared.recording.Recording.{Recording}
+use Rattle.recording.specs.declared.recording.Wants.the-variants.{Refused}
+use Rattle.recording.specs.Deck.{Deck}
+use Rattle.recording.specs.Printed.{printed, takes, lastOf, finishing}
 use Rattle.demands.specs.Accepts.{Accepts}
 use Rattle.demands.specs.Table.{Exact}
-use Rattle.demands.specs.Refusals.{Unusable, frameRows, FrameBeyond, Beyond, Short, ByFrame, ByCall, ByCheck, ByRepair, ByRead, ByHear}
+use Rattle.demands.specs.Refusals.{Unusable, frameRows, FrameBeyond, Beyond, TapeBeyond, Short, ByFrame, ByCall, ByCheck, ByRepair, ByRead, ByHear, ByTake}
 use Rattle.demands.proofs.Rows.{row, row-not, not-less, not-same, refuses, wrote, refuses-word, found, repair-as-check, not-whole, is-whole}
 use Rattle.demands.proofs.Frames.{barred-is, free-is, closed-exact, judge-exact, undone}
 use Rattle.demands.proofs.Called.{read-given, hear-given, read-exact, read-same, hear-exact, hear-same}
+use Rattle.demands.proofs.Taken.{take-exact, take-same}
 use Rattle.packet.proofs.write as write-call
 use Rattle.stream.proofs.begin as begin-call
 use Rattle.stream.proofs.append as append-call
@@ -127,6 +133,16 @@ pub hear-refusals : (c : Board) (bs : List ℕ) → Exact ByHear (hearCall c bs)
     (11, Short (c .recv) (c .word)) ∷  -- receive buffer under 8,205 bytes, word buffer under 255
     [])
 hear-refusals = hear-exact
+
+-- a call on a recording, and the call that ends it
+pub take-refusals : (m : Deck) (t : Totals) (room : ℕ) (bs : List ℕ) → Exact ByTake (takes m t room bs)
+    ((10, TapeBeyond (m .ear .board .st) (m .spot) t (length bs) room) ∷  -- a count of the state is beyond its limit
+    (11, Short (m .ear .board .recv) (m .ear .board .word)) ∷  -- receive buffer under 8,205 bytes, word buffer under 255
+    [])
+take-refusals = take-exact
+
+pub finish-refusals : (r : Recording) (out : List ℕ) → Exact ByCall (finishing r out) ((23, length out < length (lastOf r)) ∷ [])
+finish-refusals r out = wrote (lastOf r) out _ refl
 
 -- a packet written
 pub write-refusals : (port sequence : ℕ) (payload out : List ℕ) → Exact ByCall (writing port sequence payload out)
@@ -227,12 +243,19 @@ mark-keeps-out = marking-keeps
 pub send-keeps-out : (bs out : List ℕ) → Keeps out (sending bs out)
 send-keeps-out = sending-keeps
 
+pub finish-keeps-out : (r : Recording) (out : List ℕ) → Keeps out (finishing r out)
+finish-keeps-out r out = write-keeps (lastOf r) out
+
 -- .. and a receiving call its state and the lent buffers, with zero bytes taken
 pub read-keeps-all : (h : Held) (bs : List ℕ) (n : ℕ) → ByRead (readCall h bs) n → readCall h bs ≡ (some (refusal n), 0, h)
 read-keeps-all = read-same
 
 pub hear-keeps-all : (c : Board) (bs : List ℕ) (n : ℕ) → ByHear (hearCall c bs) n → hearCall c bs ≡ (some (said (refusal n)), 0, c)
 hear-keeps-all = hear-same
+
+-- .. and so does a call on a recording: no byte is taken, and no line printed
+pub take-keeps-all : (m : Deck) (t : Totals) (room : ℕ) (bs : List ℕ) (n : ℕ) → ByTake (takes m t room bs) n → takes m t room bs ≡ printed (Refused n) m t
+take-keeps-all = take-same
 
 -- ---- "a refused frame leaves what that paper says": refused with 1, 2 or 3, the stored raw bytes ..
 pub frame-kept : (recv : List ℕ) (m n : ℕ) → closed recv m .told ≡ refusal n → n ≤ 3 → closed recv m .recv ≡ recv

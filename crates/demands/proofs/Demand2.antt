@@ -11,19 +11,20 @@
 --   the listing     `listing` (crates/listed/specs/Listing.antt)
 -- Here: that they hold together. The paper's numbers are in Numbers.
 -- round-trip, round-answer           a packet written and read back
--- stream-trip, stream-begun, stream-appended, stream-sent   a whole stream, and the calls that make it
+-- stream-trip, stream-begun, stream-appended, stream-sent, stream-filled   a whole stream, and the calls that make it
 -- word-clean, word-only, clean-at    parity words
 -- there-and-back, back-and-there     interleaving
 -- answers-read                       what the code's answers say
 -- plain-listing, channel-listing, totals, sent-totals   the listing's lines and totals
 -- listed-by-calls, listed-at-last, finished-at-last     the listing by calls
-use Prim.Native.Nat.{ℕ, _+_, _≤_, _<_}
+use Prim.Native.Nat.{ℕ, _+_, _%_, _≤_, _<_}
+use native.Mathlib.Omega.{arith}
 use mathlib.Core.Path.{_≡_, refl, sym, _∙_, ap}
 use mathlib.Core.Bool.{true, false}
 use mathlib.Core.Logic.{_↔_}
 use mathlib.Core.List.{List, [], _∷_, _++_, map, append-nil}
 use mathlib.Core.Option.{some, none}
-use lib.ListN.{length, take}
+use lib.ListN.{length, take, replicate, length-append, length-replicate}
 use Rattle.base.specs.Bytes.{Each, Bytes}
 use Rattle.base.specs.Calls.{joined}
 use Rattle.base.specs.Written.{write}
@@ -43,7 +44,7 @@ use Rattle.stream.specs.Reader.{waiting, inside, reads}
 use Rattle.stream.specs.Sender.{Packet, Accepted, rawOf, stream, delivered, appending}
 use Rattle.stream.proofs.Streaming.{stream-read}
 use Rattle.stream.proofs.Sending.{begin-stream, append-stream}
-use Rattle.channel.specs.Sender.{parityBytes, wordOf, sending, sent}
+use Rattle.channel.specs.Sender.{messageBytes, parityBytes, wordOf, fillers, filled, sending, sent}
 use Rattle.channel.specs.Channel.{clean as cleanBlock, repaired, beyond, conditionBy, condition, mend, IsWord, Event, said, block, lost, frames, blocks, losses}
 use Rattle.channel.specs.Called.{answered}
 use Rattle.channel.proofs.Words.{asMended, block-promised, block-determined}
@@ -96,6 +97,17 @@ stream-appended = append-stream
 -- .. and sent on the channel, what is written is the marked stream of demand 3
 pub stream-sent : (ps : List Packet) (out : List ℕ) (n : ℕ) → sending (stream ps) out .answer ≡ Wrote n → take n (sending (stream ps) out .output) ≡ sent ps
 stream-sent ps out n e = write-is (sent ps) out n e
+
+-- what is marked is filled with flags to a multiple of 223 bytes, by fewer than 223 of them, and by none if it already is one
+pub stream-filled : (bs : List ℕ)
+    → (length (filled bs) % messageBytes ≡ 0) × (length (filled bs) < length bs + messageBytes) × (length bs % messageBytes ≡ 0 → filled bs ≡ bs)
+stream-filled bs =
+    let n : ℕ = fillers (length bs) in
+    let l : length (filled bs) ≡ length bs + n = length-append bs (replicate n flag) ∙ ap (λ (m : ℕ). length bs + m) (length-replicate n flag) in (
+      omega (arith, l),
+      omega (arith, l),
+      λ e. let z : n ≡ 0 = omega arith in ap (λ (m : ℕ). bs ++ replicate m flag) z ∙ append-nil bs,
+    )
 
 -- ---- "parity words": a message with its parity behind it is clean ..
 pub word-clean : (m : List ℕ) → Bytes m → clean parityBytes (wordOf m) ≡ true

@@ -7,11 +7,11 @@ use native.Mathlib.Omega.{arith}
 use mathlib.Core.Path.{_≡_, refl, sym, ap, subst, _∙_}
 use mathlib.Core.Bool.{Bool, true, false}
 use mathlib.Core.Logic.{_↔_}
-use mathlib.Core.List.{List, [], _∷_, _++_}
+use mathlib.Core.List.{List, _∷_, _++_}
 use lib.Dec.{eqb, ltb, leb}
 use lib.ListN.{length, take, drop, getD}
 use lib.Seq.{take-all}
-use borrow.Author.Tests.{eqb-true, eqb-false, ltb-true, leb-true, leb-false, le-ltb}
+use borrow.Author.Tests.{eqb-true, eqb-false, ltb-true, leb-true, leb-false}
 use Rattle.base.specs.Choice.{pick}
 use Rattle.fcs.specs.Fcs.{fcs}
 use Rattle.packet.specs.Port.{barred}

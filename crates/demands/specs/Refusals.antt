@@ -1,6 +1,7 @@
 -- Rows of the paper's tables ("Numbered refusals") that several calls share, or that take more than a line.
 -- frameRows             2 to 8, of the raw bytes of a frame
 -- FrameBeyond, Beyond   10: a count of the state is beyond its limit
+-- TapeBeyond            .. and of a listing
 -- Short                 11: a lent buffer is too short
 -- ByFrame, By..         that an answer refuses by a number
 use Prim.Native.Nat.{ℕ, _-_, _≤_, _<_, min}
@@ -26,6 +27,10 @@ use Rattle.channel.specs.Channel.{Event, said}
 use Rattle.channel.specs.Called.{Board}
 use Rattle.channel.specs.Sender.{messageBytes, wordBytes}
 use Rattle.channel.specs.declared.receiver.Receiver.{Receiver}
+use Rattle.listed.specs.declared.Spot.{Spot}
+use Rattle.recording.specs.Printed.{Printed, far}
+use Rattle.recording.specs.declared.recording.Totals.{Totals}
+use Rattle.recording.specs.declared.recording.Wants.the-variants.{Refused as TakeRefused}
 use Rattle.demands.specs.Table.{Row}
 
 -- 7D00-7EFF
@@ -61,23 +66,35 @@ Beyond s = FrameBeyond (s .frame) ⊎ (wordBytes < s .lock .word) ⊎ (3 < s .lo
 abbrev pub Short : List ℕ → List ℕ → Type 0
 Short recv word = (length recv < rawLimit) ⊎ (length word < wordBytes)
 
--- a frame, a call that writes, the check of a word
+-- 10 of a listing: that of its receiver; on n bytes lent the offset could pass 64 bits, or a total in the room lent
+abbrev pub TapeBeyond : Receiver → Spot → Totals → ℕ → ℕ → Type 0
+TapeBeyond s p t n room =
+    Beyond s ⊎ (far - n < p .offset) ⊎ (far - room < t .packets) ⊎ (far - room < t .refused) ⊎ (far - room < t .damaged) ⊎ (far - room < t .lost)
+
+-- a frame is refused by its number
 abbrev pub ByFrame : Told → ℕ → Type 0
 ByFrame t n = t ≡ refusal n
 
+-- a call that writes is
 abbrev pub ByCall : Outcome → ℕ → Type 0
 ByCall o n = o .answer ≡ Refused n
 
+-- the check of a word is
 abbrev pub ByCheck : Checked → ℕ → Type 0
 ByCheck c n = c ≡ WordRefused n
 
--- the repair of a word
+-- the repair of a word is
 abbrev pub ByRepair : Mended → ℕ → Type 0
 ByRepair a n = a ≡ RepairRefused n
 
--- a receiving call, on the plain stream and on the channel: from 10 on the numbers are those of calls, below they are of frames
+-- a receiving call on the plain stream is: from 10 on the numbers are those of calls, below they are of frames
 abbrev pub ByRead : Option Told × ℕ × Held → ℕ → Type 0
 ByRead r n = (10 ≤ n) × (r .0 ≡ some (refusal n))
 
+-- a receiving call on the channel is
 abbrev pub ByHear : Option Event × ℕ × Board → ℕ → Type 0
 ByHear r n = (10 ≤ n) × (r .0 ≡ some (said (refusal n)))
+
+-- a call on a recording is
+abbrev pub ByTake : Printed → ℕ → Type 0
+ByTake x n = x .wants ≡ TakeRefused n

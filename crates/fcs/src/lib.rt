@@ -8,6 +8,7 @@ pub struct Register {
 }
 
 impl Register {
+    // Sixteen bits, each 1.
     const ONES: u16 = 0xFFFF;
 
     /// The register before the first byte.

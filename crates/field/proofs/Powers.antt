@@ -6,17 +6,17 @@
 -- mul-inverse             each element but zero has an inverse
 -- cancel                  no two elements but zero have the product zero
 use mathlib.Core.Path.{_≡_, refl, sym, ap, _∙_}
-use mathlib.Core.Bool.{Bool, true}
+use mathlib.Core.Bool.{Bool}
 use mathlib.Core.List.{List, [], _∷_}
 use Prim.Native.Nat.{ℕ, zero, suc, _+_, _-_, _*_, _/_, _%_, _<_}
 use native.Mathlib.Nat.{not-suc-le-zero, le-of-suc-le-suc, add-zero as nat-add-zero, zero-add as nat-zero-add, add-suc, suc-add, zero-mul as nat-zero-mul, suc-mul, mul-comm as nat-mul-comm, div-add-mod'}
 use native.Mathlib.Omega.{arith}
 use lib.Dec.{T, eqb, ltb, eqb→eq, ltb→lt}
-use lib.ListN.{length, getD}
+use lib.ListN.{getD}
 use Rattle.base.specs.Choice.{pick, both}
 use Rattle.base.proofs.Tests.{both-l, both-r, all, all-at}
 use Rattle.field.specs.Field.{alpha, add, double, shiftAdd, mul, pow, inverse}
-use Rattle.field.proofs.Product.{mul-assoc, mul-comm, mul-zero, one-mul, mul-one, mul-lt, double-is}
+use Rattle.field.proofs.Product.{mul-assoc, mul-comm, mul-zero, one-mul, mul-lt, double-is}
 
 pub pow-zero : (a : ℕ) → pow a 0 ≡ 1
 unfolding pow

@@ -3,7 +3,7 @@
 -- value-mod                alpha^(j mod 255) is alpha^j
 -- terms-start, .., -done   the loop over the terms: v is the value of those behind place i, and alpha^e the power of the next
 use mathlib.Core.Path.{_≡_, refl, sym, ap, ap₂, _∙_, subst}
-use mathlib.Core.List.{List, [], _∷_}
+use mathlib.Core.List.{List}
 use Prim.Native.Nat.{ℕ, zero, suc, _+_, _-_, _%_, _≤_, _<_}
 use native.Mathlib.Nat.{not-suc-le-zero}
 use native.Mathlib.Omega.{arith}

@@ -5,12 +5,12 @@
 use mathlib.Core.Path.{_≡_, refl, ap, _∙_}
 use mathlib.Core.Bool.{Bool, true, false}
 use mathlib.Core.List.{List}
-use Prim.Native.Nat.{ℕ, _*_, _≤_, _<_}
+use Prim.Native.Nat.{ℕ, _*_, _<_}
 use native.Mathlib.Omega.{arith}
-use lib.Dec.{eqb, ltb}
+use lib.Dec.{ltb}
 use lib.ListN.{length, getD}
 use lib.Seq.{take-all}
-use borrow.Author.Tests.{lt-ltb, eqb-true, ltb-false}
+use borrow.Author.Tests.{lt-ltb, eqb-true}
 use Rattle.base.specs.Choice.{pick}
 use Rattle.interleaver.specs.Places.{cell, origin}
 use Rattle.interleaver.specs.Matrix.{tab, interleaved, restored, whole, turned}

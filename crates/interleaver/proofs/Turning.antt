@@ -3,21 +3,20 @@
 -- too-deep, .., deep-fits            the outcome of each way
 -- turning-keeps                      a refused call leaves the output as it was
 use mathlib.Core.Path.{_≡_, ap, sym, _∙_}
-use mathlib.Core.Bool.{Bool, true, false}
+use mathlib.Core.Bool.{Bool, false}
 use mathlib.Core.List.{List, _++_}
 use Prim.Native.Nat.{ℕ, _*_, _≤_, _<_}
 use native.Mathlib.Omega.{arith}
 use lib.Dec.{ltb}
 use lib.ListN.{length, getD, take, drop}
-use lib.Seq.{getD-take}
 use borrow.Author.Tests.{lt-ltb, le-ltb, eq-eqb, ne-eqb}
-use Rattle.base.specs.Written.{Outcome, outcome, refused, write, copied}
+use Rattle.base.specs.Written.{outcome, refused, write, copied}
 use Rattle.base.specs.declared.Written.the-variants.{Wrote}
 use Rattle.base.proofs.Writing.{copied-fits, write-fits, write-short, Keeps, refused-keeps, write-keeps, pick-keeps}
 use Rattle.interleaver.specs.Places.{cell, origin}
 use Rattle.interleaver.specs.Matrix.{tab, interleaved, restored, whole, turned, turning}
 use Rattle.interleaver.proofs.Places.{cell-below, origin-below, cell-origin}
-use Rattle.interleaver.proofs.Tab.{length-tab, tab-same, tab-list}
+use Rattle.interleaver.proofs.Tab.{tab-same, tab-list}
 use Rattle.interleaver.proofs.Round.{passed, length-turned}
 
 -- ---- the matrix

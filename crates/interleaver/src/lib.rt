@@ -87,6 +87,7 @@ fn around(x: usize, depth: usize) -> usize
     0
 }
 
+// The column of the next output.
 fn next_column(column: usize) -> usize
     requires { ⌜ column < 255 ⌝ }
     ensures { λ r. ⌜ r ≡ (column + 53) % 255 ⌝ }

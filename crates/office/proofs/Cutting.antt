@@ -4,31 +4,29 @@
 -- bids-sent               what is sent
 -- bids-named              what is named
 -- bids-finished           the last call writes what is still held
-use Prim.Native.Nat.{ℕ, suc, _≤_}
+use Prim.Native.Nat.{ℕ, _≤_}
 use native.Mathlib.Omega.{arith}
 use mathlib.Core.Path.{_≡_, refl, sym, _∙_, ap, subst}
+use mathlib.Core.Bool.{Bool, true, false}
 use mathlib.Core.List.{List, [], _∷_, _++_, append-assoc}
 use mathlib.Core.Option.{Option, some, none}
 use lib.Dec.{eqb}
 use lib.ListN.{length, take, drop, length-drop}
 use borrow.Author.Tests.{le-leb}
 use Rattle.base.specs.Choice.{pick}
-use Rattle.base.specs.Calls.{joined, tell, ReadsAll}
-use Rattle.base.specs.Written.{refused, copied}
-use Rattle.base.proofs.Calls.{cut-guarded, cut-guarded-ends}
+use Rattle.base.specs.Calls.{joined, tell, owesNone, handsNone, ReadsAll}
+use Rattle.base.specs.Written.{copied}
+use Rattle.base.proofs.Calls.{none-owed, cut-guarded, cut-guarded-ends}
 use Rattle.base.proofs.Writing.{copied-fits}
 use Rattle.packet.specs.Escape.{flag}
 use Rattle.stream.specs.Sender.{behind}
 use Rattle.channel.specs.Sender.{marked, sending}
 use Rattle.bid.specs.Line.{feed, lineLimit}
 use Rattle.bid.specs.Input.{packetsOf, complaints}
-use Rattle.office.specs.Desk.{sentFor, Said, Desk, desk, waiting, eat, owesNone, handsNone, deskAll, sentBy, complaintsBy}
-use Rattle.office.specs.Called.{holdLimit, outLimit, begins, hearOn, hearCall, closeCall, finishing}
+use Rattle.office.specs.Desk.{sentFor, Said, Desk, desk, waiting, eat, deskAll, sentBy, complaintsBy}
+use Rattle.office.specs.Called.{holdLimit, outLimit, begins, hearOn, hearCall, closeBy, closeCall, finishBy, finishing}
 use Rattle.office.proofs.Hearing.{call-on}
 use Rattle.office.proofs.Sent.{sent-append, Fine, fine-sound, fine-roomy, fine-eat, lastOf, closed, says, names}
-
-none-owed : (d : Desk) (n : ℕ) → owesNone d ≡ suc n → owesNone (handsNone d .1) ≡ n
-none-owed d n e = omega arith
 
 tell-state : (o : Option Said) (r : List Said × Desk) → tell o r .1 ≡ r .1
 tell-state none r = refl
@@ -53,7 +51,11 @@ module _ (room : ℕ) (enough : outLimit ≤ room) where
       cut-guarded owesNone handsNone eat none-owed Fine (λ g n e i. i) (λ g b e i. fine-eat g b i) (hearCall room) hear-agrees refl f r
 
   close-agrees : (d : Desk) → Fine d → closeCall room d ≡ closed d
-  close-agrees d f = ap (pick (eqb (d .st .stored) 0) (none, 0, d)) (hear-agrees d (feed ∷ []) f)
+  close-agrees d f = go (eqb (d .st .stored) 0)
+    where
+      go : (t : Bool) → closeBy t room d ≡ pick t (none, 0, d) (hearOn d (feed ∷ []))
+      go true = refl
+      go false = hear-agrees d (feed ∷ []) f
 
   -- from the start, with buffers that pass 11
   module _ (line hold : List ℕ) (l : lineLimit ≤ length line) (h : holdLimit ≤ length hold) where
@@ -99,5 +101,4 @@ module _ (room : ℕ) (enough : outLimit ≤ room) where
 
 -- the last call writes what is still held
 pub bids-finished : (d : Desk) (out : List ℕ) → Fine d → finishing (d .st) (d .hold) out ≡ sending (waiting d) out
-bids-finished d out f i =
-    pick (fine-sound d f i) (pick (le-leb holdLimit (length (d .hold)) (f .hold) i) (sending (waiting d) out) (refused 11 out)) (refused 10 out)
+bids-finished d out f i = finishBy (fine-sound d f i) (le-leb holdLimit (length (d .hold)) (f .hold) i) (d .st) (d .hold) out

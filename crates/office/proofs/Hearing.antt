@@ -20,19 +20,19 @@ use borrow.Author.Tests.{eq-eqb, ne-eqb, le-leb, lt-leb, leb-true}
 use borrow.Rule.Slice.PartMut.{putMid}
 use Rattle.base.specs.Choice.{pick, both}
 use Rattle.base.specs.Calls.{unless, oneMore}
+use Rattle.base.specs.UpTo.{upTo}
+use Rattle.base.proofs.UpTo.{up-to-is, up-to-short}
 use Rattle.base.specs.Written.{Outcome, refused, copied}
 use Rattle.base.proofs.Lists.{over}
 use Rattle.base.proofs.Tests.{by-eq, by-le}
-use Rattle.channel.specs.Sender.{sending}
-use Rattle.bid.specs.Line.{feed, upTo, lineLimit, verdict}
+use Rattle.bid.specs.Line.{feed, lineLimit, verdict}
 use Rattle.bid.specs.Input.{numbered}
-use Rattle.bid.proofs.UpTo.{up-to-is, up-to-short}
 use Rattle.office.specs.declared.Office.{Office}
 use Rattle.office.specs.declared.Answer.the-variants.{More, Refused}
 use Rattle.office.specs.declared.Heard.{Heard}
 use Rattle.office.specs.declared.Ended.{Ended}
 use Rattle.office.specs.Desk.{Said, endingBy, Desk, desk, kept, endingOf, ended, eat}
-use Rattle.office.specs.Called.{heldLimit, holdLimit, outLimit, sound, roomy, hearOn, denied, hearBy, hearCall, closeCall, HeardIs, finishing, EndedIs}
+use Rattle.office.specs.Called.{heldLimit, holdLimit, outLimit, sound, roomy, hearOn, denied, hearBy, hearCall, closeBy, closeCall, HeardIs, finishBy, finishing, EndedIs}
 
 -- ---- bytes of a line stored
 module _ (line bs : List ℕ) (at : ℕ) (h : at ≤ lineLimit) (room : lineLimit ≤ length line) where
@@ -258,24 +258,20 @@ pub close-none : (room : ℕ) (s : Office) (line hold out : List ℕ) → s .sto
     → HeardIs (closeCall room (desk s line hold)) out (record { answer = More; taken = 0; office = s }) line hold out
 close-none room s line hold out e =
     subst (λ (x : Option Said × ℕ × Desk). HeardIs x out (record { answer = More; taken = 0; office = s }) line hold out)
-    (sym (ap (λ (t : Bool). pick t (none, 0, desk s line hold) (hearCall room (desk s line hold) (feed ∷ []))) (eq-eqb _ _ e))) (refl, refl, refl, refl)
+    (sym (ap (λ (t : Bool). closeBy t room (desk s line hold)) (eq-eqb _ _ e))) (refl, refl, refl, refl)
 
 pub close-line : (room : ℕ) (s : Office) (line hold out : List ℕ) {r : Heard} {line′ hold′ out′ : List ℕ} → (s .stored ≡ 0 → ⊥)
-    → HeardIs (hearCall room (desk s line hold) (feed ∷ [])) out r line′ hold′ out′ → HeardIs (closeCall room (desk s line hold)) out r line′ hold′ out′
+    → HeardIs (closeBy false room (desk s line hold)) out r line′ hold′ out′ → HeardIs (closeCall room (desk s line hold)) out r line′ hold′ out′
 close-line room s line hold out {r} {line′} {hold′} {out′} n x =
     subst (λ (y : Option Said × ℕ × Desk). HeardIs y out r line′ hold′ out′)
-    (sym (ap (λ (t : Bool). pick t (none, 0, desk s line hold) (hearCall room (desk s line hold) (feed ∷ []))) (ne-eqb _ _ n))) x
+    (sym (ap (λ (t : Bool). closeBy t room (desk s line hold)) (ne-eqb _ _ n))) x
 
 -- the last block
 pub finish-unsound : (s : Office) (hold out : List ℕ) → sound s ≡ false → refused 10 out ≡ finishing s hold out
-finish-unsound s hold out e =
-    sym (ap (λ (t : Bool). pick t (pick (leb holdLimit (length hold)) (sending (take (s .held) hold) out) (refused 11 out)) (refused 10 out)) e)
+finish-unsound s hold out e = sym (ap (λ (t : Bool). finishBy t (leb holdLimit (length hold)) s hold out) e)
 
 pub finish-cramped : (s : Office) (hold out : List ℕ) → sound s ≡ true → length hold < holdLimit → refused 11 out ≡ finishing s hold out
-finish-cramped s hold out e h =
-    sym (λ i. pick (e i) (pick (lt-leb holdLimit (length hold) h i) (sending (take (s .held) hold) out) (refused 11 out)) (refused 10 out))
+finish-cramped s hold out e h = sym (λ i. finishBy (e i) (lt-leb holdLimit (length hold) h i) s hold out)
 
-pub finish-on : (s : Office) (hold out : List ℕ) {o : Outcome} → sound s ≡ true → holdLimit ≤ length hold → o ≡ sending (take (s .held - 0) hold) out → o ≡ finishing s hold out
-finish-on s hold out e h f =
-    f ∙ ap (λ (n : ℕ). sending (take n hold) out) (sub-zero (s .held))
-    ∙ sym (λ i. pick (e i) (pick (le-leb holdLimit (length hold) h i) (sending (take (s .held) hold) out) (refused 11 out)) (refused 10 out))
+pub finish-on : (s : Office) (hold out : List ℕ) {o : Outcome} → sound s ≡ true → holdLimit ≤ length hold → o ≡ finishBy true true s hold out → o ≡ finishing s hold out
+finish-on s hold out e h f = f ∙ sym (λ i. finishBy (e i) (le-leb holdLimit (length hold) h i) s hold out)

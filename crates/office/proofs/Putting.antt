@@ -13,8 +13,9 @@ use Rattle.base.specs.Written.{Outcome, outcome, write, copied, refused as keep
 use Rattle.base.specs.declared.Written.{Written}
 use Rattle.base.specs.declared.Written.the-variants.{Wrote, Refused as No}
 use Rattle.base.proofs.Parts.{tail-is}
-use Rattle.base.proofs.Tests.{by-eq, by-le}
-use Rattle.base.proofs.Writing.{write-fits, copied-fits}
+use Rattle.base.proofs.Lists.{drop-take}
+use Rattle.base.proofs.Tests.{by-eq, by-le, by-test}
+use Rattle.base.proofs.Writing.{copied-fits, room-wrote, room-never}
 use Rattle.packet.specs.Port.{barred}
 use Rattle.packet.specs.Contents.{payloadLimit}
 use Rattle.packet.specs.Escape.{flag, escape}
@@ -27,7 +28,7 @@ use Rattle.channel.specs.Sender.{marked, sending}
 use Rattle.bid.specs.Line.{port, sequence, text, reading, Verdict, refused, accepted, judged, verdict}
 use Rattle.bid.specs.declared.Found.the-variants.{Bid, NoBid}
 use Rattle.bid.proofs.Reading.{text-is, bid-found, bid-missed}
-use Rattle.bid.proofs.Verdicts.{judged-empty, judged-long, judged-barred, judged-free, bidOf, verdict-none, verdict-bid, drop-take, bool}
+use Rattle.bid.proofs.Verdicts.{judged-empty, judged-long, judged-barred, judged-free, bidOf, verdict-none, verdict-bid}
 use Rattle.office.specs.declared.Answer.the-variants.{Sent, NoBid as Unread, Refused}
 use Rattle.office.specs.declared.Ended.{Ended}
 use Rattle.office.specs.Desk.{wholeBytes, wholes, restOf, endingBy}
@@ -37,14 +38,6 @@ use Rattle.office.proofs.Marking.{marked-length, wholes-length, rest-sh
 -- a local's zeros
 abbrev zeros : List ℕ
 zeros = replicate 223 0
-
-abbrev numberOf : Written → ℕ
-numberOf (Wrote n) = 1 + n
-numberOf (No n) = 0
-
-abbrev refusalOf : Written → ℕ
-refusalOf (Wrote n) = 0
-refusalOf (No n) = 1 + n
 
 -- ---- whole messages put out
 module _ (hold out : List ℕ) (n : ℕ) (h : n ≤ length hold) (m : n ≤ holdLimit) (room : outLimit ≤ length out) where
@@ -69,10 +62,8 @@ module _ (hold out : List ℕ) (n : ℕ) (h : n ≤ length hold) (m : n ≤ hold
 
   module _ {w : Written} {out′ rest hold′ : List ℕ} (es : outcome w out′ ≡ sending (take (whole - 0) hold) out)
       (er : rest ≡ copied (take (n - whole) (drop whole hold)) zeros) (eh : hold′ ≡ copied (take (n - whole - 0) rest) hold) where
-    put : outcome w out′ ≡ outcome (Wrote (length (marked (wholes bs)))) (marked (wholes bs) ++ drop (length (marked (wholes bs))) out)
-    put =
-        es ∙ ap (λ (x : List ℕ). sending x out) first-is ∙ write-fits (marked (wholes bs)) out fits
-        ∙ ap (outcome (Wrote (length (marked (wholes bs))))) (copied-fits (marked (wholes bs)) out fits)
+    put : outcome w out′ ≡ write (marked (wholes bs)) out
+    put = es ∙ ap (λ (x : List ℕ). sending x out) first-is
 
     moved : hold′ ≡ copied (restOf bs) hold
     moved =
@@ -85,12 +76,10 @@ module _ (hold out : List ℕ) (n : ℕ) (h : n ≤ length hold) (m : n ≤ hold
         eh ∙ ap (λ (x : List ℕ). copied x hold) e
 
     pub put-is : {r : ℕ} → w ≡ Wrote r → PutIs bs hold out r hold′ out′
-    put-is {r} f =
-        let g : 1 + r ≡ 1 + length (marked (wholes bs)) = ap numberOf (sym f ∙ ap (λ (o : Outcome). o .answer) put) in
-        (omega arith, moved, ap (λ (o : Outcome). o .output) put)
+    put-is {r} f = let p = room-wrote (marked (wholes bs)) out fits put f in (p .0, moved, p .1)
 
     pub put-not : {r : ℕ} → w ≡ No r → ⊥
-    put-not f = let g : 0 ≡ 1 + length (marked (wholes bs)) = ap numberOf (sym f ∙ ap (λ (o : Outcome). o .answer) put) in omega arith
+    put-not f = room-never (marked (wholes bs)) out fits put f
 
 -- ---- a bid
 module _ (p : Packet) (at : ℕ) (hold : List ℕ) (small : at ≤ heldLimit) (room : holdLimit ≤ length hold) where
@@ -163,15 +152,12 @@ module _ (p : Packet) (at : ℕ) (hold : List ℕ) (small : at ≤ heldLimit) (r
 
       by-number : (k : ℕ) → told ≡ keeps k (drop at hold) → judged p ≡ refused k → judged p ≡ refused n
       by-number k g j =
-          let x : 1 + k ≡ 1 + n = ap refusalOf (sym (ap (λ (o : Outcome). o .answer) g) ∙ answer-is) in
-          let y : k ≡ n = omega arith in
+          let x : No k ≡ No n = sym (ap (λ (o : Outcome). o .answer) g) ∙ answer-is in
+          let y : k ≡ n = cc in
           j ∙ ap refused y
 
       no-room : length (sent (p .port) (p .sequence) (p .payload)) ≤ length (drop at hold) → told ≡ write (sent (p .port) (p .sequence) (p .payload)) (drop at hold) → ⊥
-      no-room h g =
-          let s : List ℕ = sent (p .port) (p .sequence) (p .payload) in
-          let x : 0 ≡ 1 + n = ap refusalOf (sym (ap (λ (o : Outcome). o .answer) (g ∙ write-fits s (drop at hold) h)) ∙ answer-is) in
-          omega arith
+      no-room h g = room-never (sent (p .port) (p .sequence) (p .payload)) (drop at hold) h g answer-is
 
       is-refused : judged p ≡ refused n
       unfolding sent framed
@@ -180,7 +166,7 @@ module _ (p : Packet) (at : ℕ) (hold : List ℕ) (small : at ≤ heldLimit) (r
           (λ z.
           by-le (length (escape (p .payload))) payloadLimit
           (λ s.
-          bool (barred (p .port))
+          by-test (barred (p .port))
           (λ t. by-number 22 (write-barred (p .port) (p .sequence) (p .payload) (drop at hold) z s t) (judged-barred p z s t))
           (λ t.
           absurd

@@ -1,5 +1,5 @@
 -- The office as it is called: its state and the lent buffers go in and come back, and one call gives at most one answer.
--- begins, begun            the start
+-- begins                   the start
 -- hearCall, HeardIs        one call on bytes, and that the code's results are those
 -- closeCall                the end of the input
 -- finishing                the last block
@@ -11,8 +11,8 @@ use mathlib.Core.List.{List, [], _∷_, _++_}
 use mathlib.Core.Option.{Option, some, none}
 use lib.Dec.{eqb, leb}
 use lib.ListN.{length, take, drop}
-use Rattle.base.specs.Choice.{pick, both}
-use Rattle.base.specs.Calls.{hear}
+use Rattle.base.specs.Choice.{both}
+use Rattle.base.specs.Calls.{owesNone, handsNone, hear}
 use Rattle.base.specs.Written.{Outcome, refused, copied}
 use Rattle.channel.specs.Sender.{marked, sending}
 use Rattle.bid.specs.Line.{feed, lineLimit}
@@ -21,7 +21,7 @@ use Rattle.office.specs.declared.Answer.{Answer}
 use Rattle.office.specs.declared.Answer.the-variants.{More, Sent, NoBid, Refused}
 use Rattle.office.specs.declared.Heard.{Heard}
 use Rattle.office.specs.declared.Ended.{Ended}
-use Rattle.office.specs.Desk.{wholes, restOf, Spoken, blocks, unread, refusal, Said, Ending, Desk, eat, owesNone, handsNone}
+use Rattle.office.specs.Desk.{wholes, restOf, Spoken, blocks, unread, refusal, Said, Ending, Desk, eat}
 
 -- bytes held between lines, at most
 abbrev pub heldLimit : ℕ
@@ -39,11 +39,11 @@ outLimit = 9583
 abbrev pub begins : Office
 begins = record { lines = 0; stored = 0; held = 1 }
 
--- 10
+-- passes 10: no count is beyond its limit
 abbrev pub sound : Office → Bool
 sound s = both (leb (s .stored) lineLimit) (leb (s .held) heldLimit)
 
--- 11
+-- passes 11: the buffers are long enough
 abbrev pub roomy : List ℕ → List ℕ → Bool
 roomy line hold = both (leb lineLimit (length line)) (leb holdLimit (length hold))
 
@@ -66,26 +66,33 @@ hearBy true true true d bs = hearOn d bs
 abbrev pub hearCall : ℕ → Desk → List ℕ → Option Said × ℕ × Desk
 hearCall room d bs = hearBy (sound (d .st)) (roomy (d .line) (d .hold)) (leb outLimit room) d bs
 
--- the end of the input ends a line that is begun
-abbrev pub closeCall : ℕ → Desk → Option Said × ℕ × Desk
-closeCall room d = pick (eqb (d .st .stored) 0) (none, 0, d) (hearCall room d (feed ∷ []))
+-- the end of the input ends a line, by: is none begun
+abbrev pub closeBy : Bool → ℕ → Desk → Option Said × ℕ × Desk
+closeBy true room d = (none, 0, d)
+closeBy false room d = hearCall room d (feed ∷ [])
 
--- the code's answer
+-- the end of the input
+abbrev pub closeCall : ℕ → Desk → Option Said × ℕ × Desk
+closeCall room d = closeBy (eqb (d .st .stored) 0) room d
+
+-- the code's answer, of what is said of a line ..
 abbrev pub spoken : Spoken → Answer
 spoken (blocks bs) = Sent (length bs)
 spoken unread = NoBid
 spoken (refusal n) = Refused n
 
+-- .. and where nothing is said, more is wanted
 abbrev pub answered : Option Said → Answer
 answered none = More
 answered (some x) = spoken (x .1)
 
--- the output then: the blocks from its start on
+-- the output then: the blocks from its start on ..
 abbrev pub spokenOut : Spoken → List ℕ → List ℕ
 spokenOut (blocks bs) out = bs ++ drop (length bs) out
 spokenOut unread out = out
 spokenOut (refusal n) out = out
 
+-- .. and where nothing is said, it stays
 abbrev pub answeredOut : Option Said → List ℕ → List ℕ
 answeredOut none out = out
 answeredOut (some x) out = spokenOut (x .1) out
@@ -98,10 +105,15 @@ heardOf x = record { answer = answered (x .0); taken = x .1; office = x .2 .st }
 abbrev pub HeardIs : Option Said × ℕ × Desk → List ℕ → Heard → List ℕ → List ℕ → List ℕ → Type 0
 HeardIs x out r line hold out′ = (r ≡ heardOf x) × (line ≡ x .2 .line) × (hold ≡ x .2 .hold) × (out′ ≡ answeredOut (x .0) out)
 
--- the last block, filled with flags
+-- the last block, filled with flags, by: does it pass 10 and 11
+abbrev pub finishBy : Bool → Bool → Office → List ℕ → List ℕ → Outcome
+finishBy false b s hold out = refused 10 out
+finishBy true false s hold out = refused 11 out
+finishBy true true s hold out = sending (take (s .held) hold) out
+
+-- the finishing call
 abbrev pub finishing : Office → List ℕ → List ℕ → Outcome
-finishing s hold out =
-    pick (sound s) (pick (leb holdLimit (length hold)) (sending (take (s .held) hold) out) (refused 11 out)) (refused 10 out)
+finishing s hold out = finishBy (sound s) (leb holdLimit (length hold)) s hold out
 
 -- a line ended
 abbrev pub EndedIs : Ending → List ℕ → Ended → List ℕ → List ℕ → Type 0

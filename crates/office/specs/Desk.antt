@@ -12,7 +12,7 @@ use lib.Dec.{eqb}
 use lib.ListN.{length, take, drop}
 use lib.Seq.{sets}
 use Rattle.base.specs.Choice.{pick}
-use Rattle.base.specs.Calls.{all}
+use Rattle.base.specs.Calls.{owesNone, handsNone, all}
 use Rattle.base.specs.Written.{copied}
 use Rattle.packet.specs.Escape.{flag}
 use Rattle.stream.specs.Sender.{rawOf}
@@ -69,6 +69,7 @@ pub record Desk : Type 0 where
   pub line : List ℕ
   pub hold : List ℕ
 
+-- the three together
 abbrev pub desk : Office → List ℕ → List ℕ → Desk
 desk s line hold = record { st = s; line = line; hold = hold }
 
@@ -102,13 +103,7 @@ ended d = (some (numbered (d .st .lines), endingOf d .said), behindLine d (endin
 unfoldable pub eat : Desk → ℕ → Option Said × Desk
 eat d b = pick (eqb b feed) (ended d) (none, kept d (b ∷ []))
 
--- nothing is owed between bytes
-abbrev pub owesNone : Desk → ℕ
-owesNone d = 0
-
-abbrev pub handsNone : Desk → Option Said × Desk
-handsNone d = (none, d)
-
+-- an input: what is said of its lines, and the desk behind it
 abbrev pub deskAll : Desk → List ℕ → List Said × Desk
 deskAll = all owesNone handsNone eat
 

@@ -202,7 +202,7 @@ impl Office {
         requires { ⌜ (sound self ≡ true) × (roomy (now line) (now hold) ≡ true) × (outLimit ≤ length (now out)) ⌝ }
         ensures { λ r. ⌜ HeardIs (hearOn (desk self (now (line .entry)) (now (hold .entry))) (now (piece .entry))) (now (out .entry)) r (now (line .exit)) (now (hold .exit)) (now (out .exit)) ⌝ }
     {
-        let n = bid::up_to(piece, Line::FEED);
+        let n = base::up_to(piece, Line::FEED);
         let stored = keep(line, self.stored, &piece[0..n]);
         if n == piece.len() {
             return Heard {

@@ -13,7 +13,7 @@ use native.Mathlib.Omega.{arith}
 use borrow.Author.Tests.{eq-eqb, ne-eqb, lt-ltb, le-ltb, ltb-false}
 use lib.Dec.{eqb, ltb}
 use lib.ListN.{length, getD, take, drop, length-append, length-take, length-drop}
-use lib.Seq.{take-append-le, drop-append-le, length-take-le, take-all, take-take}
+use lib.Seq.{take-append-le, drop-append-le, length-take-le, take-all}
 use Rattle.base.specs.Choice.{pick}
 use Rattle.base.proofs.Tests.{by-le}
 use Rattle.fcs.specs.Fcs.{fcs}

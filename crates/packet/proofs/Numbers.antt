@@ -1,17 +1,31 @@
--- Number (d) of paper 01: the contents of port 5100, sequence 0, payload 41. And the edges of the payload's limit.
+-- numbers           number (d) of paper 01: the contents of port 5100, sequence 0, payload 41
+-- edges, raw-edges  the paper's edges: of the payload's limit, and of the raw limit
 use mathlib.Core.Path.{_≡_, refl}
 use mathlib.Core.List.{List, [], _∷_}
 use Prim.Native.Nat.{ℕ}
-use lib.ListN.{length, replicate}
+use lib.ListN.{replicate}
 use Rattle.fcs.specs.Fcs.{fcs, register, entered}
-use Rattle.packet.specs.Contents.{payloadLimit, checked, contents}
-use Rattle.packet.specs.Escape.{escapeByte, escape}
+use Rattle.packet.specs.Contents.{checked, contents}
+use Rattle.packet.specs.Escape.{escapeByte, escape, last, scan}
+use Rattle.packet.specs.Frame.{Told, refusal, closedBy, closed, judge}
+use Rattle.packet.specs.Sender.{refusing}
 
 pub numbers : contents 0x5100 0 (0x41 ∷ []) ≡ 0x21 ∷ 0x00 ∷ 0x51 ∷ 0x00 ∷ 0x00 ∷ 0x41 ∷ 0xE4 ∷ 0xEC ∷ []
 unfolding contents checked fcs register entered escape escapeByte
 numbers = refl
 
--- 8,192 plain bytes, and 4,096 bytes of 7E, are just within it
-pub edges : _≡_ {A = List ℕ} (length (escape (replicate 8192 0)) ∷ length (escape (replicate 4096 0x7E)) ∷ []) (payloadLimit ∷ payloadLimit ∷ [])
+-- the number by which a payload for port 5100 is refused; 0 where it passes
+abbrev refusalOf : List ℕ → ℕ
+refusalOf payload = refusing 0x5100 payload (λ n. n) 0
+
+-- 8,192 plain payload bytes pass and 8,193 get 21; 4,096 bytes of 7E pass and 4,097 get 21
+pub edges : _≡_ {A = List ℕ}
+    (refusalOf (replicate 8192 0) ∷ refusalOf (replicate 8193 0) ∷ refusalOf (replicate 4096 0x7E) ∷ refusalOf (replicate 4097 0x7E) ∷ [])
+    (0 ∷ 21 ∷ 0 ∷ 21 ∷ [])
 unfolding escape escapeByte
 edges = refl
+
+-- 8,205 raw bytes are judged further (these get 2) and 8,206 get 1
+pub raw-edges : _≡_ {A = List Told} (judge (replicate 8205 0x7D) ∷ judge (replicate 8206 0x7D) ∷ []) (refusal 2 ∷ refusal 1 ∷ [])
+unfolding judge closed closedBy scan last
+raw-edges = refl

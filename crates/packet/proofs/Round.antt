@@ -8,7 +8,7 @@ use mathlib.Core.Bool.{false}
 use mathlib.Core.List.{List, [], _∷_, _++_, append-assoc, append-nil}
 use Prim.Native.Nat.{ℕ, _+_, _-_, _/_, _%_, _≤_}
 use native.Mathlib.Omega.{arith}
-use borrow.Author.Tests.{ne-eqb, le-ltb}
+use borrow.Author.Tests.{ne-eqb}
 use lib.ListN.{length, take, length-append}
 use lib.Seq.{take-all, take-at, take-append-seam, getD-append-seam, getD-append-add}
 use Rattle.base.specs.Bytes.{Each}
@@ -17,7 +17,7 @@ use Rattle.fcs.specs.Fcs.{fcs}
 use Rattle.packet.specs.Escape.{escape, escapeByte, plain, plainScan, scan, last, right}
 use Rattle.packet.specs.Contents.{payloadLimit, rawLimit, contents, checked, opening, two, wordAt, payloadOf}
 use Rattle.packet.specs.Port.{barred}
-use Rattle.packet.specs.Frame.{Closed, packet, judge, judgeContents, closedBy, closed}
+use Rattle.packet.specs.Frame.{Closed, packet, judge, judgeContents, closedBy}
 use Rattle.packet.specs.declared.escape.Escapes.the-variants.{Right}
 use Rattle.packet.proofs.Escaping.Kind.{flag, esc, other}
 use Rattle.packet.proofs.Escaping.{Kind, kind, escape-other, escape-append, width-most}

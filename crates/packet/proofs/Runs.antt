@@ -1,6 +1,6 @@
 -- Laws of `run`, the bytes before the first 7D.
--- run-stop, run-more, run-none   a 7D, another byte, no byte: what a loop over bytes needs
--- found-more .. moved-done       the loop that looks for a 7D, and the loop that moves a run
+-- moved-none .. moved-done       the loop that moves a run
+-- found-is, found-within         the place of the 7D behind it, or the end
 -- scan-ends, scan-hands          plain reading ends behind the run, or hands over behind the 7D that follows it
 -- undo-ends, undo-hands          the same where escapes are undone
 use mathlib.Core.Path.{_≡_, refl, sym, ap, _∙_}
@@ -12,66 +12,43 @@ use borrow.Author.Tests.{eq-eqb, ne-eqb}
 use lib.ListN.{length, take, drop, getD, set, length-drop, length-take}
 use lib.Seq.{sets, drop-drop}
 use Rattle.base.specs.Laid.{Laid}
+use Rattle.base.specs.UpTo.{upTo}
 use Rattle.base.proofs.Laid.{laid-none, laid-more, laid-append}
-use Rattle.base.proofs.Lists.{next, part-next, part-set}
+use Rattle.base.proofs.Lists.{part-next, part-set}
+use Rattle.base.proofs.Parts.{tail-is}
 use Rattle.base.proofs.Tests.{by-eq}
+use Rattle.base.proofs.UpTo.{up-to-go, up-to-short}
 use Rattle.packet.specs.Escape.{run, plain, escaped, plainScan, escapedScan}
 use Rattle.packet.specs.declared.escape.Escapes.{Escapes}
 use Rattle.packet.specs.declared.escape.Escapes.the-variants.{Right}
 
-module _ {bs cs : List ℕ} {b : ℕ} (e : bs ≡ b ∷ cs) where
-  pub run-stop : b ≡ 0x7D → run bs ≡ []
-  unfolding run
-  run-stop h = rw e (simp (eq-eqb _ _ h))
-
-  pub run-more : (b ≡ 0x7D → ⊥) → run bs ≡ b ∷ run cs
-  unfolding run
-  run-more n = rw e (simp (ne-eqb _ _ n))
-
-pub run-none : {bs : List ℕ} → bs ≡ [] → run bs ≡ []
-unfolding run
-run-none e = rw e
-
-run-short : (bs : List ℕ) → length (run bs) ≤ length bs
-unfolding run
-run-short [] = omega arith
-run-short (b ∷ bs) = by-eq b 0x7D (λ e. simp (eq-eqb _ _ e) (omega arith)) (λ n. simp (ne-eqb _ _ n) (omega (arith, run-short bs)))
-
 plain-all : (bs : List ℕ) → length bs ≤ length (run bs) → plain bs ≡ run bs
-unfolding run plain
+unfolding upTo plain
 plain-all [] h = refl
 plain-all (b ∷ bs) h =
     by-eq b 0x7D (λ e. absurd (let k = simp (eq-eqb b 0x7D e) at h in omega (arith, k)))
     (λ n. let k = simp (ne-eqb b 0x7D n) at h in simp (ne-eqb b 0x7D n) (ap (λ (x : List ℕ). b ∷ x) (plain-all bs (omega (arith, k)))))
 
 plain-run : (bs : List ℕ) → length (run bs) < length bs → plain bs ≡ run bs ++ escaped (drop (suc (length (run bs))) bs)
-unfolding run plain
+unfolding upTo plain
 plain-run [] h = absurd (omega arith)
 plain-run (b ∷ bs) h =
     by-eq b 0x7D (λ e. simp (eq-eqb b 0x7D e))
     (λ n. let k = simp (ne-eqb b 0x7D n) at h in simp (ne-eqb b 0x7D n) (ap (λ (x : List ℕ). b ∷ x) (plain-run bs (omega (arith, k)))))
 
 scan-all : (bs : List ℕ) → length bs ≤ length (run bs) → plainScan bs ≡ Right
-unfolding run plainScan
+unfolding upTo plainScan
 scan-all [] h = refl
 scan-all (b ∷ bs) h =
     by-eq b 0x7D (λ e. absurd (let k = simp (eq-eqb b 0x7D e) at h in omega (arith, k)))
     (λ n. let k = simp (ne-eqb b 0x7D n) at h in simp (ne-eqb b 0x7D n) (scan-all bs (omega (arith, k))))
 
 scan-run : (bs : List ℕ) → length (run bs) < length bs → plainScan bs ≡ escapedScan (drop (suc (length (run bs))) bs)
-unfolding run plainScan
+unfolding upTo plainScan
 scan-run [] h = absurd (omega arith)
 scan-run (b ∷ bs) h =
     by-eq b 0x7D (λ e. simp (eq-eqb b 0x7D e))
     (λ n. let k = simp (ne-eqb b 0x7D n) at h in simp (ne-eqb b 0x7D n) (scan-run bs (omega (arith, k))))
-
--- ---- the loop that looks for a 7D
-module _ (l : List ℕ) (i : ℕ) {t : ℕ} (inv : i + length (run (drop i l)) ≡ t) where
-  pub found-more : i < length l → (getD l i 0 ≡ 0x7D → ⊥) → i + 1 + length (run (drop (i + 1) l)) ≡ t
-  found-more h n = omega (arith, ap length (run-more (next l i h) n))
-
-  pub found : run (drop i l) ≡ [] → i ≡ t
-  found e = omega (arith, ap length e)
 
 -- ---- the loop that moves a run: i bytes are moved, and what moves the rest moves all
 abbrev pub Moved : List ℕ → ℕ → ℕ → ℕ → List ℕ → ℕ → Type 0
@@ -87,7 +64,7 @@ module _ (l₀ l : List ℕ) (n from to i : ℕ) (inv : Moved l₀ n from to l i
       let at : to + (i + 1) ≡ to + i + 1 = omega arith in
       let behind : from + (i + 1) ≡ from + i + 1 = omega arith in
       inv a e
-      (rw (run-more (part-next l (from + i) n h k) m)
+      (rw (up-to-go 0x7D (part-next l (from + i) n h k) m)
       (laid-more _ (rw (part-set l (from + i + 1) n (to + i) (getD l (from + i) 0) (omega arith) (omega arith)) at (rw behind at (rw at at laid)))))
 
   pub moved-done : run (drop (from + i) (take n l)) ≡ [] → Laid l₀ to (run (drop from (take n l₀))) l (to + i)
@@ -99,9 +76,12 @@ part-sets : (l bs : List ℕ) (i n j : ℕ) → j + length bs ≤ i → j + leng
 part-sets l [] i n j h k = refl
 part-sets l (b ∷ bs) i n j h k = part-sets (set l j b) bs i n (suc j) (omega arith) (omega arith) ∙ part-set l i n j b (omega arith) (omega arith)
 
+pub found-is : (l : List ℕ) (at : ℕ) {k : ℕ} → k ≡ length (run (take (length l - at) (drop at l))) → at + k ≡ at + length (run (drop at l))
+found-is l at e = ap (λ (k : ℕ). at + k) (e ∙ ap (λ (x : List ℕ). length (run x)) (tail-is at l))
+
 module _ (l : List ℕ) (at : ℕ) {i : ℕ} (e : i ≡ at + length (run (drop at l))) where
   pub found-within : at ≤ length l → i ≤ length l
-  found-within h = omega (arith, run-short (drop at l), length-drop at l)
+  found-within h = omega (arith, up-to-short 0x7D (drop at l), length-drop at l)
 
   pub scan-ends : i ≡ length l → Right ≡ plainScan (drop at l)
   scan-ends h = sym (scan-all (drop at l) (omega (arith, length-drop at l)))
@@ -117,7 +97,7 @@ module _ (l m : List ℕ) (n from to k : ℕ) (h : Laid l to (run (drop from (ta
   moved-length w = (omega arith, omega (arith, length-drop from (take n l), length-take n l))
 
   pub moved-within : n ≤ length l → from ≤ n → from + k ≤ n
-  moved-within w u = omega (arith, moved-length w .0, moved-length w .1, run-short (drop from (take n l)))
+  moved-within w u = omega (arith, moved-length w .0, moved-length w .1, up-to-short 0x7D (drop from (take n l)))
 
   pub undo-ends : n ≤ length l → from + k ≡ n → Laid l to (plain (drop from (take n l))) m (to + k)
   undo-ends w e = rw (plain-all (drop from (take n l)) (omega (arith, moved-length w .0, moved-length w .1))) h

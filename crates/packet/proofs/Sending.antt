@@ -1,5 +1,6 @@
 -- Laws of the sender.
--- write-empty .. write-free   what the call answers and leaves, by facts on numbers
+-- refusing-empty .. refusing-free   what the sender says of a port and a payload, by facts on numbers
+-- write-empty .. write-free   what the call answers and leaves, by the same
 -- laid-frame, frame-fits      a frame stored part by part
 -- sent-parts                  the parts that are stored are the packet's frame
 -- writing-keeps               a refused call leaves the output as it was
@@ -22,27 +23,42 @@ use Rattle.fcs.specs.Fcs.{fcs}
 use Rattle.packet.specs.Port.{barred}
 use Rattle.packet.specs.Contents.{payloadLimit, contents, checked, opening, two}
 use Rattle.packet.specs.Escape.{flag, escape}
-use Rattle.packet.specs.Sender.{framed, sent, writing}
+use Rattle.packet.specs.Sender.{framed, sent, refusing, writing}
 use Rattle.packet.proofs.Escaping.{escape-append}
+
+module _ {A : Type 0} (port : ℕ) (payload : List ℕ) (refuse : ℕ → A) (send : A) where
+  pub refusing-empty : length payload ≡ 0 → refusing port payload refuse send ≡ refuse 20
+  refusing-empty e = simp (eq-eqb _ _ e)
+
+  module _ (some : length payload ≡ 0 → ⊥) where
+    pub refusing-long : payloadLimit < length (escape payload) → refusing port payload refuse send ≡ refuse 21
+    refusing-long h = simp (ne-eqb _ _ some, lt-ltb _ _ h)
+
+    module _ (short : length (escape payload) ≤ payloadLimit) where
+      pub refusing-barred : barred port ≡ true → refusing port payload refuse send ≡ refuse 22
+      refusing-barred b = simp (ne-eqb _ _ some, le-ltb _ _ short) (ap (λ (t : Bool). pick t (refuse 22) send) b)
+
+      pub refusing-free : barred port ≡ false → refusing port payload refuse send ≡ send
+      refusing-free b = simp (ne-eqb _ _ some, le-ltb _ _ short) (ap (λ (t : Bool). pick t (refuse 22) send) b)
 
 module _ (port sequence : ℕ) (payload out : List ℕ) where
   pub write-empty : length payload ≡ 0 → writing port sequence payload out ≡ refused 20 out
   unfolding writing
-  write-empty e = simp (eq-eqb _ _ e)
+  write-empty = refusing-empty port payload (λ n. refused n out) _
 
   module _ (some : length payload ≡ 0 → ⊥) where
     pub write-long : payloadLimit < length (escape payload) → writing port sequence payload out ≡ refused 21 out
     unfolding writing
-    write-long h = simp (ne-eqb _ _ some, lt-ltb _ _ h)
+    write-long = refusing-long port payload (λ n. refused n out) _ some
 
     module _ (short : length (escape payload) ≤ payloadLimit) where
       pub write-barred : barred port ≡ true → writing port sequence payload out ≡ refused 22 out
       unfolding writing
-      write-barred b = simp (ne-eqb _ _ some, le-ltb _ _ short, b)
+      write-barred = refusing-barred port payload (λ n. refused n out) _ some short
 
       pub write-free : barred port ≡ false → writing port sequence payload out ≡ write (sent port sequence payload) out
       unfolding writing
-      write-free b = simp (ne-eqb _ _ some, le-ltb _ _ short, b)
+      write-free = refusing-free port payload (λ n. refused n out) _ some short
 
   pub writing-keeps : Keeps out (writing port sequence payload out)
   unfolding writing

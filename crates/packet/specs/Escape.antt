@@ -8,6 +8,7 @@ use mathlib.Core.Bool.{Bool, true}
 use mathlib.Core.List.{List, [], _∷_, _++_}
 use lib.Dec.{eqb}
 use Rattle.base.specs.Choice.{pick}
+use Rattle.base.specs.UpTo.{upTo}
 use Rattle.packet.specs.declared.escape.Escapes.{Escapes}
 use Rattle.packet.specs.declared.escape.Escapes.the-variants.{Right, Unfinished, Wrong}
 
@@ -39,9 +40,8 @@ unfoldable mutual
   escaped (b ∷ bs) = restored b ∷ plain bs
 
 -- the bytes before the first 7D, all where there is none: plain reading passes over them at once
-unfoldable pub run : List ℕ → List ℕ
-run [] = []
-run (b ∷ bs) = pick (eqb b 0x7D) [] (b ∷ run bs)
+abbrev pub run : List ℕ → List ℕ
+run bs = upTo 0x7D bs
 
 -- the bytes that may stand behind 7D
 unfoldable pub right : ℕ → Bool

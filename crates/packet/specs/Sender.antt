@@ -1,6 +1,7 @@
 -- One packet written (paper 01, "Packet and frame", "Numbered refusals").
--- sent      its escaped contents, and one flag behind them
--- writing   what the call answers and leaves
+-- sent       its escaped contents, and one flag behind them
+-- refusing   what the sender says of a port and a payload
+-- writing    what the call answers and leaves
 use Prim.Native.Nat.{ℕ}
 use mathlib.Core.List.{List, [], _∷_, _++_}
 use lib.Dec.{eqb, ltb}
@@ -19,10 +20,14 @@ framed cs = escape cs ++ flag ∷ []
 unfoldable pub sent : ℕ → ℕ → List ℕ → List ℕ
 sent port sequence payload = framed (contents port sequence payload)
 
--- 20 payload empty, 21 payload too long as escaped, 22 port barred. Then 23 as for every call that writes
+-- 20 payload empty, 21 payload too long as escaped, 22 port barred: `refuse` by the first that applies, or else `send`
+abbrev pub refusing : {A : Type 0} → ℕ → List ℕ → (ℕ → A) → A → A
+refusing port payload refuse send =
+    pick (eqb (length payload) 0) (refuse 20)
+    (pick (ltb payloadLimit (length (escape payload))) (refuse 21)
+    (pick (barred port) (refuse 22)
+    send))
+
+-- one packet; then 23 as for every call that writes
 unfoldable pub writing : ℕ → ℕ → List ℕ → List ℕ → Outcome
-writing port sequence payload out =
-    pick (eqb (length payload) 0) (refused 20 out)
-    (pick (ltb payloadLimit (length (escape payload))) (refused 21 out)
-    (pick (barred port) (refused 22 out)
-    (write (sent port sequence payload) out)))
+writing port sequence payload out = refusing port payload (λ n. refused n out) (write (sent port sequence payload) out)

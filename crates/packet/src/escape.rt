@@ -14,27 +14,12 @@ pub enum Escapes {
     Wrong,
 }
 
-// The place of the first 7D of raw[at..], or the end.
-fn escape_from(raw: &[u8], at: usize) -> usize
-    requires { ⌜ at ≤ length (now raw) ⌝ }
-    ensures { λ r. ⌜ r ≡ at + length (run (drop at (now (raw .entry)))) ⌝ }
-{
-    let mut i = at;
-    while i < raw.len() {
-        if raw[i] == 0x7D {
-            return i;
-        }
-        i += 1;
-    }
-    i
-}
-
 // Plain reading of raw[at..].
 fn scan_plain(raw: &[u8], at: usize) -> Escapes
     requires { ⌜ at ≤ length (now raw) ⌝ }
     ensures { λ r. ⌜ r ≡ plainScan (drop at (now (raw .entry))) ⌝ }
 {
-    let i = escape_from(raw, at);
+    let i = at + base::up_to(&raw[at..], 0x7D);
     if i == raw.len() {
         return Escapes::Right;
     }

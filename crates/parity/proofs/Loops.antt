@@ -16,23 +16,19 @@ use borrow.Rule.Slice.PartMut.{putMid}
 use Rattle.base.specs.Choice.{both}
 use Rattle.base.specs.Written.{copied, outcome, refused, write}
 use Rattle.base.specs.declared.Written.the-variants.{Wrote}
-use Rattle.base.proofs.Tests.{by-le}
+use Rattle.base.proofs.Tests.{by-le, both-false}
 use Rattle.base.proofs.Lists.{next, over}
 use Rattle.base.proofs.InPlace.{put, next as turn, done}
 use Rattle.base.proofs.Parts.{tail-is, tail-back, tail-length}
 use Rattle.base.proofs.Writing.{copied-fits, write-fits, write-short}
 use Rattle.field.specs.Field.{alpha, add, mul, pow}
 use Rattle.field.proofs.Product.{mul-zero}
-use Rattle.parity.specs.Word.{horner, eval, scale, onto, timesRoot, generator, divide, remainder, clean}
+use Rattle.parity.specs.Word.{eval, scale, onto, timesRoot, generator, divide, remainder, clean}
 use Rattle.parity.proofs.Sums.{length-onto}
 use Rattle.parity.proofs.Generator.{length-generator, generator-monic}
 use Rattle.parity.proofs.Division.{divide-step, length-remainder}
 
 -- ---- zero_at
-both-false : (b : Bool) → both b false ≡ false
-both-false true = refl
-both-false false = refl
-
 not-clean : (w : List ℕ) (j r : ℕ) → j < r → (eval w (pow alpha (suc j)) ≡ 0 → ⊥) → clean r w ≡ false
 unfolding clean
 not-clean w j zero h n = absurd (omega arith)

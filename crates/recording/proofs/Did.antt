@@ -26,6 +26,7 @@ use Rattle.recording.specs.Printed.{longest, counted, Printed, printed, 
 use Rattle.recording.specs.Runs.{Lists, ListsAll}
 use Rattle.recording.specs.Runs.Lists.{more, room}
 use Rattle.recording.specs.Runs.ListsAll.{done, piece}
+use Rattle.recording.proofs.Tags.{wantsTag}
 use Rattle.recording.proofs.Turn.{deck-hand-one}
 
 -- answers counted one by one
@@ -101,23 +102,16 @@ takes-did n m t bs = go (sound (m .ear .board .st)) (near (m .spot) t (length bs
     go true true true = print-did n n m t bs
 
 -- ---- runs
-tag : Wants → ℕ
-tag More = 0
-tag Room = 1
-tag (Refused n) = 2
-
 pub left-room : (w : Wants) (es : List Event) (m : Deck) (n : ℕ) (bs : List ℕ) (all : List Event × Deck) → LeftBy w es m n bs all → w ≡ Room
     → all ≡ before es (deckAll m (drop n bs))
-unfolding tag
-left-room More es m n bs all h e = absurd (omega (arith, ap tag e))
+left-room More es m n bs all h e = absurd (omega (arith, ap wantsTag e))
 left-room Room es m n bs all h e = h
 left-room (Refused k) es m n bs all h e = h
 
 pub left-more : (w : Wants) (es : List Event) (m : Deck) (n : ℕ) (bs : List ℕ) (all : List Event × Deck) → LeftBy w es m n bs all → w ≡ More → all ≡ (es, m)
-unfolding tag
 left-more More es m n bs all h e = h
-left-more Room es m n bs all h e = absurd (omega (arith, ap tag e))
-left-more (Refused k) es m n bs all h e = absurd (omega (arith, ap tag e))
+left-more Room es m n bs all h e = absurd (omega (arith, ap wantsTag e))
+left-more (Refused k) es m n bs all h e = absurd (omega (arith, ap wantsTag e))
 
 lines-append : (xs ys : List Event) → lines (xs ++ ys) ≡ lines xs ++ lines ys
 unfolding lines

@@ -11,17 +11,18 @@ use mathlib.Core.Option.{Option, some, none}
 use lib.ListN.{length}
 use lib.Dec.{leb}
 use borrow.Author.Tests.{leb-true}
-use Rattle.base.specs.Calls.{tell, unless, oneMore}
+use Rattle.base.specs.Calls.{tell, unless, oneMore, owesNone, handsNone}
 use Rattle.base.specs.Calls as calls
+use Rattle.base.proofs.Calls.{none-owed}
 use Rattle.packet.specs.Contents.{rawLimit}
 use Rattle.packet.specs.Frame.{Told}
 use Rattle.packet.specs.declared.frame.Judged.{Judged}
-use Rattle.stream.specs.Called.{Held, held, owesNone, handsNone, takeByte, readAll, readOn, readCall, ReadIs, sound as soundFrame, answered as heardOf}
+use Rattle.stream.specs.Called.{Held, held, takeByte, readAll, readOn, readCall, ReadIs, sound as soundFrame, answered as heardOf}
 use Rattle.stream.specs.declared.frame.Read.{Read}
 use Rattle.stream.specs.declared.frame.Heard.{Heard}
 use Rattle.stream.specs.declared.frame.Heard.the-variants.{More as NoMore, Said as Says}
 use Rattle.stream.proofs.Fine.{fine-of as frame-fine}
-use Rattle.stream.proofs.Cutting.{none-owed, read-agrees}
+use Rattle.stream.proofs.Cutting.{read-agrees}
 use Rattle.channel.specs.Channel.{Event, said}
 use Rattle.channel.specs.Called.{Board, board, heldIn, owed, handOn, eatByte, asEvent, hearAll, hearOn, hearCall, HearingIs, sound, roomy, answered}
 use Rattle.channel.specs.declared.receiver.Receiver.{Receiver}
@@ -32,6 +33,7 @@ use Rattle.channel.proofs.Fine.{fine-of, and-parts}
 use Rattle.channel.proofs.Cutting.{hand-one, hear-agrees}
 use Rattle.recording.specs.Deck.{Ear, ear, withHeld, owesBy, earOwes, earHand, earEat}
 use Rattle.recording.specs.Taken.{earHear, EarIs, PlainIs}
+use Rattle.recording.proofs.Tags.{heardTag}
 
 -- a reader that is another one, seen through f and g
 module _ {S T A B : Type 0} (pend : S → ℕ) (hand : S → Option A × S) (eat : S → ℕ → Option A × S)
@@ -135,7 +137,7 @@ module _ (c : Board) where
   unfolding earOwes
   plain-pend h = refl
 
-  plain-hand : (h : Held) (n : ℕ) → owesNone h ≡ suc n → earHand (plain h) ≡ (asEvent (handsNone h .0), plain (handsNone h .1))
+  plain-hand : (h : Held) (n : ℕ) → owesNone h ≡ suc n → earHand (plain h) ≡ (asEvent (handsNone h .0), plain h)
   plain-hand h n e = absurd (omega arith)
 
   plain-eat : (h : Held) (b : ℕ) → earEat (plain h) b ≡ (asEvent (takeByte h b .0), plain (takeByte h b .1))
@@ -180,18 +182,10 @@ plain-fine s l k a b = (and-parts _ _ a .0, leb-true _ _ (and-parts (leb rawLimi
 -- a plain stream's answer, as the channel's
 heard-more : (o : Option Told) → heardOf o ≡ NoMore → More ≡ answered (asEvent o)
 heard-more none e = refl
-heard-more (some t) e = absurd (omega (arith, ap (λ (x : Heard). tag x) e))
-  where
-    tag : Heard → ℕ
-    tag NoMore = 0
-    tag (Says j) = 1
+heard-more (some t) e = absurd (omega (arith, ap heardTag e))
 
 heard-said : (o : Option Told) (j : Judged) → heardOf o ≡ Says j → Said j ≡ answered (asEvent o)
-heard-said none j e = absurd (omega (arith, ap (λ (x : Heard). tag x) e))
-  where
-    tag : Heard → ℕ
-    tag NoMore = 0
-    tag (Says j) = 1
+heard-said none j e = absurd (omega (arith, ap heardTag e))
 heard-said (some t) j e = ap (λ (x : Heard). answerOf x) (sym e)
   where
     answerOf : Heard → Answer

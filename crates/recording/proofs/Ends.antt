@@ -28,17 +28,18 @@ use Rattle.listed.specs.declared.Place.{Place}
 use Rattle.listed.specs.declared.Place.the-variants.{Mode, Mark, Second, Low, High, Inside, Wrong}
 use Rattle.listed.specs.declared.Spot.{Spot}
 use Rattle.listed.specs.Apart.{most, start, on, wrong, through, nextAt, next, inStream, apart, well, keep}
-use Rattle.listed.specs.Lines.{given, line, lines, one, isPacket, isRefusal, isDamaged, isLost, endLine, wrongLine}
+use Rattle.listed.specs.Lines.{given, line, lines, one, isPacket, isRefusal, isDamaged, isLost}
 use Rattle.lines.proofs.Short.{line-some, end-short, wrong-short}
 use Rattle.recording.specs.declared.recording.Totals.{Totals}
 use Rattle.recording.specs.declared.recording.Recording.{Recording}
 use Rattle.recording.specs.declared.recording.Wants.{Wants}
 use Rattle.recording.specs.declared.recording.Wants.the-variants.{More, Room, Refused}
 use Rattle.recording.specs.Deck.{Ear, ear, owesBy, earOwes, earHand, earEat, Deck, deck, fresh, deckOwes, deckHand, byteBy, deckEat, deckAll, deckHear}
-use Rattle.recording.specs.Printed.{longest, noTotals, counted, Printed, printed, behind, onAnswer, print, far, near, takesBy, takes, lastOf, finishing}
+use Rattle.recording.specs.Printed.{longest, noTotals, counted, Printed, printed, behind, onAnswer, print, far, near, takesBy, takes, lastBy, lastOf, finishing}
 use Rattle.recording.specs.Runs.{Lists, ListsAll, Run, Fair}
 use Rattle.recording.specs.Runs.Lists.{more, room}
 use Rattle.recording.specs.Runs.ListsAll.{done, piece}
+use Rattle.recording.proofs.Tags.{wantsTag}
 use Rattle.recording.proofs.Ears.{ear-hand-one}
 use Rattle.recording.proofs.Spots.{next-near}
 use Rattle.recording.proofs.Turn.{deck-hand-one, FineEar, fine-ear-hand, fine-ear-eat}
@@ -212,39 +213,34 @@ print-kept (suc f) n m t bs i =
     (x .0))
 
 -- ---- with room for a line, a call that wants more room has printed something
-tag : Wants → ℕ
-tag More = 0
-tag Room = 1
-tag (Refused n) = 2
-
 some-printed : (f n : ℕ) (m : Deck) (t : Totals) (bs : List ℕ) → longest ≤ n → print (suc f) n m t bs .wants ≡ Room → 0 < length (print (suc f) n m t bs .text)
-unfolding print tag
+unfolding print
 some-printed f n m t bs h = rw (le-ltb n longest h) (go (deckHear m bs .0))
   where
     go : (o : Option Event)
         → onAnswer o (behind (deckHear m bs .1) [] (printed More (deckHear m bs .2) t)) (λ a. behind (deckHear m bs .1) (line a) (print f (n - length (line a)) (deckHear m bs .2) (counted t a) (drop (deckHear m bs .1) bs))) .wants ≡ Room
         → 0 < length (onAnswer o (behind (deckHear m bs .1) [] (printed More (deckHear m bs .2) t)) (λ a. behind (deckHear m bs .1) (line a) (print f (n - length (line a)) (deckHear m bs .2) (counted t a) (drop (deckHear m bs .1) bs))) .text)
-    go none e = absurd (omega (arith, ap tag e))
+    go none e = absurd (omega (arith, ap wantsTag e))
     go (some x) e =
         let r = print f (n - length (line (given x))) (deckHear m bs .2) (counted t (given x)) (drop (deckHear m bs .1) bs) in
         omega (arith, line-some x, length-append (line (given x)) (r .text))
 
 -- printing refuses nothing
-print-not : (f n : ℕ) (m : Deck) (t : Totals) (bs : List ℕ) (c : ℕ) → print f n m t bs .wants ≡ Refused c → ⊥
-unfolding print tag
-print-not zero n m t bs c = λ e. omega (arith, ap tag e)
+pub print-not : (f n : ℕ) (m : Deck) (t : Totals) (bs : List ℕ) (c : ℕ) → print f n m t bs .wants ≡ Refused c → ⊥
+unfolding print
+print-not zero n m t bs c = λ e. omega (arith, ap wantsTag e)
 print-not (suc f) n m t bs c =
     room-not (ltb n longest) (onAnswer (deckHear m bs .0) (behind (deckHear m bs .1) [] (printed More (deckHear m bs .2) t)) (λ a. behind (deckHear m bs .1) (line a) (print f (n - length (line a)) (deckHear m bs .2) (counted t a) (drop (deckHear m bs .1) bs))))
     (answer-not (deckHear m bs .0) (λ a. print-not f (n - length (line a)) (deckHear m bs .2) (counted t a) (drop (deckHear m bs .1) bs) c))
   where
     room-not : (b : Bool) (r : Printed) → (r .wants ≡ Refused c → ⊥) → pick b (printed Room m t) r .wants ≡ Refused c → ⊥
-    room-not true r h e = omega (arith, ap tag e)
+    room-not true r h e = omega (arith, ap wantsTag e)
     room-not false r h e = h e
 
     answer-not : (o : Option Event)
         → ((a : Answer) → print f (n - length (line a)) (deckHear m bs .2) (counted t a) (drop (deckHear m bs .1) bs) .wants ≡ Refused c → ⊥)
         → onAnswer o (behind (deckHear m bs .1) [] (printed More (deckHear m bs .2) t)) (λ a. behind (deckHear m bs .1) (line a) (print f (n - length (line a)) (deckHear m bs .2) (counted t a) (drop (deckHear m bs .1) bs))) .wants ≡ Refused c → ⊥
-    answer-not none k e = omega (arith, ap tag e)
+    answer-not none k e = omega (arith, ap wantsTag e)
     answer-not (some x) k e = k (given x) e
 
 some-events : (es : List Event) → 0 < length (lines es) → 0 < length es
@@ -416,7 +412,6 @@ module _ (rooms : ℕ → ℕ) (fair : Fair rooms) where
 pub finish-ends : (r : Recording) (out : List ℕ) → longest ≤ length out → finishing r out .answer ≡ Wrote (length (lastOf r))
 finish-ends r out h = ap (λ o. o .answer) (write-fits (lastOf r) out (omega (arith, go (well (r .tape .spot .place)))))
   where
-    go : (t : Bool)
-        → length (pick t (endLine (r .tape .spot .count) (r .totals .packets) (r .totals .refused) (r .totals .damaged) (r .totals .lost)) (wrongLine (r .tape .spot .offset))) ≤ 128
-    go true = end-short (r .tape .spot .count) (r .totals .packets) (r .totals .refused) (r .totals .damaged) (r .totals .lost)
-    go false = wrong-short (r .tape .spot .offset)
+    go : (t : Bool) → length (lastBy t r) ≤ 128
+    go true = end-short _ _ _ _ _
+    go false = wrong-short _

@@ -1,3 +1,4 @@
+pub mod Tags
 pub mod Ears
 pub mod Spots
 pub mod Run

@@ -25,11 +25,11 @@ use Rattle.listed.specs.declared.Place.the-variants.{Mode, Mark, Second, Low, H
 use Rattle.listed.specs.declared.Spot.{Spot}
 use Rattle.listed.specs.Apart.{most, start, on, wrong, through, nextAt, next, inStream, keep, apart, well, onChannel}
 use Rattle.listed.specs.Lines.{given, lines, count, one, isPacket, isRefusal, isDamaged, isLost, endLine, wrongLine}
-use Rattle.listed.specs.Listing.{heard, lastLine, listed, listing}
+use Rattle.listed.specs.Listing.{totalLine, heard, lastLine, listed, listing}
 use Rattle.recording.specs.declared.recording.Totals.{Totals}
 use Rattle.recording.specs.declared.recording.Recording.{Recording}
 use Rattle.recording.specs.Deck.{Ear, ear, earOwes, Deck, deck, fresh, deckOwes, deckAll}
-use Rattle.recording.specs.Printed.{noTotals, counted, recorded, lastOf, finishing}
+use Rattle.recording.specs.Printed.{noTotals, counted, recorded, lastBy, lastOf, finishing}
 use Rattle.recording.specs.Runs.{ListsAll}
 use Rattle.recording.proofs.Means.{earAll, means-start, heard-all}
 use Rattle.recording.proofs.Did.{countAll, Prints, all-prints}
@@ -113,9 +113,14 @@ apart-count (b ∷ bs) p =
 -- ---- the last line
 last-same : (m : Deck) (n : ℕ) (es : List Event) → m .spot .count ≡ n → lastOf (recorded m (countAll noTotals es)) ≡ lastLine (m .spot) n es
 unfolding lastLine
-last-same m n es e =
-    let r : countAll noTotals es ≡ countsOf es = counts-are es in
-    λ i. pick (well (m .spot .place)) (endLine (e i) (r i .packets) (r i .refused) (r i .damaged) (r i .lost)) (wrongLine (m .spot .offset))
+last-same m n es e = go (well (m .spot .place))
+  where
+    r : countAll noTotals es ≡ countsOf es
+    r = counts-are es
+
+    go : (t : Bool) → lastBy t (recorded m (countAll noTotals es)) ≡ pick t (totalLine n es) (wrongLine (m .spot .offset))
+    go true = λ i. endLine (e i) (r i .packets) (r i .refused) (r i .damaged) (r i .lost)
+    go false = refl
 
 abbrev shown : List Event × Deck → List ℕ
 shown r = lines (r .0) ++ lastOf (recorded (r .1) (countAll noTotals (r .0)))

@@ -7,10 +7,10 @@ use native.Mathlib.Nat.{zero-add, add-zero, sub-zero, add-assoc}
 use mathlib.Core.Path.{_≡_, refl, sym, _∙_, ap, subst}
 use mathlib.Core.Bool.{Bool, true, false}
 use mathlib.Core.List.{List, [], _∷_, _++_, append-assoc, append-nil}
-use lib.ListN.{length, take, drop, length-append, length-drop, drop-of-length-le, take-append-drop}
+use lib.ListN.{length, take, drop, length-append, length-drop, take-append-drop}
 use lib.Seq.{drop-drop, drop-at, take-at, length-take-le}
 use borrow.Rule.Slice.PartMut.{putMid}
-use Rattle.base.proofs.Parts.{tail-is, tail-length}
+use Rattle.base.proofs.Parts.{tail-is, tail-put}
 use Rattle.channel.specs.Called.{sound, roomy}
 use Rattle.recording.specs.declared.tape.Tape.{Tape}
 use Rattle.recording.specs.declared.recording.Totals.{Totals}
@@ -54,12 +54,6 @@ far-start r l k bs out a b c =
       nears = rw (sub-zero (length bs), sub-zero (length out)) c;
     }
 
--- an output of which the tail was lent and came back
-mid-is : (w : ℕ) (out y : List ℕ) → putMid w (length out - w) out y ≡ take w out ++ y
-mid-is w out y =
-    ap (λ (z : List ℕ). take w out ++ (y ++ z)) (drop-of-length-le (drop w out) {i = length out - w} (omega (arith, length-drop w out)))
-    ∙ ap (λ (z : List ℕ). take w out ++ z) (append-nil y)
-
 behind-behind : (i n : ℕ) (ws vs : List ℕ) (r : Printed) → behind i ws (behind n vs r) ≡ behind (i + n) (ws ++ vs) r
 behind-behind i n ws vs r =
     λ j. record { wants = r .wants; taken = sym (add-assoc i n (r .taken)) j; text = sym (append-assoc ws vs (r .text)) j; deck = r .deck; totals = r .totals }
@@ -96,7 +90,7 @@ module _ {x : Printed} {bs old : List ℕ} {i w : ℕ} {r : Recording} {l k out 
 
     out-is : out′ ≡ (take w out ++ text) ++ drop (w + length text) out
     out-is =
-        mid-is w out room′ ∙ ap (λ (z : List ℕ). take w out ++ z) room-is
+        tail-put w out room′ ∙ ap (λ (z : List ℕ). take w out ++ z) room-is
         ∙ sym (append-assoc (take w out) text (drop (length text) (drop w out)))
         ∙ ap (λ (z : List ℕ). (take w out ++ text) ++ z) (drop-drop (length text) w out)
 

@@ -122,11 +122,14 @@ abbrev pub TookIs : Printed → Took → List ℕ → List ℕ → List ℕ → 
 TookIs x r l k old out =
     (r ≡ tookOf x) × (l ≡ x .deck .ear .board .recv) × (k ≡ x .deck .ear .board .word) × (out ≡ x .text ++ drop (length (x .text)) old)
 
--- the last line: `E` where the recording may end, else `X`
+-- the last line: `E` or `X`, by: may the recording end here
+abbrev pub lastBy : Bool → Recording → List ℕ
+lastBy true r = endLine (r .tape .spot .count) (r .totals .packets) (r .totals .refused) (r .totals .damaged) (r .totals .lost)
+lastBy false r = wrongLine (r .tape .spot .offset)
+
+-- the last line of a recording
 abbrev pub lastOf : Recording → List ℕ
-lastOf r =
-    pick (well (r .tape .spot .place)) (endLine (r .tape .spot .count) (r .totals .packets) (r .totals .refused) (r .totals .damaged) (r .totals .lost))
-    (wrongLine (r .tape .spot .offset))
+lastOf r = lastBy (well (r .tape .spot .place)) r
 
 -- the finishing call
 abbrev pub finishing : Recording → List ℕ → Outcome

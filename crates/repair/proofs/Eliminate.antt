@@ -21,6 +21,7 @@ use Rattle.field.proofs.Powers.{mul-inverse}
 use Rattle.parity.specs.Word.{scale, onto}
 use Rattle.parity.proofs.Sums.{length-scale, length-onto, bytes-scale, bytes-onto}
 use Rattle.repair.specs.Way.{dot, head, shift, pivot, normal, reduced, behind, solve}
+use Rattle.repair.proofs.Weigh.{add-step}
 use Rattle.repair.proofs.Locate.{Kills, AllZero}
 
 abbrev pub None : ℕ → List (List ℕ) → Type 0
@@ -84,15 +85,12 @@ dot-scale k [] xs = sym (mul-zero k)
 dot-scale k (x ∷ u) [] = sym (mul-zero k)
 dot-scale k (x ∷ u) (y ∷ ys) = ap (add (mul x (mul k y))) (dot-scale k u ys) ∙ scale-step k x y (dot u ys)
 
-onto-step : (u x y d t : ℕ) → add (mul u (add x y)) (add d t) ≡ add (add (mul u x) d) (add (mul u y) t)
-onto-step u x y d t = simp ring
-
 dot-onto : (u xs ys : List ℕ) → length xs ≤ length ys → dot u (onto xs ys) ≡ add (dot u xs) (dot u ys)
 unfolding dot onto
 dot-onto [] xs ys h = sym (add-self 0)
 dot-onto (x ∷ u) [] ys h = sym (zero-add _)
 dot-onto (x ∷ u) (y ∷ ys) [] h = absurd (omega arith)
-dot-onto (x ∷ u) (y ∷ ys) (z ∷ zs) h = ap (add (mul x (add y z))) (dot-onto u ys zs (omega arith)) ∙ onto-step x y z (dot u ys) (dot u zs)
+dot-onto (x ∷ u) (y ∷ ys) (z ∷ zs) h = ap (add (mul x (add y z))) (dot-onto u ys zs (omega arith)) ∙ add-step x y z (dot u ys) (dot u zs)
 
 -- ---- a reduced row: with x for the first unknown, the row is its first coefficient times (x + pivot), and the reduced row
 reduce-step : (x h d s : ℕ) → add (mul x h) s ≡ add (mul h (add x d)) (add (mul h d) s)

@@ -12,7 +12,7 @@ use lib.ListN.{length, take, drop}
 use Rattle.base.specs.Bytes.{Each, Bytes}
 use Rattle.field.specs.Field.{alpha, add, mul, pow}
 use Rattle.field.proofs.Sum.{add-zero, add-byte}
-use Rattle.field.proofs.Product.{ring, mul-zero, mul-lt}
+use Rattle.field.proofs.Product.{ring, mul-zero, mul-lt, mul-left-comm}
 use Rattle.field.proofs.Powers.{pow-lt, pow-suc, cancel}
 use Rattle.repair.specs.Way.{low, tails, dot, sums, windows}
 use Rattle.repair.proofs.Weigh.{weigh, weigh-same, weigh-zero, row-weigh, AtEach, at-each-map}
@@ -94,9 +94,6 @@ module _ (s u : List ℕ) (l : length u ≤ 33) where
 turn : (x l p : ℕ) → mul (mul x l) p ≡ mul (mul x p) l
 turn x l p = simp ring
 
-turn-out : (c x l : ℕ) → mul c (mul x l) ≡ mul x (mul c l)
-turn-out c x l = simp ring
-
 abbrev pub Locates : List ℕ → List ℕ → Type 0
 Locates e v = AtEach (λ x c. mul c (low v x) ≡ 0) e
 
@@ -109,7 +106,7 @@ module _ (e : List ℕ) (b : Bytes e) (l : length e ≤ 255) (r m n : ℕ) (fits
   pub locates : weight e ≤ m → (v : List ℕ) → length v ≤ n → Kills (windows 0 m (sums r e)) v → Locates e v
   locates k v h q =
       at-each-map (λ x c. mul c (mul x (low v x)) ≡ 0) (λ x c. mul c (low v x) ≡ 0) e
-      (λ i j c z. cancel (pow alpha i) _ (point-pos i (omega arith)) (pow-lt alpha i) (mul-lt c _) (sym (turn-out c (pow alpha i) (low v (pow alpha i))) ∙ z))
+      (λ i j c z. cancel (pow alpha i) _ (point-pos i (omega arith)) (pow-lt alpha i) (mul-lt c _) (sym (mul-left-comm c (pow alpha i) (low v (pow alpha i))) ∙ z))
       (few e (λ x. mul x (low v x)) m l k
       (λ j i.
       weigh-same (λ x. mul (mul x (low v x)) (pow x j)) (λ x. mul (pow x (suc j)) (low v x)) e
@@ -124,4 +121,4 @@ module _ (e : List ℕ) (b : Bytes e) (l : length e ≤ 255) (r m n : ℕ) (fits
       row v h j (omega arith)
       ∙ weigh-zero (λ x. mul (pow x (suc j)) (low v x)) e
       (at-each-map (λ x c. mul c (low v x) ≡ 0) (λ x c. mul c (mul (pow x (suc j)) (low v x)) ≡ 0) e
-      (λ i h c y. turn-out c (pow (pow alpha i) (suc j)) (low v (pow alpha i)) ∙ ap (mul (pow (pow alpha i) (suc j))) y ∙ mul-zero _) z))
+      (λ i h c y. mul-left-comm c (pow (pow alpha i) (suc j)) (low v (pow alpha i)) ∙ ap (mul (pow (pow alpha i) (suc j))) y ∙ mul-zero _) z))

@@ -10,7 +10,7 @@ use Rattle.base.specs.Bytes.{Bytes}
 use Rattle.base.proofs.Tests.{by-eq}
 use Rattle.field.specs.Field.{alpha, add, mul, pow, inverse}
 use Rattle.field.proofs.Sum.{add-zero, zero-add, add-byte}
-use Rattle.field.proofs.Product.{ring, mul-zero, mul-one, mul-lt, mul-comm, mul-assoc}
+use Rattle.field.proofs.Product.{mul-zero, mul-one, mul-lt, mul-comm, mul-assoc, mul-left-comm}
 use Rattle.field.proofs.Powers.{pow-lt, pow-suc, pow-zero, cancel, mul-inverse}
 use Rattle.repair.specs.Way.{low, tails, dot, sums, windows, errorAt, errors}
 use Rattle.repair.proofs.Weigh.{weigh, weigh-zero, row-weigh, AtEach, at-each-map}
@@ -41,9 +41,6 @@ unfolding errors
 each-errors v s [] h = refl
 each-errors v s (c ∷ cs) h = ap₂ _∷_ (h .0) (each-errors v s cs (h .1))
 
-take-out : (c d q : ℕ) → mul c (mul d q) ≡ mul d (mul c q)
-take-out c d q = simp ring
-
 module _ (e : List ℕ) (b : Bytes e) (l : length e ≤ 255) (r m n : ℕ) (fits : n + m ≤ suc r) (small : n ≤ 33) (few : weight e ≤ m)
     (c : ℕ) (cs : List ℕ) (hv : length (c ∷ cs) ≤ n) (least : Least (windows 0 m (sums r e)) (c ∷ cs)) where
   zeros : Locates e (c ∷ cs)
@@ -54,7 +51,7 @@ module _ (e : List ℕ) (b : Bytes e) (l : length e ≤ 255) (r m n : ℕ) (fits
       → mul d (low (tails cs (pow alpha i)) (pow alpha j)) ≡ 0
   quotient i j d root other z =
       cancel (add x a) _ (apart j i other) (add-byte _ _ (pow-lt alpha j) (pow-lt alpha i)) (mul-lt d _)
-      (sym (take-out d (add x a) (low (tails cs a) x)) ∙ ap (mul d) (sym (division x a c cs) ∙ ap (add (low (c ∷ cs) x)) root ∙ add-zero _) ∙ z)
+      (sym (mul-left-comm d (add x a) (low (tails cs a) x)) ∙ ap (mul d) (sym (division x a c cs) ∙ ap (add (low (c ∷ cs) x)) root ∙ add-zero _) ∙ z)
     where
       a : ℕ
       a = pow alpha i
@@ -102,7 +99,7 @@ module _ (e : List ℕ) (b : Bytes e) (l : length e ≤ 255) (r m n : ℕ) (fits
         row-weigh e _ b (tails cs a) 0 1 r (omega (arith, length-tails cs a))
         ∙ picked (λ x. mul (pow x 1) (low (tails cs a) x))
         (at-each-map (λ x y. mul y (low (c ∷ cs) x) ≡ 0) (λ x y. (x ≡ a → ⊥) → mul y (mul (pow x 1) (low (tails cs a) x)) ≡ 0) e
-        (λ j hj y z other. take-out y (pow (pow alpha j) 1) (low (tails cs a) (pow alpha j)) ∙ ap (mul (pow (pow alpha j) 1)) (quotient i j y root other z) ∙ mul-zero _) zeros)
+        (λ j hj y z other. mul-left-comm y (pow (pow alpha j) 1) (low (tails cs a) (pow alpha j)) ∙ ap (mul (pow (pow alpha j) 1)) (quotient i j y root other z) ∙ mul-zero _) zeros)
         ∙ ap (λ (t : ℕ). mul d (mul t (low (tails cs a) a))) one-power
 
     byte : d ≡ mul (dot (tails cs (pow alpha i)) (sums r e)) (inverse (mul (pow alpha i) (low (tails cs (pow alpha i)) (pow alpha i))))

@@ -26,7 +26,7 @@ weigh f (c ∷ cs) = add (mul c (f (pow alpha (length cs)))) (weigh f cs)
 pub weigh-same : (f g : ℕ → ℕ) (w : List ℕ) → ((x : ℕ) → f x ≡ g x) → weigh f w ≡ weigh g w
 weigh-same f g w h = ap (λ (k : ℕ → ℕ). weigh k w) (λ i x. h x i)
 
-add-step : (c p q s t : ℕ) → add (mul c (add p q)) (add s t) ≡ add (add (mul c p) s) (add (mul c q) t)
+pub add-step : (c p q s t : ℕ) → add (mul c (add p q)) (add s t) ≡ add (add (mul c p) s) (add (mul c q) t)
 add-step c p q s t = simp ring
 
 pub weigh-add : (f g : ℕ → ℕ) (w : List ℕ) → weigh (λ x. add (f x) (g x)) w ≡ add (weigh f w) (weigh g w)

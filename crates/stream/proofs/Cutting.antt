@@ -1,21 +1,17 @@
 -- Every way of cutting a byte string yields the answers and the final state of the uncut string.
 -- read-law              the law of a call
 -- read-cut, read-ends   from any state and buffer that pass 10 and 11, and every way of cutting comes to its end
-use Prim.Native.Nat.{ℕ, suc}
-use native.Mathlib.Omega.{arith}
+use Prim.Native.Nat.{ℕ}
 use mathlib.Core.Path.{_≡_, refl, sym, _∙_, ap}
 use mathlib.Core.List.{List}
 use lib.ListN.{length}
 use borrow.Author.Tests.{le-leb}
-use Rattle.base.specs.Calls.{joined, told, ReadsAll}
-use Rattle.base.proofs.Calls.{law, cut-guarded, cut-guarded-ends}
+use Rattle.base.specs.Calls.{joined, owesNone, handsNone, told, ReadsAll}
+use Rattle.base.proofs.Calls.{none-owed, law, cut-guarded, cut-guarded-ends}
 use Rattle.packet.specs.Contents.{rawLimit}
 use Rattle.packet.specs.Frame.{Told}
-use Rattle.stream.specs.Called.{Held, takeByte, owesNone, handsNone, readAll, readOn, readCall}
+use Rattle.stream.specs.Called.{Held, takeByte, readAll, readOn, readCall}
 use Rattle.stream.proofs.Fine.{Fine, fine-is, fine-take}
-
-pub none-owed : (h : Held) (n : ℕ) → owesNone h ≡ suc n → owesNone (handsNone h .1) ≡ n
-none-owed h n e = omega arith
 
 pub read-agrees : (h : Held) (bs : List ℕ) → Fine h → readCall h bs ≡ readOn h bs
 read-agrees h bs f = rw (fine-is h f, le-leb rawLimit (length (h .recv)) (f .room)) refl

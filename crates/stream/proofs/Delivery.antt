@@ -5,14 +5,13 @@ use mathlib.Core.List.{List}
 use mathlib.Core.Option.{Option, some, none}
 use lib.ListN.{length}
 use lib.Dec.{eqb, leb}
-use Rattle.base.specs.Calls.{With}
-use Rattle.base.proofs.Calls.{with-hear}
+use Rattle.base.specs.Calls.{With, owesNone, handsNone}
+use Rattle.base.proofs.Calls.{none-owed, with-hear}
 use Rattle.packet.specs.Escape.{flag}
 use Rattle.packet.specs.Contents.{rawLimit}
 use Rattle.packet.specs.Frame.{Told}
 use Rattle.packet.proofs.Judging.{There, payload-there}
-use Rattle.stream.specs.Called.{Held, shut, takeBy, takeByte, owesNone, handsNone, sound, readBy, readCall}
-use Rattle.stream.proofs.Cutting.{none-owed}
+use Rattle.stream.specs.Called.{Held, shut, takeBy, takeByte, sound, readBy, readCall}
 
 -- of an answer, if there is one, and the buffer that comes with it
 abbrev pub ThereIf : Option Told → List ℕ → Type 0

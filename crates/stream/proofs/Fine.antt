@@ -4,12 +4,13 @@
 -- fine-take         every byte keeps it
 use Prim.Native.Nat.{ℕ, suc, _≤_, _<_, min}
 use native.Mathlib.Omega.{arith}
-use mathlib.Core.Path.{_≡_, refl, sym}
-use mathlib.Core.Bool.{Bool, true, false, _&&_, false≢true}
+use mathlib.Core.Path.{_≡_, refl}
+use mathlib.Core.Bool.{Bool, true, false}
 use mathlib.Core.List.{List}
 use lib.ListN.{length, length-set}
 use lib.Dec.{eqb, ltb, leb}
 use borrow.Author.Tests.{le-leb, eq-eqb, ltb-true, eqb-true, leb-true}
+use Rattle.base.proofs.Tests.{and-parts}
 use Rattle.packet.specs.Contents.{rawLimit}
 use Rattle.packet.specs.Escape.{flag}
 use Rattle.packet.proofs.Judging.{length-closed}
@@ -23,10 +24,6 @@ pub record Fine (h : Held) : Type 0 where
 
 pub fine-is : (h : Held) → Fine h → sound (h .st) ≡ true
 fine-is h f = rw (eq-eqb (h .st .stored) (min (h .st .raw) rawLimit) (f .stored), le-leb (h .st .raw) (suc rawLimit) (f .raw)) refl
-
-and-parts : (a b : Bool) → a && b ≡ true → (a ≡ true) × (b ≡ true)
-and-parts true b e = (refl, e)
-and-parts false b e = absurd (false≢true e)
 
 pub fine-of : (f : Frame) (l : List ℕ) → sound f ≡ true → rawLimit ≤ length l → Fine (held f l)
 fine-of f l s h =

@@ -1,16 +1,19 @@
--- Laws of `before`.
--- before-more, before-flag, before-over   a byte that is no flag, a flag, the end: what a loop over bytes needs
+-- Laws of runs of bytes up to a flag (what a loop over them needs: crates/base/proofs/UpTo.antt).
+-- store-more, store-done        a turn of the loop that stores, and its end
+-- counted-is                    the counts behind a run
+-- before-stops, before-rest, before-stop, no-flag-before   what stands behind a run, and what is not in it
+-- gather-found, gather-none     what the calls of `gather` leave together
 use Prim.Native.Nat.{ℕ, zero, suc, _+_, _-_, _≤_, _<_, min}
 use native.Mathlib.Omega.{arith}
-use native.Mathlib.Nat.{add-zero}
-use native.Mathlib.Numerals.{add-one}
 use mathlib.Core.Path.{_≡_, refl, sym, _∙_, ap, ap₂}
-use mathlib.Core.Bool.{Bool, true, false}
+use mathlib.Core.Bool.{Bool, true}
 use mathlib.Core.List.{List, [], _∷_, _++_, append-nil}
 use lib.ListN.{length, take, drop, getD, set, length-append}
 use lib.Seq.{sets, take-all, take-at, length-take-le}
 use borrow.Author.Tests.{eq-eqb, ne-eqb}
+use Rattle.base.specs.UpTo.{upTo}
 use Rattle.base.proofs.Lists.{next, over}
+use Rattle.base.proofs.UpTo.{up-to-more, up-to-over, up-to-short}
 use Rattle.base.proofs.Tests.{by-eq, by-le}
 use Rattle.packet.specs.Contents.{rawLimit}
 use Rattle.packet.specs.Escape.{flag}
@@ -18,32 +21,12 @@ use Rattle.packet.proofs.Round.{NoFlag}
 use Rattle.stream.specs.declared.frame.Frame.{Frame}
 use Rattle.stream.specs.Runs.{before, countedBy, counted, gatheredBy}
 
-module _ (l : List ℕ) (i : ℕ) where
-  pub before-flag : i < length l → getD l i 0 ≡ flag → before (drop i l) ≡ []
-  unfolding before
-  before-flag h e = rw (next l i h) (simp (eq-eqb _ _ e))
-
-  pub before-more : i < length l → (getD l i 0 ≡ flag → ⊥) → before (drop i l) ≡ getD l i 0 ∷ before (drop (i + 1) l)
-  unfolding before
-  before-more h n = rw (next l i h) (simp (ne-eqb _ _ n))
-
-  pub before-over : length l ≤ i → before (drop i l) ≡ []
-  unfolding before
-  before-over h = rw (over l i h)
-
--- ---- the loops: counting, and storing
-module _ (l : List ℕ) (i : ℕ) {t : ℕ} (inv : i + length (before (drop i l)) ≡ t) where
-  pub count-more : i < length l → (getD l i 0 ≡ flag → ⊥) → i + 1 + length (before (drop (i + 1) l)) ≡ t
-  count-more h n = omega (arith, ap length (before-more l i h n))
-
-  pub count-done : before (drop i l) ≡ [] → i ≡ t
-  count-done e = omega (arith, ap length e)
-
+-- ---- the loop that stores
 module _ (l r : List ℕ) (at i : ℕ) {t : List ℕ} (inv : sets r (at + i) (before (drop i l)) ≡ t) where
   pub store-more : i < length l → (getD l i 0 ≡ flag → ⊥) → sets (set r (at + i) (getD l i 0)) (at + (i + 1)) (before (drop (i + 1) l)) ≡ t
   store-more h n =
       let e : at + (i + 1) ≡ suc (at + i) = omega arith in
-      rw e (sym (ap (sets r (at + i)) (before-more l i h n)) ∙ inv)
+      rw e (sym (ap (sets r (at + i)) (up-to-more flag l i h n)) ∙ inv)
 
   pub store-done : before (drop i l) ≡ [] → r ≡ t
   store-done e = sym (ap (sets r (at + i)) e) ∙ inv
@@ -62,7 +45,7 @@ counted-is f n {k} {s} o h e q =
 
 -- ---- the bytes before the first flag, in parts
 pub before-found : (l : List ℕ) (n : ℕ) → length (before (take n l)) < length (take n l) → before (take n l) ≡ before l
-unfolding before
+unfolding upTo
 before-found [] zero h = refl
 before-found [] (suc n) h = refl
 before-found (b ∷ l) zero h = absurd (omega arith)
@@ -71,7 +54,7 @@ before-found (b ∷ l) (suc n) h =
     (λ m. let k = simp (ne-eqb b flag m) at h in simp (ne-eqb b flag m) (ap (λ (x : List ℕ). b ∷ x) (before-found l n (omega (arith, k)))))
 
 pub before-none : (l : List ℕ) (n : ℕ) → length (take n l) ≤ length (before (take n l)) → before l ≡ take n l ++ before (drop n l)
-unfolding before
+unfolding upTo
 before-none [] zero h = refl
 before-none [] (suc n) h = refl
 before-none (b ∷ l) zero h = refl
@@ -80,27 +63,22 @@ before-none (b ∷ l) (suc n) h =
     (λ m. let k = simp (ne-eqb b flag m) at h in simp (ne-eqb b flag m) (ap (λ (x : List ℕ). b ∷ x) (before-none l n (omega (arith, k)))))
 
 pub no-flag-before : (l : List ℕ) → NoFlag (before l)
-unfolding before
+unfolding upTo
 no-flag-before [] = tt
 no-flag-before (b ∷ l) = by-eq b flag (λ e. simp (eq-eqb b flag e) tt) (λ m. simp (ne-eqb b flag m) (m, no-flag-before l))
 
-pub before-short : (l : List ℕ) → length (before l) ≤ length l
-unfolding before
-before-short [] = omega arith
-before-short (b ∷ l) = by-eq b flag (λ e. simp (eq-eqb b flag e) (omega arith)) (λ m. simp (ne-eqb b flag m) (omega (arith, before-short l)))
-
 pub before-stops : (l : List ℕ) {n : ℕ} → n ≡ length (before l) → (n ≡ length l → ⊥) → n < length l
-before-stops l {n} e stop = by-le (length l) n (λ m. absurd (stop (omega (arith, before-short l)))) (λ m. m)
+before-stops l {n} e stop = by-le (length l) n (λ m. absurd (stop (omega (arith, up-to-short flag l)))) (λ m. m)
 
 -- behind them stands the flag, or nothing
 pub before-rest : (l : List ℕ) → l ≡ before l ++ drop (length (before l)) l
-unfolding before
+unfolding upTo
 before-rest [] = refl
 before-rest (b ∷ l) =
     by-eq b flag (λ e. simp (eq-eqb b flag e)) (λ m. simp (ne-eqb b flag m) (ap (λ (x : List ℕ). b ∷ x) (before-rest l)))
 
 stops : (l : List ℕ) → length (before l) < length l → getD l (length (before l)) 0 ≡ flag
-unfolding before
+unfolding upTo
 stops [] h = absurd (omega arith)
 stops (b ∷ l) h =
     by-eq b flag (λ e. simp (eq-eqb b flag e) e)
@@ -139,6 +117,6 @@ module _ (raw : ℕ) (l recv : List ℕ) (n at : ℕ) (e : at ≡ min raw rawLim
       stored =
           by-le (length l) (rawLimit - at)
           (λ (s : length l ≤ rawLimit - at).
-          ap (λ (x : List ℕ). take (rawLimit - at) (take n l ++ x)) (before-over l n (omega arith)) ∙ ap (take (rawLimit - at)) (append-nil (take n l))
+          ap (λ (x : List ℕ). take (rawLimit - at) (take n l ++ x)) (up-to-over flag l n (omega arith)) ∙ ap (take (rawLimit - at)) (append-nil (take n l))
           ∙ take-all (rawLimit - at) (take n l) (omega (arith, lent)))
           (λ s. take-at (take n l) (before (drop n l)) (rawLimit - at) (lent ∙ omega arith))

@@ -5,21 +5,21 @@
 -- begin-stream      begun, the output begins with the stream of no packets ..
 -- append-stream     .. and where it begins with the stream of some packets, it begins with that of one more afterwards
 use mathlib.Core.Path.{_≡_, refl, sym, ap, ap₂, _∙_}
-use mathlib.Core.List.{List, [], _∷_, _++_, append-nil, append-assoc}
+use mathlib.Core.List.{List, [], _∷_, _++_, append-assoc}
 use Prim.Native.Nat.{ℕ, _+_, _-_, _≤_, _<_, min}
 use native.Mathlib.Omega.{arith}
-use lib.ListN.{length, take, drop, set, length-drop, length-append, take-append-drop}
+use lib.ListN.{length, take, drop, set, length-append, take-append-drop}
 use lib.Seq.{take-all, take-at, length-take-le}
 use borrow.Rule.Slice.PartMut.{putMid}
-use Rattle.base.specs.Written.{Outcome, outcome, write, copied}
+use Rattle.base.specs.Written.{Outcome, outcome, write}
 use Rattle.base.specs.declared.Written.{Written}
-use Rattle.base.specs.declared.Written.the-variants.{Wrote, Refused}
+use Rattle.base.specs.declared.Written.the-variants.{Wrote}
 use Rattle.base.proofs.Lists.{over}
-use Rattle.base.proofs.Parts.{tail-is}
+use Rattle.base.proofs.Parts.{tail-is, tail-put}
 use Rattle.base.proofs.Tests.{by-le}
-use Rattle.base.proofs.Writing.{write-fits, write-short, copied-fits, Keeps}
+use Rattle.base.proofs.Writing.{write-fits, copied-fits, write-is, Keeps}
 use Rattle.packet.specs.Escape.{flag}
-use Rattle.packet.specs.Sender.{sent, framed, writing}
+use Rattle.packet.specs.Sender.{sent, framed}
 use Rattle.packet.proofs.Sending.{writing-keeps, wrote-is}
 use Rattle.stream.specs.Sender.{Packet, rawOf, behind, stream, appending}
 
@@ -49,8 +49,7 @@ module _ (at from : ℕ) (out : List ℕ) (e : from ≡ min at (length out)) whe
   appended F {w} {y} p =
       let q : outcome w y ≡ F (drop at out) = p ∙ ap F (tail-is from out ∙ same-drop) in
       λ i. outcome (q i .answer)
-      ((ap₂ (λ (a b : List ℕ). a ++ (y ++ b)) same-take (over (drop from out) (length out - from) (omega (arith, length-drop from out)))
-      ∙ ap (λ (x : List ℕ). take at out ++ x) (append-nil y ∙ ap (λ (o : Outcome). o .output) q)) i)
+      ((tail-put from out y ∙ ap₂ _++_ same-take (ap (λ (o : Outcome). o .output) q)) i)
 
 pub appending-keeps : (at port sequence : ℕ) (payload out : List ℕ) → Keeps out (appending at port sequence payload out)
 appending-keeps at port sequence payload out n e =
@@ -62,20 +61,7 @@ behind-append [] p = refl
 behind-append (q ∷ ps) p = ap (λ (l : List ℕ). rawOf q ++ flag ∷ l) (behind-append ps p) ∙ sym (append-assoc (rawOf q) (flag ∷ behind ps) (rawOf p ++ flag ∷ []))
 
 pub begin-stream : (out : List ℕ) (n : ℕ) → write (flag ∷ []) out .answer ≡ Wrote n → take n (write (flag ∷ []) out .output) ≡ stream []
-begin-stream out n = by-le 1 (length out) fits λ h e. absurd (short h e)
-  where
-    fits : 1 ≤ length out → write (flag ∷ []) out .answer ≡ Wrote n → take n (write (flag ∷ []) out .output) ≡ stream []
-    fits h e =
-        let w = write-fits (flag ∷ []) out h ∙ ap (outcome (Wrote 1)) (copied-fits (flag ∷ []) out h) in
-        let k : Wrote 1 ≡ Wrote n = sym (ap (λ (o : Outcome). o .answer) w) ∙ e in
-        let m : 1 ≡ n = cc in
-        rw (← m) (ap (λ (o : Outcome). take 1 (o .output)) w)
-
-    short : length out < 1 → write (flag ∷ []) out .answer ≡ Wrote n → ⊥
-    short h e =
-        let k : Refused 23 ≡ Wrote n = sym (ap (λ (o : Outcome). o .answer) (write-short (flag ∷ []) out h)) ∙ e in
-        let z : _≡_ {A = ℕ} 0 1 = cc in
-        omega arith
+begin-stream out n e = write-is (flag ∷ []) out n e
 
 pub append-stream : (ps : List Packet) (p : Packet) (out : List ℕ) (at n : ℕ) → at ≤ length out → take at out ≡ stream ps
     → appending at (p .port) (p .sequence) (p .payload) out .answer ≡ Wrote n

@@ -7,12 +7,11 @@
 use Prim.Native.Nat.{ℕ, suc, _+_, _-_, _≤_, _<_, min}
 use native.Mathlib.Omega.{arith}
 use native.Mathlib.Nat.{add-zero}
-use native.Mathlib.Numerals.{add-one}
 use mathlib.Core.Path.{_≡_, refl, sym, _∙_, ap, subst}
 use mathlib.Core.Bool.{Bool, true, false, not, _&&_, false≢true}
 use mathlib.Core.List.{List, [], _∷_, _++_}
 use mathlib.Core.Option.{Option, some, none}
-use lib.ListN.{length, take, drop, set, length-append}
+use lib.ListN.{length, take, drop, set}
 use lib.Seq.{sets, take-nil, drop-drop}
 use lib.Dec.{eqb, ltb, leb}
 use borrow.Author.Tests.{eq-eqb, ne-eqb, ltb-true, ltb-false, le-leb, lt-leb}
@@ -29,8 +28,8 @@ use Rattle.stream.specs.declared.frame.Frame.{Frame}
 use Rattle.stream.specs.declared.frame.Read.{Read}
 use Rattle.stream.specs.declared.frame.Turn.{Turn}
 use Rattle.stream.specs.declared.frame.Heard.the-variants.{More, Said}
-use Rattle.stream.specs.Called.{Held, held, begun, store, shut, takeBy, takeByte, readOn, sound, readBy, readCall, readOf, ReadIs}
-use Rattle.stream.specs.Runs.{before, countedBy, counted, gatheredBy, gathered, closes, TurnBy, TurnIs}
+use Rattle.stream.specs.Called.{Held, held, begun, store, shut, takeBy, readOn, sound, readBy, readCall, readOf, ReadIs}
+use Rattle.stream.specs.Runs.{before, countedBy, counted, gathered, closes, TurnBy, TurnIs}
 use Rattle.stream.proofs.Fine.{Fine, fine-is, fine-take}
 use Rattle.stream.proofs.Runs.{before-rest, before-stop, before-stops, no-flag-before}
 

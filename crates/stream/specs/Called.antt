@@ -13,7 +13,7 @@ use mathlib.Core.List.{List, _++_}
 use mathlib.Core.Option.{Option, some, none}
 use lib.ListN.{length, take, set}
 use lib.Dec.{eqb, ltb, leb}
-use Rattle.base.specs.Calls.{all, hear}
+use Rattle.base.specs.Calls.{owesNone, handsNone, all, hear}
 use Rattle.packet.specs.Contents.{rawLimit}
 use Rattle.packet.specs.Escape.{flag}
 use Rattle.packet.specs.Frame.{Told, refusal, judged, closed}
@@ -28,6 +28,7 @@ pub record Held : Type 0 where
   pub st : Frame
   pub recv : List ℕ
 
+-- the two together
 abbrev pub held : Frame → List ℕ → Held
 held f recv = record { st = f; recv = recv }
 
@@ -59,13 +60,6 @@ takeBy true true h b = shut (eqb (h .st .raw) 0) h
 -- one byte
 abbrev pub takeByte : Held → ℕ → Option Told × Held
 takeByte h b = takeBy (eqb b flag) (h .st .opened) h b
-
--- this reader never owes anything
-abbrev pub owesNone : Held → ℕ
-owesNone h = 0
-
-abbrev pub handsNone : Held → Option Told × Held
-handsNone h = (none, h)
 
 -- a byte string: its answers, and state and buffer behind it
 abbrev pub readAll : Held → List ℕ → List Told × Held

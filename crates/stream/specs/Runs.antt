@@ -6,36 +6,37 @@
 use Prim.Native.Nat.{ℕ, suc, _+_, _-_, _≤_, _<_, min}
 use mathlib.Core.Path.{_≡_}
 use mathlib.Core.Bool.{Bool, true, false, not, _&&_}
-use mathlib.Core.List.{List, [], _∷_}
+use mathlib.Core.List.{List}
 use lib.ListN.{length, take, drop}
 use lib.Dec.{eqb}
 use lib.Seq.{sets}
-use Rattle.base.specs.Choice.{pick}
+use Rattle.base.specs.UpTo.{upTo}
+use Rattle.base.specs.Calls.{after}
 use Rattle.packet.specs.Contents.{rawLimit}
 use Rattle.packet.specs.Escape.{flag}
-use Rattle.base.specs.Calls.{after}
 use Rattle.stream.specs.Called.{Held, held, readOn, sound, ReadIs}
 use Rattle.stream.specs.declared.frame.Frame.{Frame}
 use Rattle.stream.specs.declared.frame.Turn.{Turn}
 
 -- the bytes before the first flag, all where there is none
-unfoldable pub before : List ℕ → List ℕ
-before [] = []
-before (b ∷ bs) = pick (eqb b flag) [] (b ∷ before bs)
+abbrev pub before : List ℕ → List ℕ
+before bs = upTo flag bs
 
--- the raw count stops at 8,206
+-- the raw count stops at 8,206; by: is a frame open
 abbrev pub countedBy : Bool → Frame → ℕ → Frame
 countedBy false f n = f
 countedBy true f n = record { opened = true; raw = min (f .raw + n) (suc rawLimit); stored = min (f .raw + n) rawLimit }
 
+-- the state after n raw bytes more
 abbrev pub counted : Frame → ℕ → Frame
 counted f n = countedBy (f .opened) f n
 
--- as many as the limit leaves are stored
+-- as many as the limit leaves are stored; by: is a frame open
 abbrev pub gatheredBy : Bool → ℕ → List ℕ → List ℕ → List ℕ
 gatheredBy false raw run recv = recv
 gatheredBy true raw run recv = sets recv (min raw rawLimit) (take (rawLimit - min raw rawLimit) run)
 
+-- the receive buffer after the bytes of a run
 abbrev pub gathered : Frame → List ℕ → List ℕ → List ℕ
 gathered f run recv = gatheredBy (f .opened) (f .raw) run recv
 

@@ -48,21 +48,6 @@ struct Turn {
     frame: Frame,
 }
 
-// The first place from `from` on where a flag stands, or the end.
-fn flag_from(bytes: &[u8], from: usize) -> usize
-    requires { ⌜ from ≤ length (now bytes) ⌝ }
-    ensures { λ r. ⌜ r ≡ from + length (before (drop from (now (bytes .entry)))) ⌝ }
-{
-    let mut i = from;
-    while i < bytes.len() {
-        if bytes[i] == Packet::FLAG {
-            return i;
-        }
-        i += 1;
-    }
-    i
-}
-
 // Stores the bytes before the first flag from `at` on; how many.
 fn store(recv: &mut [u8], at: usize, bytes: &[u8]) -> usize
     requires { ⌜ at + length (now bytes) ≤ length (now recv) ⌝ }
@@ -80,6 +65,7 @@ fn store(recv: &mut [u8], at: usize, bytes: &[u8]) -> usize
 }
 
 impl Frame {
+    /// The flag, which stands between frames.
     pub const FLAG: u8 = Packet::FLAG;
 
     /// Raw bytes stored, at most.
@@ -148,9 +134,9 @@ impl Frame {
             if k < n {
                 return k;
             }
-            return flag_from(bytes, n);
+            return n + base::up_to(&bytes[n..], Packet::FLAG);
         }
-        flag_from(bytes, 0)
+        base::up_to(bytes, Packet::FLAG)
     }
 
     // Whether a flag closes a frame here.

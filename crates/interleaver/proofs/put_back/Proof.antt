@@ -1,5 +1,5 @@
 -- `interleaver::put_back` meets its contract. The invariant: each byte passed stands in its cell.
-use mathlib.Core.Path.{_≡_, refl, _∙_}
+use mathlib.Core.Path.{_≡_, _∙_}
 use Prim.Native.Nat.{ℕ, _≤_, _<_, _-_}
 use native.Mathlib.Omega.{arith}
 use lib.ListN.{length, getD, length-set, length-replicate}

@@ -1,4 +1,5 @@
 -- `office::Office::finish` meets its contract: refused with 10 or 11, or sent.
+use native.Mathlib.Nat.{sub-zero}
 use native.Mathlib.Omega.{arith}
 use mathlib.Core.Path.{sym, _∙_}
 use borrow.Author.Needs.{needs}
@@ -19,4 +20,4 @@ finish-spec =
     (λ c. let s = c .before .before .before .before .before in omega (arith, sound-held (s .args .self) (sym (c .before .before .sound .ensures) ∙ not-false _ (c .before .if1 .left)), c .if2 .left))
     (search needs)
     (search needs)
-    (λ c. let s = c .before .before .before .before .before .before .before .before .before .before in finish-on (s .args .self) (s .args .hold .now) (s .args .out .now) (sym (c .before .before .before .before .before .before .before .sound .ensures) ∙ not-false _ (c .before .before .before .before .before .before .if1 .left)) (c .before .before .before .before .before .if2 .left) (c .before .before .send .ensures)))
+    (λ c. let s = c .before .before .before .before .before .before .before .before .before .before in finish-on (s .args .self) (s .args .hold .now) (s .args .out .now) (sym (c .before .before .before .before .before .before .before .sound .ensures) ∙ not-false _ (c .before .before .before .before .before .before .if1 .left)) (c .before .before .before .before .before .if2 .left) (simp sub-zero at (c .before .before .send .ensures))))

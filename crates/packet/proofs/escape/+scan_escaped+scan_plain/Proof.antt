@@ -8,8 +8,8 @@ use Rattle.packet.specs.Escape.{plainScan, escapedScan}
 use Rattle.base.proofs.Cycle.{at, below}
 use Rattle.base.proofs.Lists.{next, over}
 use Rattle.packet.proofs.Escaping.{right-in, right-low, right-high}
-use Rattle.packet.proofs.Runs.{found-within, scan-ends, scan-hands}
-use Rattle.packet.proofs.escape.escape_from.Reads as from-reads
+use Rattle.packet.proofs.Runs.{found-is, found-within, scan-ends, scan-hands}
+use Rattle.base.proofs.up_to.Reads as up-to-reads
 use Rattle.packet.proofs.escape.scan_escaped.Reads as escaped-reads
 use Rattle.packet.proofs.escape.scan_plain.Reads as plain-reads
 use Rattle.packet.proofs.escape.scan_escaped.Kinds as escaped-kinds
@@ -39,19 +39,28 @@ unfolding plainScan escapedScan
     rw (next (a .raw .now) (a .at) (omega arith)) (simp (right-in _ (c .before .before .if2 .left) (c .before .if3 .taken)) (c .scan-plain .ensures)))
     (λ c. let a = c .before .before .before .before .args in rw (next (a .raw .now) (a .at) (omega arith)) (simp (right-low _ (c .if2 .taken))))
     (λ c. let a = c .before .before .before .before .before .args in rw (next (a .raw .now) (a .at) (omega arith)) (simp (right-high _ (c .if3 .left)))))
-    (λ t. plain.spec (from-reads.Asked, from-reads.Learnt, below 1 escaped-kinds.ps μ-escaped escaped-reads.Pre t, escaped-reads.Post) (at 1 plain-kinds.ps μ-plain plain-reads.Pre t) plain-reads.Post
+    (λ t. plain.spec (up-to-reads.Asked, up-to-reads.Learnt, below 1 escaped-kinds.ps μ-escaped escaped-reads.Pre t, escaped-reads.Post) (at 1 plain-kinds.ps μ-plain plain-reads.Pre t) plain-reads.Post
+    (λ c. search needs)
+    (λ c. search needs)
+    (λ c. search needs)
     (λ c κs. search needs)
-    (λ c. scan-ends _ (c .before .before .before .args .at) (c .before .escape-from .ensures) (c .if1 .taken))
     (λ c.
     let a = c .before .before .before .args in
-    let w = found-within (a .raw .now) (a .at) (c .before .escape-from .ensures) (omega arith) in
-    omega (arith, w))
-    (λ c κs.
-    let a = c .before .before .before .args in
-    let w = found-within (a .raw .now) (a .at) (c .before .escape-from .ensures) (omega arith) in
+    let w = found-within (a .raw .now) (a .at) (found-is (a .raw .now) (a .at) (c .up-to .ensures .0)) (omega arith) in
     omega (arith, w))
     (λ c.
     let a = c .before .before .before .before .args in
-    let e = c .before .before .escape-from .ensures in
+    scan-ends (a .raw .now) (a .at) (found-is (a .raw .now) (a .at) (c .before .up-to .ensures .0)) (c .if1 .taken))
+    (λ c.
+    let a = c .before .before .before .before .args in
+    let w = found-within (a .raw .now) (a .at) (found-is (a .raw .now) (a .at) (c .before .up-to .ensures .0)) (omega arith) in
+    omega (arith, w))
+    (λ c κs.
+    let a = c .before .before .before .before .args in
+    let w = found-within (a .raw .now) (a .at) (found-is (a .raw .now) (a .at) (c .before .up-to .ensures .0)) (omega arith) in
+    omega (arith, w))
+    (λ c.
+    let a = c .before .before .before .before .before .args in
+    let e = found-is (a .raw .now) (a .at) (c .before .before .up-to .ensures .0) in
     let w = found-within (a .raw .now) (a .at) e (omega arith) in
     scan-hands (a .raw .now) (a .at) e (omega (arith, w)) (c .scan-escaped .ensures)))

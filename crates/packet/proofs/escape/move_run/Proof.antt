@@ -5,7 +5,8 @@ use native.Mathlib.Omega.{arith}
 use lib.ListN.{length, length-set}
 use borrow.Author.Needs.{needs}
 use Rattle.base.proofs.Lists.{part-next, part-over}
-use Rattle.packet.proofs.Runs.{run-stop, run-none, Moved, moved-none, moved-more, moved-done}
+use Rattle.base.proofs.UpTo.{up-to-stop, up-to-none}
+use Rattle.packet.proofs.Runs.{Moved, moved-none, moved-more, moved-done}
 use Rattle.packet.proofs.escape.move_run.Statement.{statement}
 use Rattle.packet.proofs.escape.move_run.Tie as tie
 
@@ -28,7 +29,7 @@ move-run-spec =
     let l = c .before .before .before .loop in
     let a = c .before .before .before .before .args in
     let at = part-next (l .recv) (a .from + l .i) (a .n) (omega arith) (omega arith) in
-    moved-done _ (l .recv) (a .n) (a .from) (a .to) (l .i) (l .inv .2) (run-stop at (c .if1 .taken)))
+    moved-done _ (l .recv) (a .n) (a .from) (a .to) (l .i) (l .inv .2) (up-to-stop 0x7D at (c .if1 .taken)))
     (search needs)
     (search needs)
     (search needs)
@@ -42,4 +43,4 @@ move-run-spec =
     (λ c.
     let l = c .before .loop in
     let a = c .before .before .args in
-    moved-done _ (l .recv) (a .n) (a .from) (a .to) (l .i) (l .inv .2) (run-none (part-over (l .recv) (a .from + l .i) (a .n) (omega arith)))))
+    moved-done _ (l .recv) (a .n) (a .from) (a .to) (l .i) (l .inv .2) (up-to-none 0x7D (part-over (l .recv) (a .from + l .i) (a .n) (omega arith)))))

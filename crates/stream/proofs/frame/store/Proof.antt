@@ -6,8 +6,9 @@ use native.Mathlib.Omega.{arith}
 use lib.ListN.{length, drop, length-set}
 use lib.Seq.{sets}
 use borrow.Author.Needs.{needs}
+use Rattle.base.proofs.UpTo.{up-to-here, up-to-over, count-more, count-done}
 use Rattle.stream.specs.Runs.{before}
-use Rattle.stream.proofs.Runs.{before-flag, before-over, count-more, count-done, store-more, store-done}
+use Rattle.stream.proofs.Runs.{store-more, store-done}
 use Rattle.stream.proofs.frame.store.Statement.{statement}
 use Rattle.stream.proofs.frame.store.Tie as tie
 
@@ -28,8 +29,8 @@ store-spec =
     (λ c.
     let l = c .before .before .before .loop in
     let a = c .before .before .before .before .args in
-    let e = before-flag _ _ (c .before .before .loop-test .taken) (c .if1 .taken) in
-    (count-done _ _ (l .inv .1) e, store-done (a .bytes .now) (l .recv) (a .at) (l .i) (l .inv .2) e))
+    let e = up-to-here _ _ _ (c .before .before .loop-test .taken) (c .if1 .taken) in
+    (count-done _ _ _ (l .inv .1) e, store-done (a .bytes .now) (l .recv) (a .at) (l .i) (l .inv .2) e))
     (search needs)
     (omega arith)
     (omega arith)
@@ -39,10 +40,10 @@ store-spec =
     let l = c .before .before .before .before .loop in
     let h = c .before .before .before .loop-test .taken in
     let n = c .before .if1 .left in
-    (simp length-set (l .inv .0), count-more _ _ (l .inv .1) h n, store-more _ _ _ _ (l .inv .2) h n))
+    (simp length-set (l .inv .0), count-more _ _ _ (l .inv .1) h n, store-more _ _ _ _ (l .inv .2) h n))
     (λ c. c .before .loop .inv .0)
     (λ c.
     let l = c .before .loop in
     let a = c .before .before .args in
-    let e = before-over _ _ (c .loop-test .left) in
-    (count-done _ _ (l .inv .1) e, store-done (a .bytes .now) (l .recv) (a .at) (l .i) (l .inv .2) e)))
+    let e = up-to-over _ _ _ (c .loop-test .left) in
+    (count-done _ _ _ (l .inv .1) e, store-done (a .bytes .now) (l .recv) (a .at) (l .i) (l .inv .2) e)))

@@ -1,6 +1,6 @@
 -- `recording::recording::Recording::finish` meets its contract.
 use borrow.Author.Needs.{needs}
-use Rattle.recording.proofs.Counting.{finish-well, finish-wrong}
+use Rattle.recording.proofs.Counting.{finish-is}
 use mathlib.Core.Path.{sym, _∙_}
 use Rattle.recording.proofs.recording.Recording.finish.Statement.{statement}
 use Rattle.recording.proofs.recording.Recording.finish.Tie as tie
@@ -12,7 +12,7 @@ finish-spec =
     (search needs)
     (search needs)
     (λ c. search needs)
-    (λ c. finish-well (c .before .before .before .before .before .before .before .before .before .before .args .self) (c .before .before .before .before .before .before .before .before .before .before .args .out .now) (sym (c .before .before .before .before .if1 .taken) ∙ c .before .before .before .before .before .is-well .ensures) (c .before .before .print-end .ensures))
+    (λ c. finish-is (c .before .before .before .before .before .before .before .before .before .before .args .self) (c .before .before .before .before .before .before .before .before .before .before .args .out .now) (sym (c .before .before .before .before .if1 .taken) ∙ c .before .before .before .before .before .is-well .ensures) (c .before .before .print-end .ensures))
     (search needs)
     (λ c. search needs)
-    (λ c. finish-wrong (c .before .before .before .before .before .before .before .before .before .before .args .self) (c .before .before .before .before .before .before .before .before .before .before .args .out .now) (sym (c .before .before .before .before .if1 .left) ∙ c .before .before .before .before .before .is-well .ensures) (c .before .before .print-wrong .ensures)))
+    (λ c. finish-is (c .before .before .before .before .before .before .before .before .before .before .args .self) (c .before .before .before .before .before .before .before .before .before .before .args .out .now) (sym (c .before .before .before .before .if1 .left) ∙ c .before .before .before .before .before .is-well .ensures) (c .before .before .print-wrong .ensures)))

@@ -1,5 +1,5 @@
 -- `stream::frame::Frame::counted` meets its contract.
-use mathlib.Core.Path.{sym, ap, _∙_}
+use mathlib.Core.Path.{sym, ap}
 use mathlib.Core.Bool.{Bool}
 use borrow.Author.Needs.{needs}
 use Rattle.stream.specs.Runs.{countedBy}

@@ -1,9 +1,12 @@
 -- `stream::frame::Frame::gather` meets its contract.
 use mathlib.Core.Path.{sym, ap, _∙_}
 use mathlib.Core.Bool.{Bool}
-use native.Mathlib.Nat.{sub-zero, zero-add}
-use native.Mathlib.Omega.{arith}
+use mathlib.Core.List.{List}
+use Prim.Native.Nat.{ℕ, _+_}
+use native.Mathlib.Nat.{sub-zero}
+use lib.ListN.{length}
 use borrow.Author.Needs.{needs}
+use Rattle.base.proofs.Parts.{tail-is}
 use Rattle.stream.specs.Runs.{before, gatheredBy}
 use Rattle.stream.proofs.Runs.{gather-found, gather-none}
 use Rattle.stream.proofs.frame.Frame.gather.Statement.{statement}
@@ -31,15 +34,21 @@ gather-spec =
     (g .0, g .1 ∙ ap (λ (b : Bool). gatheredBy b (a .self .raw) (before (a .bytes .now)) (a .recv .now)) (sym (opened .if1 .taken))))
     (search needs)
     (search needs)
+    (search needs)
+    (search needs)
+    (search needs)
+    (search needs)
     (λ c.
-    let stored = c .before .before .before .before in
+    let stored = c .before .before .before .before .before in
     let least = stored .before .before .before in
     let opened = least .before .before in
     let a = opened .before .before .before .args in
     let e = simp sub-zero at (stored .store .ensures) in
-    let g = gather-none (a .self .raw) (a .bytes .now) (a .recv .now) _ _ (least .before .least .ensures) (least .least2 .ensures) (e .0) (c .before .if2 .left) (e .1) (c .flag-from .ensures) in
+    let n = least .least2 .result in
+    let behind = ap (λ (m : ℕ). n + m) (c .up-to .ensures .0 ∙ ap (λ (x : List ℕ). length (before x)) (tail-is n (a .bytes .now))) in
+    let g = gather-none (a .self .raw) (a .bytes .now) (a .recv .now) _ _ (least .before .least .ensures) (least .least2 .ensures) (e .0) (c .before .before .if2 .left) (e .1) behind in
     (g .0, g .1 ∙ ap (λ (b : Bool). gatheredBy b (a .self .raw) (before (a .bytes .now)) (a .recv .now)) (sym (opened .if1 .taken))))
     (search needs)
     (λ c.
     let a = c .before .before .before .before .args in
-    (c .flag-from2 .ensures ∙ zero-add _, ap (λ (b : Bool). gatheredBy b (a .self .raw) (before (a .bytes .now)) (a .recv .now)) (sym (c .before .if1 .left)))))
+    (c .up-to2 .ensures .0, ap (λ (b : Bool). gatheredBy b (a .self .raw) (before (a .bytes .now)) (a .recv .now)) (sym (c .before .if1 .left)))))

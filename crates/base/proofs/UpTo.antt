@@ -1,30 +1,41 @@
 -- Laws of `upTo`.
--- up-to-here, up-to-more, up-to-over    a byte c, another, the end: what a loop over bytes needs
+-- up-to-stop, up-to-go, up-to-none      by the first byte: c, another, none
+-- up-to-here, up-to-more, up-to-over    the same from place i on: what a loop over bytes needs
 -- count-more, count-done                a turn of the loop that counts, and its end
--- up-to-short                           they are no more than there are
--- up-to-take                            of the first n bytes, where c is among them
+-- up-to-short, up-to-is                 they are no more than there are; they are the first ones
+-- up-to-take, up-to-long                of the first n bytes, where c is among them, and where it is not
 use Prim.Native.Nat.{ℕ, zero, suc, _+_, _≤_, _<_}
 use native.Mathlib.Omega.{arith}
 use mathlib.Core.Path.{_≡_, refl, ap}
 use mathlib.Core.List.{List, [], _∷_}
 use lib.ListN.{length, take, drop, getD}
 use borrow.Author.Tests.{eq-eqb, ne-eqb}
+use Rattle.base.specs.UpTo.{upTo}
 use Rattle.base.proofs.Lists.{next, over}
 use Rattle.base.proofs.Tests.{by-eq}
-use Rattle.bid.specs.Line.{upTo}
+
+module _ (c : ℕ) {bs cs : List ℕ} {b : ℕ} (e : bs ≡ b ∷ cs) where
+  pub up-to-stop : b ≡ c → upTo c bs ≡ []
+  unfolding upTo
+  up-to-stop h = rw e (simp (eq-eqb _ _ h))
+
+  pub up-to-go : (b ≡ c → ⊥) → upTo c bs ≡ b ∷ upTo c cs
+  unfolding upTo
+  up-to-go n = rw e (simp (ne-eqb _ _ n))
+
+pub up-to-none : (c : ℕ) {bs : List ℕ} → bs ≡ [] → upTo c bs ≡ []
+unfolding upTo
+up-to-none c e = rw e
 
 module _ (c : ℕ) (l : List ℕ) (i : ℕ) where
   pub up-to-here : i < length l → getD l i 0 ≡ c → upTo c (drop i l) ≡ []
-  unfolding upTo
-  up-to-here h e = rw (next l i h) (simp (eq-eqb _ _ e))
+  up-to-here h e = up-to-stop c (next l i h) e
 
   pub up-to-more : i < length l → (getD l i 0 ≡ c → ⊥) → upTo c (drop i l) ≡ getD l i 0 ∷ upTo c (drop (i + 1) l)
-  unfolding upTo
-  up-to-more h n = rw (next l i h) (simp (ne-eqb _ _ n))
+  up-to-more h n = up-to-go c (next l i h) n
 
   pub up-to-over : length l ≤ i → upTo c (drop i l) ≡ []
-  unfolding upTo
-  up-to-over h = rw (over l i h)
+  up-to-over h = up-to-none c (over l i h)
 
 module _ (c : ℕ) (l : List ℕ) (i : ℕ) {t : ℕ} (inv : i + length (upTo c (drop i l)) ≡ t) where
   pub count-more : i < length l → (getD l i 0 ≡ c → ⊥) → i + 1 + length (upTo c (drop (i + 1) l)) ≡ t

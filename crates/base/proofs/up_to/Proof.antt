@@ -1,13 +1,13 @@
--- `bid::up_to` meets its contract. The invariant: what is counted, and what is left before a c, is the whole.
+-- `base::up_to` meets its contract. The invariant: what is counted, and what is left before a c, is the whole.
 use mathlib.Core.Path.{_≡_}
 use Prim.Native.Nat.{_+_, _-_}
 use native.Mathlib.Omega.{arith}
 use lib.ListN.{length, drop}
 use borrow.Author.Needs.{needs}
-use Rattle.bid.specs.Line.{upTo}
-use Rattle.bid.proofs.UpTo.{up-to-here, up-to-over, up-to-short, count-more, count-done}
-use Rattle.bid.proofs.up_to.Statement.{statement}
-use Rattle.bid.proofs.up_to.Tie as tie
+use Rattle.base.specs.UpTo.{upTo}
+use Rattle.base.proofs.UpTo.{up-to-here, up-to-over, up-to-short, count-more, count-done}
+use Rattle.base.proofs.up_to.Statement.{statement}
+use Rattle.base.proofs.up_to.Tie as tie
 
 abbrev Inv-loop : tie.InvT-loop
 Inv-loop bytes c i₀ i = i + length (upTo c (drop i bytes)) ≡ length (upTo c bytes)
