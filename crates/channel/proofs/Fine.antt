@@ -6,11 +6,12 @@
 use Prim.Native.Nat.{ℕ, suc, _≤_, _<_}
 use native.Mathlib.Omega.{arith}
 use mathlib.Core.Path.{_≡_, refl}
-use mathlib.Core.Bool.{Bool, true, false, _&&_, false≢true}
+use mathlib.Core.Bool.{Bool, true, false}
 use mathlib.Core.List.{List}
 use lib.ListN.{length, getD, set, length-set}
 use lib.Dec.{eqb, ltb, leb}
 use borrow.Author.Tests.{le-leb, ltb-true, leb-true}
+use Rattle.base.proofs.Tests.{and-parts}
 use Rattle.packet.specs.Contents.{rawLimit}
 use Rattle.stream.specs.Called.{Held, takeByte}
 use Rattle.stream.proofs.Fine.{Fine as FineFrame, fine-take, fine-of as frame-of, fine-is as frame-is}
@@ -28,11 +29,6 @@ pub record Fine (c : Board) : Type 0 where
   pub marker : c .st .lock .marker ≤ 3
   pub handed : c .st .lock .handed ≤ messageBytes
   pub room : wordBytes ≤ length (c .word)
-
--- two tests, passed together
-pub and-parts : (x y : Bool) → x && y ≡ true → (x ≡ true) × (y ≡ true)
-and-parts true y e = (refl, e)
-and-parts false y e = absurd (false≢true e)
 
 -- the tests of 10 and 11, passed ..
 pub fine-of : (c : Board) → sound (c .st) ≡ true → roomy (c .recv) (c .word) ≡ true → Fine c

@@ -24,6 +24,7 @@ use Rattle.base.specs.Calls.{after, unless, owesNone, handsNone}
 use Rattle.base.specs.Written.{copied}
 use Rattle.base.proofs.Calls.{after-none, none-owed, FitsBy, fits}
 use Rattle.base.proofs.Writing.{copied-fits}
+use Rattle.base.proofs.Tests.{and-parts}
 use Rattle.packet.specs.Contents.{rawLimit}
 use Rattle.packet.specs.Frame.{Told, judged}
 use Rattle.packet.specs.declared.frame.Judged.{Judged}
@@ -46,7 +47,6 @@ use Rattle.channel.specs.Called.{Board, board, counts, lockedWith, owedB
 use Rattle.channel.specs.Phases.{shifts, later, hunted, ended, PhaseBy, HandedIs, SoughtIs, FilledIs}
 use Rattle.channel.proofs.Sending.{lent, back}
 use Rattle.channel.proofs.Words.{mendIn-is}
-use Rattle.channel.proofs.Fine.{and-parts}
 use Rattle.channel.proofs.Phases.{onward, hand-run, mark-part, comparedOn, behindFour, mark-four, huntedOn, hunt-run, word-part, word-whole}
 
 -- the lock of a phase's state, as it is counted

@@ -11,7 +11,7 @@ use mathlib.Core.Path.{_≡_, refl, sym, _∙_, ap}
 use mathlib.Core.Bool.{Bool, true, false}
 use mathlib.Core.List.{List, [], _∷_, _++_, append-nil}
 use mathlib.Core.Option.{Option, some, none}
-use lib.ListN.{length, take, drop, getD, set, length-append}
+use lib.ListN.{length, take, drop, getD, length-append}
 use lib.Seq.{drop-cons, append-snoc, take-at, set-append-seam}
 use lib.Dec.{ltb}
 use borrow.Author.Tests.{lt-ltb, le-ltb, ne-eqb}

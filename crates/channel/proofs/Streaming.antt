@@ -17,6 +17,7 @@ use Rattle.base.specs.Bytes.{Each, IsByte, Bytes}
 use Rattle.base.specs.Calls.{andThen, joined}
 use Rattle.base.proofs.Bytes.{each-append-left, each-append-right, each-append, each-take, each-drop, each-replicate}
 use Rattle.base.proofs.Calls.{run-append}
+use Rattle.base.proofs.Tests.{and-parts}
 use Rattle.packet.specs.Escape.{flag}
 use Rattle.packet.specs.Frame.{Told}
 use Rattle.parity.specs.Word.{remainder}
@@ -33,7 +34,6 @@ use Rattle.channel.specs.Channel.{clean, condition, mend, Event, said, f
 use Rattle.channel.specs.Channel.{Chan, hunting, inWord, inMark, start, whole, hunt, grow, step, hears, answers}
 use Rattle.channel.specs.Channel.{IsWord, carried, FirstMarker}
 use Rattle.channel.proofs.Words.{condition-clean, mend-clean}
-use Rattle.channel.proofs.Fine.{and-parts}
 
 -- the last four as bytes, and the marker as the last four
 abbrev bytesOf : Hunting → List ℕ

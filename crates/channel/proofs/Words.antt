@@ -3,9 +3,9 @@
 -- mendIn-is                     the word buffer, by the word at its start
 -- condition-clean, mend-clean   a clean word is clean, and stays
 -- block-promised, -determined   the answer and the word left meet the promise of repair, and nothing else does
-use Prim.Native.Nat.{ℕ, _+_, _≤_}
+use Prim.Native.Nat.{ℕ, _+_}
 use native.Mathlib.Omega.{arith}
-use mathlib.Core.Path.{_≡_, refl, sym, _∙_, ap}
+use mathlib.Core.Path.{_≡_, sym, _∙_, ap}
 use mathlib.Core.Bool.{Bool, true, false}
 use mathlib.Core.List.{List, _++_}
 use lib.ListN.{length, take, drop, length-append, take-append-drop}

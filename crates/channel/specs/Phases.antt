@@ -1,7 +1,7 @@
 -- What the code does phase by phase, many bytes at once: its private functions are promised by these.
 -- shifts, hunted                       bytes among the last four, up to the marker
 -- PhaseBy                              a phase ends the call, or the call goes on behind it
--- HandedIs, SoughtIs, ComparedIs ..    the phases
+-- HandedIs, SoughtIs, FilledIs         the phases
 use Prim.Native.Nat.{ℕ, suc, _≤_, _<_}
 use mathlib.Core.Path.{_≡_}
 use mathlib.Core.Bool.{Bool, true, false}

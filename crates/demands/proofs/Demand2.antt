@@ -51,7 +51,7 @@ use Rattle.channel.proofs.Words.{asMended, block-promised, block-determined}
 use Rattle.channel.specs.declared.receiver.Answer.{Answer}
 use Rattle.channel.specs.declared.receiver.Answer.the-variants.{More, Said, Clean, Repaired, Beyond, LockLost}
 use Rattle.listed.specs.Apart.{most}
-use Rattle.listed.specs.Lines.{lines, isPacket, isRefusal, isDamaged, isLost, count}
+use Rattle.listed.specs.Lines.{lines, isPacket, isRefusal, isDamaged, isLost, count, longest}
 use Rattle.listed.specs.Listing.{heard, totalLine, listing}
 use Rattle.listed.proofs.Apart.{records}
 use Rattle.listed.proofs.Totals.{damaged, packets-counted, refusals-counted, each-counted, damaged-counted, lost-counted, sent-counted}
@@ -60,7 +60,7 @@ use Rattle.channel.specs.Sender.{wordBytes}
 use Rattle.recording.specs.declared.recording.Totals.{Totals}
 use Rattle.recording.specs.declared.recording.Recording.{Recording}
 use Rattle.recording.specs.Deck.{Deck, fresh}
-use Rattle.recording.specs.Printed.{longest, noTotals, far, lastOf, recorded, finishing}
+use Rattle.recording.specs.Printed.{noTotals, far, lastOf, recorded, finishing}
 use Rattle.recording.specs.Runs.{ListsAll, Run, Fair}
 use Rattle.recording.proofs.Listing.{listing-printed}
 use Rattle.recording.proofs.Ends.{listing-ends, finish-ends}

@@ -8,19 +8,16 @@
 -- delivered-as-sent        at most 16 bytes of each word altered, no marker: the packets, the block answers, no lock lost ..
 -- same-state               .. and the final state is that of the stream as sent
 use Prim.Native.Nat.{ℕ, _≤_, _<_}
-use native.Mathlib.Omega.{arith}
 use mathlib.Core.Path.{_≡_, sym, _∙_, ap, subst}
-use mathlib.Core.Bool.{true}
 use mathlib.Core.Logic.{_↔_, _≢_}
 use mathlib.Core.List.{List, [], _++_, map}
 use lib.ListN.{length}
 use Rattle.base.specs.Bytes.{Each, Bytes}
-use Rattle.parity.specs.Word.{clean}
 use Rattle.parity.specs.Calls.{checked}
 use Rattle.parity.specs.declared.Checked.the-variants as check
 use Rattle.repair.specs.declared.Mended.{Mended}
 use Rattle.repair.specs.declared.Mended.the-variants.{Beyond}
-use Rattle.repair.specs.Promise.{distance, half, CleanWord, Near, Promised}
+use Rattle.repair.specs.Promise.{distance, half, CleanWord, Promised}
 use Rattle.repair.proofs.Apart.{checked-clean, altered-damaged}
 use Rattle.repair.proofs.Promising as promising
 use Rattle.stream.specs.Reader.{waiting, reads}

@@ -9,7 +9,7 @@ use lib.Bits.{bitXor, differ, xor-comm, xor-zero-r, xor-lt, shifted-half, shifte
 use lib.Dec.{eqb, eqb→eq}
 use Rattle.base.specs.Choice.{pick}
 use Rattle.base.proofs.Bits.{bit, bit-ind, xor-half, xor-odd, xor-swap, xor-parts}
-use Rattle.base.proofs.Tests.{all, all-at}
+use Rattle.base.proofs.Tests.{all-at}
 use Rattle.fcs.specs.Fcs.{polynomial, entered, shifted}
 
 -- one bit: adding b to the register first, or its low bit to the bit and the rest of it behind

@@ -13,13 +13,13 @@ use Rattle.packet.specs.Frame.{packet, refusal}
 use Rattle.channel.specs.Channel.{clean, repaired, beyond, Event, said, block, lost}
 use Rattle.channel.specs.declared.receiver.Answer.{Answer}
 use Rattle.channel.specs.declared.receiver.Answer.the-variants.{More, Said, Clean, Repaired, Beyond, LockLost}
-use Rattle.listed.specs.Lines.{decimal, letter, told, line, given, endLine, wrongLine}
+use Rattle.listed.specs.Lines.{decimal, letter, told, line, given, endLine, wrongLine, longest}
 use Rattle.lines.proofs.Digits.{digits-short}
 
 item-short : (n k : ℕ) (rest : List ℕ) → length rest ≤ k → length (decimal n ++ rest) ≤ 20 + k
 item-short n k rest h = omega (arith, length-append (decimal n) rest, digits-short n)
 
-told-short : (j : Judged) → length (told j) ≤ 128
+told-short : (j : Judged) → length (told j) ≤ longest
 unfolding told
 told-short (Packet p s n) =
     let x = item-short n 3 (32 ∷ letter (class p) ∷ 10 ∷ []) (omega arith) in
@@ -28,7 +28,7 @@ told-short (Packet p s n) =
     omega arith
 told-short (Refused n) = let x = item-short n 1 (10 ∷ []) (omega arith) in omega arith
 
-pub line-short : (a : Answer) → length (line a) ≤ 128
+pub line-short : (a : Answer) → length (line a) ≤ longest
 line-short More = omega arith
 line-short (Said j) = told-short j
 line-short Clean = omega arith
@@ -50,7 +50,7 @@ line-some (block beyond) = omega arith
 line-some lost = omega arith
 
 -- nor has the last line
-pub end-short : (n p r d l : ℕ) → length (endLine n p r d l) ≤ 128
+pub end-short : (n p r d l : ℕ) → length (endLine n p r d l) ≤ longest
 unfolding endLine
 end-short n p r d l =
     let a = item-short l 1 (10 ∷ []) (omega arith) in
@@ -60,6 +60,6 @@ end-short n p r d l =
     let f = item-short n 85 (32 ∷ (decimal p ++ 32 ∷ (decimal r ++ 32 ∷ (decimal d ++ 32 ∷ (decimal l ++ 10 ∷ []))))) (omega arith) in
     omega arith
 
-pub wrong-short : (n : ℕ) → length (wrongLine n) ≤ 128
+pub wrong-short : (n : ℕ) → length (wrongLine n) ≤ longest
 unfolding wrongLine
 wrong-short n = let a = item-short n 1 (10 ∷ []) (omega arith) in omega arith

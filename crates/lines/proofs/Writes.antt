@@ -14,7 +14,7 @@ use Rattle.base.proofs.Laid.{laid-append, laid-take}
 use Rattle.packet.specs.Port.{class}
 use Rattle.packet.specs.declared.frame.Judged.the-variants.{Packet, Refused}
 use Rattle.channel.specs.declared.receiver.Answer.the-variants.{Repaired}
-use Rattle.listed.specs.Lines.{decimal, letter, told, line, endLine, wrongLine}
+use Rattle.listed.specs.Lines.{decimal, letter, told, line, endLine, wrongLine, longest}
 use Rattle.lines.proofs.Digits.{wide, last-digit, more-digits, digits-short}
 
 laid-one : (l : List ℕ) (at b : ℕ) → Laid l at (b ∷ []) (set l at b) (at + 1)
@@ -48,7 +48,7 @@ Item l at n b after end = Laid l at (decimal n ++ (b ∷ [])) after end × (end 
 
 -- a line from the start on, within 128 bytes
 abbrev pub Put : List ℕ → List ℕ → List ℕ → ℕ → Type 0
-Put l bs after end = Laid l 0 bs after end × (end ≤ 128)
+Put l bs after end = Laid l 0 bs after end × (end ≤ longest)
 
 pub put-as : {l bs cs after : List ℕ} {end : ℕ} → Put l bs after end → bs ≡ cs → Put l cs after end
 put-as h e = (laid-as (h .0) e, h .1)

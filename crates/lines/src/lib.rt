@@ -7,7 +7,7 @@ ghost use Rattle.base.specs.Laid.{Laid};
 ghost use Rattle.base.specs.Written.{outcome, write};
 ghost use Rattle.packet.specs.declared.frame.Judged.the-variants.{Packet};
 ghost use Rattle.channel.specs.declared.receiver.Answer.the-variants.{Repaired};
-ghost use Rattle.listed.specs.Lines.{decimal, letter, told, line, endLine, wrongLine};
+ghost use Rattle.listed.specs.Lines.{decimal, letter, told, line, endLine, wrongLine, longest};
 use base::Refusal;
 use base::Written;
 use channel::Answer;
@@ -36,6 +36,7 @@ fn put_number(text: &mut [u8], at: usize, n: u64) -> usize
     end + 1
 }
 
+// Two bytes.
 fn put_two(text: &mut [u8], at: usize, a: u8, b: u8) -> usize
     requires { ⌜ at + 2 ≤ length (now text) ⌝ }
     ensures { λ r. ⌜ Laid (now (text .entry)) at (a ∷ b ∷ []) (now (text .exit)) r ⌝ }
@@ -72,8 +73,8 @@ fn letter(class: Class) -> u8
 
 // `P port sequence payload-length class`.
 fn put_packet(text: &mut [u8], port: u16, sequence: u16, size: usize) -> usize
-    requires { ⌜ 128 ≤ length (now text) ⌝ }
-    ensures { λ r. ⌜ Laid (now (text .entry)) 0 (told (Packet port sequence size)) (now (text .exit)) r × (r ≤ 128) ⌝ }
+    requires { ⌜ longest ≤ length (now text) ⌝ }
+    ensures { λ r. ⌜ Laid (now (text .entry)) 0 (told (Packet port sequence size)) (now (text .exit)) r × (r ≤ longest) ⌝ }
 {
     let a = put_two(text, 0, b'P', b' ');
     let b = put_item(text, a, port as u64, b' ');
@@ -84,8 +85,8 @@ fn put_packet(text: &mut [u8], port: u16, sequence: u16, size: usize) -> usize
 
 // That, or `R n`.
 fn put_told(text: &mut [u8], judged: Judged) -> usize
-    requires { ⌜ 128 ≤ length (now text) ⌝ }
-    ensures { λ r. ⌜ Laid (now (text .entry)) 0 (told judged) (now (text .exit)) r × (r ≤ 128) ⌝ }
+    requires { ⌜ longest ≤ length (now text) ⌝ }
+    ensures { λ r. ⌜ Laid (now (text .entry)) 0 (told judged) (now (text .exit)) r × (r ≤ longest) ⌝ }
 {
     match judged {
         Judged::Packet {
@@ -102,8 +103,8 @@ fn put_told(text: &mut [u8], judged: Judged) -> usize
 
 // `B` and a byte.
 fn put_block(text: &mut [u8], b: u8) -> usize
-    requires { ⌜ 128 ≤ length (now text) ⌝ }
-    ensures { λ r. ⌜ Laid (now (text .entry)) 0 (66 ∷ 32 ∷ b ∷ 10 ∷ []) (now (text .exit)) r × (r ≤ 128) ⌝ }
+    requires { ⌜ longest ≤ length (now text) ⌝ }
+    ensures { λ r. ⌜ Laid (now (text .entry)) 0 (66 ∷ 32 ∷ b ∷ 10 ∷ []) (now (text .exit)) r × (r ≤ longest) ⌝ }
 {
     let a = put_two(text, 0, b'B', b' ');
     put_two(text, a, b, b'\n')
@@ -111,8 +112,8 @@ fn put_block(text: &mut [u8], b: u8) -> usize
 
 // `B` and the count of changed places.
 fn put_repaired(text: &mut [u8], count: usize) -> usize
-    requires { ⌜ 128 ≤ length (now text) ⌝ }
-    ensures { λ r. ⌜ Laid (now (text .entry)) 0 (line (Repaired count)) (now (text .exit)) r × (r ≤ 128) ⌝ }
+    requires { ⌜ longest ≤ length (now text) ⌝ }
+    ensures { λ r. ⌜ Laid (now (text .entry)) 0 (line (Repaired count)) (now (text .exit)) r × (r ≤ longest) ⌝ }
 {
     let a = put_two(text, 0, b'B', b' ');
     put_item(text, a, count as u64, b'\n')
@@ -120,8 +121,8 @@ fn put_repaired(text: &mut [u8], count: usize) -> usize
 
 // An answer's line.
 fn put_line(text: &mut [u8], answer: Answer) -> usize
-    requires { ⌜ 128 ≤ length (now text) ⌝ }
-    ensures { λ r. ⌜ Laid (now (text .entry)) 0 (line answer) (now (text .exit)) r × (r ≤ 128) ⌝ }
+    requires { ⌜ longest ≤ length (now text) ⌝ }
+    ensures { λ r. ⌜ Laid (now (text .entry)) 0 (line answer) (now (text .exit)) r × (r ≤ longest) ⌝ }
 {
     match answer {
         Answer::More => 0,
@@ -142,8 +143,8 @@ fn put_end(
     damaged: u64,
     lost: u64,
 ) -> usize
-    requires { ⌜ 128 ≤ length (now text) ⌝ }
-    ensures { λ r. ⌜ Laid (now (text .entry)) 0 (endLine bytes packets refused damaged lost) (now (text .exit)) r × (r ≤ 128) ⌝ }
+    requires { ⌜ longest ≤ length (now text) ⌝ }
+    ensures { λ r. ⌜ Laid (now (text .entry)) 0 (endLine bytes packets refused damaged lost) (now (text .exit)) r × (r ≤ longest) ⌝ }
 {
     let a = put_two(text, 0, b'E', b' ');
     let b = put_item(text, a, bytes, b' ');
@@ -155,8 +156,8 @@ fn put_end(
 
 // `X` and the offset.
 fn put_wrong(text: &mut [u8], offset: u64) -> usize
-    requires { ⌜ 128 ≤ length (now text) ⌝ }
-    ensures { λ r. ⌜ Laid (now (text .entry)) 0 (wrongLine offset) (now (text .exit)) r × (r ≤ 128) ⌝ }
+    requires { ⌜ longest ≤ length (now text) ⌝ }
+    ensures { λ r. ⌜ Laid (now (text .entry)) 0 (wrongLine offset) (now (text .exit)) r × (r ≤ longest) ⌝ }
 {
     let a = put_two(text, 0, b'X', b' ');
     put_item(text, a, offset, b'\n')
@@ -177,7 +178,7 @@ fn deliver(text: &[u8], out: &mut [u8]) -> Written
 pub fn print(answer: Answer, out: &mut [u8]) -> Written
     ensures { λ w. ⌜ outcome w (now (out .exit)) ≡ write (line answer) (now (out .entry)) ⌝ }
 {
-    let mut text: [u8; 128] = [0; 128];
+    let mut text: [u8; Line::LONGEST] = [0; Line::LONGEST];
     let n = put_line(&mut text, answer);
     deliver(&text[0..n], out)
 }
@@ -193,7 +194,7 @@ pub fn print_end(
 ) -> Written
     ensures { λ w. ⌜ outcome w (now (out .exit)) ≡ write (endLine bytes packets refused damaged lost) (now (out .entry)) ⌝ }
 {
-    let mut text: [u8; 128] = [0; 128];
+    let mut text: [u8; Line::LONGEST] = [0; Line::LONGEST];
     let n = put_end(&mut text, bytes, packets, refused, damaged, lost);
     deliver(&text[0..n], out)
 }
@@ -202,7 +203,7 @@ pub fn print_end(
 pub fn print_wrong(offset: u64, out: &mut [u8]) -> Written
     ensures { λ w. ⌜ outcome w (now (out .exit)) ≡ write (wrongLine offset) (now (out .entry)) ⌝ }
 {
-    let mut text: [u8; 128] = [0; 128];
+    let mut text: [u8; Line::LONGEST] = [0; Line::LONGEST];
     let n = put_wrong(&mut text, offset);
     deliver(&text[0..n], out)
 }

@@ -7,7 +7,6 @@ use native.Mathlib.Omega.{arith}
 use native.Mathlib.Nat.{add-zero}
 use mathlib.Core.Path.{_≡_, refl, sym, _∙_, ap}
 use mathlib.Core.List.{List, [], _∷_, _++_}
-use lib.Dec.{eqb, ltb}
 use lib.ListN.{length, length-append}
 use borrow.Author.Tests.{ne-eqb, lt-ltb}
 use Rattle.base.specs.Choice.{pick}
@@ -15,7 +14,7 @@ use Rattle.base.specs.Calls.{joined}
 use Rattle.listed.specs.declared.Place.{Place}
 use Rattle.listed.specs.declared.Place.the-variants.{Mark, Inside}
 use Rattle.listed.specs.declared.Spot.{Spot}
-use Rattle.listed.specs.Apart.{most, on, wrong, left, through, nextAt, next, inStream, keep, apart, start}
+use Rattle.listed.specs.Apart.{most, wrong, left, through, nextAt, inStream, keep, apart, start}
 
 -- a piece as a record: mark, length low byte first, the piece
 abbrev pub recordOf : List ℕ → List ℕ

@@ -3,6 +3,7 @@
 -- line, lines          an answer's line, and line after line
 -- count                how many answers are such
 -- endLine, wrongLine   the last line
+-- longest              no line is longer
 use Prim.Native.Nat.{ℕ, zero, suc, _+_, _/_, _%_}
 use mathlib.Core.Bool.{Bool, true, false}
 use mathlib.Core.List.{List, [], _∷_, _++_}
@@ -55,6 +56,10 @@ line LockLost = 76 ∷ 10 ∷ []
 -- the answer that a call gives of an event
 abbrev pub given : Event → Answer
 given e = answered (some e)
+
+-- no line is longer, the last one too
+abbrev pub longest : ℕ
+longest = 128
 
 -- line after line
 unfoldable pub lines : List Event → List ℕ

@@ -8,7 +8,7 @@ use native.Mathlib.Omega.{arith}
 use native.Mathlib.Nat.{suc-add, zero-add}
 use mathlib.Core.Path.{_≡_, refl, sym, _∙_, ap}
 use mathlib.Core.List.{List, [], _∷_, _++_, map, append-nil, append-assoc}
-use lib.ListN.{length, take, drop, replicate, length-append, length-drop, take-append-drop, length-replicate}
+use lib.ListN.{length, take, drop, replicate, length-append, length-drop, take-append-drop}
 use lib.Seq.{take-append-le, drop-append-le, length-take-le}
 use Rattle.packet.specs.Escape.{flag}
 use Rattle.parity.specs.Word.{remainder}
@@ -30,9 +30,6 @@ cut-append (suc q) r a b h =
     ap (λ (m : ℕ). cutUp m (a ++ b)) (suc-add q r)
     ∙ (λ i. take-append-le 223 a b (omega arith) i ∷ cutUp (q + r) (drop-append-le 223 a b (omega arith) i))
     ∙ ap (λ (l : List (List ℕ)). take 223 a ∷ l) (cut-append q r (drop 223 a) b n)
-
-length-filled : (bs : List ℕ) → length (filled bs) ≡ length bs + fillers (length bs)
-length-filled bs = length-append bs (replicate (fillers (length bs)) flag) ∙ ap (λ (n : ℕ). length bs + n) (length-replicate (fillers (length bs)) flag)
 
 module _ (q : ℕ) (a : List ℕ) (h : length a ≡ 223 * q) where
   filled-append : (b : List ℕ) → filled (a ++ b) ≡ a ++ filled b

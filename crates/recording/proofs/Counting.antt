@@ -14,10 +14,10 @@ use Rattle.base.specs.Written.{Outcome, outcome, write}
 use Rattle.base.proofs.Writing.{room-wrote, room-never}
 use Rattle.channel.specs.declared.receiver.Answer.{Answer}
 use Rattle.listed.specs.Apart.{well}
-use Rattle.listed.specs.Lines.{line, one}
+use Rattle.listed.specs.Lines.{line, one, longest}
 use Rattle.lines.proofs.Short.{line-short}
 use Rattle.recording.specs.declared.recording.Recording.{Recording}
-use Rattle.recording.specs.Printed.{longest, lastBy, finishing}
+use Rattle.recording.specs.Printed.{lastBy, finishing}
 
 module _ (a : Answer) (out : List ℕ) {w : Written} {out′ : List ℕ} (room : longest ≤ length out) (e : outcome w out′ ≡ write (line a) out) where
   fits : length (line a) ≤ length out

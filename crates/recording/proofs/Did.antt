@@ -2,7 +2,7 @@
 -- countAll             answers counted one by one
 -- Did, print-did, takes-did    that, of a call
 -- Prints, all-prints   what the calls on all pieces print is the lines of all answers
-use Prim.Native.Nat.{ℕ, zero, suc, _+_, _-_, _≤_}
+use Prim.Native.Nat.{ℕ, zero, suc, _+_, _-_}
 use native.Mathlib.Omega.{arith}
 use mathlib.Core.Path.{_≡_, refl, sym, _∙_, ap, subst}
 use mathlib.Core.Bool.{Bool, true, false}
@@ -17,12 +17,12 @@ use Rattle.base.proofs.Calls.{law, settled, all-append}
 use Rattle.channel.specs.Channel.{Event}
 use Rattle.channel.specs.Called.{sound, roomy}
 use Rattle.channel.specs.declared.receiver.Answer.{Answer}
-use Rattle.listed.specs.Lines.{line, given, lines}
+use Rattle.listed.specs.Lines.{line, given, lines, longest}
 use Rattle.recording.specs.declared.recording.Totals.{Totals}
 use Rattle.recording.specs.declared.recording.Wants.{Wants}
 use Rattle.recording.specs.declared.recording.Wants.the-variants.{More, Room, Refused}
 use Rattle.recording.specs.Deck.{Deck, deckOwes, deckHand, deckEat, deckAll, deckHear}
-use Rattle.recording.specs.Printed.{longest, counted, Printed, printed, behind, onAnswer, print, near, takesBy, takes}
+use Rattle.recording.specs.Printed.{counted, Printed, printed, behind, onAnswer, print, near, takesBy, takes}
 use Rattle.recording.specs.Runs.{Lists, ListsAll}
 use Rattle.recording.specs.Runs.Lists.{more, room}
 use Rattle.recording.specs.Runs.ListsAll.{done, piece}

@@ -14,6 +14,7 @@ use borrow.Author.Tests.{leb-true}
 use Rattle.base.specs.Calls.{tell, unless, oneMore, owesNone, handsNone}
 use Rattle.base.specs.Calls as calls
 use Rattle.base.proofs.Calls.{none-owed}
+use Rattle.base.proofs.Tests.{and-parts}
 use Rattle.packet.specs.Contents.{rawLimit}
 use Rattle.packet.specs.Frame.{Told}
 use Rattle.packet.specs.declared.frame.Judged.{Judged}
@@ -23,13 +24,13 @@ use Rattle.stream.specs.declared.frame.Heard.{Heard}
 use Rattle.stream.specs.declared.frame.Heard.the-variants.{More as NoMore, Said as Says}
 use Rattle.stream.proofs.Fine.{fine-of as frame-fine}
 use Rattle.stream.proofs.Cutting.{read-agrees}
-use Rattle.channel.specs.Channel.{Event, said}
+use Rattle.channel.specs.Channel.{said}
 use Rattle.channel.specs.Called.{Board, board, heldIn, owed, handOn, eatByte, asEvent, hearAll, hearOn, hearCall, HearingIs, sound, roomy, answered}
 use Rattle.channel.specs.declared.receiver.Receiver.{Receiver}
 use Rattle.channel.specs.declared.receiver.Hearing.{Hearing}
 use Rattle.channel.specs.declared.receiver.Answer.{Answer}
 use Rattle.channel.specs.declared.receiver.Answer.the-variants.{More, Said}
-use Rattle.channel.proofs.Fine.{fine-of, and-parts}
+use Rattle.channel.proofs.Fine.{fine-of}
 use Rattle.channel.proofs.Cutting.{hand-one, hear-agrees}
 use Rattle.recording.specs.Deck.{Ear, ear, withHeld, owesBy, earOwes, earHand, earEat}
 use Rattle.recording.specs.Taken.{earHear, EarIs, PlainIs}

@@ -5,48 +5,46 @@
 -- finish-ends      the finishing call is not refused where any line has room
 use Prim.Native.Nat.{ℕ, zero, suc, _+_, _-_, _*_, _≤_, _<_}
 use native.Mathlib.Omega.{arith}
-use native.Mathlib.Nat.{add-zero}
 use mathlib.Core.Path.{_≡_, refl, sym, _∙_, ap, subst}
 use mathlib.Core.Bool.{Bool, true, false}
 use mathlib.Core.List.{List, [], _∷_, _++_}
 use mathlib.Core.Option.{Option, some, none}
-use lib.Dec.{eqb, ltb, leb}
+use lib.Dec.{eqb, ltb}
 use lib.ListN.{length, drop, length-append, length-drop}
 use borrow.Author.Tests.{le-ltb, ltb-true}
 use Rattle.base.specs.Choice.{pick}
-use Rattle.base.specs.Calls.{joined, tell, unless, oneMore, drain, rest, all, first, wait, andThen}
+use Rattle.base.specs.Calls.{joined, tell, unless, oneMore, drain, rest, first, wait}
 use Rattle.base.specs.declared.Written.the-variants.{Wrote}
-use Rattle.base.proofs.Calls.{FitsBy, Fits, fits, inv-hear, settled, all-append}
+use Rattle.base.proofs.Calls.{FitsBy, fits, inv-hear, all-append}
 use Rattle.base.proofs.Writing.{write-fits}
 use Rattle.packet.specs.Contents.{rawLimit}
-use Rattle.channel.specs.Sender.{messageBytes, wordBytes}
+use Rattle.channel.specs.Sender.{wordBytes}
 use Rattle.channel.specs.Channel.{Event}
-use Rattle.channel.specs.Called.{Board, board, freshReceiver, owedBy, sound, roomy}
+use Rattle.channel.specs.Called.{Board, board, freshReceiver, owedBy}
 use Rattle.channel.specs.declared.receiver.Answer.{Answer}
-use Rattle.channel.proofs.Fine.{Fine, fine-is, fine-roomy, fine-fresh}
+use Rattle.channel.proofs.Fine.{fine-is, fine-roomy, fine-fresh}
 use Rattle.listed.specs.declared.Place.{Place}
 use Rattle.listed.specs.declared.Place.the-variants.{Mode, Mark, Second, Low, High, Inside, Wrong}
 use Rattle.listed.specs.declared.Spot.{Spot}
 use Rattle.listed.specs.Apart.{most, start, on, wrong, through, nextAt, next, inStream, apart, well, keep}
-use Rattle.listed.specs.Lines.{given, line, lines, one, isPacket, isRefusal, isDamaged, isLost}
+use Rattle.listed.specs.Lines.{given, line, lines, isPacket, isRefusal, isDamaged, isLost, longest}
 use Rattle.lines.proofs.Short.{line-some, end-short, wrong-short}
 use Rattle.recording.specs.declared.recording.Totals.{Totals}
 use Rattle.recording.specs.declared.recording.Recording.{Recording}
 use Rattle.recording.specs.declared.recording.Wants.{Wants}
 use Rattle.recording.specs.declared.recording.Wants.the-variants.{More, Room, Refused}
 use Rattle.recording.specs.Deck.{Ear, ear, owesBy, earOwes, earHand, earEat, Deck, deck, fresh, deckOwes, deckHand, byteBy, deckEat, deckAll, deckHear}
-use Rattle.recording.specs.Printed.{longest, noTotals, counted, Printed, printed, behind, onAnswer, print, far, near, takesBy, takes, lastBy, lastOf, finishing}
-use Rattle.recording.specs.Runs.{Lists, ListsAll, Run, Fair}
+use Rattle.recording.specs.Printed.{noTotals, counted, Printed, printed, behind, onAnswer, print, far, near, takesBy, takes, lastBy, lastOf, finishing}
+use Rattle.recording.specs.Runs.{Lists, Run, Fair}
 use Rattle.recording.specs.Runs.Lists.{more, room}
 use Rattle.recording.specs.Runs.ListsAll.{done, piece}
 use Rattle.recording.proofs.Tags.{wantsTag}
-use Rattle.recording.proofs.Ears.{ear-hand-one}
 use Rattle.recording.proofs.Spots.{next-near}
 use Rattle.recording.proofs.Turn.{deck-hand-one, FineEar, fine-ear-hand, fine-ear-eat}
 use Rattle.recording.proofs.Counting.{one-most}
 use Rattle.recording.proofs.Printing.{Near, near-is}
 use Rattle.recording.proofs.Means.{earAll, means-start}
-use Rattle.recording.proofs.Did.{countAll, before, LeftBy, left-room, left-more, Did, takes-did, Prints, lists-prints}
+use Rattle.recording.proofs.Did.{countAll, before, left-room, left-more, Did, takes-did, lists-prints}
 use Rattle.recording.proofs.Listing.{apart-count, fresh-owes}
 
 -- ---- how many answers there are
@@ -412,6 +410,6 @@ module _ (rooms : ℕ → ℕ) (fair : Fair rooms) where
 pub finish-ends : (r : Recording) (out : List ℕ) → longest ≤ length out → finishing r out .answer ≡ Wrote (length (lastOf r))
 finish-ends r out h = ap (λ o. o .answer) (write-fits (lastOf r) out (omega (arith, go (well (r .tape .spot .place)))))
   where
-    go : (t : Bool) → length (lastBy t r) ≤ 128
+    go : (t : Bool) → length (lastBy t r) ≤ longest
     go true = end-short _ _ _ _ _
     go false = wrong-short _

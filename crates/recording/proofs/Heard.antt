@@ -3,7 +3,7 @@
 -- so-start, so-asks, so-on, so-done   the loop's start, what a turn asks, a turn that goes on, a turn that ends the call
 use Prim.Native.Nat.{ℕ, _+_, _-_, _≤_, _<_}
 use native.Mathlib.Omega.{arith}
-use mathlib.Core.Path.{_≡_, refl, sym, _∙_, ap, subst}
+use mathlib.Core.Path.{_≡_, sym, _∙_, ap, subst}
 use mathlib.Core.Bool.{Bool, true, false}
 use mathlib.Core.List.{List}
 use mathlib.Core.Option.{Option}
@@ -17,7 +17,7 @@ use Rattle.channel.specs.Called.{sound, roomy, answered}
 use Rattle.recording.specs.declared.tape.Tape.{Tape}
 use Rattle.recording.specs.declared.tape.Turn.{Turn}
 use Rattle.recording.specs.Deck.{Deck, deckHear}
-use Rattle.recording.specs.Taken.{deckOf, CallIs, TurnBy, Stays, TurnIs, HeardIs}
+use Rattle.recording.specs.Taken.{deckOf, TurnBy, Stays, TurnIs, HeardIs}
 use Rattle.recording.specs.Printed.{far}
 
 -- behind i bytes the tape and the buffers stand so, and the call goes on there

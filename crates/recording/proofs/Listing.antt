@@ -4,10 +4,10 @@
 -- listing-shown     the answers of all bytes, as lines, and the last line are the listing
 -- listing-printed   the bytes printed in all, by any run of calls and the finishing call
 -- totals-counted    the totals behind any run of calls
-use Prim.Native.Nat.{ℕ, suc, _+_, _≤_, _<_}
+use Prim.Native.Nat.{ℕ, _+_, _≤_}
 use native.Mathlib.Omega.{arith}
 use native.Mathlib.Nat.{add-zero, zero-add}
-use mathlib.Core.Path.{_≡_, refl, sym, _∙_, ap, subst}
+use mathlib.Core.Path.{_≡_, refl, sym, _∙_, ap}
 use mathlib.Core.Bool.{Bool, true, false}
 use mathlib.Core.List.{List, [], _∷_, _++_}
 use lib.Dec.{eqb, ltb}
@@ -23,11 +23,10 @@ use Rattle.channel.specs.Called.{board, freshReceiver}
 use Rattle.listed.specs.declared.Place.{Place}
 use Rattle.listed.specs.declared.Place.the-variants.{Mode, Mark, Second, Low, High, Inside, Wrong}
 use Rattle.listed.specs.declared.Spot.{Spot}
-use Rattle.listed.specs.Apart.{most, start, on, wrong, through, nextAt, next, inStream, keep, apart, well, onChannel}
+use Rattle.listed.specs.Apart.{most, start, on, wrong, through, nextAt, next, inStream, keep, apart, well}
 use Rattle.listed.specs.Lines.{given, lines, count, one, isPacket, isRefusal, isDamaged, isLost, endLine, wrongLine}
 use Rattle.listed.specs.Listing.{totalLine, heard, lastLine, listed, listing}
 use Rattle.recording.specs.declared.recording.Totals.{Totals}
-use Rattle.recording.specs.declared.recording.Recording.{Recording}
 use Rattle.recording.specs.Deck.{Ear, ear, earOwes, Deck, deck, fresh, deckOwes, deckAll}
 use Rattle.recording.specs.Printed.{noTotals, counted, recorded, lastBy, lastOf, finishing}
 use Rattle.recording.specs.Runs.{ListsAll}

@@ -2,8 +2,7 @@
 -- means, means-start   the deck's answers are those of the stream bytes
 -- heard-all            which are those of a fresh receiver, whatever its buffers hold
 use Prim.Native.Nat.{ℕ, zero, suc, _+_, _-_, _*_, _≤_}
-use native.Mathlib.Omega.{arith}
-use mathlib.Core.Path.{_≡_, refl, sym, _∙_, ap, subst}
+use mathlib.Core.Path.{_≡_, refl, _∙_, ap}
 use mathlib.Core.Bool.{Bool, true, false}
 use mathlib.Core.List.{List, [], _∷_, map}
 use mathlib.Core.Option.{Option, some, none}
@@ -12,16 +11,16 @@ use lib.ListN.{length}
 use Rattle.base.specs.Choice.{pick}
 use Rattle.base.specs.Calls.{tell, drain, rest, all}
 use Rattle.packet.specs.Contents.{rawLimit}
-use Rattle.stream.specs.Reader.{waiting, reads}
+use Rattle.stream.specs.Reader.{waiting}
 use Rattle.stream.proofs.Shown.{shown-plain}
 use Rattle.channel.specs.Sender.{wordBytes}
 use Rattle.channel.specs.Channel.{Event, said, start as hunts}
-use Rattle.channel.specs.Called.{Board, board, freshReceiver}
+use Rattle.channel.specs.Called.{board, freshReceiver}
 use Rattle.channel.proofs.Shown.{shown-all}
 use Rattle.listed.specs.declared.Place.{Place}
 use Rattle.listed.specs.declared.Place.the-variants.{Mode, Mark, Second, Low, High, Inside, Wrong}
 use Rattle.listed.specs.declared.Spot.{Spot}
-use Rattle.listed.specs.Apart.{most, start, on, wrong, left, through, nextAt, next, inStream, keep, apart}
+use Rattle.listed.specs.Apart.{most, start, on, wrong, through, nextAt, next, inStream, keep, apart}
 use Rattle.listed.specs.Listing.{heard}
 use Rattle.recording.specs.Deck.{Ear, ear, earOwes, earHand, earEat, begun, Deck, deck, deckOwes, deckHand, byteBy, deckEat, deckAll}
 use Rattle.recording.proofs.Ears.{ear-hand-one, channel-all, plain-all}

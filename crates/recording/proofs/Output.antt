@@ -6,19 +6,16 @@ use native.Mathlib.Omega.{arith}
 use native.Mathlib.Nat.{zero-add, add-zero, sub-zero, add-assoc}
 use mathlib.Core.Path.{_≡_, refl, sym, _∙_, ap, subst}
 use mathlib.Core.Bool.{Bool, true, false}
-use mathlib.Core.List.{List, [], _∷_, _++_, append-assoc, append-nil}
+use mathlib.Core.List.{List, [], _++_, append-assoc, append-nil}
 use lib.ListN.{length, take, drop, length-append, length-drop, take-append-drop}
 use lib.Seq.{drop-drop, drop-at, take-at, length-take-le}
 use borrow.Rule.Slice.PartMut.{putMid}
 use Rattle.base.proofs.Parts.{tail-is, tail-put}
 use Rattle.channel.specs.Called.{sound, roomy}
-use Rattle.recording.specs.declared.tape.Tape.{Tape}
-use Rattle.recording.specs.declared.recording.Totals.{Totals}
 use Rattle.recording.specs.declared.recording.Recording.{Recording}
 use Rattle.recording.specs.declared.recording.Step.{Step}
-use Rattle.recording.specs.Deck.{Deck}
-use Rattle.recording.specs.Taken.{deckOf, Stays}
-use Rattle.recording.specs.Printed.{Printed, printed, behind, print, near, tookOf, TookIs}
+use Rattle.recording.specs.Taken.{deckOf}
+use Rattle.recording.specs.Printed.{Printed, printed, behind, print, near, TookIs}
 use Rattle.recording.specs.Stepped.{StepBy, StepIs}
 
 -- behind i bytes taken and w written the call goes on with what is left

@@ -1,39 +1,32 @@
 -- A call with an output, line by line.
 -- step-room, step-more, step-line    the three ways out of a step
--- Far, so-far ..                     what a call has printed so far
+-- Near, near-of, near-is             no number is near its width
+-- step-asks, count-asks              what the calls of a step ask
 use Prim.Native.Nat.{ℕ, zero, suc, _+_, _-_, _≤_, _<_}
 use native.Mathlib.Omega.{arith}
 use native.Mathlib.Nat.{sub-zero}
 use mathlib.Core.Path.{_≡_, refl, sym, _∙_, ap, subst}
-use mathlib.Core.Bool.{Bool, true, false, _&&_}
-use mathlib.Core.List.{List, [], _∷_, _++_, append-assoc, append-nil}
+use mathlib.Core.Bool.{true, false}
+use mathlib.Core.List.{List, [], _++_}
 use mathlib.Core.Option.{Option, some, none}
-use lib.Dec.{ltb, leb}
-use lib.ListN.{length, take, drop, length-append, length-drop}
-use lib.Seq.{drop-drop, drop-at, take-at, length-take-le}
+use lib.Dec.{leb}
+use lib.ListN.{length, drop}
 use borrow.Author.Tests.{lt-ltb, le-ltb, le-leb, leb-true}
-use borrow.Rule.Slice.PartMut.{putMid}
-use Rattle.base.specs.Choice.{pick}
-use Rattle.base.proofs.Parts.{tail-is}
 use Rattle.channel.specs.Channel.{Event}
 use Rattle.channel.specs.Called.{sound, roomy, answered}
 use Rattle.channel.specs.declared.receiver.Answer.{Answer}
-use Rattle.channel.proofs.Fine.{and-parts}
+use Rattle.base.proofs.Tests.{and-parts}
 use Rattle.listed.specs.declared.Spot.{Spot}
-use Rattle.listed.specs.Lines.{line, given, one, isPacket, isRefusal, isDamaged, isLost}
+use Rattle.listed.specs.Lines.{line, given, isPacket, isRefusal, isDamaged, isLost, longest}
 use Rattle.lines.proofs.Short.{line-short, line-some}
 use Rattle.recording.specs.declared.tape.Tape.{Tape}
 use Rattle.recording.specs.declared.tape.Heard.{Heard}
 use Rattle.recording.specs.declared.recording.Totals.{Totals}
-use Rattle.recording.specs.declared.recording.Recording.{Recording}
-use Rattle.recording.specs.declared.recording.Step.{Step}
-use Rattle.recording.specs.declared.recording.Took.{Took}
-use Rattle.recording.specs.declared.recording.Wants.{Wants}
 use Rattle.recording.specs.declared.recording.Wants.the-variants.{More, Room}
 use Rattle.recording.specs.Deck.{Deck, deckHear}
-use Rattle.recording.specs.Taken.{isMore, deckOf, CallIs, Stays, HeardIs}
-use Rattle.recording.specs.Printed.{longest, counted, Printed, printed, behind, onAnswer, print, far, nearTotals, near, tookOf, TookIs}
-use Rattle.recording.specs.Stepped.{Below, StepBy, StepIs}
+use Rattle.recording.specs.Taken.{isMore, deckOf, Stays, HeardIs}
+use Rattle.recording.specs.Printed.{counted, Printed, printed, behind, onAnswer, print, far, near}
+use Rattle.recording.specs.Stepped.{Below, StepIs}
 use Rattle.recording.proofs.Turn.{more-none, more-some}
 use Rattle.recording.proofs.Counting.{one-most}
 

@@ -5,12 +5,11 @@
 -- run-none        where there is none, the byte is no stream byte
 use Prim.Native.Nat.{ℕ, zero, suc, _+_, _-_, _≤_, _<_, min}
 use native.Mathlib.Omega.{arith}
-use native.Mathlib.Nat.{suc-add, add-zero, sub-zero}
+use native.Mathlib.Nat.{suc-add, add-zero}
 use mathlib.Core.Path.{_≡_, refl, sym, _∙_, ap, subst}
 use mathlib.Core.Bool.{Bool, true, false}
 use mathlib.Core.List.{List, [], _∷_, _++_}
 use mathlib.Core.Option.{Option, some, none}
-use lib.Dec.{eqb, ltb}
 use lib.ListN.{length, take, drop}
 use borrow.Author.Tests.{lt-ltb, le-ltb, ne-eqb}
 use Rattle.base.specs.Choice.{pick}
@@ -21,8 +20,8 @@ use Rattle.channel.specs.Channel.{Event}
 use Rattle.listed.specs.declared.Place.{Place}
 use Rattle.listed.specs.declared.Place.the-variants.{Mode, Mark, Second, Low, High, Inside, Wrong}
 use Rattle.listed.specs.declared.Spot.{Spot}
-use Rattle.listed.specs.Apart.{most, nextAt, next, through, wrong, inStream}
-use Rattle.recording.specs.Deck.{Ear, ear, earOwes, earHand, earEat, Deck, deck, deckOwes, deckHand, byteBy, deckEat, deckHear}
+use Rattle.listed.specs.Apart.{most, nextAt, next, wrong, inStream}
+use Rattle.recording.specs.Deck.{Ear, earOwes, earHand, earEat, Deck, deck, deckOwes, deckHand, byteBy, deckEat, deckHear}
 use Rattle.recording.specs.Taken.{earHear, leftAt, runOf, onTo, skipped}
 use Rattle.recording.proofs.Ears.{ear-hand-one}
 

@@ -4,9 +4,9 @@
 -- skip-fine                what counting a run asks
 -- turn-out, turn-end       an answer ends the call, and so does the end of the bytes
 -- turn-run, turn-head      a run, or one byte, is taken
-use Prim.Native.Nat.{ℕ, zero, suc, _+_, _-_, _≤_, _<_, min}
+use Prim.Native.Nat.{ℕ, suc, _+_, _-_, _≤_, _<_}
 use native.Mathlib.Omega.{arith}
-use native.Mathlib.Nat.{sub-zero, zero-add, add-zero}
+use native.Mathlib.Nat.{sub-zero, add-zero}
 use mathlib.Core.Path.{_≡_, refl, sym, _∙_, ap, subst}
 use mathlib.Core.Bool.{Bool, true, false, true≢false}
 use mathlib.Core.List.{List, [], _∷_, _++_}
@@ -16,23 +16,21 @@ use lib.Seq.{length-take-le, drop-append-le, drop-cons}
 use Rattle.base.specs.Calls.{unless, oneMore, after}
 use Rattle.base.proofs.Calls.{after-none, FitsBy, Fits, fits, inv-hear, hear-eat, hear-end}
 use Rattle.packet.specs.Frame.{packet, refusal}
-use Rattle.stream.specs.Called.{takeByte}
 use Rattle.stream.proofs.Fine.{fine-take}
 use Rattle.channel.specs.Channel.{clean, repaired, beyond, Event, said, block, lost}
-use Rattle.channel.specs.Called.{Board, board, heldIn, sound, roomy, answered, eatByte, handOn}
+use Rattle.channel.specs.Called.{Board, board, heldIn, sound, roomy, answered, handOn}
 use Rattle.channel.specs.declared.receiver.Receiver.{Receiver}
 use Rattle.channel.specs.declared.receiver.Hearing.{Hearing}
-use Rattle.channel.specs.declared.receiver.Answer.{Answer}
 use Rattle.channel.proofs.Fine.{Fine, fine-of, fine-is, fine-roomy, fine-hand, fine-eat}
 use Rattle.listed.specs.declared.Spot.{Spot}
-use Rattle.listed.specs.Apart.{most, next, inStream}
+use Rattle.listed.specs.Apart.{next, inStream}
 use Rattle.recording.specs.declared.tape.Tape.{Tape}
-use Rattle.recording.specs.Deck.{Ear, ear, owesBy, eatBy, earOwes, earHand, earEat, begun, Deck, deck, deckOwes, deckHand, byteBy, deckEat, deckHear}
+use Rattle.recording.specs.Deck.{Ear, ear, owesBy, eatBy, earOwes, earHand, earEat, Deck, deck, deckOwes, deckHand, byteBy, deckEat, deckHear}
 use Rattle.recording.specs.Taken.{earHear, runOf, skipped, EarIs, isMore, deckOf, headed, CallIs, Stays}
 use Rattle.recording.specs.Printed.{far}
 use Rattle.recording.proofs.Ears.{ear-hand-one}
 use Rattle.recording.proofs.Spots.{next-near}
-use Rattle.recording.proofs.Run.{Bodies, skips, withRest, run-first, run-fits, run-none, skip-none}
+use Rattle.recording.proofs.Run.{skips, withRest, run-first, run-fits, run-none, skip-none}
 
 -- a move that is owed leaves one less
 pub deck-hand-one : (m : Deck) (n : ℕ) → deckOwes m ≡ suc n → deckOwes (deckHand m .1) ≡ n

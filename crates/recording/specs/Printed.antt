@@ -6,7 +6,7 @@
 use Prim.Native.Nat.{ℕ, zero, suc, _+_, _-_}
 use mathlib.Core.Path.{_≡_}
 use mathlib.Core.Bool.{Bool, true, false, _&&_}
-use mathlib.Core.List.{List, [], _∷_, _++_}
+use mathlib.Core.List.{List, [], _++_}
 use mathlib.Core.Option.{Option, some, none}
 use lib.Dec.{ltb, leb}
 use lib.ListN.{length, drop}
@@ -17,7 +17,7 @@ use Rattle.channel.specs.Called.{sound, roomy, freshReceiver}
 use Rattle.channel.specs.declared.receiver.Answer.{Answer}
 use Rattle.listed.specs.declared.Spot.{Spot}
 use Rattle.listed.specs.Apart.{start, well}
-use Rattle.listed.specs.Lines.{line, given, one, isPacket, isRefusal, isDamaged, isLost, endLine, wrongLine}
+use Rattle.listed.specs.Lines.{line, given, one, isPacket, isRefusal, isDamaged, isLost, endLine, wrongLine, longest}
 use Rattle.recording.specs.declared.tape.Tape.{Tape}
 use Rattle.recording.specs.declared.recording.Totals.{Totals}
 use Rattle.recording.specs.declared.recording.Recording.{Recording}
@@ -25,10 +25,6 @@ use Rattle.recording.specs.declared.recording.Wants.{Wants}
 use Rattle.recording.specs.declared.recording.Wants.the-variants.{More, Room, Refused}
 use Rattle.recording.specs.declared.recording.Took.{Took}
 use Rattle.recording.specs.Deck.{Deck, deckHear}
-
--- no line is longer
-abbrev pub longest : ℕ
-longest = 128
 
 -- nothing counted yet
 abbrev pub noTotals : Totals

@@ -9,7 +9,8 @@ use lib.ListN.{drop}
 use Rattle.recording.specs.declared.recording.Totals.{Totals}
 use Rattle.recording.specs.declared.recording.Wants.the-variants.{More, Room}
 use Rattle.recording.specs.Deck.{Deck}
-use Rattle.recording.specs.Printed.{longest, takes}
+use Rattle.listed.specs.Lines.{longest}
+use Rattle.recording.specs.Printed.{takes}
 
 -- call number i has an output of `rooms i` bytes
 module _ (rooms : ℕ → ℕ) where

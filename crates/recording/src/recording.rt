@@ -6,11 +6,11 @@ ghost use Prim.Native.Nat.{_≤_, _<_};
 ghost use lib.ListN.{length, drop};
 ghost use Rattle.base.specs.Written.{outcome};
 ghost use Rattle.channel.specs.Called.{sound, roomy};
-ghost use Rattle.listed.specs.Lines.{line, one, isPacket, isRefusal, isDamaged, isLost};
+ghost use Rattle.listed.specs.Lines.{line, one, isPacket, isRefusal, isDamaged, isLost, longest};
 ghost use Rattle.recording.specs.Taken.{deckOf};
 ghost use Rattle.channel.specs.declared.receiver.Answer.the-variants.{Said};
 ghost use Rattle.recording.specs.declared.recording.Wants.the-variants.{Refused};
-ghost use Rattle.recording.specs.Printed.{longest, noTotals, begins, counted, nearTotals, near, takes, print, TookIs, finishing};
+ghost use Rattle.recording.specs.Printed.{noTotals, begins, counted, nearTotals, near, takes, print, TookIs, finishing};
 ghost use Rattle.recording.specs.Stepped.{Below, StepIs};
 use crate::spot;
 use crate::tape;
@@ -94,6 +94,7 @@ fn says_refusal(judged: Judged) -> bool
     }
 }
 
+// A delivered packet.
 fn is_packet(answer: Answer) -> bool
     ensures { λ r. ⌜ r ≡ isPacket answer ⌝ }
 {
@@ -107,6 +108,7 @@ fn is_packet(answer: Answer) -> bool
     }
 }
 
+// A frame refusal.
 fn is_refusal(answer: Answer) -> bool
     ensures { λ r. ⌜ r ≡ isRefusal answer ⌝ }
 {
@@ -120,6 +122,7 @@ fn is_refusal(answer: Answer) -> bool
     }
 }
 
+// A damaged block: one beyond repair.
 fn is_damaged(answer: Answer) -> bool
     ensures { λ r. ⌜ r ≡ isDamaged answer ⌝ }
 {
@@ -133,6 +136,7 @@ fn is_damaged(answer: Answer) -> bool
     }
 }
 
+// A lost lock.
 fn is_lost(answer: Answer) -> bool
     ensures { λ r. ⌜ r ≡ isLost answer ⌝ }
 {
@@ -146,6 +150,7 @@ fn is_lost(answer: Answer) -> bool
     }
 }
 
+// One where the test holds.
 fn one(t: bool) -> u64
     ensures { λ r. ⌜ r ≡ one t ⌝ }
 {

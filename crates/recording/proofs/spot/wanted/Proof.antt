@@ -1,8 +1,6 @@
 -- `recording::spot::wanted` meets its contract.
 use borrow.Author.Needs.{needs}
-use Rattle.base.specs.Choice.{pick}
 use borrow.Author.Tests.{eq-eqb, ne-eqb}
-use mathlib.Core.Path.{_∙_, sym, ap}
 use Rattle.recording.proofs.spot.wanted.Statement.{statement}
 use Rattle.recording.proofs.spot.wanted.Tie as tie
 

@@ -1,7 +1,6 @@
 -- `recording::tape::listen_plain` meets its contract, by the frame reader.
 use borrow.Author.Needs.{needs}
 use Rattle.recording.proofs.Ears.{listen-more, listen-said}
-use mathlib.Core.Path.{_∙_}
 use Rattle.recording.proofs.tape.listen_plain.Statement.{statement}
 use Rattle.recording.proofs.tape.listen_plain.Tie as tie
 

@@ -1,5 +1,4 @@
 -- `recording::recording::Recording::take_on` meets its contract: each step writes a byte at least, or ends the call.
-use borrow.Author.Needs.{needs}
 use native.Mathlib.Omega.{arith}
 use Prim.Native.Nat.{_-_, _≤_}
 use mathlib.Core.Path.{_≡_, refl}
