@@ -1,8 +1,8 @@
 -- by-eq, by-le     two cases: two numbers are equal or not; one is at most the other, or above it
 -- by-test          .. and a test holds or not
--- both-l, both-r   the two halves of `both`
--- both-false       `both` where the second test fails
--- and-parts        two tests that hold together
+-- and-l, and-r     the two halves of two tests, as `T` has them
+-- and-parts        .. and as equations
+-- and-false        two tests of which the second fails
 -- all, all-at      a test at each number below n, computed once, holds at each of them: how a whole table's rule is proved
 use mathlib.Core.Path.{_≡_, refl, sym, subst}
 use mathlib.Core.Bool.{Bool, true, false, _&&_, false≢true}
@@ -11,7 +11,6 @@ use Prim.Native.Nat.{ℕ, zero, suc, _≤_, _<_}
 use native.Mathlib.Nat.{not-suc-le-zero, le-of-suc-le-suc, eq-or-lt-of-le}
 use lib.Dec.{T, eqb, leb}
 use borrow.Author.Tests.{eqb-true, eqb-false, leb-true, leb-false}
-use Rattle.base.specs.Choice.{both}
 
 pub by-eq : {P : Type 0} (a b : ℕ) → (a ≡ b → P) → ((a ≡ b → ⊥) → P) → P
 by-eq {P} a b f g = go (eqb a b) refl
@@ -31,17 +30,17 @@ pub by-test : {P : Type 0} (t : Bool) → (t ≡ true → P) → (t ≡ false �
 by-test true f g = f refl
 by-test false f g = g refl
 
-pub both-l : (a b : Bool) → T (both a b) → T a
-both-l true b t = tt
-both-l false b t = t
+pub and-l : (a b : Bool) → T (a && b) → T a
+and-l true b t = tt
+and-l false b t = t
 
-pub both-r : (a b : Bool) → T (both a b) → T b
-both-r true b t = t
-both-r false b t = absurd t
+pub and-r : (a b : Bool) → T (a && b) → T b
+and-r true b t = t
+and-r false b t = absurd t
 
-pub both-false : (t : Bool) → both t false ≡ false
-both-false true = refl
-both-false false = refl
+pub and-false : (t : Bool) → t && false ≡ false
+and-false true = refl
+and-false false = refl
 
 pub and-parts : (a b : Bool) → a && b ≡ true → (a ≡ true) × (b ≡ true)
 and-parts true b e = (refl, e)
@@ -49,10 +48,10 @@ and-parts false b e = absurd (false≢true e)
 
 abbrev pub all : ℕ → (ℕ → Bool) → Bool
 all zero p = true
-all (suc n) p = both (p n) (all n p)
+all (suc n) p = p n && all n p
 
 pub all-at : (n : ℕ) (p : ℕ → Bool) → T (all n p) → (i : ℕ) → i < n → T (p i)
 all-at zero p t i h = absurd (not-suc-le-zero h)
 all-at (suc n) p t i h =
-    ⊎-elim (λ (e : i ≡ n). subst (λ (k : ℕ). T (p k)) (sym e) (both-l (p n) (all n p) t))
-    (λ (l : i < n). all-at n p (both-r (p n) (all n p) t) i l) (eq-or-lt-of-le (le-of-suc-le-suc h))
+    ⊎-elim (λ (e : i ≡ n). subst (λ (k : ℕ). T (p k)) (sym e) (and-l (p n) (all n p) t))
+    (λ (l : i < n). all-at n p (and-r (p n) (all n p) t) i l) (eq-or-lt-of-le (le-of-suc-le-suc h))

@@ -1,12 +1,7 @@
--- pick, both   choices by a test: every answer is defined by such tests, in the paper's order
+-- pick   a choice by a test: every answer is defined by such tests, in the paper's order
 use mathlib.Core.Bool.{Bool, true, false}
 
 -- the first where the test holds, else the second
 abbrev pub pick : {A : Type 0} → Bool → A → A → A
 pick true a b = a
 pick false a b = b
-
--- both tests hold
-abbrev pub both : Bool → Bool → Bool
-both true b = b
-both false b = false

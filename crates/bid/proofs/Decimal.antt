@@ -5,13 +5,13 @@
 use Prim.Native.Nat.{ℕ, _+_, _-_, _*_, _≤_, _<_}
 use native.Mathlib.Omega.{arith}
 use mathlib.Core.Path.{_≡_, _∙_, ap}
-use mathlib.Core.Bool.{Bool}
+use mathlib.Core.Bool.{Bool, _&&_}
 use mathlib.Core.List.{List, [], _∷_}
 use lib.ListN.{length, drop, getD}
 use borrow.Author.Tests.{lt-ltb, le-ltb, le-leb, lt-leb}
-use Rattle.base.specs.Choice.{pick, both}
+use Rattle.base.specs.Choice.{pick}
 use Rattle.base.proofs.Lists.{next, over}
-use Rattle.base.proofs.Tests.{by-le, both-false}
+use Rattle.base.proofs.Tests.{by-le, and-false}
 use Rattle.bid.specs.Line.{digits, value, noNumber, numberFrom, number}
 
 value-most : (n : ℕ) (w : List ℕ) → n ≤ value n w
@@ -36,7 +36,7 @@ pub digits-over : (n : ℕ) (w : List ℕ) → noNumber ≤ n → numberFrom n w
 unfolding numberFrom
 digits-over n w h =
     let k : noNumber ≤ value n w = omega (arith, value-most n w) in
-    ap (λ (t : Bool). pick (both (digits w) t) (value n w) noNumber) (le-ltb _ _ k) ∙ ap (λ (t : Bool). pick t (value n w) noNumber) (both-false (digits w))
+    ap (λ (t : Bool). pick (digits w && t) (value n w) noNumber) (le-ltb _ _ k) ∙ ap (λ (t : Bool). pick t (value n w) noNumber) (and-false (digits w))
 
 pub digits-end : (n : ℕ) (w : List ℕ) (i : ℕ) → length w ≤ i → n < noNumber → numberFrom n (drop i w) ≡ n
 unfolding numberFrom digits value

@@ -8,17 +8,17 @@ use Prim.Native.Nat.{ℕ, _+_, _-_, _≤_, _<_, min}
 use native.Mathlib.Omega.{arith}
 use native.Mathlib.Nat.{sub-zero}
 use mathlib.Core.Path.{_≡_, refl, sym, _∙_, ap}
-use mathlib.Core.Bool.{Bool, true, false}
+use mathlib.Core.Bool.{Bool, true, false, _&&_}
 use mathlib.Core.List.{List, []}
 use lib.Dec.{ltb}
 use lib.ListN.{length, take, drop}
 use lib.Seq.{drop-drop}
 use borrow.Author.Tests.{lt-ltb, le-ltb}
-use Rattle.base.specs.Choice.{pick, both}
+use Rattle.base.specs.Choice.{pick}
 use Rattle.base.specs.UpTo.{upTo}
 use Rattle.base.proofs.Lists.{over}
 use Rattle.base.proofs.Parts.{tail-is}
-use Rattle.base.proofs.Tests.{by-le, both-false}
+use Rattle.base.proofs.Tests.{by-le, and-false}
 use Rattle.base.proofs.UpTo.{up-to-is}
 use Rattle.bid.specs.declared.Found.the-variants.{Bid, NoBid}
 use Rattle.bid.specs.Line.{space, past, noNumber, number, port, sequence, text, isBid, textAt, reading}
@@ -33,13 +33,13 @@ no-sequence l e =
 
 -- a part that is no number
 pub bid-no-sequence : (l : List ℕ) → noNumber ≤ sequence l → isBid l ≡ false
-bid-no-sequence l h = ap (both (ltb (port l) noNumber)) (le-ltb _ _ h) ∙ both-false (ltb (port l) noNumber)
+bid-no-sequence l h = ap (λ (t : Bool). ltb (port l) noNumber && t) (le-ltb _ _ h) ∙ and-false (ltb (port l) noNumber)
 
 pub bid-no-port : (l : List ℕ) → noNumber ≤ port l → isBid l ≡ false
-bid-no-port l h = ap (λ (t : Bool). both t (ltb (sequence l) noNumber)) (le-ltb _ _ h)
+bid-no-port l h = ap (λ (t : Bool). t && ltb (sequence l) noNumber) (le-ltb _ _ h)
 
 pub bid-both : (l : List ℕ) → port l < noNumber → sequence l < noNumber → isBid l ≡ true
-bid-both l h k = ap (λ (t : Bool). both t (ltb (sequence l) noNumber)) (lt-ltb _ _ h) ∙ lt-ltb _ _ k
+bid-both l h k = ap (λ (t : Bool). t && ltb (sequence l) noNumber) (lt-ltb _ _ h) ∙ lt-ltb _ _ k
 
 read-none : (l : List ℕ) → isBid l ≡ false → NoBid ≡ reading l
 unfolding reading

@@ -6,13 +6,13 @@
 use Prim.Native.Nat.{ℕ, _+_, _-_, _≤_, _<_}
 use native.Mathlib.Omega.{arith}
 use mathlib.Core.Path.{_≡_, sym, _∙_, ap, subst}
-use mathlib.Core.Bool.{Bool, true, false}
+use mathlib.Core.Bool.{Bool, true, false, _&&_}
 use mathlib.Core.List.{List}
 use lib.Dec.{ltb}
 use lib.ListN.{length, take, drop, length-drop}
 use lib.Seq.{take-all, length-take-le}
 use Rattle.base.specs.Bytes.{IsByte, Bytes}
-use Rattle.base.specs.Choice.{pick, both}
+use Rattle.base.specs.Choice.{pick}
 use Rattle.base.proofs.Bytes.{each-drop}
 use Rattle.base.specs.UpTo.{upTo}
 use Rattle.base.proofs.Lists.{drop-take}
@@ -119,7 +119,7 @@ module _ (l : List ℕ) (n : ℕ) (h : lineLimit ≤ n) (k : n < length l) where
           omega (arith, ap length first-text, length-take-le a (text l) (omega (arith, r, s)))
 
       same-bid : isBid (take n l) ≡ isBid l
-      same-bid i = both (ltb (number (same-word i)) noNumber) (ltb (number (same-second i)) noNumber)
+      same-bid i = ltb (number (same-word i)) noNumber && ltb (number (same-second i)) noNumber
 
       too-long : verdict (take n l) ≡ verdict l
       unfolding verdict

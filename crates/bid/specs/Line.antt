@@ -6,11 +6,11 @@
 -- lineLimit                  so many first bytes decide that
 -- reading                    what the call that reads a line answers
 use Prim.Native.Nat.{ℕ, _+_, _-_, _*_, min}
-use mathlib.Core.Bool.{Bool, true}
+use mathlib.Core.Bool.{Bool, true, _&&_}
 use mathlib.Core.List.{List, [], _∷_}
 use lib.Dec.{ltb, leb}
 use lib.ListN.{length, drop}
-use Rattle.base.specs.Choice.{pick, both}
+use Rattle.base.specs.Choice.{pick}
 use Rattle.base.specs.UpTo.{upTo}
 use Rattle.packet.specs.Sender.{refusing}
 use Rattle.stream.specs.Sender.{Packet}
@@ -31,12 +31,12 @@ past c bs = drop (length (upTo c bs) + 1) bs
 
 -- 0 to 9
 abbrev pub isDigit : ℕ → Bool
-isDigit b = both (leb 48 b) (leb b 57)
+isDigit b = leb 48 b && leb b 57
 
 -- digits alone
 unfoldable pub digits : List ℕ → Bool
 digits [] = true
-digits (b ∷ bs) = both (isDigit b) (digits bs)
+digits (b ∷ bs) = isDigit b && digits bs
 
 -- the value of digits behind those of n
 unfoldable pub value : ℕ → List ℕ → ℕ
@@ -49,11 +49,11 @@ noNumber = 65536
 
 -- digits behind those of n, at most 65,535
 unfoldable pub numberFrom : ℕ → List ℕ → ℕ
-numberFrom n w = pick (both (digits w) (ltb (value n w) noNumber)) (value n w) noNumber
+numberFrom n w = pick (digits w && ltb (value n w) noNumber) (value n w) noNumber
 
 -- one to five digits, at most 65,535
 unfoldable pub number : List ℕ → ℕ
-number w = pick (both (leb 1 (length w)) (leb (length w) 5)) (numberFrom 0 w) noNumber
+number w = pick (leb 1 (length w) && leb (length w) 5) (numberFrom 0 w) noNumber
 
 -- up to the first space
 abbrev pub port : List ℕ → ℕ
@@ -79,7 +79,7 @@ judged p = refusing (p .port) (p .payload) refused (accepted p)
 
 -- both numbers are there
 abbrev pub isBid : List ℕ → Bool
-isBid l = both (ltb (port l) noNumber) (ltb (sequence l) noNumber)
+isBid l = ltb (port l) noNumber && ltb (sequence l) noNumber
 
 -- what it says of a line: where it is a bid, of its packet
 unfoldable pub verdict : List ℕ → Verdict

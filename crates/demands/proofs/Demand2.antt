@@ -8,6 +8,7 @@
 --   parity words    `generator`, `remainder`, `clean` (crates/parity/specs/Word.antt), over the field of crates/field/specs/Field.antt
 --   interleaving    `interleaved`, `restored` (crates/interleaver/specs/Matrix.antt)
 --   markers         `marked` (crates/channel/specs/Sender.antt), and `answers` (crates/channel/specs/Channel.antt)
+--   block answers   `condition`, `mend` (crates/channel/specs/Channel.antt), by repair's promise: `Promised` (crates/repair/specs/Promise.antt)
 --   the listing     `listing` (crates/listed/specs/Listing.antt)
 -- Here: that they hold together. The paper's numbers are in Numbers.
 -- round-trip, round-answer           a packet written and read back
@@ -15,6 +16,7 @@
 -- word-clean, word-only, clean-at    parity words
 -- there-and-back, back-and-there     interleaving
 -- answers-read                       what the code's answers say
+-- block-answer, block-only           a block's answer and the word that is read are what repair promises
 -- plain-listing, channel-listing, totals, sent-totals   the listing's lines and totals
 -- listed-by-calls, listed-at-last, finished-at-last     the listing by calls
 use Prim.Native.Nat.{ℕ, _+_, _%_, _≤_, _<_}

@@ -5,12 +5,12 @@
 -- numbers   there is none
 use Prim.Native.Nat.{ℕ}
 use mathlib.Core.Path.{_≡_, refl}
-use mathlib.Core.Bool.{Bool, true, false}
+use mathlib.Core.Bool.{Bool, true, false, _&&_}
 use mathlib.Core.List.{List, [], _∷_, _++_, map}
 use lib.Dec.{eqb}
 use lib.ListN.{replicate}
 use Rattle.base.specs.Calls.{joined}
-use Rattle.base.specs.Choice.{pick, both}
+use Rattle.base.specs.Choice.{pick}
 use Rattle.fcs.specs.Fcs.{fcs, register, entered}
 use Rattle.field.specs.Field.{add, double, shiftAdd, mul, pow}
 use Rattle.parity.specs.Word.{scale, onto, timesRoot, generator, divide, remainder}
@@ -59,7 +59,7 @@ abbrev same : List ℕ → List ℕ → Bool
 same [] [] = true
 same [] (y ∷ ys) = false
 same (x ∷ xs) [] = false
-same (x ∷ xs) (y ∷ ys) = both (eqb x y) (same xs ys)
+same (x ∷ xs) (y ∷ ys) = eqb x y && same xs ys
 
 -- the letters of the rows that do not agree
 abbrev pub wrong : List Line → List ℕ

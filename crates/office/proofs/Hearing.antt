@@ -10,7 +10,7 @@ use Prim.Native.Nat.{ℕ, suc, _+_, _-_, _≤_, _<_, min}
 use native.Mathlib.Omega.{arith}
 use native.Mathlib.Nat.{sub-zero}
 use mathlib.Core.Path.{_≡_, refl, sym, _∙_, ap, subst}
-use mathlib.Core.Bool.{Bool, true, false, true≢false}
+use mathlib.Core.Bool.{Bool, true, false}
 use mathlib.Core.List.{List, [], _∷_, _++_, append-assoc, append-nil}
 use mathlib.Core.Option.{Option, none}
 use lib.Dec.{leb}
@@ -18,13 +18,13 @@ use lib.ListN.{length, take, drop, length-drop, take-append-drop}
 use lib.Seq.{sets, sets-eq, length-sets, take-nil, take-all, length-take-le, drop-drop, drop-append-le}
 use borrow.Author.Tests.{eq-eqb, ne-eqb, le-leb, lt-leb, leb-true}
 use borrow.Rule.Slice.PartMut.{putMid}
-use Rattle.base.specs.Choice.{pick, both}
+use Rattle.base.specs.Choice.{pick}
 use Rattle.base.specs.Calls.{unless, oneMore}
 use Rattle.base.specs.UpTo.{upTo}
 use Rattle.base.proofs.UpTo.{up-to-is, up-to-short}
 use Rattle.base.specs.Written.{Outcome, refused, copied}
 use Rattle.base.proofs.Lists.{over}
-use Rattle.base.proofs.Tests.{by-eq, by-le}
+use Rattle.base.proofs.Tests.{by-eq, by-le, and-parts}
 use Rattle.bid.specs.Line.{feed, lineLimit, verdict}
 use Rattle.bid.specs.Input.{numbered}
 use Rattle.office.specs.declared.Office.{Office}
@@ -206,14 +206,6 @@ module _ (s : Office) (line hold bs : List ℕ) (h : s .stored ≤ lineLimit) {n
       )
 
 -- ---- refusals
-both-first : (a b : Bool) → both a b ≡ true → a ≡ true
-both-first true b e = refl
-both-first false b e = e
-
-both-second : (a b : Bool) → both a b ≡ true → b ≡ true
-both-second true b e = e
-both-second false b e = absurd (true≢false (sym e))
-
 denied-is : (d : Desk) (n : ℕ) {x : Option Said × ℕ × Desk} → x ≡ denied n d → (out : List ℕ) {r : Heard}
     → r ≡ record { answer = Refused n; taken = 0; office = d .st } → HeardIs x out r (d .line) (d .hold) out
 denied-is d n e out {r} f = subst (λ (y : Option Said × ℕ × Desk). HeardIs y out r (d .line) (d .hold) out) (sym e) (f, refl, refl, refl)
@@ -242,16 +234,16 @@ module _ (room : ℕ) (d : Desk) (bs : List ℕ) where
 
 -- what the tests show
 pub sound-stored : (s : Office) → sound s ≡ true → s .stored ≤ lineLimit
-sound-stored s e = leb-true _ _ (both-first (leb (s .stored) lineLimit) (leb (s .held) heldLimit) e)
+sound-stored s e = leb-true _ _ (and-parts (leb (s .stored) lineLimit) (leb (s .held) heldLimit) e .0)
 
 pub sound-held : (s : Office) → sound s ≡ true → s .held ≤ heldLimit
-sound-held s e = leb-true _ _ (both-second (leb (s .stored) lineLimit) (leb (s .held) heldLimit) e)
+sound-held s e = leb-true _ _ (and-parts (leb (s .stored) lineLimit) (leb (s .held) heldLimit) e .1)
 
 pub roomy-line : (line hold : List ℕ) → roomy line hold ≡ true → lineLimit ≤ length line
-roomy-line line hold e = leb-true _ _ (both-first (leb lineLimit (length line)) (leb holdLimit (length hold)) e)
+roomy-line line hold e = leb-true _ _ (and-parts (leb lineLimit (length line)) (leb holdLimit (length hold)) e .0)
 
 pub roomy-hold : (line hold : List ℕ) → roomy line hold ≡ true → holdLimit ≤ length hold
-roomy-hold line hold e = leb-true _ _ (both-second (leb lineLimit (length line)) (leb holdLimit (length hold)) e)
+roomy-hold line hold e = leb-true _ _ (and-parts (leb lineLimit (length line)) (leb holdLimit (length hold)) e .1)
 
 -- the end of the input
 pub close-none : (room : ℕ) (s : Office) (line hold out : List ℕ) → s .stored ≡ 0

@@ -6,14 +6,14 @@
 use Prim.Native.Nat.{ℕ, suc, _+_, _-_, _*_, _/_, _≤_, min}
 use native.Mathlib.Omega.{arith}
 use mathlib.Core.Path.{_≡_, refl, sym, _∙_, ap, subst}
-use mathlib.Core.Bool.{Bool, true}
+use mathlib.Core.Bool.{Bool, true, _&&_}
 use mathlib.Core.List.{List, [], _∷_, _++_, map, append-assoc, append-nil}
 use mathlib.Core.Option.{Option, some, none}
 use lib.Dec.{eqb}
 use lib.ListN.{length, take, drop, length-append, length-drop, length-take}
 use lib.Seq.{sets, length-sets, take-nil, take-all, take-at, length-take-le, take-append-le, take-suc-set}
 use borrow.Author.Tests.{eq-eqb, ne-eqb, le-leb}
-use Rattle.base.specs.Choice.{pick, both}
+use Rattle.base.specs.Choice.{pick}
 use Rattle.base.specs.Calls.{tell}
 use Rattle.base.proofs.Tests.{by-eq, by-le}
 use Rattle.base.proofs.Writing.{copied-fits}
@@ -99,10 +99,10 @@ pub record Fine (d : Desk) : Type 0 where
   pub hold : holdLimit ≤ length (d .hold)
 
 pub fine-sound : (d : Desk) → Fine d → sound (d .st) ≡ true
-fine-sound d f = λ i. both (le-leb _ _ (f .stored) i) (le-leb _ _ (f .held) i)
+fine-sound d f = λ i. le-leb _ _ (f .stored) i && le-leb _ _ (f .held) i
 
 pub fine-roomy : (d : Desk) → Fine d → roomy (d .line) (d .hold) ≡ true
-fine-roomy d f = λ i. both (le-leb _ _ (f .line) i) (le-leb _ _ (f .hold) i)
+fine-roomy d f = λ i. le-leb _ _ (f .line) i && le-leb _ _ (f .hold) i
 
 fine-kept : (d : Desk) (bs : List ℕ) → Fine d → Fine (kept d bs)
 fine-kept d bs f = record {

@@ -6,12 +6,11 @@
 -- EndedIs, PutIs           what the private functions are promised by
 use Prim.Native.Nat.{ℕ}
 use mathlib.Core.Path.{_≡_}
-use mathlib.Core.Bool.{Bool, true, false}
+use mathlib.Core.Bool.{Bool, true, false, _&&_}
 use mathlib.Core.List.{List, [], _∷_, _++_}
 use mathlib.Core.Option.{Option, some, none}
 use lib.Dec.{eqb, leb}
 use lib.ListN.{length, take, drop}
-use Rattle.base.specs.Choice.{both}
 use Rattle.base.specs.Calls.{owesNone, handsNone, hear}
 use Rattle.base.specs.Written.{Outcome, refused, copied}
 use Rattle.channel.specs.Sender.{marked, sending}
@@ -41,11 +40,11 @@ begins = record { lines = 0; stored = 0; held = 1 }
 
 -- passes 10: no count is beyond its limit
 abbrev pub sound : Office → Bool
-sound s = both (leb (s .stored) lineLimit) (leb (s .held) heldLimit)
+sound s = leb (s .stored) lineLimit && leb (s .held) heldLimit
 
 -- passes 11: the buffers are long enough
 abbrev pub roomy : List ℕ → List ℕ → Bool
-roomy line hold = both (leb lineLimit (length line)) (leb holdLimit (length hold))
+roomy line hold = leb lineLimit (length line) && leb holdLimit (length hold)
 
 -- one call behind the refusals: the answer (none: "more wanted"), the bytes taken, the desk
 abbrev pub hearOn : Desk → List ℕ → Option Said × ℕ × Desk
