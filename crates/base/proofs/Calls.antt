@@ -3,8 +3,10 @@
 -- fits, more-iff                    "more wanted" exactly when all bytes are taken and no answer is owed
 -- none-owed                         of a reader that never owes a move: it fits that
 -- hear-hand, hear-eat, hear-end     one move of a call, as a loop makes it
--- cut, cut-ends                     every way of cutting yields the answers and the final state of the uncut string, and comes to its end
+-- cut, cut-ends, ..-first..         every way of cutting yields the answers and the final state of the uncut string, and comes to its end
 -- cut-guarded, cut-guarded-ends     the same of a call that looks at its state first
+-- yields-all, yields-first          .. both together; with a word half handed on too
+-- yields-so                         .. and in other words
 use Prim.Native.Nat.{ℕ, zero, suc, _+_, _≤_, zero-le, suc-le-suc}
 use native.Mathlib.Nat.{zero-add, suc-add, add-assoc}
 use native.Mathlib.Omega.{arith}
@@ -13,7 +15,7 @@ use mathlib.Core.List.{List, [], _∷_, _++_, nil≢cons, cons≢nil, head-eq-of
 use mathlib.Core.Option.{Option, some, none, Option·none-ne-some}
 use mathlib.Core.Logic.{_↔_}
 use lib.ListN.{length, drop}
-use Rattle.base.specs.Calls.{joined, tell, andThen, unless, oneMore, after, With, owesNone, Reads, ReadsAll}
+use Rattle.base.specs.Calls.{joined, tell, andThen, unless, oneMore, after, With, owesNone, Reads, ReadsAll, Yields}
 use Rattle.base.specs.Calls.Reads.{more, answer}
 use Rattle.base.specs.Calls.ReadsAll.{done, piece}
 use Rattle.base.specs.Calls as calls
@@ -239,19 +241,30 @@ module _ {S A : Type 0} (pend : S → ℕ) (hand : S → Option A × S) (eat : S
     pub all-append : (s : S) (bs cs : List ℕ) → all s (bs ++ cs) ≡ andThen (all s bs) (λ t. all t cs)
     all-append s bs cs = append-drain bs cs (append-rest bs cs) (pend s) s refl
 
+    -- a piece, and then the others: behind it nothing is owed
+    settled-piece : {s : S} {p : List ℕ} {xs : List A} {t : S} → Reads hear s p xs t → pend t ≡ 0
+    settled-piece {s} {p} r = subst (λ (q : List A × S). pend (q .1) ≡ 0) (reads-all r) (settled s p)
+
+    piece-then : {s : S} {p : List ℕ} (cs : List ℕ) {xs ys : List A} {t u : S} → Reads hear s p xs t → (ys, u) ≡ all t cs → (xs ++ ys, u) ≡ all s (p ++ cs)
+    piece-then {s} {p} cs {xs} r e =
+        (λ i. (xs ++ e i .0, e i .1)) ∙ (λ i. andThen (sym (reads-all r) i) (λ v. all v cs)) ∙ sym (all-append s p cs)
+
     -- every way of cutting yields the answers and the final state of the uncut string ..
     pub cut : {s : S} {ps : List (List ℕ)} {xs : List A} {t : S} → pend s ≡ 0 → ReadsAll hear s ps xs t → (xs, t) ≡ all s (joined ps)
-    cut {s} h done = rw h refl
-    cut {s} h (piece {t = t} {p = p} {ps = ps} {xs = xs} {ys = ys} r rs) =
-        let e : all s p ≡ (xs, t) = reads-all r in
-        let z : pend t ≡ 0 = subst (λ (q : List A × S). pend (q .1) ≡ 0) e (settled s p) in
-        (λ i. (xs ++ cut z rs i .0, cut z rs i .1)) ∙ (λ i. andThen (sym e i) (λ v. all v (joined ps))) ∙ sym (all-append s p (joined ps))
+    cut h done = rw h refl
+    cut h (piece {ps = ps} r rs) = piece-then (joined ps) r (cut (settled-piece r) rs)
+
+    -- .. from every state, where there is a piece: what is owed comes with the first ..
+    pub cut-first : {s : S} {p : List ℕ} {ps : List (List ℕ)} {xs : List A} {t : S} → ReadsAll hear s (p ∷ ps) xs t → (xs, t) ≡ all s (joined (p ∷ ps))
+    cut-first {ps = ps} (piece r rs) = piece-then (joined ps) r (cut (settled-piece r) rs)
 
     -- .. and every way of cutting comes to its end
     pub cut-ends : (ps : List (List ℕ)) (s : S) → pend s ≡ 0 → ReadsAll hear s ps (all s (joined ps) .0) (all s (joined ps) .1)
     cut-ends [] s h = rw h done
-    cut-ends (p ∷ ps) s h =
-        rw (all-append s p (joined ps)) (piece (ends s p) (cut-ends ps (all s p .1) (settled s p)))
+    cut-ends (p ∷ ps) s h = rw (all-append s p (joined ps)) (piece (ends s p) (cut-ends ps (all s p .1) (settled s p)))
+
+    pub cut-first-ends : (p : List ℕ) (ps : List (List ℕ)) (s : S) → ReadsAll hear s (p ∷ ps) (all s (joined (p ∷ ps)) .0) (all s (joined (p ∷ ps)) .1)
+    cut-first-ends p ps s = rw (all-append s p (joined ps)) (piece (ends s p) (cut-ends ps (all s p .1) (settled s p)))
 
     -- A guarded call: one that is the bare call wherever `Inv` holds, which no move breaks.
     module _ (Inv : S → Type 0)
@@ -307,3 +320,22 @@ module _ {S A : Type 0} (pend : S → ℕ) (hand : S → Option A × S) (eat : S
 
         pub cut-guarded-ends : (ps : List (List ℕ)) (s : S) → pend s ≡ 0 → Inv s → ReadsAll call s ps (all s (joined ps) .0) (all s (joined ps) .1)
         cut-guarded-ends ps s h i = bare-all i (cut-ends ps s h)
+
+        -- .. both together, where nothing is owed ..
+        pub yields-all : (s : S) → pend s ≡ 0 → Inv s → (ps : List (List ℕ)) → Yields call s ps λ xs t. (xs, t) ≡ all s (joined ps)
+        yields-all s h i ps = record {
+          ends = (all s (joined ps) .0, all s (joined ps) .1, cut-guarded-ends ps s h i);
+          always = λ xs t r. cut-guarded h i r;
+        }
+
+        -- .. and from every state, where there is a piece
+        pub yields-first : (s : S) → Inv s → (p : List ℕ) (ps : List (List ℕ)) → Yields call s (p ∷ ps) λ xs t. (xs, t) ≡ all s (joined (p ∷ ps))
+        yields-first s i p ps = record {
+          ends = (all s (joined (p ∷ ps)) .0, all s (joined (p ∷ ps)) .1, bare-all i (cut-first-ends p ps s));
+          always = λ xs t r. cut-first (guarded-all i r);
+        }
+
+-- what each run yields may be said in other words
+pub yields-so : {S A : Type 0} {call : S → List ℕ → Option A × ℕ × S} {s : S} {ps : List (List ℕ)} {P Q : List A → S → Type 0}
+    → Yields call s ps P → ((xs : List A) (t : S) → P xs t → Q xs t) → Yields call s ps Q
+yields-so y f = record { ends = y .ends; always = λ xs t r. f xs t (y .always xs t r) }

@@ -10,7 +10,7 @@ use native.Mathlib.Numerals.{add-one}
 use native.Mathlib.Omega.{arith}
 use lib.ListN.{length, take, drop, set, length-append}
 use lib.Seq.{sets, sets-eq, take-at}
-use Rattle.base.specs.Laid.{Laid}
+use Rattle.base.specs.Private.{Laid}
 
 pub laid-none : (l : List ℕ) (at : ℕ) → Laid l at [] l at
 laid-none l at = record { ends = omega arith; holds = refl }

@@ -9,5 +9,6 @@ pub mod Writing
 pub mod Laid
 pub mod Cycle
 pub mod Calls
+pub mod Stopping
 pub mod Determining
 pub mod Determined

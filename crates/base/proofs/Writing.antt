@@ -1,6 +1,6 @@
 -- Laws of calls that write.
 -- write-fits, write-short    the outcome where the output has room for the result, and where it has not
--- Keeps, ..-keeps            a refused call leaves the output as it was
+-- ..-keeps                   a refused call leaves the output as it was
 -- room-wrote, room-never     with room the result is written, and no call is refused
 -- write-is                   what is written is the result
 -- copied-fits                with room, copying leaves the bytes and what stood behind them
@@ -16,7 +16,7 @@ use borrow.Author.Tests.{lt-ltb, le-ltb}
 use Rattle.base.specs.Choice.{pick}
 use Rattle.base.specs.declared.Written.{Written}
 use Rattle.base.specs.declared.Written.the-variants.{Wrote, Refused}
-use Rattle.base.specs.Written.{Outcome, outcome, refused, write, copied}
+use Rattle.base.specs.Written.{Outcome, outcome, Keeps, refused, write, copied}
 use Rattle.base.proofs.Lists.{over}
 use Rattle.base.proofs.Tests.{by-le}
 use Rattle.base.proofs.InPlace.{next, done}
@@ -30,10 +30,6 @@ write-fits bs out h = simp (le-ltb (length out) (length bs) h, copied-fits bs ou
 
 pub write-short : (bs out : List ℕ) → length out < length bs → write bs out ≡ refused 23 out
 write-short bs out h = simp (lt-ltb (length out) (length bs) h)
-
--- where the answer is a refusal, the output holds what it held
-abbrev pub Keeps : List ℕ → Outcome → Type 0
-Keeps out o = (n : ℕ) → o .answer ≡ Refused n → o .output ≡ out
 
 pub refused-keeps : (n : ℕ) (out : List ℕ) → Keeps out (refused n out)
 refused-keeps n out m e = refl

@@ -4,6 +4,7 @@
 -- hear              what one call makes of it: at most one answer, with the bytes taken and the state
 -- owesNone, handsNone   of a reader that never owes a move
 -- Reads, ReadsAll   a piece handed in until "more wanted", and pieces one after the other
+-- Yields            .. such calls come to their end, and what all of them yield
 use Prim.Native.Nat.{ℕ, zero, suc, _+_}
 use mathlib.Core.Path.{_≡_}
 use mathlib.Core.List.{List, [], _∷_, _++_}
@@ -70,6 +71,12 @@ module _ {S A : Type 0} (call : S → List ℕ → Option A × ℕ × S) where
     done : {s : S} → ReadsAll s [] [] s
     piece : {s t u : S} {p : List ℕ} {ps : List (List ℕ)} {xs ys : List A}
         → Reads s p xs t → ReadsAll t ps ys u → ReadsAll s (p ∷ ps) (xs ++ ys) u
+
+  -- the pieces are handed in from the state s on: some calls come to their end, and whatever calls do, with the answers xs and the final
+  -- state t, P holds of them
+  pub record Yields (s : S) (pieces : List (List ℕ)) (P : List A → S → Type 0) : Type 0 where
+    pub ends : (xs : List A) × (t : S) × ReadsAll s pieces xs t
+    pub always : (xs : List A) (t : S) → ReadsAll s pieces xs t → P xs t
 
 module _ {S A : Type 0} (pend : S → ℕ) (hand : S → Option A × S) (eat : S → ℕ → Option A × S) where
   -- n owed moves, and then k

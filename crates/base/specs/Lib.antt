@@ -2,6 +2,6 @@ pub mod Choice
 pub mod Bytes
 pub mod UpTo
 pub mod Written
-pub mod Laid
+pub mod Private
 pub mod Calls
 pub mod Determined

@@ -1,7 +1,9 @@
 -- Outcome          what a call that writes answers, and what it leaves in the output lent to it
+-- Keeps            that a refused call leaves the output as it was
 -- refused, write   the two outcomes: every call that writes is promised by them
 -- copied           what copying leaves
 use Prim.Native.Nat.{ℕ}
+use mathlib.Core.Path.{_≡_}
 use mathlib.Core.List.{List, _++_}
 use lib.Dec.{ltb}
 use lib.ListN.{length, take, drop}
@@ -21,6 +23,10 @@ outcome answer output = record { answer = answer; output = output }
 -- refused by number n: the output keeps its old contents
 abbrev pub refused : ℕ → List ℕ → Outcome
 refused n out = outcome (Refused n) out
+
+-- a refused call leaves the output as it was
+abbrev pub Keeps : List ℕ → Outcome → Type 0
+Keeps out o = (n : ℕ) → o .answer ≡ Refused n → o .output ≡ out
 
 -- the result bs stands at the start of the output, and the bytes behind it stay. 23: the output is shorter than the result
 abbrev pub write : List ℕ → List ℕ → Outcome

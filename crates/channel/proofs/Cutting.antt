@@ -1,17 +1,17 @@
 -- Every way of cutting a byte string yields the answers and the final state of the uncut string.
 -- hand-one              a move that is owed leaves one less
 -- hear-law              the law of a call
--- hear-cut, hear-ends   from any state and buffers that pass 10 and 11, and every way of cutting comes to its end
+-- hear-yields, -settled from any state and buffers that pass 10 and 11: every way of cutting comes to its end, and yields that
 use Prim.Native.Nat.{ℕ, suc}
 use mathlib.Core.Path.{_≡_, refl, sym, _∙_, ap}
-use mathlib.Core.List.{List}
+use mathlib.Core.List.{List, _∷_}
 use lib.Dec.{eqb}
-use Rattle.base.specs.Calls.{joined, told, ReadsAll}
-use Rattle.base.proofs.Calls.{law, cut-guarded, cut-guarded-ends}
+use Rattle.base.specs.Calls.{joined, told, Yields}
+use Rattle.base.proofs.Calls.{law, yields-all, yields-first}
 use Rattle.channel.specs.Sender.{wordBytes}
 use Rattle.channel.specs.Channel.{Event}
-use Rattle.channel.specs.Called.{Board, eatByte, owed, handOn, hearAll, hearOn, hearCall}
-use Rattle.channel.proofs.Fine.{Fine, fine-is, fine-roomy, fine-hand, fine-eat, owed-one}
+use Rattle.channel.specs.Called.{Board, eatByte, owed, handOn, hearAll, hearOn, hearCall, Fine}
+use Rattle.channel.proofs.Fine.{fine-is, fine-roomy, fine-hand, fine-eat, owed-one}
 
 -- a message byte handed on leaves one less to hand on
 pub hand-one : (c : Board) (n : ℕ) → owed c ≡ suc n → owed (handOn c .1) ≡ n
@@ -26,12 +26,11 @@ pub hear-law : (c : Board) (bs : List ℕ) → Fine c → hearAll c bs ≡ told 
 hear-law c bs i =
     law owed handOn eatByte hand-one c bs ∙ ap (λ r. told owed handOn eatByte r bs) (sym (hear-agrees c bs i))
 
--- from any state and buffers that pass 10 and 11, where nothing is owed: every way of cutting comes to its end ..
-pub hear-ends : (c : Board) → Fine c → owed c ≡ 0 → (pieces : List (List ℕ))
-    → ReadsAll hearCall c pieces (hearAll c (joined pieces) .0) (hearAll c (joined pieces) .1)
-hear-ends c i e pieces = cut-guarded-ends owed handOn eatByte hand-one Fine fine-hand fine-eat hearCall hear-agrees pieces c e i
+-- from any state and buffers that pass 10 and 11 every way of cutting comes to its end, and yields the answers and the final state of the
+-- uncut string: with a word half handed on too ..
+pub hear-yields : (c : Board) → Fine c → (p : List ℕ) (ps : List (List ℕ)) → Yields hearCall c (p ∷ ps) λ es d. (es, d) ≡ hearAll c (joined (p ∷ ps))
+hear-yields = yields-first owed handOn eatByte hand-one Fine fine-hand fine-eat hearCall hear-agrees
 
--- .. and yields the answers and the final state of the uncut string
-pub hear-cut : {c d : Board} {pieces : List (List ℕ)} {es : List Event} → Fine c → owed c ≡ 0 → ReadsAll hearCall c pieces es d
-    → (es, d) ≡ hearAll c (joined pieces)
-hear-cut i e r = cut-guarded owed handOn eatByte hand-one Fine fine-hand fine-eat hearCall hear-agrees e i r
+-- .. and where nothing is owed, of no piece too
+pub hear-settled : (c : Board) → owed c ≡ 0 → Fine c → (ps : List (List ℕ)) → Yields hearCall c ps λ es d. (es, d) ≡ hearAll c (joined ps)
+hear-settled = yields-all owed handOn eatByte hand-one Fine fine-hand fine-eat hearCall hear-agrees

@@ -7,22 +7,15 @@ use lib.ListN.{getD, set}
 use lib.Dec.{ltb}
 use Rattle.base.specs.Calls.{With}
 use Rattle.base.proofs.Calls.{with-hear}
-use Rattle.packet.specs.Frame.{Told}
-use Rattle.packet.proofs.Judging.{There}
+use Rattle.packet.specs.Frame.{Told, There}
 use Rattle.stream.specs.Called.{takeByte}
 use Rattle.stream.proofs.Delivery.{ThereIf, there-byte}
 use Rattle.channel.specs.declared.hunting.Hunting.{Hunting}
 use Rattle.channel.specs.Sender.{wordBytes}
 use Rattle.channel.specs.Channel.{Event, said, block, lost, isMarker, shift}
 use Rattle.channel.specs.Called.{Board, heldIn, wordOn, compareOn, markOn, eatBy, eatByte, owed, asEvent, handOn}
-use Rattle.channel.specs.Called.{sound, roomy, hearBy, hearCall}
+use Rattle.channel.specs.Called.{sound, roomy, hearBy, hearCall, ThereEvent}
 use Rattle.channel.proofs.Cutting.{hand-one}
-
--- of an event and the buffers that come with it
-abbrev pub ThereEvent : Event → Board → Type 0
-ThereEvent (said a) d = There a (d .recv)
-ThereEvent (block c) d = Unit {0}
-ThereEvent lost d = Unit {0}
 
 there-as : (o : Option Told) (d : Board) → ThereIf o (d .recv) → With ThereEvent (asEvent o) d
 there-as none d t = tt

@@ -13,22 +13,14 @@ use lib.Dec.{eqb, ltb, leb}
 use borrow.Author.Tests.{le-leb, ltb-true, leb-true}
 use Rattle.base.proofs.Tests.{and-parts}
 use Rattle.packet.specs.Contents.{rawLimit}
-use Rattle.stream.specs.Called.{Held, takeByte}
-use Rattle.stream.proofs.Fine.{Fine as FineFrame, fine-take, fine-of as frame-of, fine-is as frame-is}
+use Rattle.stream.specs.Called.{Held, takeByte, Fine as FineFrame}
+use Rattle.stream.proofs.Fine.{fine-take, fine-of as frame-of, fine-is as frame-is}
 use Rattle.channel.specs.declared.hunting.Hunting.{Hunting}
 use Rattle.channel.specs.Sender.{messageBytes, wordBytes}
 use Rattle.channel.specs.Channel.{shift, isMarker, zeros}
 use Rattle.channel.specs.Called.{Board, board, heldIn, huntingWith, freshReceiver, lockedWith, sound, roomy}
-use Rattle.channel.specs.Called.{huntOn, mendIn, wordOn, compareOn, markOn, eatBy, eatByte, owedBy, owed, handOn}
+use Rattle.channel.specs.Called.{huntOn, mendIn, wordOn, compareOn, markOn, eatBy, eatByte, owedBy, owed, handOn, Fine}
 use Rattle.channel.proofs.Words.{mendIn-length}
-
--- what 10 asks of the state, and 11 of the buffers
-pub record Fine (c : Board) : Type 0 where
-  pub frame : FineFrame (heldIn c)
-  pub word : c .st .lock .word ≤ wordBytes
-  pub marker : c .st .lock .marker ≤ 3
-  pub handed : c .st .lock .handed ≤ messageBytes
-  pub room : wordBytes ≤ length (c .word)
 
 -- the tests of 10 and 11, passed ..
 pub fine-of : (c : Board) → sound (c .st) ≡ true → roomy (c .recv) (c .word) ≡ true → Fine c

@@ -44,7 +44,7 @@ use Rattle.channel.specs.declared.receiver.Phase.{Phase}
 use Rattle.channel.specs.declared.hunting.Found.{Found}
 use Rattle.channel.specs.Channel.{condition, Event, block, shift, isMarker}
 use Rattle.channel.specs.Called.{Board, board, counts, lockedWith, owedBy, owes, asEvent, hearOn, soundLock, sound, roomy, hearBy, hearCall, mendIn, blockAnswer, hearingOf, HearingIs}
-use Rattle.channel.specs.Phases.{shifts, later, hunted, ended, PhaseBy, HandedIs, SoughtIs, FilledIs}
+use Rattle.channel.specs.Private.{shifts, later, hunted, ended, PhaseBy, HandedIs, SoughtIs, FilledIs}
 use Rattle.channel.proofs.Sending.{lent, back}
 use Rattle.channel.proofs.Words.{mendIn-is}
 use Rattle.channel.proofs.Phases.{onward, hand-run, mark-part, comparedOn, behindFour, mark-four, huntedOn, hunt-run, word-part, word-whole}

@@ -6,6 +6,7 @@ pub mod Delivery
 pub mod Shown
 pub mod Streaming
 pub mod Demands
+pub mod Blocks
 pub mod Checks
 pub mod Phases
 pub mod Hearing

@@ -26,7 +26,7 @@ use Rattle.channel.specs.declared.locked.Locked.{Locked}
 use Rattle.channel.specs.declared.hunting.Found.{Found}
 use Rattle.channel.specs.Channel.{condition, mend, Event, block, lost, shift, isMarker}
 use Rattle.channel.specs.Called.{Board, board, huntingWith, lockedWith, huntOn, wordOn, compareOn, markOn, eatBy, eatByte, owed, asEvent, handOn, hearOn}
-use Rattle.channel.specs.Phases.{shifts, later, hunted}
+use Rattle.channel.specs.Private.{shifts, later, hunted}
 use Rattle.channel.proofs.Words.{mendIn-is}
 use Rattle.channel.proofs.Cutting.{hand-one}
 

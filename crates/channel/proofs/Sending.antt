@@ -16,13 +16,13 @@ use lib.ListN.{length, take, drop, replicate, length-append, length-drop, length
 use lib.Seq.{drop-drop, drop-append-le, take-append-le, take-all, take-at, drop-at, length-take-le}
 use borrow.Author.Tests.{eq-eqb}
 use borrow.Rule.Slice.PartMut.{putMid}
-use Rattle.base.specs.Written.{Outcome, outcome, refused, write, copied}
+use Rattle.base.specs.Written.{Outcome, outcome, refused, write, copied, Keeps}
 use Rattle.base.specs.declared.Written.{Written}
 use Rattle.base.specs.declared.Written.the-variants.{Wrote}
 use Rattle.base.proofs.Lists.{over}
 use Rattle.base.proofs.Parts.{tail-is, tail-put}
 use Rattle.base.proofs.Tests.{by-le}
-use Rattle.base.proofs.Writing.{write-fits, write-short, copied-fits, Keeps, write-keeps, refused-keeps, pick-keeps}
+use Rattle.base.proofs.Writing.{write-fits, write-short, copied-fits, write-keeps, refused-keeps, pick-keeps}
 use Rattle.packet.specs.Escape.{flag}
 use Rattle.parity.specs.Word.{remainder}
 use Rattle.parity.specs.Calls.{made}

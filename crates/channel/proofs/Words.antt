@@ -23,7 +23,7 @@ use Rattle.repair.proofs.Promising.{left-length, clean-left, promised-is}
 use Rattle.repair.proofs.Meeting.{repaired-promised}
 use Rattle.channel.specs.Sender.{parityBytes, wordBytes}
 use Rattle.channel.specs.Channel.{Condition, beyond, conditionBy, condition, mend, IsWord}
-use Rattle.channel.specs.Channel.{clean as cleanBlock, repaired as repairedBlock}
+use Rattle.channel.specs.Channel.{clean as cleanBlock, repaired as repairedBlock, asMended}
 use Rattle.channel.specs.Called.{mendIn}
 
 pub mend-length : (w : List ℕ) → length (mend w) ≡ length w
@@ -45,12 +45,6 @@ module _ (w : List ℕ) (h : IsWord w) (c : clean parityBytes w ≡ true) where
 
   pub mend-clean : mend w ≡ w
   mend-clean = ap (λ x. x .1) (clean-left parityBytes w (omega arith) h c)
-
--- repair's answer for a block's ..
-abbrev pub asMended : Condition → Mended
-asMended cleanBlock = Clean
-asMended (repairedBlock n) = Repaired n
-asMended beyond = Beyond
 
 module _ (w : List ℕ) (h : IsWord w) where
   pub never-refused : (n : ℕ) (t : Bool) → pick t check.Clean check.Damaged ≡ check.Refused n → ⊥

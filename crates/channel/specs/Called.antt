@@ -4,19 +4,22 @@
 -- handOn, eatByte        one stored message byte handed on, one new byte
 -- hearAll                what a byte string means: its answers, and state and buffers behind it
 -- hearCall, HearingIs    one call, and that the code's results are those
+-- EveryCut               a byte string, cut in every way
+-- Fine                   states and buffers that pass 10 and 11
+-- ThereEvent             that a delivered payload stands in the receive buffer
 -- inUse                  the final state that counts
 -- boardOf                the state of the receiver without a limit, in numbers and the buffers
-use Prim.Native.Nat.{ℕ, suc, _-_}
+use Prim.Native.Nat.{ℕ, suc, _-_, _≤_}
 use mathlib.Core.Path.{_≡_}
 use mathlib.Core.Bool.{Bool, true, false, _&&_}
 use mathlib.Core.List.{List, _++_}
 use mathlib.Core.Option.{Option, some, none}
 use lib.ListN.{length, take, drop, getD, set}
 use lib.Dec.{eqb, ltb, leb}
-use Rattle.base.specs.Calls.{all, hear}
+use Rattle.base.specs.Calls.{joined, all, hear, Yields}
 use Rattle.packet.specs.Contents.{rawLimit}
-use Rattle.packet.specs.Frame.{Told, refusal, judged}
-use Rattle.stream.specs.Called.{Held, held, fresh, takeByte, heldOf, sound as soundFrame}
+use Rattle.packet.specs.Frame.{Told, refusal, judged, There}
+use Rattle.stream.specs.Called.{Held, held, fresh, takeByte, heldOf, sound as soundFrame, Fine as FineFrame}
 use Rattle.channel.specs.declared.hunting.Hunting.{Hunting}
 use Rattle.channel.specs.declared.locked.Locked.{Locked}
 use Rattle.channel.specs.declared.receiver.Receiver.{Receiver}
@@ -138,6 +141,14 @@ sound s = soundFrame (s .frame) && soundLock (s .lock)
 abbrev pub roomy : List ℕ → List ℕ → Bool
 roomy recv word = leb rawLimit (length recv) && leb wordBytes (length word)
 
+-- state and buffers pass 10 and 11
+pub record Fine (c : Board) : Type 0 where
+  pub frame : FineFrame (heldIn c)
+  pub word : c .st .lock .word ≤ wordBytes
+  pub marker : c .st .lock .marker ≤ 3
+  pub handed : c .st .lock .handed ≤ messageBytes
+  pub room : wordBytes ≤ length (c .word)
+
 -- by: does it pass 10, does it pass 11
 abbrev pub hearBy : Bool → Bool → Board → List ℕ → Option Event × ℕ × Board
 hearBy false r c bs = (some (said (refusal 10)), 0, c)
@@ -147,6 +158,19 @@ hearBy true true c bs = hearOn c bs
 -- one call
 abbrev pub hearCall : Board → List ℕ → Option Event × ℕ × Board
 hearCall c bs = hearBy (sound (c .st)) (roomy (c .recv) (c .word)) c bs
+
+-- bs is heard by a fresh receiver, cut in every way, with all buffers that pass 11: the calls come to their end, and P holds of their
+-- answers, and of state and buffers behind them
+abbrev pub EveryCut : List ℕ → (List Event → Board → Type 0) → Type 0
+EveryCut bs P =
+    (recv word : List ℕ) → rawLimit ≤ length recv → wordBytes ≤ length word →
+    (pieces : List (List ℕ)) → joined pieces ≡ bs → Yields hearCall (board freshReceiver recv word) pieces P
+
+-- a delivered payload stands in the receive buffer that comes back
+abbrev pub ThereEvent : Event → Board → Type 0
+ThereEvent (said a) d = There a (d .recv)
+ThereEvent (block c) d = Unit {0}
+ThereEvent lost d = Unit {0}
 
 -- the code's answer to a block
 abbrev pub blockAnswer : Condition → Answer

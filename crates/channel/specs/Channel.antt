@@ -3,6 +3,7 @@
 -- Condition, condition, mend      a block's answer; that of a word, and the word as it is left: what repair promises (proofs/Words)
 -- Event, frames, blocks, losses   an answer, and the answers of each kind
 -- Chan, step, hears, answers      the state, one byte, a byte string, all answers of a fresh receiver
+-- wordsGive                       the answers of whole words, in their order
 -- FirstMarker                     where the marker first appears
 use Prim.Native.Nat.{ℕ, suc, _≤_}
 use mathlib.Core.Path.{_≡_}
@@ -31,6 +32,12 @@ conditionBy Clean = clean
 conditionBy (Repaired n) = repaired n
 conditionBy Beyond = beyond
 conditionBy (Refused n) = beyond
+
+-- .. and the other way round
+abbrev pub asMended : Condition → Mended
+asMended clean = Clean
+asMended (repaired n) = Repaired n
+asMended beyond = Beyond
 
 -- the answer to a word: what repair finds of it, with 32 parity bytes ..
 abbrev pub condition : List ℕ → Condition
@@ -139,6 +146,11 @@ IsWord w = length w ≡ wordBytes
 -- the bytes that words hand on to the frame reader
 abbrev pub carried : List (List ℕ) → List ℕ
 carried ws = joined (map message ws)
+
+-- what words give, one after the other: "first a block answer, .. then the answers of its 223 message bytes"
+abbrev pub wordsGive : List (List ℕ) → Reading → List Event
+wordsGive [] r = []
+wordsGive (w ∷ ws) r = block (condition w) ∷ (map said (reads r (message w) .0) ++ wordsGive ws (reads r (message w) .1))
 
 -- the marker first appears in `stray ++ bs` where bs begins: wherever it stands, that is no earlier
 abbrev pub FirstMarker : List ℕ → List ℕ → Type 0

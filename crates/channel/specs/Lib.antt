@@ -1,4 +1,4 @@
 pub mod Sender
 pub mod Channel
 pub mod Called
-pub mod Phases
+pub mod Private

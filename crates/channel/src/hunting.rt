@@ -1,7 +1,7 @@
 //! Hunting: bytes one by one until the last four are the marker.
 ghost use mathlib.Core.Path.{_≡_};
 ghost use Rattle.channel.specs.Channel.{shift, isMarker, zeros};
-ghost use Rattle.channel.specs.Phases.{shifts, hunted};
+ghost use Rattle.channel.specs.Private.{shifts, hunted};
 use crate::block::Block;
 
 /// Hunting: the last four bytes, the oldest first.

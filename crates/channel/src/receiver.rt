@@ -20,7 +20,7 @@ ghost use Rattle.channel.specs.Called.{
   hearCall,
   HearingIs,
 };
-ghost use Rattle.channel.specs.Phases.{ended, HandedIs, SoughtIs, FilledIs};
+ghost use Rattle.channel.specs.Private.{ended, HandedIs, SoughtIs, FilledIs};
 use crate::block::Block;
 use crate::hunting::Hunting;
 use crate::locked::Locked;

@@ -17,8 +17,8 @@ use lib.Dec.{eqb, ltb}
 use lib.ListN.{length, take, drop}
 use borrow.Author.Tests.{eqb-true, eqb-false, ltb-true}
 use Rattle.base.specs.Calls.{joined, ReadsAll}
-use Rattle.base.specs.Written.{write}
-use Rattle.base.proofs.Writing.{Keeps, write-keeps}
+use Rattle.base.specs.Written.{write, Keeps}
+use Rattle.base.proofs.Writing.{write-keeps}
 use Rattle.parity.specs.Word.{clean, remainder}
 use Rattle.parity.specs.Calls.{checked, made}
 use Rattle.parity.proofs.Division.{length-remainder}
@@ -36,11 +36,10 @@ use Rattle.packet.specs.Frame.{Told, refusal, closed, judge}
 use Rattle.packet.specs.Sender.{sent, writing}
 use Rattle.packet.proofs.Judging.{closed-keeps}
 use Rattle.packet.proofs.Sending.{writing-keeps}
-use Rattle.stream.specs.Called.{Held, begun, takeBy, takeByte, shut, readAll, readCall}
+use Rattle.stream.specs.Called.{Held, begun, takeBy, takeByte, shut, readAll, readCall, Fine}
 use Rattle.stream.specs.Sender.{appending}
 use Rattle.stream.proofs.Sending.{appending-keeps}
 use Rattle.stream.proofs.Cutting.{read-ends}
-use Rattle.stream.proofs.Fine.{Fine}
 use Rattle.channel.specs.Channel.{Event, said}
 use Rattle.channel.specs.Called.{Board, board, freshReceiver, hearCall}
 use Rattle.channel.specs.Sender.{marker, messageBytes, wordBytes, wordOf, marked, marking, sending}

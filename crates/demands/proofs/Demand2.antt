@@ -32,10 +32,10 @@ use Rattle.base.specs.Calls.{joined}
 use Rattle.base.specs.Written.{write}
 use Rattle.base.proofs.Writing.{write-is}
 use Rattle.base.specs.declared.Written.the-variants.{Wrote}
-use Rattle.parity.specs.Word.{clean, remainder}
+use Rattle.parity.specs.Word.{clean, remainder, Zero}
 use Rattle.repair.specs.declared.Mended.{Mended}
 use Rattle.repair.specs.Promise.{Promised}
-use Rattle.parity.proofs.Clean.{Zero, clean-roots, roots-clean, parity-clean, clean-is}
+use Rattle.parity.proofs.Clean.{clean-roots, roots-clean, parity-clean, clean-is}
 use Rattle.interleaver.specs.Matrix.{whole, interleaved, restored}
 use Rattle.interleaver.proofs.Round.{restored-interleaved, interleaved-restored}
 use Rattle.packet.specs.Escape.{flag}
@@ -47,15 +47,14 @@ use Rattle.stream.specs.Sender.{Packet, Accepted, rawOf, stream, delivered, app
 use Rattle.stream.proofs.Streaming.{stream-read}
 use Rattle.stream.proofs.Sending.{begin-stream, append-stream}
 use Rattle.channel.specs.Sender.{messageBytes, parityBytes, wordOf, fillers, filled, sending, sent}
-use Rattle.channel.specs.Channel.{clean as cleanBlock, repaired, beyond, conditionBy, condition, mend, IsWord, Event, said, block, lost, frames, blocks, losses}
+use Rattle.channel.specs.Channel.{clean as cleanBlock, repaired, beyond, conditionBy, condition, mend, IsWord, Event, said, block, lost, frames, blocks, losses, asMended}
 use Rattle.channel.specs.Called.{answered}
-use Rattle.channel.proofs.Words.{asMended, block-promised, block-determined}
+use Rattle.channel.proofs.Words.{block-promised, block-determined}
 use Rattle.channel.specs.declared.receiver.Answer.{Answer}
 use Rattle.channel.specs.declared.receiver.Answer.the-variants.{More, Said, Clean, Repaired, Beyond, LockLost}
-use Rattle.listed.specs.Apart.{most}
+use Rattle.listed.specs.Apart.{most, records}
 use Rattle.listed.specs.Lines.{lines, isPacket, isRefusal, isDamaged, isLost, count, longest}
 use Rattle.listed.specs.Listing.{heard, totalLine, listing}
-use Rattle.listed.proofs.Apart.{records}
 use Rattle.listed.proofs.Totals.{damaged, packets-counted, refusals-counted, each-counted, damaged-counted, lost-counted, sent-counted}
 use Rattle.packet.specs.Contents.{rawLimit}
 use Rattle.channel.specs.Sender.{wordBytes}

@@ -16,23 +16,22 @@ use mathlib.Core.List.{List, [], _∷_, _++_, map, append-nil}
 use lib.ListN.{length, replicate}
 use Rattle.base.specs.Bytes.{Each}
 use Rattle.base.specs.Calls.{With}
-use Rattle.packet.specs.Escape.{flag}
+use Rattle.packet.specs.Escape.{flag, NoFlag}
 use Rattle.packet.specs.Frame.{Told}
-use Rattle.packet.proofs.Round.{NoFlag}
 use Rattle.stream.specs.Reader.{waiting, reads}
 use Rattle.stream.specs.Sender.{Packet, Accepted, rawOf, behind, stream, delivered, openedFrom}
-use Rattle.stream.specs.Called.{Held, held, fresh, readCall, readAll, heldOf, inUse as plainInUse}
+use Rattle.stream.specs.Called.{Held, held, fresh, readCall, readAll, heldOf, inUse as plainInUse, ThereHeld}
 use Rattle.stream.proofs.Accepting.{clear}
 use Rattle.stream.proofs.Cutting.{read-cut}
 use Rattle.stream.proofs.Shown.{shown-plain, held-use, held-st}
-use Rattle.stream.proofs.Delivery.{ThereHeld, payload-held}
+use Rattle.stream.proofs.Delivery.{payload-held}
 use Rattle.stream.proofs.Streaming.{ignored, stream-read, opened-behind}
 use Rattle.channel.specs.Sender.{framed, sentWords, sent}
 use Rattle.channel.specs.Channel.{clean, condition, Event, frames, blocks, losses, start, hears, answers, IsWord, carried, FirstMarker}
-use Rattle.channel.specs.Called.{Board, hearCall, boardOf, inUse}
+use Rattle.channel.specs.Called.{Board, hearCall, boardOf, inUse, ThereEvent}
 use Rattle.channel.proofs.Demands.{Cuts, every-cut-means, delivers, earlier-answers, later-answers}
 use Rattle.channel.proofs.Demands as channel-demands
-use Rattle.channel.proofs.Delivery.{ThereEvent, payload-there}
+use Rattle.channel.proofs.Delivery.{payload-there}
 use Rattle.demands.specs.Cuts.{PlainCuts}
 
 -- ---- "For every received byte string, every way of cutting it yields the answers and the final state .. for the uncut string": the state's

@@ -14,20 +14,20 @@ use Rattle.base.specs.Bytes.{Bytes}
 use Rattle.base.specs.Calls.{joined}
 use Rattle.base.specs.declared.Written.the-variants.{Wrote}
 use Rattle.packet.specs.Escape.{flag}
-use Rattle.packet.specs.Frame.{Told, judged, closed, judge, part}
+use Rattle.packet.specs.Frame.{Told, judged, closed, judge, part, There}
 use Rattle.packet.specs.Sender.{sent, framed, writing}
 use Rattle.packet.specs.declared.frame.Judged.the-variants.{Packet as Delivered}
-use Rattle.packet.proofs.Judging.{There, judge-is, payload-there}
+use Rattle.packet.proofs.Judging.{judge-is, payload-there}
 use Rattle.packet.proofs.Round.{raw-fits}
 use Rattle.packet.proofs.Sending.{wrote-is}
 use Rattle.stream.specs.Reader.{inside, reads}
 use Rattle.stream.specs.Sender.{Packet, Accepted, rawOf, delivered}
 use Rattle.stream.proofs.Accepting.{judged-is}
 use Rattle.stream.proofs.Streaming.{behind-read}
-use Rattle.listed.specs.Apart.{most}
+use Rattle.listed.specs.Apart.{most, records}
 use Rattle.listed.specs.Lines.{lines}
 use Rattle.listed.specs.Listing.{heard, totalLine, lastLine, listed, listing}
-use Rattle.listed.proofs.Apart.{records, records-apart, records-channel}
+use Rattle.listed.proofs.Apart.{records-apart, records-channel}
 
 module _ (p : Packet) (port-fits : p .port < 65536) (sequence-fits : p .sequence < 65536) (bytes : Bytes (p .payload)) (out : List ℕ) (n : ℕ)
     (wrote : writing (p .port) (p .sequence) (p .payload) out .answer ≡ Wrote n) where

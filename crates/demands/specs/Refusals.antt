@@ -14,9 +14,8 @@ use Rattle.base.specs.Written.{Outcome}
 use Rattle.base.specs.declared.Written.the-variants.{Refused}
 use Rattle.fcs.specs.Fcs.{fcs}
 use Rattle.packet.specs.Contents.{format, payloadLimit, rawLimit, wordAt, payloadOf}
-use Rattle.packet.specs.Escape.{escape, plain, last}
+use Rattle.packet.specs.Escape.{escape, plain, last, Followed}
 use Rattle.packet.specs.Frame.{Told, refusal}
-use Rattle.packet.proofs.Faults.{Followed}
 use Rattle.parity.specs.declared.Checked.{Checked}
 use Rattle.parity.specs.declared.Checked.the-variants.{Refused as WordRefused}
 use Rattle.repair.specs.declared.Mended.{Mended}

@@ -11,7 +11,7 @@ use lib.ListN.{length, drop, getD}
 use lib.Seq.{drop-cons}
 use Rattle.base.proofs.Lists.{over}
 use Rattle.field.specs.Field.{alpha, add, mul, pow, valueAt}
-use Rattle.field.specs.Tables.{Powers, Logs}
+use Rattle.field.specs.Private.{Powers, Logs}
 use Rattle.field.proofs.Product.{mul-comm}
 use Rattle.field.proofs.Powers.{pow-zero, pow-suc, pow-add, alpha-mod}
 

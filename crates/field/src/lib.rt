@@ -2,7 +2,7 @@
 ghost use mathlib.Core.Path.{_≡_};
 ghost use Prim.Native.Nat.{_<_};
 ghost use Rattle.field.specs.Field.{alpha, add, mul, pow, inverse, valueAt};
-ghost use Rattle.field.specs.Tables.{Powers, Logs};
+ghost use Rattle.field.specs.Private.{Powers, Logs};
 
 mod exp;
 mod log;

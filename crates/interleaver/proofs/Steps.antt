@@ -12,7 +12,8 @@ use lib.ListN.{length, getD, set}
 use lib.Seq.{getD-set-same, getD-set-other}
 use borrow.Author.Count.{below-more}
 use Rattle.interleaver.specs.declared.Place.{Place}
-use Rattle.interleaver.specs.Places.{column, cell, first, Placed}
+use Rattle.interleaver.specs.Places.{column, cell}
+use Rattle.interleaver.specs.Private.{first, Placed}
 use Rattle.interleaver.proofs.Places.{cell-one, next-column, next-block, first-row, same-block, next-row}
 
 pub first-placed : (d : ℕ) → Placed d first

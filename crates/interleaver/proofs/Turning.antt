@@ -10,9 +10,9 @@ use native.Mathlib.Omega.{arith}
 use lib.Dec.{ltb}
 use lib.ListN.{length, getD, take, drop}
 use borrow.Author.Tests.{lt-ltb, le-ltb, eq-eqb, ne-eqb}
-use Rattle.base.specs.Written.{outcome, refused, write, copied}
+use Rattle.base.specs.Written.{outcome, refused, write, copied, Keeps}
 use Rattle.base.specs.declared.Written.the-variants.{Wrote}
-use Rattle.base.proofs.Writing.{copied-fits, write-fits, write-short, Keeps, refused-keeps, write-keeps, pick-keeps}
+use Rattle.base.proofs.Writing.{copied-fits, write-fits, write-short, refused-keeps, write-keeps, pick-keeps}
 use Rattle.interleaver.specs.Places.{cell, origin}
 use Rattle.interleaver.specs.Matrix.{tab, interleaved, restored, whole, turned, turning}
 use Rattle.interleaver.proofs.Places.{cell-below, origin-below, cell-origin}

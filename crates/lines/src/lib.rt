@@ -3,7 +3,7 @@ ghost use mathlib.Core.Path.{_≡_};
 ghost use Prim.Native.Nat.{_+_, _≤_};
 ghost use mathlib.Core.List.{[], _∷_, _++_};
 ghost use lib.ListN.{length};
-ghost use Rattle.base.specs.Laid.{Laid};
+ghost use Rattle.base.specs.Private.{Laid};
 ghost use Rattle.base.specs.Written.{outcome, write};
 ghost use Rattle.packet.specs.declared.frame.Judged.the-variants.{Packet};
 ghost use Rattle.channel.specs.declared.receiver.Answer.the-variants.{Repaired};

@@ -1,5 +1,4 @@
 -- What a recording is made of.
--- recordOf, records   a piece as a record, and records one after the other
 -- records-apart       a recording of pieces: its stream is the pieces joined, and it ends well
 -- records-channel     the same on the opportunistic channel
 use Prim.Native.Nat.{ℕ, suc, _+_, _-_, _*_, _/_, _%_, _≤_}
@@ -14,16 +13,7 @@ use Rattle.base.specs.Calls.{joined}
 use Rattle.listed.specs.declared.Place.{Place}
 use Rattle.listed.specs.declared.Place.the-variants.{Mark, Inside}
 use Rattle.listed.specs.declared.Spot.{Spot}
-use Rattle.listed.specs.Apart.{most, wrong, left, through, nextAt, inStream, keep, apart, start}
-
--- a piece as a record: mark, length low byte first, the piece
-abbrev pub recordOf : List ℕ → List ℕ
-recordOf p = 0xF5 ∷ 0x5F ∷ length p % 256 ∷ length p / 256 ∷ p
-
--- records one after the other
-abbrev pub records : List (List ℕ) → List ℕ
-records [] = []
-records (p ∷ ps) = recordOf p ++ records ps
+use Rattle.listed.specs.Apart.{most, wrong, left, through, nextAt, inStream, keep, apart, start, recordOf, records}
 
 abbrev at : Place → ℕ → ℕ → Spot
 at q o c = record { place = q; offset = o; count = c }

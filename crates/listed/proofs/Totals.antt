@@ -1,19 +1,18 @@
 -- The totals of the last line, counted from the answers.
--- packets-counted, refusals-counted   they are counted among the frame answers ..
--- each-counted                        .. of which each is one or the other
--- damaged-counted, lost-counted       blocks beyond repair among the block answers, and lost locks
+-- packets-counted, refusals-counted   packets and refusals are counted among the frame answers ..
+-- damaged-counted, lost-counted       .. blocks beyond repair among the block answers, and lost locks as often as lock is lost
 -- sent-counted                        of a sender's packets, all are packets
 use Prim.Native.Nat.{ℕ, suc, _+_}
 use native.Mathlib.Omega.{arith}
-use mathlib.Core.Path.{_≡_, refl}
+use mathlib.Core.Path.{_≡_, refl, ap}
 use mathlib.Core.List.{List, [], _∷_, map}
 use lib.ListN.{length}
 use Rattle.packet.specs.Frame.{Told, packet, refusal}
 use Rattle.stream.specs.Sender.{Packet, delivered}
 use Rattle.channel.specs.Channel.{Condition, clean, repaired, beyond, Event, said, block, lost, frames, blocks, losses}
-use Rattle.listed.specs.Lines.{isPacket, isRefusal, isDamaged, isLost, count}
+use Rattle.listed.specs.Lines.{isPacket, isRefusal, isDamaged, isLost, count, packetsIn, refusalsIn, damagedIn}
 
-pub packets-counted : (es : List Event) → count isPacket es ≡ count isPacket (map said (frames es))
+pub packets-counted : (es : List Event) → count isPacket es ≡ packetsIn (frames es)
 unfolding count
 packets-counted [] = refl
 packets-counted (said (packet port sequence payload) ∷ es) = omega (arith, packets-counted es)
@@ -23,7 +22,7 @@ packets-counted (block (repaired n) ∷ es) = omega (arith, packets-counted es)
 packets-counted (block beyond ∷ es) = omega (arith, packets-counted es)
 packets-counted (lost ∷ es) = omega (arith, packets-counted es)
 
-pub refusals-counted : (es : List Event) → count isRefusal es ≡ count isRefusal (map said (frames es))
+pub refusals-counted : (es : List Event) → count isRefusal es ≡ refusalsIn (frames es)
 unfolding count
 refusals-counted [] = refl
 refusals-counted (said (packet port sequence payload) ∷ es) = omega (arith, refusals-counted es)
@@ -33,20 +32,7 @@ refusals-counted (block (repaired n) ∷ es) = omega (arith, refusals-counted es
 refusals-counted (block beyond ∷ es) = omega (arith, refusals-counted es)
 refusals-counted (lost ∷ es) = omega (arith, refusals-counted es)
 
-pub each-counted : (ts : List Told) → count isPacket (map said ts) + count isRefusal (map said ts) ≡ length ts
-unfolding count
-each-counted [] = refl
-each-counted (packet port sequence payload ∷ ts) = omega (arith, each-counted ts)
-each-counted (refusal n ∷ ts) = omega (arith, each-counted ts)
-
--- how many of them are beyond repair
-abbrev pub damaged : List Condition → ℕ
-damaged [] = 0
-damaged (clean ∷ cs) = damaged cs
-damaged (repaired n ∷ cs) = damaged cs
-damaged (beyond ∷ cs) = suc (damaged cs)
-
-pub damaged-counted : (es : List Event) → count isDamaged es ≡ damaged (blocks es)
+pub damaged-counted : (es : List Event) → count isDamaged es ≡ damagedIn (blocks es)
 unfolding count
 damaged-counted [] = refl
 damaged-counted (said t ∷ es) = omega (arith, damaged-counted es)
@@ -64,8 +50,6 @@ lost-counted (block (repaired n) ∷ es) = omega (arith, lost-counted es)
 lost-counted (block beyond ∷ es) = omega (arith, lost-counted es)
 lost-counted (lost ∷ es) = omega (arith, lost-counted es)
 
-pub sent-counted : (ps : List Packet)
-    → (count isPacket (map said (map delivered ps)) ≡ length ps) × (count isRefusal (map said (map delivered ps)) ≡ 0)
-unfolding count
+pub sent-counted : (ps : List Packet) → (packetsIn (map delivered ps) ≡ length ps) × (refusalsIn (map delivered ps) ≡ 0)
 sent-counted [] = (refl, refl)
-sent-counted (p ∷ ps) = (omega (arith, sent-counted ps .0), omega (arith, sent-counted ps .1))
+sent-counted (p ∷ ps) = (ap suc (sent-counted ps .0), sent-counted ps .1)

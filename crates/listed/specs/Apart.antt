@@ -3,10 +3,12 @@
 -- apart       the stream bytes, and where the recording ends
 -- well        it may end here
 -- onChannel   which stream it is
-use Prim.Native.Nat.{ℕ, _+_, _-_, _*_}
+-- records     the records of some pieces
+use Prim.Native.Nat.{ℕ, _+_, _-_, _*_, _/_, _%_}
 use mathlib.Core.Bool.{Bool, true, false}
-use mathlib.Core.List.{List, [], _∷_}
+use mathlib.Core.List.{List, [], _∷_, _++_}
 use lib.Dec.{eqb, ltb}
+use lib.ListN.{length}
 use Rattle.base.specs.Choice.{pick}
 use Rattle.listed.specs.declared.Place.{Place}
 use Rattle.listed.specs.declared.Place.the-variants.{Mode, Mark, Second, Low, High, Inside, Wrong}
@@ -84,3 +86,12 @@ well Wrong = false
 abbrev pub onChannel : List ℕ → Bool
 onChannel [] = false
 onChannel (b ∷ bs) = eqb b 0x4F
+
+-- a piece as a record: mark, length low byte first, the piece
+abbrev pub recordOf : List ℕ → List ℕ
+recordOf p = 0xF5 ∷ 0x5F ∷ length p % 256 ∷ length p / 256 ∷ p
+
+-- records one after the other
+abbrev pub records : List (List ℕ) → List ℕ
+records [] = []
+records (p ∷ ps) = recordOf p ++ records ps

@@ -2,6 +2,7 @@
 -- decimal              a number without leading zeros
 -- line, lines          an answer's line, and line after line
 -- count                how many answers are such
+-- packetsIn, ..        the same told of the frame answers, and of the block answers
 -- endLine, wrongLine   the last line
 -- longest              no line is longer
 use Prim.Native.Nat.{ℕ, zero, suc, _+_, _/_, _%_}
@@ -15,7 +16,8 @@ use Rattle.packet.specs.declared.port.Class.{Class}
 use Rattle.packet.specs.declared.port.Class.the-variants.{System, Applications, M, D, Future, Barred}
 use Rattle.packet.specs.declared.frame.Judged.{Judged}
 use Rattle.packet.specs.declared.frame.Judged.the-variants.{Packet, Refused}
-use Rattle.channel.specs.Channel.{Event}
+use Rattle.packet.specs.Frame.{Told, packet, refusal}
+use Rattle.channel.specs.Channel.{Condition, clean, repaired, beyond, Event}
 use Rattle.channel.specs.Called.{answered}
 use Rattle.channel.specs.declared.receiver.Answer.{Answer}
 use Rattle.channel.specs.declared.receiver.Answer.the-variants.{More, Said, Clean, Repaired, Beyond, LockLost}
@@ -112,6 +114,25 @@ one t = pick t 1 0
 unfoldable pub count : (Answer → Bool) → List Event → ℕ
 count f [] = 0
 count f (e ∷ es) = one (f (given e)) + count f es
+
+-- of the frame answers: how many are packets ..
+abbrev pub packetsIn : List Told → ℕ
+packetsIn [] = 0
+packetsIn (packet port sequence payload ∷ ts) = suc (packetsIn ts)
+packetsIn (refusal n ∷ ts) = packetsIn ts
+
+-- .. and how many are refusals
+abbrev pub refusalsIn : List Told → ℕ
+refusalsIn [] = 0
+refusalsIn (packet port sequence payload ∷ ts) = refusalsIn ts
+refusalsIn (refusal n ∷ ts) = suc (refusalsIn ts)
+
+-- of the block answers: how many are beyond repair
+abbrev pub damagedIn : List Condition → ℕ
+damagedIn [] = 0
+damagedIn (clean ∷ cs) = damagedIn cs
+damagedIn (repaired n ∷ cs) = damagedIn cs
+damagedIn (beyond ∷ cs) = suc (damagedIn cs)
 
 -- `E stream-bytes packets frame-refusals damaged-blocks lost-locks`
 unfoldable pub endLine : ℕ → ℕ → ℕ → ℕ → ℕ → List ℕ

@@ -32,7 +32,8 @@ use Rattle.office.specs.declared.Answer.the-variants.{More, Refused}
 use Rattle.office.specs.declared.Heard.{Heard}
 use Rattle.office.specs.declared.Ended.{Ended}
 use Rattle.office.specs.Desk.{Said, endingBy, Desk, desk, kept, endingOf, ended, eat}
-use Rattle.office.specs.Called.{heldLimit, holdLimit, outLimit, sound, roomy, hearOn, denied, hearBy, hearCall, closeBy, closeCall, HeardIs, finishBy, finishing, EndedIs}
+use Rattle.office.specs.Called.{heldLimit, holdLimit, outLimit, sound, roomy, hearOn, denied, hearBy, hearCall, closeBy, closeCall, HeardIs, finishBy, finishing}
+use Rattle.office.specs.Private.{EndedIs}
 
 -- ---- bytes of a line stored
 module _ (line bs : List ℕ) (at : ℕ) (h : at ≤ lineLimit) (room : lineLimit ≤ length line) where

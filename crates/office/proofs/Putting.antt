@@ -32,7 +32,8 @@ use Rattle.bid.proofs.Verdicts.{judged-empty, judged-long, judged-barred, judge
 use Rattle.office.specs.declared.Answer.the-variants.{Sent, NoBid as Unread, Refused}
 use Rattle.office.specs.declared.Ended.{Ended}
 use Rattle.office.specs.Desk.{wholeBytes, wholes, restOf, endingBy}
-use Rattle.office.specs.Called.{heldLimit, holdLimit, outLimit, EndedIs, PutIs}
+use Rattle.office.specs.Called.{heldLimit, holdLimit, outLimit}
+use Rattle.office.specs.Private.{EndedIs, PutIs}
 use Rattle.office.proofs.Marking.{marked-length, wholes-length, rest-short}
 
 -- a local's zeros

@@ -3,7 +3,6 @@
 -- hearCall, HeardIs        one call on bytes, and that the code's results are those
 -- closeCall                the end of the input
 -- finishing                the last block
--- EndedIs, PutIs           what the private functions are promised by
 use Prim.Native.Nat.{ℕ}
 use mathlib.Core.Path.{_≡_}
 use mathlib.Core.Bool.{Bool, true, false, _&&_}
@@ -113,13 +112,3 @@ finishBy true true s hold out = sending (take (s .held) hold) out
 -- the finishing call
 abbrev pub finishing : Office → List ℕ → List ℕ → Outcome
 finishing s hold out = finishBy (sound s) (leb holdLimit (length hold)) s hold out
-
--- a line ended
-abbrev pub EndedIs : Ending → List ℕ → Ended → List ℕ → List ℕ → Type 0
-EndedIs x out r hold out′ =
-    (r ≡ record { answer = spoken (x .said); held = x .held }) × (hold ≡ x .hold) × (out′ ≡ spokenOut (x .said) out)
-
--- whole messages put out, and the rest moved to the start
-abbrev pub PutIs : List ℕ → List ℕ → List ℕ → ℕ → List ℕ → List ℕ → Type 0
-PutIs bs old out r hold out′ =
-    (r ≡ length (marked (wholes bs))) × (hold ≡ copied (restOf bs) old) × (out′ ≡ marked (wholes bs) ++ drop (length (marked (wholes bs))) out)

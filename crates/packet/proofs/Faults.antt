@@ -1,5 +1,4 @@
 -- What the escapes of raw bytes are, in the words of refusals 2 and 3.
--- Followed     somewhere 7D is followed by other than 5E and 5D
 -- scan-says    unfinished: the last raw byte is 7D; wrong: it is not, and `Followed`; right: neither
 use mathlib.Core.Path.{_≡_, refl, sym, ap, subst, _∙_}
 use mathlib.Core.Bool.{Bool, true, false}
@@ -10,13 +9,9 @@ use native.Mathlib.Omega.{arith}
 use lib.Dec.{eqb}
 use borrow.Author.Tests.{eqb-true, eqb-false}
 use Rattle.base.specs.Choice.{pick}
-use Rattle.packet.specs.Escape.{right, plainScan, escapedScan, last, scan}
+use Rattle.packet.specs.Escape.{right, plainScan, escapedScan, last, scan, Followed}
 use Rattle.packet.specs.declared.escape.Escapes.{Escapes}
 use Rattle.packet.specs.declared.escape.Escapes.the-variants.{Right, Unfinished, Wrong}
-
--- the bytes xs, then 7D, then b, which is neither 5E nor 5D, then the bytes ys
-abbrev pub Followed : List ℕ → Type 0
-Followed raw = (xs ys : List ℕ) × (b : ℕ) × (raw ≡ xs ++ 0x7D ∷ b ∷ ys) × (b ≢ 0x5E) × (b ≢ 0x5D)
 
 -- of plain reading
 abbrev Says : Escapes → List ℕ → Type 0

@@ -1,6 +1,7 @@
 -- Laws of a closed frame.
 -- judge-short .. judge-packet       which answer contents have, by facts on numbers
 -- closed-over, closed-as, closed-stored   the same of the raw bytes in the receive buffer
+-- judging-is, ..-over, ..-short     the call that judges, where 10 and 11 are passed and where not
 -- judge-is                          the buffer's raw bytes alone decide
 -- length-closed                     the buffer keeps its length
 -- payload-there                     a delivered payload stands in the buffer
@@ -8,7 +9,7 @@
 use mathlib.Core.Path.{_≡_, refl, sym, ap, subst, _∙_}
 use mathlib.Core.Bool.{Bool, true, false}
 use mathlib.Core.List.{List, [], _++_}
-use Prim.Native.Nat.{ℕ, _+_, _-_, _<_, _≤_, min}
+use Prim.Native.Nat.{ℕ, suc, _+_, _-_, _<_, _≤_, min}
 use native.Mathlib.Omega.{arith}
 use borrow.Author.Tests.{eq-eqb, ne-eqb, lt-ltb, le-ltb, ltb-false}
 use lib.Dec.{eqb, ltb}
@@ -20,7 +21,7 @@ use Rattle.fcs.specs.Fcs.{fcs}
 use Rattle.packet.specs.Port.{barred}
 use Rattle.packet.specs.Contents.{format, payloadLimit, rawLimit, wordAt, payloadOf}
 use Rattle.packet.specs.Escape.{escape, scan, plain}
-use Rattle.packet.specs.Frame.{Told, packet, refusal, judged, Closed, kept, judgeContents, closedBy, closed, judge, part}
+use Rattle.packet.specs.Frame.{Told, packet, refusal, judged, Closed, kept, judgeContents, closedBy, closed, judging, judge, part, There}
 use Rattle.packet.specs.declared.escape.Escapes.{Escapes}
 use Rattle.packet.specs.declared.escape.Escapes.the-variants.{Right, Unfinished, Wrong}
 use Rattle.packet.specs.declared.frame.Judged.the-variants.{Packet}
@@ -128,11 +129,22 @@ length-by recv n Right = simp (length-append, length-drop) (omega (arith, plain-
 pub length-closed : (recv : List ℕ) (n : ℕ) → length (closed recv n .recv) ≡ length recv
 length-closed recv n = by-ways recv n (λ c. length (c .recv) ≡ length recv) refl (length-by recv n)
 
--- ---- a delivered payload stands in the buffer
-abbrev pub There : Told → List ℕ → Type 0
-There (packet port sequence payload) recv = part recv (length payload) ≡ payload
-There (refusal n) recv = Unit {0}
+-- ---- the call that judges
+module _ (recv : List ℕ) (n : ℕ) where
+  pub judging-over : suc rawLimit < n → judging recv n ≡ kept 10 recv
+  judging-over h = simp (lt-ltb _ _ h)
 
+  pub judging-short : n ≤ suc rawLimit → length recv < rawLimit → judging recv n ≡ kept 11 recv
+  judging-short h k = simp (le-ltb _ _ h, lt-ltb _ _ k)
+
+  pub judging-is : n ≤ suc rawLimit → rawLimit ≤ length recv → judging recv n ≡ closed recv n
+  judging-is h k = simp (le-ltb _ _ h, le-ltb _ _ k)
+
+-- an answer and a buffer, of the frame as it is closed
+pub both : {c d : Closed} → c ≡ d → (judged (d .told) ≡ judged (c .told)) × (d .recv ≡ c .recv)
+both e = (ap (λ (c : Closed). judged (c .told)) (sym e), ap (λ (c : Closed). c .recv) (sym e))
+
+-- ---- a delivered payload stands in the buffer
 part-there : (cs t : List ℕ) → 8 ≤ length cs → part (cs ++ t) (length (payloadOf cs)) ≡ payloadOf cs
 part-there cs t h =
     let n : length (payloadOf cs) ≡ length cs - 7 = length-payload cs h in

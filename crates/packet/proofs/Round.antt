@@ -14,7 +14,7 @@ use lib.Seq.{take-all, take-at, take-append-seam, getD-append-seam, getD-append-
 use Rattle.base.specs.Bytes.{Each}
 use Rattle.base.proofs.Bytes.{each-append}
 use Rattle.fcs.specs.Fcs.{fcs}
-use Rattle.packet.specs.Escape.{escape, escapeByte, plain, plainScan, scan, last, right}
+use Rattle.packet.specs.Escape.{escape, escapeByte, plain, plainScan, scan, last, right, NoFlag}
 use Rattle.packet.specs.Contents.{payloadLimit, rawLimit, contents, checked, opening, two, wordAt, payloadOf}
 use Rattle.packet.specs.Port.{barred}
 use Rattle.packet.specs.Frame.{Closed, packet, judge, judgeContents, closedBy}
@@ -75,9 +75,6 @@ plain-undoes bs =
     e ∙ plain-escape bs [] ∙ append-nil bs
 
 -- ---- no flag
-abbrev pub NoFlag : List ℕ → Type 0
-NoFlag bs = Each (λ b. b ≡ 0x7E → ⊥) bs
-
 no-flag-byte : {b : ℕ} → Kind b → NoFlag (escapeByte b)
 unfolding escapeByte
 no-flag-byte flag = (λ e. omega arith, (λ e. omega arith, tt))

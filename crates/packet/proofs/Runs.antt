@@ -11,14 +11,15 @@ use native.Mathlib.Omega.{arith}
 use borrow.Author.Tests.{eq-eqb, ne-eqb}
 use lib.ListN.{length, take, drop, getD, set, length-drop, length-take}
 use lib.Seq.{sets, drop-drop}
-use Rattle.base.specs.Laid.{Laid}
+use Rattle.base.specs.Private.{Laid}
 use Rattle.base.specs.UpTo.{upTo}
 use Rattle.base.proofs.Laid.{laid-none, laid-more, laid-append}
 use Rattle.base.proofs.Lists.{part-next, part-set}
 use Rattle.base.proofs.Parts.{tail-is}
 use Rattle.base.proofs.Tests.{by-eq}
 use Rattle.base.proofs.UpTo.{up-to-go, up-to-short}
-use Rattle.packet.specs.Escape.{run, plain, escaped, plainScan, escapedScan}
+use Rattle.packet.specs.Escape.{plain, escaped, plainScan, escapedScan}
+use Rattle.packet.specs.Private.{run}
 use Rattle.packet.specs.declared.escape.Escapes.{Escapes}
 use Rattle.packet.specs.declared.escape.Escapes.the-variants.{Right}
 

@@ -14,11 +14,11 @@ use lib.Dec.{eqb, ltb}
 use borrow.Author.Tests.{eq-eqb, ne-eqb, lt-ltb, le-ltb, eqb-false, ltb-false}
 use lib.ListN.{length, drop, set, length-append}
 use Rattle.base.specs.Choice.{pick}
-use Rattle.base.specs.Laid.{Laid}
-use Rattle.base.specs.Written.{outcome, refused, write}
+use Rattle.base.specs.Private.{Laid}
+use Rattle.base.specs.Written.{outcome, refused, write, Keeps}
 use Rattle.base.specs.declared.Written.the-variants.{Wrote, Refused}
 use Rattle.base.proofs.Laid.{laid-append, laid-start}
-use Rattle.base.proofs.Writing.{Keeps, refused-keeps, write-keeps, pick-keeps}
+use Rattle.base.proofs.Writing.{refused-keeps, write-keeps, pick-keeps}
 use Rattle.fcs.specs.Fcs.{fcs}
 use Rattle.packet.specs.Port.{barred}
 use Rattle.packet.specs.Contents.{payloadLimit, contents, checked, opening, two}

@@ -1,14 +1,17 @@
 -- Escapes (paper 01, "Packet and frame").
 -- escape           7E becomes 7D 5E, 7D becomes 7D 5D, and no other byte is escaped
 -- plain, escaped   on reading: plain and escaped reading hand over to each other until the raw bytes run out
--- run              the bytes that plain reading passes over before it hands over
 -- scan             whether every escape is right
+-- Followed         .. and what it is to be wrong
+-- NoFlag           no flag among the bytes
 use Prim.Native.Nat.{ℕ}
+use mathlib.Core.Path.{_≡_}
+use mathlib.Core.Logic.{_≢_}
 use mathlib.Core.Bool.{Bool, true}
 use mathlib.Core.List.{List, [], _∷_, _++_}
 use lib.Dec.{eqb}
 use Rattle.base.specs.Choice.{pick}
-use Rattle.base.specs.UpTo.{upTo}
+use Rattle.base.specs.Bytes.{Each}
 use Rattle.packet.specs.declared.escape.Escapes.{Escapes}
 use Rattle.packet.specs.declared.escape.Escapes.the-variants.{Right, Unfinished, Wrong}
 
@@ -39,10 +42,6 @@ unfoldable mutual
   escaped [] = []
   escaped (b ∷ bs) = restored b ∷ plain bs
 
--- the bytes before the first 7D, all where there is none: plain reading passes over them at once
-abbrev pub run : List ℕ → List ℕ
-run bs = upTo 0x7D bs
-
 -- the bytes that may stand behind 7D
 unfoldable pub right : ℕ → Bool
 right b = pick (eqb b 0x5E) true (eqb b 0x5D)
@@ -65,3 +64,11 @@ last d (b ∷ bs) = last b bs
 -- unfinished where the last raw byte is 7D, even where an earlier escape is wrong
 unfoldable pub scan : List ℕ → Escapes
 scan raw = pick (eqb (last 0 raw) 0x7D) Unfinished (plainScan raw)
+
+-- 7D followed by other than 5E, 5D: the bytes xs, then 7D, then b, then the bytes ys
+abbrev pub Followed : List ℕ → Type 0
+Followed raw = (xs ys : List ℕ) × (b : ℕ) × (raw ≡ xs ++ 0x7D ∷ b ∷ ys) × (b ≢ 0x5E) × (b ≢ 0x5D)
+
+-- no flag among the bytes
+abbrev pub NoFlag : List ℕ → Type 0
+NoFlag bs = Each (λ b. b ≡ flag → ⊥) bs

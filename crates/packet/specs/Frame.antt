@@ -1,9 +1,11 @@
 -- A closed frame (paper 01, "Numbered refusals"): the first refusal that applies of 1 to 8, or the packet.
 -- Told     what a frame is told to be, and judged, the answer that the code gives of it
 -- closed   what it is told to be, and what the receive buffer then holds
+-- judging  the same by a call, behind refusals 10 and 11
 -- judge    the same of raw bytes alone
--- part     where a delivered payload stands
-use Prim.Native.Nat.{ℕ, _+_, _-_}
+-- part     where a delivered payload stands, and There, that it does
+use Prim.Native.Nat.{ℕ, suc, _+_, _-_}
+use mathlib.Core.Path.{_≡_}
 use mathlib.Core.List.{List, [], _++_}
 use lib.Dec.{eqb, ltb}
 use lib.ListN.{length, getD, take, drop}
@@ -58,6 +60,10 @@ closedBy Right raw recv = record { told = judgeContents (plain raw); recv = plai
 unfoldable pub closed : List ℕ → ℕ → Closed
 closed recv n = pick (ltb rawLimit n) (kept 1 recv) (closedBy (scan (take n recv)) (take n recv) recv)
 
+-- the call that judges, behind its refusals. 10: raw count above 8,206. 11: receive buffer under 8,205 bytes
+abbrev pub judging : List ℕ → ℕ → Closed
+judging recv n = pick (ltb (suc rawLimit) n) (kept 10 recv) (pick (ltb (length recv) rawLimit) (kept 11 recv) (closed recv n))
+
 -- raw bytes in a buffer that just holds them
 unfoldable pub judge : List ℕ → Told
 judge raw = closed raw (length raw) .told
@@ -65,3 +71,8 @@ judge raw = closed raw (length raw) .told
 -- n payload bytes as a call of its own hands them out: without format, port, sequence and check; empty where the buffer is too short
 abbrev pub part : List ℕ → ℕ → List ℕ
 part recv n = pick (ltb (length recv) (n + 5)) [] (take n (drop 5 recv))
+
+-- a delivered payload is that part of the receive buffer
+abbrev pub There : Told → List ℕ → Type 0
+There (packet port sequence payload) recv = part recv (length payload) ≡ payload
+There (refusal n) recv = Unit {0}

@@ -3,3 +3,4 @@ pub mod Contents
 pub mod Escape
 pub mod Frame
 pub mod Sender
+pub mod Private

@@ -2,8 +2,9 @@
 ghost use mathlib.Core.Path.{_≡_};
 ghost use Prim.Native.Nat.{_+_, _<_, _≤_};
 ghost use lib.ListN.{length, take, drop};
-ghost use Rattle.base.specs.Laid.{Laid};
-ghost use Rattle.packet.specs.Escape.{escape, escapeByte, plain, escaped, run, plainScan, escapedScan, scan, restored};
+ghost use Rattle.base.specs.Private.{Laid};
+ghost use Rattle.packet.specs.Escape.{escape, escapeByte, plain, escaped, plainScan, escapedScan, scan, restored};
+ghost use Rattle.packet.specs.Private.{run};
 
 /// What the escapes of raw bytes are.
 pub enum Escapes {

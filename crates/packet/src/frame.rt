@@ -3,7 +3,7 @@ ghost use mathlib.Core.Path.{_≡_};
 ghost use Prim.Native.Nat.{_+_, _<_};
 ghost use lib.ListN.{length};
 ghost use Rattle.packet.specs.Contents.{word, wordAt};
-ghost use Rattle.packet.specs.Frame.{judged, judgeContents, closed};
+ghost use Rattle.packet.specs.Frame.{judged, judgeContents, closed, judging};
 use crate::escape;
 use crate::escape::Escapes;
 use crate::port;
@@ -19,6 +19,8 @@ impl Packet {
     pub const FORMAT: u8 = 0x21;
     /// Raw bytes, at most.
     pub const RAW: usize = 8205;
+    /// The raw count that means "over".
+    pub const OVER: usize = Self::RAW + 1;
     /// Bytes of the payload as escaped, at most.
     pub const PAYLOAD: usize = 8192;
 }
@@ -78,8 +80,8 @@ fn judge_contents(cs: &[u8]) -> Judged
     }
 }
 
-/// Judges a closed frame of `raw` raw bytes, which `recv` holds from its start. Escapes are undone in `recv`.
-pub fn judge(recv: &mut [u8], raw: usize) -> Judged
+// A frame of `raw` raw bytes, which `recv` holds from its start, is closed: escapes are undone in `recv`.
+fn close(recv: &mut [u8], raw: usize) -> Judged
     ensures { λ r. ⌜ (r ≡ judged (closed (now (recv .entry)) raw .told)) × (now (recv .exit) ≡ closed (now (recv .entry)) raw .recv) ⌝ }
 {
     if Packet::RAW < raw {
@@ -94,4 +96,17 @@ pub fn judge(recv: &mut [u8], raw: usize) -> Judged
             judge_contents(&recv[..n])
         }
     }
+}
+
+/// Judges a closed frame of `raw` raw bytes, which `recv` holds from its start. Escapes are undone in `recv`.
+pub fn judge(recv: &mut [u8], raw: usize) -> Judged
+    ensures { λ r. ⌜ (r ≡ judged (judging (now (recv .entry)) raw .told)) × (now (recv .exit) ≡ judging (now (recv .entry)) raw .recv) ⌝ }
+{
+    if Packet::OVER < raw {
+        return Judged::Refused(Refusal::STATE);
+    }
+    if recv.len() < Packet::RAW {
+        return Judged::Refused(Refusal::BUFFER);
+    }
+    close(recv, raw)
 }

@@ -33,7 +33,7 @@ use Rattle.channel.specs.declared.receiver.Answer.the-variants.{More, Said}
 use Rattle.channel.proofs.Fine.{fine-of}
 use Rattle.channel.proofs.Cutting.{hand-one, hear-agrees}
 use Rattle.recording.specs.Deck.{Ear, ear, withHeld, owesBy, earOwes, earHand, earEat}
-use Rattle.recording.specs.Taken.{earHear, EarIs, PlainIs}
+use Rattle.recording.specs.Private.{earHear, EarIs, PlainIs}
 use Rattle.recording.proofs.Tags.{heardTag}
 
 -- a reader that is another one, seen through f and g

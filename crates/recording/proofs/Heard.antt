@@ -17,8 +17,8 @@ use Rattle.channel.specs.Called.{sound, roomy, answered}
 use Rattle.recording.specs.declared.tape.Tape.{Tape}
 use Rattle.recording.specs.declared.tape.Turn.{Turn}
 use Rattle.recording.specs.Deck.{Deck, deckHear}
-use Rattle.recording.specs.Taken.{deckOf, TurnBy, Stays, TurnIs, HeardIs}
-use Rattle.recording.specs.Printed.{far}
+use Rattle.recording.specs.Private.{TurnBy, Stays, TurnIs, HeardIs}
+use Rattle.recording.specs.Printed.{far, deckOf}
 
 -- behind i bytes the tape and the buffers stand so, and the call goes on there
 pub record So (m : Deck) (bs : List ℕ) (i : ℕ) (t : Tape) (l k : List ℕ) : Type 0 where

@@ -14,9 +14,8 @@ use Rattle.base.proofs.Parts.{tail-is, tail-put}
 use Rattle.channel.specs.Called.{sound, roomy}
 use Rattle.recording.specs.declared.recording.Recording.{Recording}
 use Rattle.recording.specs.declared.recording.Step.{Step}
-use Rattle.recording.specs.Taken.{deckOf}
-use Rattle.recording.specs.Printed.{Printed, printed, behind, print, near, TookIs}
-use Rattle.recording.specs.Stepped.{StepBy, StepIs}
+use Rattle.recording.specs.Printed.{Printed, printed, behind, print, near, TookIs, deckOf}
+use Rattle.recording.specs.Private.{StepBy, StepIs}
 
 -- behind i bytes taken and w written the call goes on with what is left
 pub record Far (x : Printed) (bs old : List ℕ) (i w : ℕ) (r : Recording) (l k out : List ℕ) : Type 0 where

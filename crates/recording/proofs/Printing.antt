@@ -24,9 +24,8 @@ use Rattle.recording.specs.declared.tape.Heard.{Heard}
 use Rattle.recording.specs.declared.recording.Totals.{Totals}
 use Rattle.recording.specs.declared.recording.Wants.the-variants.{More, Room}
 use Rattle.recording.specs.Deck.{Deck, deckHear}
-use Rattle.recording.specs.Taken.{isMore, deckOf, Stays, HeardIs}
-use Rattle.recording.specs.Printed.{counted, Printed, printed, behind, onAnswer, print, far, near}
-use Rattle.recording.specs.Stepped.{Below, StepIs}
+use Rattle.recording.specs.Private.{isMore, Stays, HeardIs, Below, StepIs}
+use Rattle.recording.specs.Printed.{counted, Printed, printed, behind, onAnswer, print, far, near, deckOf}
 use Rattle.recording.proofs.Turn.{more-none, more-some}
 use Rattle.recording.proofs.Counting.{one-most}
 

@@ -22,7 +22,7 @@ use Rattle.listed.specs.declared.Place.the-variants.{Mode, Mark, Second, Low, H
 use Rattle.listed.specs.declared.Spot.{Spot}
 use Rattle.listed.specs.Apart.{most, nextAt, next, wrong, inStream}
 use Rattle.recording.specs.Deck.{Ear, earOwes, earHand, earEat, Deck, deck, deckOwes, deckHand, byteBy, deckEat, deckHear}
-use Rattle.recording.specs.Taken.{earHear, leftAt, runOf, onTo, skipped}
+use Rattle.recording.specs.Private.{earHear, leftAt, runOf, onTo, skipped}
 use Rattle.recording.proofs.Ears.{ear-hand-one}
 
 -- every one of these bytes is a stream byte

@@ -13,7 +13,7 @@ use Rattle.listed.specs.declared.Place.{Place}
 use Rattle.listed.specs.declared.Place.the-variants.{Mode, Mark, Second, Low, High, Inside, Wrong}
 use Rattle.listed.specs.declared.Spot.{Spot}
 use Rattle.listed.specs.Apart.{most, on, wrong, left, through, nextAt, next, inStream}
-use Rattle.recording.specs.Taken.{leftAt, onTo}
+use Rattle.recording.specs.Private.{leftAt, onTo}
 
 module _ (p : Spot) (b : ℕ) {r : Spot} where
   pub mode-plain : p .place ≡ Mode → b ≡ 0x50 → r ≡ on Mark p → r ≡ next p b

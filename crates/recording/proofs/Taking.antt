@@ -9,8 +9,7 @@ use Rattle.recording.specs.declared.recording.Recording.{Recording}
 use Rattle.recording.specs.declared.recording.Took.{Took}
 use Rattle.recording.specs.declared.recording.Wants.the-variants.{Refused}
 use Rattle.recording.specs.Deck.{Deck}
-use Rattle.recording.specs.Taken.{deckOf}
-use Rattle.recording.specs.Printed.{Printed, printed, print, near, takesBy, takes, TookIs}
+use Rattle.recording.specs.Printed.{Printed, printed, print, near, takesBy, takes, TookIs, deckOf}
 
 module _ (r : Recording) (l k bs out : List ℕ) where
   abbrev m : Deck

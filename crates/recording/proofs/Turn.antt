@@ -18,16 +18,16 @@ use Rattle.base.proofs.Calls.{after-none, FitsBy, Fits, fits, inv-hear, hear-ea
 use Rattle.packet.specs.Frame.{packet, refusal}
 use Rattle.stream.proofs.Fine.{fine-take}
 use Rattle.channel.specs.Channel.{clean, repaired, beyond, Event, said, block, lost}
-use Rattle.channel.specs.Called.{Board, board, heldIn, sound, roomy, answered, handOn}
+use Rattle.channel.specs.Called.{Board, board, heldIn, sound, roomy, answered, handOn, Fine}
 use Rattle.channel.specs.declared.receiver.Receiver.{Receiver}
 use Rattle.channel.specs.declared.receiver.Hearing.{Hearing}
-use Rattle.channel.proofs.Fine.{Fine, fine-of, fine-is, fine-roomy, fine-hand, fine-eat}
+use Rattle.channel.proofs.Fine.{fine-of, fine-is, fine-roomy, fine-hand, fine-eat}
 use Rattle.listed.specs.declared.Spot.{Spot}
 use Rattle.listed.specs.Apart.{next, inStream}
 use Rattle.recording.specs.declared.tape.Tape.{Tape}
 use Rattle.recording.specs.Deck.{Ear, ear, owesBy, eatBy, earOwes, earHand, earEat, Deck, deck, deckOwes, deckHand, byteBy, deckEat, deckHear}
-use Rattle.recording.specs.Taken.{earHear, runOf, skipped, EarIs, isMore, deckOf, headed, CallIs, Stays}
-use Rattle.recording.specs.Printed.{far}
+use Rattle.recording.specs.Private.{earHear, runOf, skipped, EarIs, isMore, headed, CallIs, Stays}
+use Rattle.recording.specs.Printed.{far, deckOf}
 use Rattle.recording.proofs.Ears.{ear-hand-one}
 use Rattle.recording.proofs.Spots.{next-near}
 use Rattle.recording.proofs.Run.{skips, withRest, run-first, run-fits, run-none, skip-none}

@@ -1,5 +1,4 @@
 pub mod Deck
-pub mod Taken
 pub mod Printed
-pub mod Stepped
 pub mod Runs
+pub mod Private

@@ -13,7 +13,7 @@ use lib.ListN.{length, drop}
 use Rattle.base.specs.Choice.{pick}
 use Rattle.base.specs.Written.{Outcome, write}
 use Rattle.channel.specs.Channel.{Event}
-use Rattle.channel.specs.Called.{sound, roomy, freshReceiver}
+use Rattle.channel.specs.Called.{board, sound, roomy, freshReceiver}
 use Rattle.channel.specs.declared.receiver.Answer.{Answer}
 use Rattle.listed.specs.declared.Spot.{Spot}
 use Rattle.listed.specs.Apart.{start, well}
@@ -24,7 +24,7 @@ use Rattle.recording.specs.declared.recording.Recording.{Recording}
 use Rattle.recording.specs.declared.recording.Wants.{Wants}
 use Rattle.recording.specs.declared.recording.Wants.the-variants.{More, Room, Refused}
 use Rattle.recording.specs.declared.recording.Took.{Took}
-use Rattle.recording.specs.Deck.{Deck, deckHear}
+use Rattle.recording.specs.Deck.{ear, Deck, deck, deckHear}
 
 -- nothing counted yet
 abbrev pub noTotals : Totals
@@ -101,7 +101,11 @@ abbrev pub takes : Deck → Totals → ℕ → List ℕ → Printed
 takes m t room bs =
     takesBy (sound (m .ear .board .st)) (near (m .spot) t (length bs) room) (roomy (m .ear .board .recv) (m .ear .board .word)) m t room bs
 
--- a deck's tape
+-- the deck of a tape and the buffers lent ..
+abbrev pub deckOf : Tape → List ℕ → List ℕ → Deck
+deckOf t recv word = deck (t .spot) (ear (t .channel) (board (t .receiver) recv word))
+
+-- .. and a deck's tape
 abbrev pub tapeOf : Deck → Tape
 tapeOf m = record { spot = m .spot; channel = m .ear .channel; receiver = m .ear .board .st }
 

@@ -7,7 +7,7 @@ ghost use Rattle.listed.specs.Apart.{start, on, wrong, left, next, inStream, we
 ghost use Rattle.recording.specs.Printed.{far};
 ghost use Rattle.base.specs.Choice.{pick};
 ghost use Rattle.recording.specs.Deck.{channelAt};
-ghost use Rattle.recording.specs.Taken.{leftAt, runOf, onTo, skipped};
+ghost use Rattle.recording.specs.Private.{leftAt, runOf, onTo, skipped};
 use listed::Place;
 use listed::Spot;
 

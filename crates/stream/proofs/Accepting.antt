@@ -14,11 +14,11 @@ use Rattle.base.proofs.Bytes.{each-append}
 use Rattle.fcs.specs.Fcs.{fcs}
 use Rattle.fcs.proofs.Laws.{fcs-lt}
 use Rattle.packet.specs.Contents.{contents, checked, opening, two}
-use Rattle.packet.specs.Escape.{escape, escapeByte}
+use Rattle.packet.specs.Escape.{escape, escapeByte, NoFlag}
 use Rattle.packet.specs.Frame.{judge}
 use Rattle.packet.proofs.Escaping.{Kind, kind, escape-other}
 use Rattle.packet.proofs.Escaping.Kind.{flag, esc, other}
-use Rattle.packet.proofs.Round.{NoFlag, no-flag, round}
+use Rattle.packet.proofs.Round.{no-flag, round}
 use Rattle.stream.specs.Sender.{Packet, Accepted, rawOf, delivered}
 
 bytes-byte : {b : ℕ} → Kind b → IsByte b → Bytes (escapeByte b)

@@ -9,9 +9,9 @@ use Rattle.base.specs.Calls.{With, owesNone, handsNone}
 use Rattle.base.proofs.Calls.{none-owed, with-hear}
 use Rattle.packet.specs.Escape.{flag}
 use Rattle.packet.specs.Contents.{rawLimit}
-use Rattle.packet.specs.Frame.{Told}
-use Rattle.packet.proofs.Judging.{There, payload-there}
-use Rattle.stream.specs.Called.{Held, shut, takeBy, takeByte, sound, readBy, readCall}
+use Rattle.packet.specs.Frame.{Told, There}
+use Rattle.packet.proofs.Judging.{payload-there}
+use Rattle.stream.specs.Called.{Held, shut, takeBy, takeByte, sound, readBy, readCall, ThereHeld}
 
 -- of an answer, if there is one, and the buffer that comes with it
 abbrev pub ThereIf : Option Told → List ℕ → Type 0
@@ -30,9 +30,6 @@ there-by true true h b = there-shut (eqb (h .st .raw) 0) h
 
 pub there-byte : (h : Held) (b : ℕ) → ThereIf (takeByte h b .0) (takeByte h b .1 .recv)
 there-byte h b = there-by (eqb b flag) (h .st .opened) h b
-
-abbrev pub ThereHeld : Told → Held → Type 0
-ThereHeld a h = There a (h .recv)
 
 there-with : (o : Option Told) (h : Held) → ThereIf o (h .recv) → With ThereHeld o h
 there-with none h t = tt

@@ -1,6 +1,5 @@
 -- States and buffers that pass refusals 10 and 11.
--- Fine              what the two ask, as facts
--- fine-is, fine-of  they are passed exactly then
+-- fine-is, fine-of  they are passed exactly where `Fine` holds
 -- fine-take         every byte keeps it
 use Prim.Native.Nat.{ℕ, suc, _≤_, _<_, min}
 use native.Mathlib.Omega.{arith}
@@ -15,12 +14,7 @@ use Rattle.packet.specs.Contents.{rawLimit}
 use Rattle.packet.specs.Escape.{flag}
 use Rattle.packet.proofs.Judging.{length-closed}
 use Rattle.stream.specs.declared.frame.Frame.{Frame}
-use Rattle.stream.specs.Called.{Held, held, begun, store, shut, takeBy, takeByte, sound}
-
-pub record Fine (h : Held) : Type 0 where
-  pub stored : h .st .stored ≡ min (h .st .raw) rawLimit
-  pub raw : h .st .raw ≤ suc rawLimit
-  pub room : rawLimit ≤ length (h .recv)
+use Rattle.stream.specs.Called.{Held, held, begun, store, shut, takeBy, takeByte, sound, Fine}
 
 pub fine-is : (h : Held) → Fine h → sound (h .st) ≡ true
 fine-is h f = rw (eq-eqb (h .st .stored) (min (h .st .raw) rawLimit) (f .stored), le-leb (h .st .raw) (suc rawLimit) (f .raw)) refl

@@ -16,10 +16,9 @@ use Rattle.base.proofs.Lists.{next, over}
 use Rattle.base.proofs.UpTo.{up-to-more, up-to-over, up-to-short}
 use Rattle.base.proofs.Tests.{by-eq, by-le}
 use Rattle.packet.specs.Contents.{rawLimit}
-use Rattle.packet.specs.Escape.{flag}
-use Rattle.packet.proofs.Round.{NoFlag}
+use Rattle.packet.specs.Escape.{flag, NoFlag}
 use Rattle.stream.specs.declared.frame.Frame.{Frame}
-use Rattle.stream.specs.Runs.{before, countedBy, counted, gatheredBy}
+use Rattle.stream.specs.Private.{before, countedBy, counted, gatheredBy}
 
 -- ---- the loop that stores
 module _ (l r : List ℕ) (at i : ℕ) {t : List ℕ} (inv : sets r (at + i) (before (drop i l)) ≡ t) where

@@ -11,13 +11,13 @@ use native.Mathlib.Omega.{arith}
 use lib.ListN.{length, take, drop, set, length-append, take-append-drop}
 use lib.Seq.{take-all, take-at, length-take-le}
 use borrow.Rule.Slice.PartMut.{putMid}
-use Rattle.base.specs.Written.{Outcome, outcome, write}
+use Rattle.base.specs.Written.{Outcome, outcome, write, Keeps}
 use Rattle.base.specs.declared.Written.{Written}
 use Rattle.base.specs.declared.Written.the-variants.{Wrote}
 use Rattle.base.proofs.Lists.{over}
 use Rattle.base.proofs.Parts.{tail-is, tail-put}
 use Rattle.base.proofs.Tests.{by-le}
-use Rattle.base.proofs.Writing.{write-fits, copied-fits, write-is, Keeps}
+use Rattle.base.proofs.Writing.{write-fits, copied-fits, write-is}
 use Rattle.packet.specs.Escape.{flag}
 use Rattle.packet.specs.Sender.{sent, framed}
 use Rattle.packet.proofs.Sending.{writing-keeps, wrote-is}

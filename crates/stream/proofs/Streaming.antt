@@ -16,9 +16,8 @@ use borrow.Author.Tests.{ne-eqb}
 use Rattle.base.specs.Bytes.{Each}
 use Rattle.base.specs.Calls.{tell}
 use Rattle.base.proofs.Calls.{run-append}
-use Rattle.packet.specs.Escape.{flag}
+use Rattle.packet.specs.Escape.{flag, NoFlag}
 use Rattle.packet.specs.Frame.{judge}
-use Rattle.packet.proofs.Round.{NoFlag}
 use Rattle.stream.specs.Reader.{Reading, waiting, inside, closing, read, reads}
 use Rattle.stream.specs.Sender.{Packet, Accepted, rawOf, behind, stream, delivered, openedFrom}
 use Rattle.stream.proofs.Accepting.{clear, some-raw, judged-is}

@@ -12,25 +12,25 @@ use mathlib.Core.Bool.{Bool, true, false, not, _&&_, false≢true}
 use mathlib.Core.List.{List, [], _∷_, _++_}
 use mathlib.Core.Option.{Option, some, none}
 use lib.ListN.{length, take, drop, set}
-use lib.Seq.{sets, take-nil, drop-drop}
+use lib.Seq.{sets, length-sets, take-nil, drop-drop}
 use lib.Dec.{eqb, ltb, leb}
 use borrow.Author.Tests.{eq-eqb, ne-eqb, ltb-true, ltb-false, le-leb, lt-leb}
 use Rattle.base.specs.Calls.{unless, oneMore, after}
 use Rattle.base.proofs.Calls.{after-none, after-one, after-more, after-after}
 use Rattle.base.proofs.Lists.{over}
 use Rattle.packet.specs.Contents.{rawLimit}
-use Rattle.packet.specs.Escape.{flag}
-use Rattle.packet.specs.Frame.{Told, refusal, judged, closed}
+use Rattle.packet.specs.Escape.{flag, NoFlag}
+use Rattle.packet.specs.Frame.{Told, refusal, judged, Closed, closed, judging}
+use Rattle.packet.proofs.Judging.{judging-is}
 use Rattle.packet.specs.declared.frame.Judged.{Judged}
 use Rattle.packet.specs.declared.frame.Judged.the-variants.{Refused}
-use Rattle.packet.proofs.Round.{NoFlag}
 use Rattle.stream.specs.declared.frame.Frame.{Frame}
 use Rattle.stream.specs.declared.frame.Read.{Read}
 use Rattle.stream.specs.declared.frame.Turn.{Turn}
 use Rattle.stream.specs.declared.frame.Heard.the-variants.{More, Said}
-use Rattle.stream.specs.Called.{Held, held, begun, store, shut, takeBy, readOn, sound, readBy, readCall, readOf, ReadIs}
-use Rattle.stream.specs.Runs.{before, countedBy, counted, gathered, closes, TurnBy, TurnIs}
-use Rattle.stream.proofs.Fine.{Fine, fine-is, fine-take}
+use Rattle.stream.specs.Called.{Held, held, begun, store, shut, takeBy, readOn, sound, readBy, readCall, readOf, ReadIs, Fine}
+use Rattle.stream.specs.Private.{before, countedBy, counted, gatheredBy, gathered, closes, TurnBy, TurnIs}
+use Rattle.stream.proofs.Fine.{fine-is, fine-take}
 use Rattle.stream.proofs.Runs.{before-rest, before-stop, before-stops, no-flag-before}
 
 -- the state behind a run
@@ -116,16 +116,23 @@ opens-by true true h ys o e c =
 pub flag-opens : (h : Held) (ys : List ℕ) → closes (h .st) ≡ false → readOn h (flag ∷ ys) ≡ oneMore (readOn (held begun (h .recv)) ys)
 flag-opens h ys c = flag-read h ys ∙ opens-by (h .st .opened) (eqb (h .st .raw) 0) h ys refl refl c
 
-sound-counted : (o : Bool) (h : Held) → Fine h → (n : ℕ) → sound (countedBy o (h .st) n) ≡ true
-sound-counted false h f n = fine-is h f
-sound-counted true h f n =
-    fine-is (held (countedBy true (h .st) n) (h .recv)) (record { stored = omega arith; raw = omega arith; room = f .room })
+-- a run keeps what 10 and 11 ask
+fine-by : (o : Bool) (h : Held) → Fine h → (xs : List ℕ) → Fine (held (countedBy o (h .st) (length xs)) (gatheredBy o (h .st .raw) xs (h .recv)))
+fine-by false h f xs = f
+fine-by true h f xs = record {
+  stored = omega arith;
+  raw = omega arith;
+  room = rw (length-sets (h .recv) (min (h .st .raw) rawLimit) (take (rawLimit - min (h .st .raw) rawLimit) xs)) (f .room);
+}
 
 -- ---- a turn: n bytes before the first flag of l
 module _ (h : Held) (f : Fine h) (l : List ℕ) (some-bytes : 0 < length l) {n : ℕ} {g : Frame} {k : List ℕ}
     (en : n ≡ length (before l)) (eg : g ≡ counted (h .st) n) (ek : k ≡ gathered (h .st) (before l) (h .recv)) where
   is-ran : held g k ≡ ran h (before l)
   is-ran = λ i. held ((eg ∙ ap (counted (h .st)) en) i) (ek i)
+
+  fine-turn : Fine (held g k)
+  fine-turn = subst Fine (sym is-ran) (fine-by (h .st .opened) h f (before l))
 
   -- the call, behind the run
   behind : readOn h l ≡ after n (readOn (held g k) (drop n l))
@@ -135,7 +142,7 @@ module _ (h : Held) (f : Fine h) (l : List ℕ) (some-bytes : 0 < length l) {n :
 
   pub turn-end : n ≡ length l → TurnIs h l (record { done = false; heard = More; taken = n; frame = g }) k
   turn-end e =
-      record { means = behind; some = omega arith; within = omega arith; again = ap sound eg ∙ sound-counted (h .st .opened) h f n }
+      record { means = behind; some = omega arith; within = omega arith; again = fine-is (held g k) fine-turn }
 
   module _ (stop : n ≡ length l → ⊥) where
     short : n < length l
@@ -144,9 +151,13 @@ module _ (h : Held) (f : Fine h) (l : List ℕ) (some-bytes : 0 < length l) {n :
     at-flag : drop n l ≡ flag ∷ drop (n + 1) l
     at-flag = ap (λ (m : ℕ). drop m l) en ∙ before-stop l (omega (arith, short)) ∙ ap (λ (m : ℕ). flag ∷ drop (m + 1) l) (sym en)
 
-    pub turn-answer : {j : Judged} {k′ : List ℕ} {g′ : Frame} → closes g ≡ true → g′ ≡ begun → j ≡ judged (closed k (g .raw) .told) → k′ ≡ closed k (g .raw) .recv
+    pub turn-answer : {j : Judged} {k′ : List ℕ} {g′ : Frame} → closes g ≡ true → g′ ≡ begun
+        → (j ≡ judged (judging k (g .raw) .told)) × (k′ ≡ judging k (g .raw) .recv)
         → TurnIs h l (record { done = true; heard = Said j; taken = n + 1; frame = g′ }) k′
-    turn-answer {j} {k′} {g′} c eb ej er =
+    turn-answer {j} {k′} {g′} c eb e =
+        let is = judging-is k (g .raw) (fine-turn .raw) (fine-turn .room) in
+        let ej = e .0 ∙ ap (λ (x : Closed). judged (x .told)) is in
+        let er = e .1 ∙ ap (λ (x : Closed). x .recv) is in
         let told : readOn h l ≡ (some (closed k (g .raw) .told), n + 1, held begun (closed k (g .raw) .recv)) =
         behind ∙ ap (λ (x : List ℕ). after n (readOn (held g k) x)) at-flag ∙ ap (after n) (flag-closes (held g k) (drop (n + 1) l) c) in
         record {

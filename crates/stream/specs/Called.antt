@@ -4,19 +4,22 @@
 -- takeByte           one byte
 -- readAll            what a byte string means: its answers, and state and buffer behind it
 -- readCall, ReadIs   one call, and that the code's results are those
+-- EveryCut           a byte string, cut in every way
+-- Fine               states and buffers that pass 10 and 11
+-- ThereHeld          that a delivered payload stands in the buffer
 -- inUse              the final state that counts
 -- heldOf             the state of the reader without a limit, in numbers and the buffer
-use Prim.Native.Nat.{ℕ, suc, min}
+use Prim.Native.Nat.{ℕ, suc, _≤_, min}
 use mathlib.Core.Path.{_≡_}
 use mathlib.Core.Bool.{Bool, true, false, _&&_}
 use mathlib.Core.List.{List, _++_}
 use mathlib.Core.Option.{Option, some, none}
 use lib.ListN.{length, take, set}
 use lib.Dec.{eqb, ltb, leb}
-use Rattle.base.specs.Calls.{owesNone, handsNone, all, hear}
+use Rattle.base.specs.Calls.{joined, owesNone, handsNone, all, hear, Yields}
 use Rattle.packet.specs.Contents.{rawLimit}
 use Rattle.packet.specs.Escape.{flag}
-use Rattle.packet.specs.Frame.{Told, refusal, judged, closed}
+use Rattle.packet.specs.Frame.{Told, refusal, judged, closed, There}
 use Rattle.stream.specs.Reader.{Reading, waiting, inside}
 use Rattle.stream.specs.declared.frame.Frame.{Frame}
 use Rattle.stream.specs.declared.frame.Read.{Read}
@@ -73,6 +76,12 @@ readOn = hear owesNone handsNone takeByte
 abbrev pub sound : Frame → Bool
 sound f = eqb (f .stored) (min (f .raw) rawLimit) && leb (f .raw) (suc rawLimit)
 
+-- state and buffer pass 10 and 11
+pub record Fine (h : Held) : Type 0 where
+  pub stored : h .st .stored ≡ min (h .st .raw) rawLimit
+  pub raw : h .st .raw ≤ suc rawLimit
+  pub room : rawLimit ≤ length (h .recv)
+
 -- by: does it pass 10, does it pass 11 (receive buffer under 8,205 bytes)
 abbrev pub readBy : Bool → Bool → Held → List ℕ → Option Told × ℕ × Held
 readBy false roomy h bs = (some (refusal 10), 0, h)
@@ -82,6 +91,16 @@ readBy true true h bs = readOn h bs
 -- one call
 abbrev pub readCall : Held → List ℕ → Option Told × ℕ × Held
 readCall h bs = readBy (sound (h .st)) (leb rawLimit (length (h .recv))) h bs
+
+-- bs is read by a fresh reader, cut in every way, with every receive buffer that passes 11: the calls come to their end, and P holds of
+-- their answers, and of state and buffer behind them
+abbrev pub EveryCut : List ℕ → (List Told → Held → Type 0) → Type 0
+EveryCut bs P =
+    (recv : List ℕ) → rawLimit ≤ length recv → (pieces : List (List ℕ)) → joined pieces ≡ bs → Yields readCall (held fresh recv) pieces P
+
+-- a delivered payload stands in the buffer that comes back
+abbrev pub ThereHeld : Told → Held → Type 0
+ThereHeld a h = There a (h .recv)
 
 -- the code's answer
 abbrev pub answered : Option Told → Heard

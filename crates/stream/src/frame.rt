@@ -7,7 +7,7 @@ ghost use lib.Seq.{sets};
 ghost use Rattle.packet.specs.Contents.{rawLimit};
 ghost use Rattle.packet.specs.Frame.{part};
 ghost use Rattle.stream.specs.Called.{held, fresh, begun, readOn, readCall, sound, ReadIs};
-ghost use Rattle.stream.specs.Runs.{before, counted, gathered, closes, TurnIs};
+ghost use Rattle.stream.specs.Private.{before, counted, gathered, closes, TurnIs};
 use base::Refusal;
 use packet::Judged;
 use packet::Packet;
@@ -72,7 +72,7 @@ impl Frame {
     pub const RAW: usize = Packet::RAW;
 
     /// The raw count that means "over".
-    pub const OVER: usize = Self::RAW + 1;
+    pub const OVER: usize = Packet::OVER;
 
     /// Waiting for a flag.
     pub fn fresh() -> Self

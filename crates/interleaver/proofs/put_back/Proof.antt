@@ -5,7 +5,8 @@ use native.Mathlib.Omega.{arith}
 use lib.ListN.{length, getD, length-set, length-replicate}
 use borrow.Author.Count.{below-none}
 use borrow.Author.Needs.{needs}
-use Rattle.interleaver.specs.Places.{cell, Placed}
+use Rattle.interleaver.specs.Places.{cell}
+use Rattle.interleaver.specs.Private.{Placed}
 use Rattle.interleaver.proofs.Steps.{first-placed, placed-below, placed-cell, put-more}
 use Rattle.interleaver.proofs.put_back.Statement.{statement}
 use Rattle.interleaver.proofs.put_back.Tie as tie

@@ -5,7 +5,8 @@ use Prim.Native.Nat.{ℕ, _≤_, _-_}
 use native.Mathlib.Omega.{arith}
 use lib.ListN.{length, getD, drop, length-set}
 use borrow.Author.Needs.{needs}
-use Rattle.interleaver.specs.Places.{cell, Placed}
+use Rattle.interleaver.specs.Places.{cell}
+use Rattle.interleaver.specs.Private.{Placed}
 use Rattle.interleaver.specs.Matrix.{tab}
 use Rattle.interleaver.proofs.Tab.{write-none, write-more, write-done}
 use Rattle.interleaver.proofs.Steps.{first-placed, placed-below, placed-cell}

@@ -1,6 +1,6 @@
 -- `recording::spot::left_of` meets its contract.
 use borrow.Author.Needs.{needs}
-use Rattle.recording.specs.Taken.{leftAt}
+use Rattle.recording.specs.Private.{leftAt}
 use mathlib.Core.Path.{sym, ap}
 use native.Mathlib.Omega.{arith}
 use Rattle.recording.proofs.spot.left_of.Statement.{statement}

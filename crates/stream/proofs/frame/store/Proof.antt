@@ -7,7 +7,7 @@ use lib.ListN.{length, drop, length-set}
 use lib.Seq.{sets}
 use borrow.Author.Needs.{needs}
 use Rattle.base.proofs.UpTo.{up-to-here, up-to-over, count-more, count-done}
-use Rattle.stream.specs.Runs.{before}
+use Rattle.stream.specs.Private.{before}
 use Rattle.stream.proofs.Runs.{store-more, store-done}
 use Rattle.stream.proofs.frame.store.Statement.{statement}
 use Rattle.stream.proofs.frame.store.Tie as tie

@@ -3,7 +3,7 @@ use mathlib.Core.Path.{_≡_}
 use Prim.Native.Nat.{_-_}
 use lib.ListN.{length, drop}
 use borrow.Author.Needs.{needs}
-use Rattle.channel.specs.Phases.{hunted}
+use Rattle.channel.specs.Private.{hunted}
 use Rattle.channel.proofs.Hearing.{latest, latest-none, hunt-next, hunt-stop, hunt-done}
 use Rattle.channel.proofs.hunting.Hunting.hunt.Statement.{statement}
 use Rattle.channel.proofs.hunting.Hunting.hunt.Tie as tie

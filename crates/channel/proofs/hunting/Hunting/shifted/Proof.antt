@@ -3,7 +3,7 @@ use mathlib.Core.Path.{_≡_, refl}
 use Prim.Native.Nat.{_-_}
 use lib.ListN.{length, drop}
 use borrow.Author.Needs.{needs}
-use Rattle.channel.specs.Phases.{shifts}
+use Rattle.channel.specs.Private.{shifts}
 use Rattle.channel.proofs.Hearing.{shifts-next, shifts-done}
 use Rattle.channel.proofs.hunting.Hunting.shifted.Statement.{statement}
 use Rattle.channel.proofs.hunting.Hunting.shifted.Tie as tie

@@ -2,7 +2,7 @@
 use mathlib.Core.Path.{sym, ap}
 use mathlib.Core.Bool.{Bool}
 use borrow.Author.Needs.{needs}
-use Rattle.stream.specs.Runs.{countedBy}
+use Rattle.stream.specs.Private.{countedBy}
 use Rattle.stream.proofs.Runs.{counted-is}
 use Rattle.stream.proofs.frame.Frame.counted.Statement.{statement}
 use Rattle.stream.proofs.frame.Frame.counted.Tie as tie

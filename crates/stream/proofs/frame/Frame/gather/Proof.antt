@@ -7,7 +7,7 @@ use native.Mathlib.Nat.{sub-zero}
 use lib.ListN.{length}
 use borrow.Author.Needs.{needs}
 use Rattle.base.proofs.Parts.{tail-is}
-use Rattle.stream.specs.Runs.{before, gatheredBy}
+use Rattle.stream.specs.Private.{before, gatheredBy}
 use Rattle.stream.proofs.Runs.{gather-found, gather-none}
 use Rattle.stream.proofs.frame.Frame.gather.Statement.{statement}
 use Rattle.stream.proofs.frame.Frame.gather.Tie as tie

@@ -39,7 +39,7 @@ turn-spec =
     let a = start .args in
     turn-answer (held (a .self) (a .recv .now)) (fine-of (a .self) (a .recv .now) (start .pre .0) (start .pre .1)) (a .bytes .now) (start .pre .2)
     (g .gather .ensures .0) (else .before .counted .ensures) (g .gather .ensures .1) (else .if1 .left)
-    (sym (closed .before .before .before .closes .ensures) ∙ closed .before .before .if2 .taken) (c .begun .ensures) (closed .judge .ensures .0) (closed .judge .ensures .1))
+    (sym (closed .before .before .before .closes .ensures) ∙ closed .before .before .if2 .taken) (c .begun .ensures) (closed .judge .ensures))
     (λ c.
     let else = c .before .before in
     let g = else .before .before .before .before in

@@ -1,4 +1,4 @@
--- What the two tables of the code hold.
+-- What private functions alone are promised by: what the two tables of the code hold.
 -- Powers   the powers of alpha
 -- Logs     the logarithms of all elements but zero
 use mathlib.Core.Path.{_≡_}

@@ -1,4 +1,4 @@
--- What the code does phase by phase, many bytes at once: its private functions are promised by these.
+-- What private functions alone are promised by: what the code does phase by phase, many bytes at once.
 -- shifts, hunted                       bytes among the last four, up to the marker
 -- PhaseBy                              a phase ends the call, or the call goes on behind it
 -- HandedIs, SoughtIs, FilledIs         the phases

@@ -1,3 +1,4 @@
+-- What private functions alone are promised by, here and above.
 -- Laid   bytes stored in a buffer from a place on: what every function that stores byte after byte promises
 use mathlib.Core.Path.{_≡_}
 use mathlib.Core.List.{List}

@@ -1,11 +1,12 @@
--- What the code does with many bytes at once: its private functions are promised by these.
+-- What private functions alone are promised by: what the code does with many bytes at once, and with a line.
 -- runOf, skipped       a run of stream bytes
 -- earHear, EarIs       one call on stream bytes
 -- TurnIs, HeardIs      a turn of a call on a recording's bytes, and the call
-use Prim.Native.Nat.{ℕ, _+_, _-_, _≤_, _<_, min}
+-- Below, StepIs        no total is at its width; a step of a call gives one line at most
+use Prim.Native.Nat.{ℕ, _+_, _-_, _≤_, _<_, min, suc}
 use mathlib.Core.Path.{_≡_}
 use mathlib.Core.Bool.{Bool, true, false}
-use mathlib.Core.List.{List}
+use mathlib.Core.List.{List, _++_}
 use mathlib.Core.Option.{Option}
 use lib.Dec.{eqb, ltb}
 use lib.ListN.{length, drop}
@@ -25,6 +26,9 @@ use Rattle.recording.specs.declared.tape.Tape.{Tape}
 use Rattle.recording.specs.declared.tape.Heard.{Heard}
 use Rattle.recording.specs.declared.tape.Turn.{Turn}
 use Rattle.recording.specs.Deck.{Ear, ear, earOwes, earHand, earEat, channelAt, Deck, deck, deckHear}
+use Rattle.recording.specs.declared.recording.Totals.{Totals}
+use Rattle.recording.specs.declared.recording.Step.{Step}
+use Rattle.recording.specs.Printed.{far, near, printed, behind, print, deckOf}
 
 -- stream bytes left in the record, this one with them
 abbrev pub leftAt : Place → ℕ
@@ -69,10 +73,6 @@ isMore (Repaired n) = false
 isMore Beyond = false
 isMore LockLost = false
 
--- the deck of a tape and the buffers lent
-abbrev pub deckOf : Tape → List ℕ → List ℕ → Deck
-deckOf t recv word = deck (t .spot) (ear (t .channel) (board (t .receiver) recv word))
-
 -- behind a byte that is no stream byte
 abbrev pub headed : Tape → ℕ → Tape
 headed t b = record { spot = next (t .spot) b; channel = channelAt (t .spot .place) b (t .channel); receiver = t .receiver }
@@ -100,3 +100,26 @@ TurnIs m bs t l k = TurnBy (t .done) m bs t l k × Stays m bs (t .taken) (t .tap
 -- one call
 abbrev pub HeardIs : Deck → List ℕ → Heard → List ℕ → List ℕ → Type 0
 HeardIs m bs r l k = CallIs (deckHear m bs) (r .answer) (r .taken) (r .tape) l k × Stays m bs (r .taken) (r .tape) l k
+
+-- no total is at its width
+abbrev pub Below : Totals → Type 0
+Below t = (t .packets < far) × (t .refused < far) × (t .damaged < far) × (t .lost < far)
+
+-- by: does the step end the call. Else the call goes on behind it with less room
+abbrev pub StepBy : Bool → Deck → Totals → List ℕ → ℕ → Step → List ℕ → List ℕ → List ℕ → Type 0
+StepBy true m t bs room x text l k =
+    (f : ℕ) → room ≤ f → print f room m t bs ≡ behind (x .taken) text (printed (x .wants) (deckOf (x .next .tape) l k) (x .next .totals))
+StepBy false m t bs room x text l k =
+    ((f : ℕ) → room ≤ suc f
+    → print (suc f) room m t bs ≡ behind (x .taken) text (print f (room - length text) (deckOf (x .next .tape) l k) (x .next .totals) (drop (x .taken) bs)))
+    × (0 < length text)
+
+-- l and k are the receiver's buffers and out′ is the output behind the step
+pub record StepIs (m : Deck) (t : Totals) (bs out : List ℕ) (x : Step) (l k out′ : List ℕ) : Type 0 where
+  pub text : List ℕ
+  pub means : StepBy (x .done) m t bs (length out) x text l k
+  pub written : x .written ≡ length text
+  pub fits : length text ≤ length out
+  pub output : out′ ≡ text ++ drop (length text) out
+  pub stays : Stays m bs (x .taken) (x .next .tape) l k
+  pub nears : near (x .next .tape .spot) (x .next .totals) (length bs - x .taken) (length out - x .written) ≡ true

@@ -1,4 +1,4 @@
--- What the code does run by run, from flag to flag: its private functions are promised by these.
+-- What private functions alone are promised by: what the code does run by run, from flag to flag.
 -- before     the bytes before the first flag
 -- counted    the state after n raw bytes more
 -- gathered   the receive buffer after raw bytes more
