@@ -1,13 +1,12 @@
 -- Demand 1, in the owner's words:
---   "Sender and receiver accept every input and come to an end. Bad input gets a numbered refusal from paper 01, never trust in the
+--   "Sender and receiver accept every input and come to an end. Bad input gets a numbered refusal from document 01, never trust in the
 --   caller. A refused call changes no lent memory; a refused frame leaves what that paper says."
--- Each function promises the definition that stands here (`writing`, `readCall`, `hearCall` ..): see its `ensures`.
--- ..-accepts    every input is accepted, and the call ends; of the other public functions: Accepting
--- ..-ends       a byte string, however cut, is read to its end by so many calls
+-- Each function promises the definition that stands here (`writing`, `readCall`, `hearCall` ..): Promises has it, function by function.
+-- ..-ends       a byte string, however cut, is read to its end
 -- ..-refusals   the paper's table, row by row: each number exactly when its row applies and none above it
 -- ..-keeps      what a refused call leaves
 -- frame-..      what a refused frame leaves
-use Prim.Native.Nat.{ℕ, _-_, _*_, _≤_, _<_}
+use Prim.Native.Nat.{ℕ, suc, _-_, _*_, _≤_, _<_}
 use mathlib.Core.Path.{_≡_, refl}
 use mathlib.Core.Bool.{Bool, true, false}
 use mathlib.Core.Logic.{_⊎_, _≢_}
@@ -16,7 +15,7 @@ use mathlib.Core.Option.{some}
 use lib.Dec.{eqb, ltb}
 use lib.ListN.{length, take, drop}
 use borrow.Author.Tests.{eqb-true, eqb-false, ltb-true}
-use Rattle.base.specs.Calls.{joined, ReadsAll}
+use Rattle.base.specs.Calls.{joined, Yields}
 use Rattle.base.specs.Written.{write, Keeps}
 use Rattle.base.proofs.Writing.{write-keeps}
 use Rattle.parity.specs.Word.{clean, remainder}
@@ -32,80 +31,54 @@ use Rattle.interleaver.proofs.Turning.{turning-keeps}
 use Rattle.packet.specs.Contents.{payloadLimit, rawLimit}
 use Rattle.packet.specs.Escape.{flag, escape, plain}
 use Rattle.packet.specs.Port.{barred}
-use Rattle.packet.specs.Frame.{Told, refusal, closed, judge}
+use Rattle.packet.specs.Frame.{refusal, closed, judging, judge}
 use Rattle.packet.specs.Sender.{sent, writing}
 use Rattle.packet.proofs.Judging.{closed-keeps}
 use Rattle.packet.proofs.Sending.{writing-keeps}
-use Rattle.stream.specs.Called.{Held, begun, takeBy, takeByte, shut, readAll, readCall, Fine}
+use Rattle.stream.specs.Called.{Held, begun, takeBy, takeByte, shut, readAll, readCall, Fine as FineFrame}
 use Rattle.stream.specs.Sender.{appending}
+use Rattle.stream.proofs.Cutting.{read-yields}
 use Rattle.stream.proofs.Sending.{appending-keeps}
-use Rattle.stream.proofs.Cutting.{read-ends}
-use Rattle.channel.specs.Channel.{Event, said}
-use Rattle.channel.specs.Called.{Board, board, freshReceiver, hearCall}
+use Rattle.channel.specs.Channel.{said}
+use Rattle.channel.specs.Called.{Board, hearAll, hearCall, Fine}
 use Rattle.channel.specs.Sender.{marker, messageBytes, wordBytes, wordOf, marked, marking, sending}
+use Rattle.channel.proofs.Cutting.{hear-yields}
 use Rattle.channel.proofs.Sending.{marking-keeps, sending-keeps}
-use Rattle.channel.proofs.Demands.{ends}
 use Rattle.recording.specs.declared.recording.Totals.{Totals}
 use Rattle.recording.specs.declared.recording.Recording.{Recording}
 use Rattle.recording.specs.declared.recording.Wants.the-variants.{Refused}
 use Rattle.recording.specs.Deck.{Deck}
 use Rattle.recording.specs.Printed.{printed, takes, lastOf, finishing}
-use Rattle.demands.specs.Accepts.{Accepts}
 use Rattle.demands.specs.Table.{Exact}
 use Rattle.demands.specs.Refusals.{Unusable, frameRows, FrameBeyond, Beyond, TapeBeyond, Short, ByFrame, ByCall, ByCheck, ByRepair, ByRead, ByHear, ByTake}
 use Rattle.demands.proofs.Rows.{row, row-not, not-less, not-same, refuses, wrote, refuses-word, found, repair-as-check, not-whole, is-whole}
-use Rattle.demands.proofs.Frames.{barred-is, free-is, closed-exact, judge-exact, undone}
+use Rattle.demands.proofs.Frames.{barred-is, free-is, closed-exact, judging-exact, judging-same, judge-exact, undone}
 use Rattle.demands.proofs.Called.{read-given, hear-given, read-exact, read-same, hear-exact, hear-same}
 use Rattle.demands.proofs.Taken.{take-exact, take-same}
-use Rattle.packet.proofs.write as write-call
-use Rattle.stream.proofs.begin as begin-call
-use Rattle.stream.proofs.append as append-call
-use Rattle.stream.proofs.frame.Frame.read as read-call
-use Rattle.stream.proofs.payload as payload-call
-use Rattle.channel.proofs.mark as mark-call
-use Rattle.channel.proofs.send as send-call
-use Rattle.channel.proofs.receiver.Receiver.hear as hear-call
 
--- ---- "Sender and receiver accept every input and come to an end": the sender's calls ..
-pub write-accepts : Accepts write-call.Statement.statement write-call.Kinds.ps write-call.Reads.Asked
-write-accepts = (λ M. write-call.Met.met, λ κs a. tt)
+-- ---- "Sender and receiver accept every input and come to an end": of each call that is the first half of its law in Promises. Reading comes to
+-- an end too: the pieces of every byte string, each handed in until "more wanted", from every state and buffers that pass 10 and 11, with a
+-- word half handed on too (that is owed with the first piece); the answers are those of the uncut string ..
+pub hear-ends : (c : Board) → Fine c → (p : List ℕ) (ps : List (List ℕ)) → Yields hearCall c (p ∷ ps) λ es d. (es, d) ≡ hearAll c (joined (p ∷ ps))
+hear-ends = hear-yields
 
-pub begin-accepts : Accepts begin-call.Statement.statement begin-call.Kinds.ps begin-call.Reads.Asked
-begin-accepts = (λ M. begin-call.Met.met, λ κs a. tt)
-
-pub append-accepts : Accepts append-call.Statement.statement append-call.Kinds.ps append-call.Reads.Asked
-append-accepts = (λ M. append-call.Met.met, λ κs a. tt)
-
-pub mark-accepts : Accepts mark-call.Statement.statement mark-call.Kinds.ps mark-call.Reads.Asked
-mark-accepts = (λ M. mark-call.Met.met, λ κs a. tt)
-
-pub send-accepts : Accepts send-call.Statement.statement send-call.Kinds.ps send-call.Reads.Asked
-send-accepts = (λ M. send-call.Met.met, λ κs a. tt)
-
--- .. and the receiver's
-pub read-accepts : Accepts read-call.Statement.statement read-call.Kinds.ps read-call.Reads.Asked
-read-accepts = (λ M. read-call.Met.met, λ κs a. tt)
-
-pub payload-accepts : Accepts payload-call.Statement.statement payload-call.Kinds.ps payload-call.Reads.Asked
-payload-accepts = (λ M. payload-call.Met.met, λ κs a. tt)
-
-pub hear-accepts : Accepts hear-call.Statement.statement hear-call.Kinds.ps hear-call.Reads.Asked
-hear-accepts = (λ M. hear-call.Met.met, λ κs a. tt)
-
--- and reading comes to an end: the pieces of every byte string, each handed in until "more wanted", on the channel ..
-pub hear-ends : (recv word : List ℕ) → rawLimit ≤ length recv → wordBytes ≤ length word → (pieces : List (List ℕ))
-    → (es : List Event) × (d : Board) × ReadsAll hearCall (board freshReceiver recv word) pieces es d
-hear-ends = ends
-
--- .. and on the plain stream, from every state and buffer that pass 10 and 11
-pub plain-ends : (h : Held) → Fine h → (pieces : List (List ℕ)) → (ts : List Told) × (d : Held) × ReadsAll readCall h pieces ts d
-plain-ends h f pieces = (readAll h (joined pieces) .0, readAll h (joined pieces) .1, read-ends h f pieces)
+-- .. and on the plain stream
+pub plain-ends : (h : Held) → FineFrame h → (pieces : List (List ℕ)) → Yields readCall h pieces λ ts g. (ts, g) ≡ readAll h (joined pieces)
+plain-ends = read-yields
 
 -- ---- "Bad input gets a numbered refusal": a frame, of which m raw bytes are in the receive buffer ..
 pub frame-refusals : (recv : List ℕ) (m : ℕ) → Exact ByFrame (closed recv m .told)
     ((1, rawLimit < m) ∷  -- more than 8,205 raw bytes
     frameRows (take m recv))  -- 2 to 8
 frame-refusals = closed-exact
+
+-- .. by the call that judges one ..
+pub judge-refusals : (recv : List ℕ) (m : ℕ) → Exact ByFrame (judging recv m .told)
+    ((10, suc rawLimit < m) ∷  -- raw count above 8,206
+    (11, length recv < rawLimit) ∷  -- receive buffer under 8,205 bytes
+    (1, rawLimit < m) ∷  -- more than 8,205 raw bytes
+    frameRows (take m recv))  -- 2 to 8
+judge-refusals = judging-exact
 
 -- .. and of raw bytes alone: what a byte stream means is defined by these
 pub raw-refusals : (raw : List ℕ) → Exact ByFrame (judge raw) ((1, rawLimit < length raw) ∷ frameRows raw)
@@ -244,6 +217,10 @@ send-keeps-out = sending-keeps
 
 pub finish-keeps-out : (r : Recording) (out : List ℕ) → Keeps out (finishing r out)
 finish-keeps-out r out = write-keeps (lastOf r) out
+
+-- .. the call that judges a frame the receive buffer ..
+pub judge-keeps-recv : (recv : List ℕ) (m n : ℕ) → judging recv m .told ≡ refusal n → 10 ≤ n → judging recv m .recv ≡ recv
+judge-keeps-recv = judging-same
 
 -- .. and a receiving call its state and the lent buffers, with zero bytes taken
 pub read-keeps-all : (h : Held) (bs : List ℕ) (n : ℕ) → ByRead (readCall h bs) n → readCall h bs ≡ (some (refusal n), 0, h)

@@ -1,6 +1,6 @@
 -- Demand 2, in the owner's words:
---   "Packets, check values, escapes, parity words, interleaving and markers are exactly those of paper 01, writing and reading; a packet
---   the sender accepts, written and read back, is the same packet."
+--   "Packets, check values, escapes, parity words, interleaving and markers are exactly those of the NRSC-5 transport paper and RFC 1662 as
+--   document 01 condenses them, writing and reading; for each packet the sender accepts, a packet written and read back is the same packet."
 -- What they are is defined once, in the paper's words, and each function promises those definitions:
 --   packets         `contents`, `class` (crates/packet/specs/Contents.antt, Port.antt), `stream` (crates/stream/specs/Sender.antt)
 --   check values    `fcs` (crates/fcs/specs/Fcs.antt)
@@ -12,10 +12,10 @@
 --   the listing     `listing` (crates/listed/specs/Listing.antt)
 -- Here: that they hold together. The paper's numbers are in Numbers.
 -- round-trip, round-answer           a packet written and read back
+-- part-short, part-long              the part of the receive buffer that is handed out
 -- stream-trip, stream-begun, stream-appended, stream-sent, stream-filled   a whole stream, and the calls that make it
 -- word-clean, word-only, clean-at    parity words
 -- there-and-back, back-and-there     interleaving
--- answers-read                       what the code's answers say
 -- block-answer, block-only           a block's answer and the word that is read are what repair promises
 -- plain-listing, channel-listing, totals, sent-totals   the listing's lines and totals
 -- listed-by-calls, listed-at-last, finished-at-last     the listing by calls
@@ -25,8 +25,8 @@ use mathlib.Core.Path.{_≡_, refl, sym, _∙_, ap}
 use mathlib.Core.Bool.{true, false}
 use mathlib.Core.Logic.{_↔_}
 use mathlib.Core.List.{List, [], _∷_, _++_, map, append-nil}
-use mathlib.Core.Option.{some, none}
-use lib.ListN.{length, take, replicate, length-append, length-replicate}
+use lib.ListN.{length, take, drop, replicate}
+use borrow.Author.Tests.{lt-ltb, le-ltb}
 use Rattle.base.specs.Bytes.{Each, Bytes}
 use Rattle.base.specs.Calls.{joined}
 use Rattle.base.specs.Written.{write}
@@ -39,23 +39,20 @@ use Rattle.parity.proofs.Clean.{clean-roots, roots-clean, parity-clean, clean-i
 use Rattle.interleaver.specs.Matrix.{whole, interleaved, restored}
 use Rattle.interleaver.proofs.Round.{restored-interleaved, interleaved-restored}
 use Rattle.packet.specs.Escape.{flag}
-use Rattle.packet.specs.Frame.{packet, refusal, judged, closed, part}
+use Rattle.packet.specs.Frame.{judged, closed, part}
 use Rattle.packet.specs.Sender.{writing}
-use Rattle.packet.specs.declared.frame.Judged.the-variants.{Packet as Delivered, Refused}
+use Rattle.packet.specs.declared.frame.Judged.the-variants.{Packet as Delivered}
 use Rattle.stream.specs.Reader.{waiting, inside, reads}
 use Rattle.stream.specs.Sender.{Packet, Accepted, rawOf, stream, delivered, appending}
 use Rattle.stream.proofs.Streaming.{stream-read}
 use Rattle.stream.proofs.Sending.{begin-stream, append-stream}
-use Rattle.channel.specs.Sender.{messageBytes, parityBytes, wordOf, fillers, filled, sending, sent}
-use Rattle.channel.specs.Channel.{clean as cleanBlock, repaired, beyond, conditionBy, condition, mend, IsWord, Event, said, block, lost, frames, blocks, losses, asMended}
-use Rattle.channel.specs.Called.{answered}
+use Rattle.channel.specs.Sender.{parityBytes, wordOf, fillers, filled, sending, sent}
+use Rattle.channel.specs.Channel.{conditionBy, condition, mend, IsWord, Event, frames, blocks, losses, asMended}
 use Rattle.channel.proofs.Words.{block-promised, block-determined}
-use Rattle.channel.specs.declared.receiver.Answer.{Answer}
-use Rattle.channel.specs.declared.receiver.Answer.the-variants.{More, Said, Clean, Repaired, Beyond, LockLost}
 use Rattle.listed.specs.Apart.{most, records}
-use Rattle.listed.specs.Lines.{lines, isPacket, isRefusal, isDamaged, isLost, count, longest}
+use Rattle.listed.specs.Lines.{lines, isPacket, isRefusal, isDamaged, isLost, count, packetsIn, refusalsIn, damagedIn, longest}
 use Rattle.listed.specs.Listing.{heard, totalLine, listing}
-use Rattle.listed.proofs.Totals.{damaged, packets-counted, refusals-counted, each-counted, damaged-counted, lost-counted, sent-counted}
+use Rattle.listed.proofs.Totals.{packets-counted, refusals-counted, damaged-counted, lost-counted, sent-counted}
 use Rattle.packet.specs.Contents.{rawLimit}
 use Rattle.channel.specs.Sender.{wordBytes}
 use Rattle.recording.specs.declared.recording.Totals.{Totals}
@@ -81,6 +78,13 @@ pub round-answer : (p : Packet) → Accepted p → (recv : List ℕ) → take (l
     × (part (closed recv (length (rawOf p)) .recv) (length (p .payload)) ≡ p .payload)
 round-answer = judged-back
 
+-- .. "or an empty part where the buffer is too short to hold it"
+pub part-short : (recv : List ℕ) (n : ℕ) → length recv < n + 5 → part recv n ≡ []
+part-short recv n h = simp (lt-ltb _ _ h)
+
+pub part-long : (recv : List ℕ) (n : ℕ) → n + 5 ≤ length recv → part recv n ≡ take n (drop 5 recv)
+part-long recv n h = simp (le-ltb _ _ h)
+
 -- a whole stream of packets that the sender accepts is read as these packets, once each, in order, and nothing else
 pub stream-trip : (ps : List Packet) → Each Accepted ps → reads waiting (stream ps) ≡ (map delivered ps, inside [])
 stream-trip ps a = ap (reads waiting) (sym (append-nil (stream ps))) ∙ stream-read ps a 0
@@ -99,16 +103,9 @@ stream-appended = append-stream
 pub stream-sent : (ps : List Packet) (out : List ℕ) (n : ℕ) → sending (stream ps) out .answer ≡ Wrote n → take n (sending (stream ps) out .output) ≡ sent ps
 stream-sent ps out n e = write-is (sent ps) out n e
 
--- what is marked is filled with flags to a multiple of 223 bytes, by fewer than 223 of them, and by none if it already is one
-pub stream-filled : (bs : List ℕ)
-    → (length (filled bs) % messageBytes ≡ 0) × (length (filled bs) < length bs + messageBytes) × (length bs % messageBytes ≡ 0 → filled bs ≡ bs)
-stream-filled bs =
-    let n : ℕ = fillers (length bs) in
-    let l : length (filled bs) ≡ length bs + n = length-append bs (replicate n flag) ∙ ap (λ (m : ℕ). length bs + m) (length-replicate n flag) in (
-      omega (arith, l),
-      omega (arith, l),
-      λ e. let z : n ≡ 0 = omega arith in ap (λ (m : ℕ). bs ++ replicate m flag) z ∙ append-nil bs,
-    )
+-- "The sender's stream is filled with flags to a multiple of 223 bytes, none if it already is one": n bytes of 7E, fewer than 223
+pub stream-filled : (bs : List ℕ) → (n : ℕ) × (filled bs ≡ bs ++ replicate n 0x7E) × (n < 223) × ((length bs + n) % 223 ≡ 0) × (length bs % 223 ≡ 0 → n ≡ 0)
+stream-filled bs = (fillers (length bs), refl, omega arith, omega arith, λ e. omega arith)
 
 -- ---- "parity words": a message with its parity behind it is clean ..
 pub word-clean : (m : List ℕ) → Bytes m → clean parityBytes (wordOf m) ≡ true
@@ -129,15 +126,7 @@ there-and-back = restored-interleaved
 pub back-and-there : (d : ℕ) (bytes : List ℕ) → whole d (length bytes) ≡ true → interleaved d (restored d bytes) ≡ bytes
 back-and-there = interleaved-restored
 
--- ---- what the code's answers say, case by case: "more wanted", a packet, a refusal, a clean block, one repaired, one beyond
--- repair, lock lost
-pub answers-read : (port sequence n k : ℕ) (payload : List ℕ) → _≡_ {A = List Answer}
-    (answered none ∷ answered (some (said (packet port sequence payload))) ∷ answered (some (said (refusal n)))
-    ∷ answered (some (block cleanBlock)) ∷ answered (some (block (repaired k))) ∷ answered (some (block beyond)) ∷ answered (some lost) ∷ [])
-    (More ∷ Said (Delivered port sequence (length payload)) ∷ Said (Refused n) ∷ Clean ∷ Repaired k ∷ Beyond ∷ LockLost ∷ [])
-answers-read port sequence n k payload = refl
-
--- the block's answer and the word that is read then are what repair promises of a word of 255 bytes: clean, and left; repaired, the left
+-- ---- "block answers": the block's answer and the word that is read then are what repair promises of a word of 255 bytes: clean, and left; repaired, the left
 -- word clean and the only one within 16 places; beyond repair, and left as it came ..
 pub block-answer : (w : List ℕ) → IsWord w → Bytes w → Promised parityBytes w (asMended (condition w)) (mend w)
 block-answer = block-promised
@@ -156,22 +145,16 @@ pub channel-listing : (pieces : List (List ℕ)) → length (joined pieces) ≤ 
     → listing (0x4F ∷ records pieces) ≡ lines (heard true (joined pieces)) ++ totalLine (length (joined pieces)) (heard true (joined pieces))
 channel-listing = channel-listed
 
--- the totals are counted from the answers: packets and refusals are all frame answers, and each is one or the other; blocks beyond
--- repair are counted among the block answers, and lost locks as often as lock is lost
+-- the totals are counted from the answers: packets and refusals each among the frame answers, blocks beyond repair among the block answers,
+-- and lost locks as often as lock is lost
 pub totals : (es : List Event)
-    → (count isPacket es + count isRefusal es ≡ length (frames es)) × (count isDamaged es ≡ damaged (blocks es)) × (count isLost es ≡ losses es)
-totals es = (
-  (λ i. packets-counted es i + refusals-counted es i) ∙ each-counted (frames es),
-  damaged-counted es,
-  lost-counted es,
-)
+    → (count isPacket es ≡ packetsIn (frames es)) × (count isRefusal es ≡ refusalsIn (frames es))
+    × (count isDamaged es ≡ damagedIn (blocks es)) × (count isLost es ≡ losses es)
+totals es = (packets-counted es, refusals-counted es, damaged-counted es, lost-counted es)
 
 -- of a sender's packets all are packets, and none is a refusal
 pub sent-totals : (ps : List Packet) (es : List Event) → frames es ≡ map delivered ps → (count isPacket es ≡ length ps) × (count isRefusal es ≡ 0)
-sent-totals ps es e = (
-  packets-counted es ∙ ap (λ ts. count isPacket (map said ts)) e ∙ sent-counted ps .0,
-  refusals-counted es ∙ ap (λ ts. count isRefusal (map said ts)) e ∙ sent-counted ps .1,
-)
+sent-totals ps es e = (packets-counted es ∙ ap packetsIn e ∙ sent-counted ps .0, refusals-counted es ∙ ap refusalsIn e ∙ sent-counted ps .1)
 
 -- ---- the listing by calls: a recording cut in any way, each piece handed in until more is wanted, by calls with any room each, and then the
 -- finishing call: the bytes printed in all are its listing, whatever the lent buffers held ..

@@ -1,96 +1,139 @@
 -- Demand 3, in the owner's words:
---   "For every received byte string, every way of cutting it yields the answers and the final state that demand 2 defines for the uncut
---   string. A fresh receiver that hears stray bytes and then a sender's whole marked stream delivers the sent packets once each, in
---   order, and nothing else. One block altered at will leaves the answers of earlier blocks alone, and behind the first flag of a later
---   block the frame answers are exactly the packets opened from that flag on."
--- `Cuts bs es d` (crates/channel/proofs/Demands.antt): a fresh receiver hears bs, cut in some way, each piece handed in until "more wanted",
--- with buffers that pass 11; es are its answers and d its state and buffers. Its calls are `hearCall`, which the code's `hear` promises.
--- every-cut, every-payload                          cutting, on the channel
--- plain-cut, plain-payload                          .. and on the plain stream
--- whole-stream, plain-stream                        a sender's whole stream
--- earlier-blocks, behind-flag, opened, other-blocks  one block altered at will
-use Prim.Native.Nat.{ℕ}
-use native.Mathlib.Omega.{arith}
-use mathlib.Core.Path.{_≡_, refl, sym, _∙_, ap}
+--   "For every received byte string, every way of cutting it yields the list of answers and the final state that demand 2 defines for the
+--   uncut string. Further, let a fresh receiver hear stray bytes and then a sender's whole marked stream, the marker first appearing where
+--   that stream begins. It delivers the sent packets once each, in order, and nothing else. If the 255 bytes of one block are altered at
+--   will and no marker is, the answers of the earlier blocks stay the same; and behind the first opening flag in a later block, the frame
+--   answers are exactly the sent packets opened from that flag on, once each and in order."
+-- `EveryCut bs λ es d. ..` (crates/channel/specs/Called.antt; of the plain stream crates/stream/specs/Called.antt): a fresh receiver hears bs,
+-- cut in any way, each piece handed in until "more wanted", with any buffers that pass 11. Its calls come to their end, and whatever calls
+-- these are, with es their answers and d the state and buffers behind them, it is so. They are calls of `hearCall`, which is what the
+-- code's `hear` promises (`hear-means` of Promises).
+-- no-refuser                                           a receiver that always refuses meets no law of this form
+-- every-cut, same-cut, every-payload                   cutting, on the channel
+-- plain-cut, plain-payload                             .. and on the plain stream
+-- whole-stream, plain-stream                           a sender's whole stream
+-- words-in-order, lock-kept, lock-lost                 any words behind a marker, and the bytes behind the last
+-- earlier-blocks, behind-flag, opened, other-blocks    one block altered at will
+use Prim.Native.Nat.{ℕ, _≤_, _<_}
+use mathlib.Core.Path.{_≡_, sym, _∙_, ap}
+use mathlib.Core.Logic.{_≢_}
 use mathlib.Core.List.{List, [], _∷_, _++_, map, append-nil}
+use mathlib.Core.Option.{Option, some, Option·none-ne-some}
 use lib.ListN.{length, replicate}
 use Rattle.base.specs.Bytes.{Each}
-use Rattle.base.specs.Calls.{With}
+use Rattle.base.specs.Calls.{With, joined, Reads, ReadsAll, Yields}
+use Rattle.base.specs.Calls.Reads.{more, answer}
+use Rattle.base.specs.Calls.ReadsAll.{piece}
+use Rattle.base.proofs.Calls.{yields-so}
+use Rattle.packet.specs.Contents.{rawLimit}
 use Rattle.packet.specs.Escape.{flag, NoFlag}
 use Rattle.packet.specs.Frame.{Told}
 use Rattle.stream.specs.Reader.{waiting, reads}
 use Rattle.stream.specs.Sender.{Packet, Accepted, rawOf, behind, stream, delivered, openedFrom}
-use Rattle.stream.specs.Called.{Held, held, fresh, readCall, readAll, heldOf, inUse as plainInUse, ThereHeld}
+use Rattle.stream.specs.Called.{Held, readCall, heldOf, inUse as plainInUse, ThereHeld, EveryCut as EveryPlainCut}
 use Rattle.stream.proofs.Accepting.{clear}
-use Rattle.stream.proofs.Cutting.{read-cut}
+use Rattle.stream.proofs.Cutting.{every-cut-reads}
 use Rattle.stream.proofs.Shown.{shown-plain, held-use, held-st}
 use Rattle.stream.proofs.Delivery.{payload-held}
 use Rattle.stream.proofs.Streaming.{ignored, stream-read, opened-behind}
-use Rattle.channel.specs.Sender.{framed, sentWords, sent}
-use Rattle.channel.specs.Channel.{clean, condition, Event, frames, blocks, losses, start, hears, answers, IsWord, carried, FirstMarker}
-use Rattle.channel.specs.Called.{Board, hearCall, boardOf, inUse, ThereEvent}
-use Rattle.channel.proofs.Demands.{Cuts, every-cut-means, delivers, earlier-answers, later-answers}
-use Rattle.channel.proofs.Demands as channel-demands
+use Rattle.channel.specs.Sender.{marker, wordBytes, framed, sentWords, sent}
+use Rattle.channel.specs.Channel.{clean, condition, Event, lost, frames, blocks, losses, start, hears, answers, IsWord, carried, wordsGive, FirstMarker}
+use Rattle.channel.specs.Called.{Board, board, freshReceiver, hearCall, EveryCut, ThereEvent, boardOf, inUse}
+use Rattle.channel.proofs.Demands as channel
+use Rattle.channel.proofs.Blocks as blocks-law
 use Rattle.channel.proofs.Delivery.{payload-there}
-use Rattle.demands.specs.Cuts.{PlainCuts}
 
--- ---- "For every received byte string, every way of cutting it yields the answers and the final state .. for the uncut string": the state's
--- numbers, the hunted bytes, and the bytes in use in both buffers. (That every way comes to its end: `hear-ends`, `plain-ends` of Demand1)
-pub every-cut : {bs : List ℕ} {es : List Event} {d : Board} → Cuts bs es d
-    → (es ≡ answers bs) × (inUse d ≡ inUse (boardOf (hears start bs .1) [] []))
-every-cut = every-cut-means
+-- ---- what calls yield, they yield by coming to their end: calls that are always refused do not
+refused-on : {S A : Type 0} (a : A) {s : S} {bs : List ℕ} {xs : List A} {t : S} → Reads (λ (s : S) (bs : List ℕ). (some a, 0, s)) s bs xs t → ⊥
+refused-on {S} {A} a (more n e) = Option·none-ne-some a (sym (ap (λ (q : Option A × ℕ × S). q .0) e))
+refused-on a (answer n e r) = refused-on a r
+
+pub no-refuser : {S A : Type 0} (a : A) (s : S) (p : List ℕ) (ps : List (List ℕ)) (P : List A → S → Type 0)
+    → Yields (λ (s : S) (bs : List ℕ). (some a, 0, s)) s (p ∷ ps) P → ⊥
+no-refuser {S} {A} a s p ps P y = go (y .ends .2)
+  where
+    go : {xs : List A} {t : S} → ReadsAll (λ (s : S) (bs : List ℕ). (some a, 0, s)) s (p ∷ ps) xs t → ⊥
+    go (piece r rs) = refused-on a r
+
+-- ---- "For every received byte string, every way of cutting it yields the list of answers and the final state .. for the uncut string": the
+-- state's numbers, the hunted bytes, and the bytes in use in both buffers ..
+pub every-cut : (bs : List ℕ) → EveryCut bs λ es d. (es ≡ answers bs) × (inUse d ≡ inUse (boardOf (hears start bs .1) [] []))
+every-cut = channel.every-cut
+
+-- .. and from the same buffers two ways yield the same, to the last byte of both
+pub same-cut : (recv word : List ℕ) → rawLimit ≤ length recv → wordBytes ≤ length word → (ps qs : List (List ℕ)) → joined ps ≡ joined qs
+    → Yields hearCall (board freshReceiver recv word) ps
+    λ es d. Yields hearCall (board freshReceiver recv word) qs
+    λ fs g. (es ≡ fs) × (d ≡ g)
+same-cut = channel.same-cut
 
 -- a delivery counts with its payload bytes: they are the part of the receive buffer that a call of its own hands out
 pub every-payload : (c : Board) (bs : List ℕ) → With ThereEvent (hearCall c bs .0) (hearCall c bs .2)
 every-payload = payload-there
 
 -- the same of the plain stream
-pub plain-cut : {bs : List ℕ} {ts : List Told} {d : Held} → PlainCuts bs ts d
-    → (ts ≡ reads waiting bs .0) × (plainInUse d ≡ plainInUse (heldOf (reads waiting bs .1) []))
-plain-cut {bs} {ts} {d} c =
-    let s = shown-plain bs waiting (c .recv) (c .room) in
+pub plain-cut : (bs : List ℕ) → EveryPlainCut bs λ ts d. (ts ≡ reads waiting bs .0) × (plainInUse d ≡ plainInUse (heldOf (reads waiting bs .1) []))
+plain-cut bs = every-cut-reads bs λ recv room ts d run.
+    let s = shown-plain bs waiting recv room in
     let r = reads waiting bs .1 in
-    let e : _≡_ {A = List Told × Held} (ts, d) (reads waiting bs .0, heldOf r (s .0)) =
-    read-cut (record { stored = refl; raw = omega arith; room = c .room }) (c .called) ∙ ap (readAll (held fresh (c .recv))) (c .cut) ∙ s .1 in
+    let e : _≡_ {A = List Told × Held} (ts, d) (reads waiting bs .0, heldOf r (s .0)) = run ∙ s .1 in
     (ap (λ x. x .0) e, ap (λ x. plainInUse (x .1)) e ∙ (λ i. (held-st r (s .0) i, held-use r (s .0) i)))
 
 pub plain-payload : (h : Held) (bs : List ℕ) → With ThereHeld (readCall h bs .0) (readCall h bs .2)
 plain-payload = payload-held
 
--- ---- "A fresh receiver that hears stray bytes and then a sender's whole marked stream delivers the sent packets once each, in order, and
--- nothing else": the marker first appearing where that stream begins. Every block is clean, and no lock is lost
+-- ---- "let a fresh receiver hear stray bytes and then a sender's whole marked stream, the marker first appearing where that stream begins. It
+-- delivers the sent packets once each, in order, and nothing else." Every block is clean, and no lock is lost
 pub whole-stream : (stray : List ℕ) (ps : List Packet) → Each Accepted ps → FirstMarker stray (sent ps)
-    → {es : List Event} {d : Board} → Cuts (stray ++ sent ps) es d
-    → (frames es ≡ map delivered ps) × (blocks es ≡ replicate (length (sentWords ps)) clean) × (losses es ≡ 0)
-whole-stream = delivers
+    → EveryCut (stray ++ sent ps)
+    λ es d. (frames es ≡ map delivered ps) × (blocks es ≡ replicate (length (sentWords ps)) clean) × (losses es ≡ 0)
+whole-stream = channel.delivers
 
 -- on the plain stream: stray bytes with no flag, and then the sender's whole stream
 pub plain-stream : (stray : List ℕ) → NoFlag stray → (ps : List Packet) → Each Accepted ps
-    → {ts : List Told} {d : Held} → PlainCuts (stray ++ stream ps) ts d → ts ≡ map delivered ps
-plain-stream stray n ps a c =
-    plain-cut c .0 ∙ ap (λ x. x .0) (ignored stray n (stream ps) ∙ ap (reads waiting) (sym (append-nil (stream ps))) ∙ stream-read ps a 0)
+    → EveryPlainCut (stray ++ stream ps) λ ts d. ts ≡ map delivered ps
+plain-stream stray n ps a recv room pieces cut =
+    yields-so (plain-cut (stray ++ stream ps) recv room pieces cut) λ ts d e.
+    e .0 ∙ ap (λ x. x .0) (ignored stray n (stream ps) ∙ ap (reads waiting) (sym (append-nil (stream ps))) ∙ stream-read ps a 0)
 
--- ---- "One block altered at will": its 255 bytes, w as sent, become v, and no marker is altered
+-- ---- any words, each with the marker before it, behind stray bytes: in which order the answers come
+module _ (stray : List ℕ) (ws : List (List ℕ)) (some-word : ws ≢ []) (words : Each IsWord ws) (first : FirstMarker stray (framed ws)) where
+  -- "Each whole word gives first a block answer, clean or damaged, then the answers of its 223 message bytes" (paper 01)
+  pub words-in-order : EveryCut (stray ++ framed ws) λ es _. es ≡ wordsGive ws waiting
+  words-in-order = blocks-law.words-given stray ws some-word words first
+
+  -- "When all four are read and differ, it answers "lock lost"" (paper 01): not before ..
+  pub lock-kept : (bs : List ℕ) → length bs < 4 → EveryCut ((stray ++ framed ws) ++ bs) λ es _. es ≡ wordsGive ws waiting
+  lock-kept = blocks-law.lock-kept stray ws some-word words first
+
+  -- .. but then
+  pub lock-lost : (bs : List ℕ) → length bs ≡ 4 → bs ≢ marker → EveryCut ((stray ++ framed ws) ++ bs) λ es _. es ≡ wordsGive ws waiting ++ lost ∷ []
+  lock-lost = blocks-law.lock-lost stray ws some-word words first
+
+-- ---- "If the 255 bytes of one block are altered at will and no marker is": w as sent becomes v
 module _ (stray : List ℕ) (ps : List Packet) (accepted : Each Accepted ps) (first : FirstMarker stray (sent ps))
-    (earlier later : List (List ℕ)) (w v : List ℕ) (one : sentWords ps ≡ earlier ++ w ∷ later) (any : IsWord v)
-    {es : List Event} {d : Board} (altered : Cuts (stray ++ framed (earlier ++ v ∷ later)) es d) where
-  -- ".. leaves the answers of earlier blocks alone": fs are the answers to the stream as sent, gs those to it up to that block, and with
-  -- these both begin
-  pub earlier-blocks : {fs gs : List Event} {g h : Board} → Cuts (stray ++ sent ps) fs g → Cuts (stray ++ framed earlier) gs h
-      → (xs ys : List Event) × (fs ≡ gs ++ xs) × (es ≡ gs ++ ys)
-  earlier-blocks unaltered until = earlier-answers stray ps accepted first earlier later w v one any altered unaltered until
+    (earlier later : List (List ℕ)) (w v : List ℕ) (one : sentWords ps ≡ earlier ++ w ∷ later) (any : IsWord v) where
+  -- "the answers of the earlier blocks stay the same": fs are the answers to the stream as sent, gs those to it up to that block, es those to
+  -- the altered one; with gs both others begin
+  pub earlier-blocks : EveryCut (stray ++ sent ps)
+      λ fs _. EveryCut (stray ++ framed earlier)
+      λ gs _. EveryCut (stray ++ framed (earlier ++ v ∷ later))
+      λ es _. (xs ys : List Event) × (fs ≡ gs ++ xs) × (es ≡ gs ++ ys)
+  earlier-blocks = channel.earlier-answers stray ps accepted first earlier later w v one any
 
-  -- ".. and behind the first flag of a later block the frame answers are exactly the packets opened from that flag on": behind the first,
-  -- and behind every other. `pre` are the later blocks' message bytes before the flag; up to the flag the answers are those of the
-  -- messages as repair leaves them; `openedFrom` is said in numbers of the stream's bytes: see `opened`
+  -- "and behind the first opening flag in a later block, the frame answers are exactly the sent packets opened from that flag on, once each
+  -- and in order": behind the first, and behind every other. `pre` are the later blocks' message bytes before the flag; up to the flag the
+  -- answers are those of the messages as repair leaves them; `openedFrom` is said in numbers of the stream's bytes: see `opened`
   pub behind-flag : (pre post : List ℕ) → carried later ≡ pre ++ flag ∷ post
-      → frames es ≡ reads waiting (carried (earlier ++ v ∷ []) ++ pre ++ flag ∷ []) .0
+      → EveryCut (stray ++ framed (earlier ++ v ∷ later))
+      λ es _. frames es ≡ reads waiting (carried (earlier ++ v ∷ []) ++ pre ++ flag ∷ []) .0
       ++ map delivered (openedFrom ps (length (carried (earlier ++ w ∷ []) ++ pre)))
-  behind-flag = later-answers stray ps accepted first earlier later w v one any altered
+  behind-flag = channel.later-answers stray ps accepted first earlier later w v one any
 
   -- the other blocks are still clean, that one is what repair finds of it, and no lock is lost
-  pub other-blocks : (blocks es ≡ replicate (length earlier) clean ++ condition v ∷ replicate (length later) clean) × (losses es ≡ 0)
-  other-blocks = channel-demands.other-blocks stray ps accepted first earlier later w v one any altered
+  pub other-blocks : EveryCut (stray ++ framed (earlier ++ v ∷ later))
+      λ es _. (blocks es ≡ replicate (length earlier) clean ++ condition v ∷ replicate (length later) clean) × (losses es ≡ 0)
+  other-blocks = channel.other-blocks stray ps accepted first earlier later w v one any
 
 -- "opened from that flag on": what stands in the stream behind the flag at place n is the frames of `openedFrom ps n`, and nothing else
 pub opened : (ps : List Packet) → Each Accepted ps → (xs ys : List ℕ) → stream ps ≡ xs ++ flag ∷ ys → ys ≡ behind (openedFrom ps (length xs))

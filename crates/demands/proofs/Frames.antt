@@ -1,8 +1,9 @@
 -- The refusals of a frame, row by row.
--- closed-exact, judge-exact   of the raw bytes in a receive buffer, and of raw bytes alone
+-- closed-exact, judging-exact, judge-exact   of the raw bytes in a receive buffer, by the call that judges them, and of raw bytes alone
+-- judging-same                a call that is refused leaves the receive buffer
 -- small                       the number is one of 1 to 8
 -- undone                      from 4 on, escapes are undone in the buffer
-use Prim.Native.Nat.{ℕ, _-_, _≤_, _<_}
+use Prim.Native.Nat.{ℕ, suc, _-_, _≤_, _<_}
 use native.Mathlib.Omega.{arith}
 use mathlib.Core.Path.{_≡_, refl, sym, ap, subst, _∙_}
 use mathlib.Core.Bool.{Bool, true, false}
@@ -17,7 +18,7 @@ use Rattle.fcs.specs.Fcs.{fcs}
 use Rattle.packet.specs.Port.{barred}
 use Rattle.packet.specs.Contents.{format, payloadLimit, rawLimit, wordAt, payloadOf}
 use Rattle.packet.specs.Escape.{escape, plain, scan}
-use Rattle.packet.specs.Frame.{Told, packet, refusal, kept, judgeContents, closedBy, closed, judge}
+use Rattle.packet.specs.Frame.{Told, packet, refusal, kept, judgeContents, closedBy, closed, judging, judge}
 use Rattle.packet.specs.declared.escape.Escapes.{Escapes}
 use Rattle.packet.specs.declared.escape.Escapes.the-variants.{Right, Unfinished, Wrong}
 use Rattle.packet.proofs.Faults.{Scanned, scan-says}
@@ -68,6 +69,17 @@ closed-exact recv m = go (ltb rawLimit m) refl
     go true e = applies ByFrame _ (is 1) (ltb-true _ _ e)
     go false e = over ByFrame (not-less _ _ e) (by-exact (scan (take m recv)) (take m recv) recv (scan-says (take m recv)))
 
+pub judging-exact : (recv : List ℕ) (m : ℕ)
+    → Exact ByFrame (judging recv m .told) ((10, suc rawLimit < m) ∷ (11, length recv < rawLimit) ∷ (1, rawLimit < m) ∷ frameRows (take m recv))
+judging-exact recv m = go (ltb (suc rawLimit) m) (ltb (length recv) rawLimit) refl refl
+  where
+    go : (o s : Bool) → ltb (suc rawLimit) m ≡ o → ltb (length recv) rawLimit ≡ s
+        → Exact ByFrame (pick o (kept 10 recv) (pick s (kept 11 recv) (closed recv m)) .told)
+        ((10, suc rawLimit < m) ∷ (11, length recv < rawLimit) ∷ (1, rawLimit < m) ∷ frameRows (take m recv))
+    go true s e f = applies ByFrame _ (is 10) (ltb-true _ _ e)
+    go false true e f = over ByFrame (not-less _ _ e) (applies ByFrame _ (is 11) (ltb-true _ _ f))
+    go false false e f = over ByFrame (not-less _ _ e) (over ByFrame (not-less _ _ f) (closed-exact recv m))
+
 pub judge-exact : (raw : List ℕ) → Exact ByFrame (judge raw) ((1, rawLimit < length raw) ∷ frameRows raw)
 unfolding judge closed
 judge-exact raw =
@@ -97,6 +109,16 @@ small recv m =
     first-each (λ k. (1 ≤ k) × (k ≤ 8)) ((1, rawLimit < m) ∷ frameRows (take m recv))
     (omega arith, (omega arith, (omega arith, (omega arith, (omega arith, (omega arith, (omega arith, (omega arith, tt)))))))) n
     (closed-exact recv m .says n .0 e)
+
+-- ---- a refused call leaves the buffer: a frame's numbers are below 10
+pub judging-same : (recv : List ℕ) (m n : ℕ) → judging recv m .told ≡ refusal n → 10 ≤ n → judging recv m .recv ≡ recv
+judging-same recv m n = go (ltb (suc rawLimit) m) (ltb (length recv) rawLimit)
+  where
+    go : (o s : Bool) → pick o (kept 10 recv) (pick s (kept 11 recv) (closed recv m)) .told ≡ refusal n → 10 ≤ n
+        → pick o (kept 10 recv) (pick s (kept 11 recv) (closed recv m)) .recv ≡ recv
+    go true s e h = refl
+    go false true e h = refl
+    go false false e h = let k : (1 ≤ n) × (n ≤ 8) = subst Small e (small recv m) in absurd (omega (arith, k .1))
 
 -- ---- escapes undone
 pub undone : (recv : List ℕ) (m n : ℕ) → closed recv m .told ≡ refusal n → 3 < n

@@ -3,6 +3,7 @@
 --   within h places. It follows for demand 3 that if at most 16 bytes of each opportunistic word are altered and no marker is, the
 --   receiver delivers just what was sent."
 -- `Promised r w a o` (crates/repair/specs/Promise.antt) is what the public function `repair` promises of the word w: the answer a, the word o.
+-- one-byte                 one altered byte is always repaired (request W5)
 -- never-clean              a clean word with 1 to R bytes altered is never clean, for every R to 64
 -- beyond-exactly           "beyond repair" is given exactly when no clean word lies within h places
 -- delivered-as-sent        at most 16 bytes of each word altered, no marker: the packets, the block answers, no lock lost ..
@@ -11,12 +12,12 @@ use Prim.Native.Nat.{ℕ, _≤_, _<_}
 use mathlib.Core.Path.{_≡_, sym, _∙_, ap, subst}
 use mathlib.Core.Logic.{_↔_, _≢_}
 use mathlib.Core.List.{List, [], _++_, map}
-use lib.ListN.{length}
+use lib.ListN.{length, getD, set}
 use Rattle.base.specs.Bytes.{Each, Bytes}
 use Rattle.parity.specs.Calls.{checked}
 use Rattle.parity.specs.declared.Checked.the-variants as check
 use Rattle.repair.specs.declared.Mended.{Mended}
-use Rattle.repair.specs.declared.Mended.the-variants.{Beyond}
+use Rattle.repair.specs.declared.Mended.the-variants.{Repaired, Beyond}
 use Rattle.repair.specs.Promise.{distance, half, CleanWord, Promised}
 use Rattle.repair.proofs.Apart.{checked-clean, altered-damaged}
 use Rattle.repair.proofs.Promising as promising
@@ -24,11 +25,11 @@ use Rattle.stream.specs.Reader.{waiting, reads}
 use Rattle.stream.specs.Sender.{Packet, Accepted, stream, delivered}
 use Rattle.stream.proofs.Streaming.{stream-read}
 use Rattle.channel.specs.Sender.{parityBytes, framed, fillers, messagesOf, sentWords, sent}
-use Rattle.channel.specs.Channel.{zeros, Event, frames, blocks, losses, start, hears, IsWord, FirstMarker}
-use Rattle.channel.specs.Called.{Board, boardOf, inUse}
+use Rattle.channel.specs.Channel.{zeros, frames, blocks, losses, start, hears, IsWord, FirstMarker}
+use Rattle.channel.specs.Called.{EveryCut, boardOf, inUse}
 use Rattle.channel.proofs.Streaming.{wholes, behindWords, frames-wholes, blocks-wholes, losses-wholes, first-markers, sent-messages, sent-each, sent-bytes, sent-some}
 use Rattle.channel.proofs.Streaming.{received as heard-words}
-use Rattle.channel.proofs.Demands.{Cuts, every-cut-means}
+use Rattle.channel.proofs.Demands.{cut-so, every-cut}
 use Rattle.demands.specs.Guarantee.{altered, Repairable, Received, received}
 use Rattle.demands.proofs.Altered.{altered-is, repairable-half, half-repairable, sent-clean-words, carried-received, answers-received, behind-received, words-received, some-received}
 
@@ -51,6 +52,11 @@ beyond-exactly r w h l b a o p =
     places : (v : List ℕ) → CleanWord r v → altered w v ≡ distance w v
     places v c = altered-is w v l (checked-clean r v (c .1) .1)
 
+-- ---- "one altered byte is always repaired when R is 2 or more" (request W5): the byte at place i has become c, whatever `repair` may answer
+pub one-byte : (r : ℕ) (v : List ℕ) → CleanWord r v → 2 ≤ r → (i c : ℕ) → i < 255 → c < 256 → getD v i 0 ≢ c
+    → (a : Mended) (o : List ℕ) → Promised r (set v i c) a o → (a ≡ Repaired 1) × (o ≡ v)
+one-byte = promising.one-restored
+
 -- ---- "if at most 16 bytes of each opportunistic word are altered and no marker is, the receiver delivers just what was sent": stray bytes,
 -- and then a sender's whole marked stream, the marker first appearing where that begins; its words come in as vs; cut in every way
 module _ (stray : List ℕ) (ps : List Packet) (accepted : Each Accepted ps) (first : FirstMarker stray (sent ps))
@@ -64,24 +70,25 @@ module _ (stray : List ℕ) (ps : List Packet) (accepted : Each Accepted ps) (fi
   heard : hears start (stray ++ framed vs) ≡ (wholes vs waiting .0, behindWords zeros [] vs waiting)
   heard = heard-words stray vs some (words-received (sentWords ps) vs came) (first-markers stray (sentWords ps) vs (sent-some ps accepted) some first)
 
-  module _ {es : List Event} {d : Board} (cuts : Cuts (stray ++ framed vs) es d) where
-    -- the frame answers are the sent packets, once each, in order, and nothing else; each block is clean, or repaired in exactly the places
-    -- altered; no lock is lost
-    pub delivered-as-sent : (frames es ≡ map delivered ps) × (blocks es ≡ received (sentWords ps) vs) × (losses es ≡ 0)
-    delivered-as-sent =
-        let e = every-cut-means cuts .0 ∙ ap (λ x. x .0) heard in (
-          ap frames e ∙ frames-wholes vs waiting
-              ∙ ap (λ l. reads waiting l .0) (carried-received (sentWords ps) vs words came ∙ sent-bytes ps accepted)
-              ∙ ap (λ x. x .0) (stream-read ps accepted (fillers (length (stream ps)))),
-          ap blocks e ∙ blocks-wholes vs waiting ∙ answers-received (sentWords ps) vs words came,
-          ap losses e ∙ losses-wholes vs waiting,
-        )
+  -- the frame answers are the sent packets, once each, in order, and nothing else; each block is clean, or repaired in exactly the places
+  -- altered; no lock is lost
+  pub delivered-as-sent : EveryCut (stray ++ framed vs)
+      λ es d. (frames es ≡ map delivered ps) × (blocks es ≡ received (sentWords ps) vs) × (losses es ≡ 0)
+  delivered-as-sent = cut-so (every-cut (stray ++ framed vs)) λ es d cut.
+      let e = cut .0 ∙ ap (λ x. x .0) heard in (
+        ap frames e ∙ frames-wholes vs waiting
+            ∙ ap (λ l. reads waiting l .0) (carried-received (sentWords ps) vs words came ∙ sent-bytes ps accepted)
+            ∙ ap (λ x. x .0) (stream-read ps accepted (fillers (length (stream ps)))),
+        ap blocks e ∙ blocks-wholes vs waiting ∙ answers-received (sentWords ps) vs words came,
+        ap losses e ∙ losses-wholes vs waiting,
+      )
 
-    -- the final state is that of the stream as sent, in all that counts: the state's numbers, the hunted bytes, the bytes in use
-    pub same-state : {fs : List Event} {g : Board} → Cuts (stray ++ sent ps) fs g → inUse d ≡ inUse g
-    same-state unaltered =
-        every-cut-means cuts .1
-        ∙ ap (λ x. inUse (boardOf x [] []))
-        (ap (λ x. x .1) heard ∙ behind-received (sentWords ps) vs words came zeros [] waiting
-        ∙ sym (ap (λ x. x .1) (heard-words stray (sentWords ps) (sent-some ps accepted) (sent-each ps accepted) first)))
-        ∙ sym (every-cut-means unaltered .1)
+  -- the final state is that of the stream as sent, in all that counts: the state's numbers, the hunted bytes, the bytes in use
+  pub same-state : EveryCut (stray ++ framed vs) λ es d. EveryCut (stray ++ sent ps) λ fs g. inUse d ≡ inUse g
+  same-state =
+      cut-so (every-cut (stray ++ framed vs)) λ es d cut. cut-so (every-cut (stray ++ sent ps)) λ fs g unaltered.
+      cut .1
+      ∙ ap (λ x. inUse (boardOf x [] []))
+      (ap (λ x. x .1) heard ∙ behind-received (sentWords ps) vs words came zeros [] waiting
+      ∙ sym (ap (λ x. x .1) (heard-words stray (sentWords ps) (sent-some ps accepted) (sent-each ps accepted) first)))
+      ∙ sym (unaltered .1)

@@ -3,7 +3,8 @@ pub mod Frames
 pub mod Called
 pub mod Taken
 pub mod Trips
-pub mod Accepting
+pub mod Promises
+pub mod Calling
 pub mod Demand1
 pub mod Demand2
 pub mod Demand3

@@ -1,5 +1,4 @@
-pub mod Accepts
+pub mod Means
 pub mod Table
 pub mod Refusals
-pub mod Cuts
 pub mod Guarantee

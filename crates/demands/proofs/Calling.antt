@@ -1,0 +1,104 @@
+-- The paper's sentences on calls, of the two receiving calls: "One call gives at most one answer, with the number of bytes taken. It takes
+-- no byte behind the one that caused the answer, and the rest of a stored word is handed on before any new byte is taken. It says "more
+-- wanted" exactly when all bytes are taken, a stored word is handed on whole and no answer is owed."
+-- That a call gives at most one answer is its type (`Option Event`); with the answers of `hearAll` it is tied by `hear-first`.
+use Prim.Native.Nat.{ℕ, suc}
+use native.Mathlib.Omega.{arith}
+use mathlib.Core.Path.{_≡_, refl, sym, _∙_, ap}
+use mathlib.Core.Bool.{Bool, true, false}
+use mathlib.Core.Logic.{_↔_}
+use mathlib.Core.List.{List, [], _∷_, _++_}
+use mathlib.Core.Option.{Option, some, none}
+use lib.ListN.{length, take, drop}
+use lib.Dec.{leb}
+use borrow.Author.Tests.{leb-true}
+use Rattle.base.specs.Calls.{owesNone, handsNone, unless, told}
+use Rattle.base.proofs.Calls.{none-owed, inv-hear}
+use Rattle.packet.specs.Contents.{rawLimit}
+use Rattle.packet.specs.Frame.{Told}
+use Rattle.stream.specs.Called.{Held, takeByte, readAll, readOn, readBy, readCall, sound as soundFrame, Fine as FineFrame}
+use Rattle.stream.proofs.Cutting.{read-agrees, read-law}
+use Rattle.channel.specs.Channel.{Event}
+use Rattle.channel.specs.Called.{Board, owed, handOn, eatByte, sound, roomy, hearAll, hearOn, hearBy, hearCall, Fine}
+use Rattle.channel.proofs.Fine.{fine-of, fine-hand, fine-eat}
+use Rattle.channel.proofs.Cutting.{hand-one, hear-agrees, hear-law}
+use Rattle.base.proofs.Stopping.{stops, blind, owed-first, wanting}
+
+none-behind : {A S : Type 0} (a b : A) (n : ℕ) (s t : S) → _≡_ {A = Option A × ℕ × S} (some a, 0, s) (some b, suc n, t) → ⊥
+none-behind {A} {S} a b n s t e = let z : 0 ≡ suc n = ap (λ (q : Option A × ℕ × S). q .1) e in omega arith
+
+-- ---- on the channel
+-- "with the number of bytes taken": the answer is the first of all, and the others are those of the state that it leaves and the bytes behind
+-- those taken
+pub hear-first : (c : Board) → Fine c → (bs : List ℕ) (e : Event) (n : ℕ) (d : Board) → hearCall c bs ≡ (some e, n, d)
+    → (hearAll c bs .0 ≡ e ∷ hearAll d (drop n bs) .0) × (hearAll c bs .1 ≡ hearAll d (drop n bs) .1)
+hear-first c f bs e n d h =
+    let l = hear-law c bs f ∙ ap (λ r. told owed handOn eatByte r bs) h in
+    (ap (λ (x : List Event × Board). x .0) l, ap (λ (x : List Event × Board). x .1) l)
+
+-- "It takes no byte behind the one that caused the answer": before that one, byte n, there is no answer ..
+pub hear-stops : (c : Board) (bs : List ℕ) (e : Event) (n : ℕ) (d : Board) → hearCall c bs ≡ (some e, suc n, d) → hearAll c (take n bs) .0 ≡ []
+hear-stops c bs e n d = go (sound (c .st)) (roomy (c .recv) (c .word))
+  where
+    go : (s r : Bool) → hearBy s r c bs ≡ (some e, suc n, d) → hearAll c (take n bs) .0 ≡ []
+    go false r h = absurd (none-behind _ e n c d h)
+    go true false h = absurd (none-behind _ e n c d h)
+    go true true h = stops owed handOn eatByte c bs e n d h
+
+-- .. and whatever stands behind it makes no difference
+pub hear-blind : (c : Board) (bs : List ℕ) (e : Event) (n : ℕ) (d : Board) → hearCall c bs ≡ (some e, n, d)
+    → (cs : List ℕ) → hearCall c (take n bs ++ cs) ≡ (some e, n, d)
+hear-blind c bs e n d h cs = go (sound (c .st)) (roomy (c .recv) (c .word)) h
+  where
+    go : (s r : Bool) → hearBy s r c bs ≡ (some e, n, d) → hearBy s r c (take n bs ++ cs) ≡ (some e, n, d)
+    go false r h = h
+    go true false h = h
+    go true true h = blind owed handOn eatByte cs c bs e n d h
+
+-- "the rest of a stored word is handed on before any new byte is taken": a call begins as a call on no bytes does, and goes on to the bytes
+-- where that gives no answer
+pub hear-owed : (c : Board) (bs : List ℕ) → hearCall c bs ≡ unless (hearCall c [] .0) 0 (hearCall c [] .2) (hearCall (hearCall c [] .2) bs)
+hear-owed c bs = go (sound (c .st)) (roomy (c .recv) (c .word)) refl refl
+  where
+    go : (s r : Bool) → sound (c .st) ≡ s → roomy (c .recv) (c .word) ≡ r
+        → hearBy s r c bs ≡ unless (hearBy s r c [] .0) 0 (hearBy s r c [] .2) (hearCall (hearBy s r c [] .2) bs)
+    go false r e f = refl
+    go true false e f = refl
+    go true true e f =
+        owed-first owed handOn eatByte hand-one c bs
+        ∙ ap (unless (hearOn c [] .0) 0 (hearOn c [] .2))
+        (sym (hear-agrees (hearOn c [] .2) bs (inv-hear owed handOn eatByte hand-one Fine fine-hand fine-eat c [] (fine-of c e f))))
+
+-- "It says "more wanted" exactly when all bytes are taken, a stored word is handed on whole and no answer is owed"
+pub hear-wanting : (c : Board) → Fine c → (bs : List ℕ)
+    → (hearCall c bs .0 ≡ none) ↔ ((hearCall c bs .1 ≡ length bs) × (owed (hearCall c bs .2) ≡ 0) × (hearAll c bs .0 ≡ []))
+hear-wanting c f bs = rw (hear-agrees c bs f) (wanting owed handOn eatByte hand-one c bs)
+
+-- ---- on the plain stream
+pub read-first : (h : Held) → FineFrame h → (bs : List ℕ) (t : Told) (n : ℕ) (g : Held) → readCall h bs ≡ (some t, n, g)
+    → (readAll h bs .0 ≡ t ∷ readAll g (drop n bs) .0) × (readAll h bs .1 ≡ readAll g (drop n bs) .1)
+read-first h f bs t n g e =
+    let l = read-law h bs f ∙ ap (λ r. told owesNone handsNone takeByte r bs) e in
+    (ap (λ (x : List Told × Held). x .0) l, ap (λ (x : List Told × Held). x .1) l)
+
+pub read-stops : (h : Held) (bs : List ℕ) (t : Told) (n : ℕ) (g : Held) → readCall h bs ≡ (some t, suc n, g) → readAll h (take n bs) .0 ≡ []
+read-stops h bs t n g = go (soundFrame (h .st)) (leb rawLimit (length (h .recv)))
+  where
+    go : (s r : Bool) → readBy s r h bs ≡ (some t, suc n, g) → readAll h (take n bs) .0 ≡ []
+    go false r e = absurd (none-behind _ t n h g e)
+    go true false e = absurd (none-behind _ t n h g e)
+    go true true e = stops owesNone handsNone takeByte h bs t n g e
+
+pub read-blind : (h : Held) (bs : List ℕ) (t : Told) (n : ℕ) (g : Held) → readCall h bs ≡ (some t, n, g)
+    → (cs : List ℕ) → readCall h (take n bs ++ cs) ≡ (some t, n, g)
+read-blind h bs t n g e cs = go (soundFrame (h .st)) (leb rawLimit (length (h .recv))) e
+  where
+    go : (s r : Bool) → readBy s r h bs ≡ (some t, n, g) → readBy s r h (take n bs ++ cs) ≡ (some t, n, g)
+    go false r e = e
+    go true false e = e
+    go true true e = blind owesNone handsNone takeByte cs h bs t n g e
+
+pub read-wanting : (h : Held) → FineFrame h → (bs : List ℕ) → (readCall h bs .0 ≡ none) ↔ ((readCall h bs .1 ≡ length bs) × (readAll h bs .0 ≡ []))
+read-wanting h f bs =
+    let w = wanting owesNone handsNone takeByte none-owed h bs in
+    rw (read-agrees h bs f) (λ e. (w .0 e .0, w .0 e .2), λ p. w .1 (p .0, refl, p .1))

@@ -1,0 +1,326 @@
+-- What each public function promises: it accepts every input, it ends, and its promise is exactly this, in the words of its `ensures`, where
+-- `now x` is what x refers to, and a lent buffer has its .entry and its .exit. Demand1 to Demand3 speak of the definitions that stand here;
+-- with these laws they speak of the code.
+-- CRATE-FUNCTION-means   of each public function of each library crate
+-- judged-is, ..          what the code's answers are, case by case
+use Prim.Native.Nat.{ℕ, _-_, _≤_, min}
+use mathlib.Core.Path.{_≡_, refl}
+use mathlib.Core.Option.{some, none}
+use mathlib.Core.Bool.{true, false}
+use mathlib.Core.List.{List, [], _∷_, _++_}
+use lib.ListN.{length, drop}
+use denote.Ref.{now}
+use Rattle.base.specs.UpTo.{upTo}
+use Rattle.base.specs.Written.{outcome, write, copied}
+use Rattle.fcs.specs.Fcs as check
+use Rattle.field.specs.Field.{add, mul, pow, alpha, inverse, valueAt}
+use Rattle.parity.specs.Word.{eval, onto, scale}
+use Rattle.parity.specs.Calls.{made, checked}
+use Rattle.repair.specs.Promise.{Promised}
+use Rattle.interleaver.specs.Matrix.{turning}
+use Rattle.packet.specs.Escape.{flag}
+use Rattle.packet.specs.Frame.{Told, packet, refusal, judged, judging, part}
+use Rattle.packet.specs.declared.frame.Judged.the-variants.{Packet, Refused}
+use Rattle.packet.specs.Port.{class}
+use Rattle.packet.specs.Sender.{writing}
+use Rattle.stream.specs.Sender.{appending}
+use Rattle.stream.specs.Called as plain
+use Rattle.stream.specs.declared.frame.Heard.the-variants as plain-answer
+use Rattle.channel.specs.Sender.{marking, sending}
+use Rattle.channel.specs.Called.{board, sound, roomy, hearCall, answered}
+use Rattle.channel.specs.Channel.{said, block, lost, clean, repaired, beyond}
+use Rattle.channel.specs.declared.receiver.Answer.the-variants.{More, Said, Clean, Repaired, Beyond, LockLost}
+use Rattle.listed.specs.Lines.{line, endLine, wrongLine}
+use Rattle.listed.specs.declared.Place.the-variants.{Mode}
+use Rattle.recording.specs.Printed as recording
+use Rattle.bid.specs.Line.{reading}
+use Rattle.office.specs.Desk.{desk, blocks, unread, refusal as denied}
+use Rattle.office.specs.declared.Answer.the-variants as office-answer
+use Rattle.office.specs.Called as office
+use Rattle.demands.specs.Means.{Means}
+use Rattle.packet.proofs.write as packet-write
+use Rattle.stream.proofs.begin as stream-begin
+use Rattle.stream.proofs.append as stream-append
+use Rattle.channel.proofs.mark as channel-mark
+use Rattle.channel.proofs.send as channel-send
+use Rattle.channel.proofs.receiver.Receiver.fresh as channel-fresh
+use Rattle.channel.proofs.receiver.Receiver.hear as channel-hear
+use Rattle.channel.proofs.receiver.Receiver.sound as channel-sound
+use Rattle.channel.proofs.receiver.Receiver.has_room as channel-has-room
+use Rattle.stream.proofs.frame.Frame.fresh as stream-fresh
+use Rattle.stream.proofs.frame.Frame.read as stream-read
+use Rattle.stream.proofs.frame.Frame.sound as stream-sound
+use Rattle.stream.proofs.payload as stream-payload
+use Rattle.packet.proofs.judge as packet-judge
+use Rattle.packet.proofs.class_of as packet-class-of
+use Rattle.parity.proofs.make as parity-make
+use Rattle.parity.proofs.check as parity-check
+use Rattle.repair.proofs.repair as repair-repair
+use Rattle.interleaver.proofs.interleave as interleaver-interleave
+use Rattle.interleaver.proofs.restore as interleaver-restore
+use Rattle.recording.proofs.recording.Recording.start as recording-start
+use Rattle.recording.proofs.recording.Recording.take as recording-take
+use Rattle.recording.proofs.recording.Recording.finish as recording-finish
+use Rattle.lines.proofs.print as lines-print
+use Rattle.lines.proofs.print_end as lines-print-end
+use Rattle.lines.proofs.print_wrong as lines-print-wrong
+use Rattle.office.proofs.Office.start as office-start
+use Rattle.office.proofs.Office.hear as office-hear
+use Rattle.office.proofs.Office.close as office-close
+use Rattle.office.proofs.Office.finish as office-finish
+use Rattle.bid.proofs.read as bid-read
+use Rattle.fcs.proofs.fcs as fcs-fcs
+use Rattle.fcs.proofs.Register.fresh as fcs-fresh
+use Rattle.fcs.proofs.Register.feed as fcs-feed
+use Rattle.fcs.proofs.Register.check as fcs-check
+use Rattle.field.proofs.plus as field-plus
+use Rattle.field.proofs.times as field-times
+use Rattle.field.proofs.power as field-power
+use Rattle.field.proofs.inverse as field-inverse
+use Rattle.field.proofs.value as field-value
+use Rattle.parity.proofs.value as parity-value
+use Rattle.parity.proofs.subtract as parity-subtract
+use Rattle.base.proofs.least as base-least
+use Rattle.base.proofs.up_to as base-up-to
+use Rattle.base.proofs.copy as base-copy
+
+-- ---- the sender: a packet, a plain stream of packets, a block of the channel, a whole marked stream
+pub packet-write-means : Means packet-write.Statement.statement packet-write.Kinds.ps packet-write.Kinds.r packet-write.Reads.Asked packet-write.Reads.Learnt
+    λ κs port sequence payload out w. outcome w (now (out .exit)) ≡ writing port sequence (now payload) (now (out .entry))
+packet-write-means = (λ M. packet-write.Met.met, λ κs a. tt, λ κs a z ws. (λ p. p, λ p. p))
+
+pub stream-begin-means : Means stream-begin.Statement.statement stream-begin.Kinds.ps stream-begin.Kinds.r stream-begin.Reads.Asked stream-begin.Reads.Learnt
+    λ κs out w. outcome w (now (out .exit)) ≡ write (flag ∷ []) (now (out .entry))
+stream-begin-means = (λ M. stream-begin.Met.met, λ κs a. tt, λ κs a z ws. (λ p. p, λ p. p))
+
+pub stream-append-means : Means stream-append.Statement.statement stream-append.Kinds.ps stream-append.Kinds.r stream-append.Reads.Asked stream-append.Reads.Learnt
+    λ κs out at port sequence payload w. outcome w (now (out .exit)) ≡ appending at port sequence (now payload) (now (out .entry))
+stream-append-means = (λ M. stream-append.Met.met, λ κs a. tt, λ κs a z ws. (λ p. p, λ p. p))
+
+pub channel-mark-means : Means channel-mark.Statement.statement channel-mark.Kinds.ps channel-mark.Kinds.r channel-mark.Reads.Asked channel-mark.Reads.Learnt
+    λ κs message out w. outcome w (now (out .exit)) ≡ marking (now message) (now (out .entry))
+channel-mark-means = (λ M. channel-mark.Met.met, λ κs a. tt, λ κs a z ws. (λ p. p, λ p. p))
+
+pub channel-send-means : Means channel-send.Statement.statement channel-send.Kinds.ps channel-send.Kinds.r channel-send.Reads.Asked channel-send.Reads.Learnt
+    λ κs stream out w. outcome w (now (out .exit)) ≡ sending (now stream) (now (out .entry))
+channel-send-means = (λ M. channel-send.Met.met, λ κs a. tt, λ κs a z ws. (λ p. p, λ p. p))
+
+-- ---- the receiver on the channel. A fresh one is "hunting with four hunted bytes of zero", "counts zero, waiting for a flag"
+pub channel-fresh-means : Means channel-fresh.Statement.statement channel-fresh.Kinds.ps channel-fresh.Kinds.r channel-fresh.Reads.Asked channel-fresh.Reads.Learnt
+    λ κs r. r ≡ record {
+      locked = false;
+      hunting = record { a = 0; b = 0; c = 0; d = 0 };
+      lock = record { word = 0; handed = 0; marker = 0 };
+      frame = record { opened = false; raw = 0; stored = 0 };
+    }
+channel-fresh-means = (λ M. channel-fresh.Met.met, λ κs a. tt, λ κs a z ws. (λ p. p, λ p. p))
+
+pub channel-hear-means : Means channel-hear.Statement.statement channel-hear.Kinds.ps channel-hear.Kinds.r channel-hear.Reads.Asked channel-hear.Reads.Learnt
+    λ κs self recv word piece r. let x = hearCall (board self (now (recv .entry)) (now (word .entry))) (now piece) in
+    (r ≡ record { answer = answered (x .0); taken = x .1; receiver = x .2 .st }) × (now (recv .exit) ≡ x .2 .recv) × (now (word .exit) ≡ x .2 .word)
+channel-hear-means = (λ M. channel-hear.Met.met, λ κs a. tt, λ κs a z ws. (λ p. p, λ p. p))
+
+pub channel-sound-means : Means channel-sound.Statement.statement channel-sound.Kinds.ps channel-sound.Kinds.r channel-sound.Reads.Asked channel-sound.Reads.Learnt
+    λ κs self r. r ≡ sound self
+channel-sound-means = (λ M. channel-sound.Met.met, λ κs a. tt, λ κs a z ws. (λ p. p, λ p. p))
+
+pub channel-has-room-means : Means channel-has-room.Statement.statement channel-has-room.Kinds.ps channel-has-room.Kinds.r channel-has-room.Reads.Asked channel-has-room.Reads.Learnt
+    λ κs recv word r. r ≡ roomy (now recv) (now word)
+channel-has-room-means = (λ M. channel-has-room.Met.met, λ κs a. tt, λ κs a z ws. (λ p. p, λ p. p))
+
+-- what a frame is told to be, and what a call answers, in the code's words
+pub judged-is : (port sequence : ℕ) (payload : List ℕ) (n : ℕ)
+    → (judged (packet port sequence payload) ≡ Packet port sequence (length payload)) × (judged (refusal n) ≡ Refused n)
+judged-is port sequence payload n = (refl, refl)
+
+pub answered-is : (t : Told) (n : ℕ)
+    → (answered none ≡ More) × (answered (some (said t)) ≡ Said (judged t)) × (answered (some (block clean)) ≡ Clean)
+    × (answered (some (block (repaired n))) ≡ Repaired n) × (answered (some (block beyond)) ≡ Beyond) × (answered (some lost) ≡ LockLost)
+answered-is t n = (refl, refl, refl, refl, refl, refl)
+
+-- ---- .. and of the plain stream
+pub stream-fresh-means : Means stream-fresh.Statement.statement stream-fresh.Kinds.ps stream-fresh.Kinds.r stream-fresh.Reads.Asked stream-fresh.Reads.Learnt
+    λ κs r. r ≡ record { opened = false; raw = 0; stored = 0 }
+stream-fresh-means = (λ M. stream-fresh.Met.met, λ κs a. tt, λ κs a z ws. (λ p. p, λ p. p))
+
+pub stream-read-means : Means stream-read.Statement.statement stream-read.Kinds.ps stream-read.Kinds.r stream-read.Reads.Asked stream-read.Reads.Learnt
+    λ κs self recv piece r. let x = plain.readCall (plain.held self (now (recv .entry))) (now piece) in
+    (r ≡ record { heard = plain.answered (x .0); taken = x .1; frame = x .2 .st }) × (now (recv .exit) ≡ x .2 .recv)
+stream-read-means = (λ M. stream-read.Met.met, λ κs a. tt, λ κs a z ws. (λ p. p, λ p. p))
+
+pub plain-answered-is : (t : Told) → (plain.answered none ≡ plain-answer.More) × (plain.answered (some t) ≡ plain-answer.Said (judged t))
+plain-answered-is t = (refl, refl)
+
+pub stream-sound-means : Means stream-sound.Statement.statement stream-sound.Kinds.ps stream-sound.Kinds.r stream-sound.Reads.Asked stream-sound.Reads.Learnt
+    λ κs self r. r ≡ plain.sound self
+stream-sound-means = (λ M. stream-sound.Met.met, λ κs a. tt, λ κs a z ws. (λ p. p, λ p. p))
+
+pub stream-payload-means : Means stream-payload.Statement.statement stream-payload.Kinds.ps stream-payload.Kinds.r stream-payload.Reads.Asked stream-payload.Reads.Learnt
+    λ κs recv size r. now r ≡ part (now recv) size
+stream-payload-means = (λ M. stream-payload.Met.met, λ κs a. tt, λ κs a z ws. (λ p. p, λ p. p))
+
+pub packet-judge-means : Means packet-judge.Statement.statement packet-judge.Kinds.ps packet-judge.Kinds.r packet-judge.Reads.Asked packet-judge.Reads.Learnt
+    λ κs recv raw r. (r ≡ judged (judging (now (recv .entry)) raw .told)) × (now (recv .exit) ≡ judging (now (recv .entry)) raw .recv)
+packet-judge-means = (λ M. packet-judge.Met.met, λ κs a. tt, λ κs a z ws. (λ p. p, λ p. p))
+
+pub packet-class-of-means : Means packet-class-of.Statement.statement packet-class-of.Kinds.ps packet-class-of.Kinds.r packet-class-of.Reads.Asked packet-class-of.Reads.Learnt
+    λ κs port r. r ≡ class port
+packet-class-of-means = (λ M. packet-class-of.Met.met, λ κs a. tt, λ κs a z ws. (λ p. p, λ p. p))
+
+-- ---- parity, repair and the interleaver
+pub parity-make-means : Means parity-make.Statement.statement parity-make.Kinds.ps parity-make.Kinds.r parity-make.Reads.Asked parity-make.Reads.Learnt
+    λ κs r message out w. outcome w (now (out .exit)) ≡ made r (now message) (now (out .entry))
+parity-make-means = (λ M. parity-make.Met.met, λ κs a. tt, λ κs a z ws. (λ p. p, λ p. p))
+
+pub parity-check-means : Means parity-check.Statement.statement parity-check.Kinds.ps parity-check.Kinds.r parity-check.Reads.Asked parity-check.Reads.Learnt
+    λ κs r word c. c ≡ checked r (now word)
+parity-check-means = (λ M. parity-check.Met.met, λ κs a. tt, λ κs a z ws. (λ p. p, λ p. p))
+
+pub repair-repair-means : Means repair-repair.Statement.statement repair-repair.Kinds.ps repair-repair.Kinds.r repair-repair.Reads.Asked repair-repair.Reads.Learnt
+    λ κs r word a. Promised r (now (word .entry)) a (now (word .exit))
+repair-repair-means = (λ M. repair-repair.Met.met, λ κs a. tt, λ κs a z ws. (λ p. p, λ p. p))
+
+pub interleaver-interleave-means : Means interleaver-interleave.Statement.statement interleaver-interleave.Kinds.ps interleaver-interleave.Kinds.r interleaver-interleave.Reads.Asked interleaver-interleave.Reads.Learnt
+    λ κs depth bytes out w. outcome w (now (out .exit)) ≡ turning false depth (now bytes) (now (out .entry))
+interleaver-interleave-means = (λ M. interleaver-interleave.Met.met, λ κs a. tt, λ κs a z ws. (λ p. p, λ p. p))
+
+pub interleaver-restore-means : Means interleaver-restore.Statement.statement interleaver-restore.Kinds.ps interleaver-restore.Kinds.r interleaver-restore.Reads.Asked interleaver-restore.Reads.Learnt
+    λ κs depth bytes out w. outcome w (now (out .exit)) ≡ turning true depth (now bytes) (now (out .entry))
+interleaver-restore-means = (λ M. interleaver-restore.Met.met, λ κs a. tt, λ κs a z ws. (λ p. p, λ p. p))
+
+-- ---- a recording. Before its first byte: at the byte that says which stream it is, with a fresh receiver and nothing counted
+pub recording-start-means : Means recording-start.Statement.statement recording-start.Kinds.ps recording-start.Kinds.r recording-start.Reads.Asked recording-start.Reads.Learnt
+    λ κs r. r ≡ record {
+      tape = record {
+        spot = record { place = Mode; offset = 0; count = 0 };
+        channel = false;
+        receiver = record {
+          locked = false;
+          hunting = record { a = 0; b = 0; c = 0; d = 0 };
+          lock = record { word = 0; handed = 0; marker = 0 };
+          frame = record { opened = false; raw = 0; stored = 0 };
+        };
+      };
+      totals = record { packets = 0; refused = 0; damaged = 0; lost = 0 };
+    }
+recording-start-means = (λ M. recording-start.Met.met, λ κs a. tt, λ κs a z ws. (λ p. p, λ p. p))
+
+pub recording-take-means : Means recording-take.Statement.statement recording-take.Kinds.ps recording-take.Kinds.r recording-take.Reads.Asked recording-take.Reads.Learnt
+    λ κs self recv word piece out r.
+    let x = recording.takes (recording.deckOf (self .tape) (now (recv .entry)) (now (word .entry))) (self .totals) (length (now (out .entry))) (now piece) in
+    (r ≡ record { wants = x .wants; taken = x .taken; written = length (x .text); next = recording.recorded (x .deck) (x .totals) })
+    × (now (recv .exit) ≡ x .deck .ear .board .recv) × (now (word .exit) ≡ x .deck .ear .board .word)
+    × (now (out .exit) ≡ x .text ++ drop (length (x .text)) (now (out .entry)))
+recording-take-means = (λ M. recording-take.Met.met, λ κs a. tt, λ κs a z ws. (λ p. p, λ p. p))
+
+pub recording-finish-means : Means recording-finish.Statement.statement recording-finish.Kinds.ps recording-finish.Kinds.r recording-finish.Reads.Asked recording-finish.Reads.Learnt
+    λ κs self out w. outcome w (now (out .exit)) ≡ write (recording.lastOf self) (now (out .entry))
+recording-finish-means = (λ M. recording-finish.Met.met, λ κs a. tt, λ κs a z ws. (λ p. p, λ p. p))
+
+-- ---- its lines
+pub lines-print-means : Means lines-print.Statement.statement lines-print.Kinds.ps lines-print.Kinds.r lines-print.Reads.Asked lines-print.Reads.Learnt
+    λ κs answer out w. outcome w (now (out .exit)) ≡ write (line answer) (now (out .entry))
+lines-print-means = (λ M. lines-print.Met.met, λ κs a. tt, λ κs a z ws. (λ p. p, λ p. p))
+
+pub lines-print-end-means : Means lines-print-end.Statement.statement lines-print-end.Kinds.ps lines-print-end.Kinds.r lines-print-end.Reads.Asked lines-print-end.Reads.Learnt
+    λ κs bytes packets refused damaged lost out w. outcome w (now (out .exit)) ≡ write (endLine bytes packets refused damaged lost) (now (out .entry))
+lines-print-end-means = (λ M. lines-print-end.Met.met, λ κs a. tt, λ κs a z ws. (λ p. p, λ p. p))
+
+pub lines-print-wrong-means : Means lines-print-wrong.Statement.statement lines-print-wrong.Kinds.ps lines-print-wrong.Kinds.r lines-print-wrong.Reads.Asked lines-print-wrong.Reads.Learnt
+    λ κs offset out w. outcome w (now (out .exit)) ≡ write (wrongLine offset) (now (out .entry))
+lines-print-wrong-means = (λ M. lines-print-wrong.Met.met, λ κs a. tt, λ κs a z ws. (λ p. p, λ p. p))
+
+-- ---- the office. Before the first line one flag is held
+pub office-start-means : Means office-start.Statement.statement office-start.Kinds.ps office-start.Kinds.r office-start.Reads.Asked office-start.Reads.Learnt
+    λ κs hold r. (r ≡ record { lines = 0; stored = 0; held = 1 }) × (now (hold .exit) ≡ copied (flag ∷ []) (now (hold .entry)))
+office-start-means = (λ M. office-start.Met.met, λ κs a. tt, λ κs a z ws. (λ p. p, λ p. p))
+
+pub office-hear-means : Means office-hear.Statement.statement office-hear.Kinds.ps office-hear.Kinds.r office-hear.Reads.Asked office-hear.Reads.Learnt
+    λ κs self line hold piece out r.
+    let x = office.hearCall (length (now (out .entry))) (desk self (now (line .entry)) (now (hold .entry))) (now piece) in
+    (r ≡ record { answer = office.answered (x .0); taken = x .1; office = x .2 .st }) × (now (line .exit) ≡ x .2 .line) × (now (hold .exit) ≡ x .2 .hold)
+    × (now (out .exit) ≡ office.answeredOut (x .0) (now (out .entry)))
+office-hear-means = (λ M. office-hear.Met.met, λ κs a. tt, λ κs a z ws. (λ p. p, λ p. p))
+
+pub office-close-means : Means office-close.Statement.statement office-close.Kinds.ps office-close.Kinds.r office-close.Reads.Asked office-close.Reads.Learnt
+    λ κs self line hold out r.
+    let x = office.closeCall (length (now (out .entry))) (desk self (now (line .entry)) (now (hold .entry))) in
+    (r ≡ record { answer = office.answered (x .0); taken = x .1; office = x .2 .st }) × (now (line .exit) ≡ x .2 .line) × (now (hold .exit) ≡ x .2 .hold)
+    × (now (out .exit) ≡ office.answeredOut (x .0) (now (out .entry)))
+office-close-means = (λ M. office-close.Met.met, λ κs a. tt, λ κs a z ws. (λ p. p, λ p. p))
+
+pub office-finish-means : Means office-finish.Statement.statement office-finish.Kinds.ps office-finish.Kinds.r office-finish.Reads.Asked office-finish.Reads.Learnt
+    λ κs self hold out w. outcome w (now (out .exit)) ≡ office.finishing self (now hold) (now (out .entry))
+office-finish-means = (λ M. office-finish.Met.met, λ κs a. tt, λ κs a z ws. (λ p. p, λ p. p))
+
+-- what is said of line k, in the code's words, and what then stands in the output
+pub office-answered-is : (k n : ℕ) (bs : List ℕ)
+    → (office.answered none ≡ office-answer.More) × (office.answered (some (k, blocks bs)) ≡ office-answer.Sent (length bs))
+    × (office.answered (some (k, unread)) ≡ office-answer.NoBid) × (office.answered (some (k, denied n)) ≡ office-answer.Refused n)
+office-answered-is k n bs = (refl, refl, refl, refl)
+
+pub office-out-is : (k n : ℕ) (bs out : List ℕ)
+    → (office.answeredOut none out ≡ out) × (office.answeredOut (some (k, blocks bs)) out ≡ bs ++ drop (length bs) out)
+    × (office.answeredOut (some (k, unread)) out ≡ out) × (office.answeredOut (some (k, denied n)) out ≡ out)
+office-out-is k n bs out = (refl, refl, refl, refl)
+
+pub bid-read-means : Means bid-read.Statement.statement bid-read.Kinds.ps bid-read.Kinds.r bid-read.Reads.Asked bid-read.Reads.Learnt
+    λ κs line r. r ≡ reading (now line)
+bid-read-means = (λ M. bid-read.Met.met, λ κs a. tt, λ κs a z ws. (λ p. p, λ p. p))
+
+-- ---- what they stand on: the check of a frame, the field, polynomials, bytes
+pub fcs-fcs-means : Means fcs-fcs.Statement.statement fcs-fcs.Kinds.ps fcs-fcs.Kinds.r fcs-fcs.Reads.Asked fcs-fcs.Reads.Learnt
+    λ κs bytes r. r ≡ check.fcs (now bytes)
+fcs-fcs-means = (λ M. fcs-fcs.Met.met, λ κs a. tt, λ κs a z ws. (λ p. p, λ p. p))
+
+pub fcs-fresh-means : Means fcs-fresh.Statement.statement fcs-fresh.Kinds.ps fcs-fresh.Kinds.r fcs-fresh.Reads.Asked fcs-fresh.Reads.Learnt
+    λ κs r. r ≡ record { bits = 0xFFFF }
+fcs-fresh-means = (λ M. fcs-fresh.Met.met, λ κs a. tt, λ κs a z ws. (λ p. p, λ p. p))
+
+pub fcs-feed-means : Means fcs-feed.Statement.statement fcs-feed.Kinds.ps fcs-feed.Kinds.r fcs-feed.Reads.Asked fcs-feed.Reads.Learnt
+    λ κs self bytes r. r ≡ record { bits = check.register (self .bits) (now bytes) }
+fcs-feed-means = (λ M. fcs-feed.Met.met, λ κs a. tt, λ κs a z ws. (λ p. p, λ p. p))
+
+pub fcs-check-means : Means fcs-check.Statement.statement fcs-check.Kinds.ps fcs-check.Kinds.r fcs-check.Reads.Asked fcs-check.Reads.Learnt
+    λ κs self r. r ≡ 0xFFFF - self .bits
+fcs-check-means = (λ M. fcs-check.Met.met, λ κs a. tt, λ κs a z ws. (λ p. p, λ p. p))
+
+pub field-plus-means : Means field-plus.Statement.statement field-plus.Kinds.ps field-plus.Kinds.r field-plus.Reads.Asked field-plus.Reads.Learnt
+    λ κs a b r. r ≡ add a b
+field-plus-means = (λ M. field-plus.Met.met, λ κs a. tt, λ κs a z ws. (λ p. p, λ p. p))
+
+pub field-times-means : Means field-times.Statement.statement field-times.Kinds.ps field-times.Kinds.r field-times.Reads.Asked field-times.Reads.Learnt
+    λ κs a b r. r ≡ mul a b
+field-times-means = (λ M. field-times.Met.met, λ κs a. tt, λ κs a z ws. (λ p. p, λ p. p))
+
+pub field-power-means : Means field-power.Statement.statement field-power.Kinds.ps field-power.Kinds.r field-power.Reads.Asked field-power.Reads.Learnt
+    λ κs e r. r ≡ pow alpha e
+field-power-means = (λ M. field-power.Met.met, λ κs a. tt, λ κs a z ws. (λ p. p, λ p. p))
+
+pub field-inverse-means : Means field-inverse.Statement.statement field-inverse.Kinds.ps field-inverse.Kinds.r field-inverse.Reads.Asked field-inverse.Reads.Learnt
+    λ κs a r. r ≡ inverse a
+field-inverse-means = (λ M. field-inverse.Met.met, λ κs a. tt, λ κs a z ws. (λ p. p, λ p. p))
+
+pub field-value-means : Means field-value.Statement.statement field-value.Kinds.ps field-value.Kinds.r field-value.Reads.Asked field-value.Reads.Learnt
+    λ κs j p r. r ≡ valueAt (pow alpha j) (now p)
+field-value-means = (λ M. field-value.Met.met, λ κs a. tt, λ κs a z ws. (λ p. p, λ p. p))
+
+pub parity-value-means : Means parity-value.Statement.statement parity-value.Kinds.ps parity-value.Kinds.r parity-value.Reads.Asked parity-value.Reads.Learnt
+    λ κs j p r. r ≡ eval (now p) (pow alpha j)
+parity-value-means = (λ M. parity-value.Met.met, λ κs a. tt, λ κs a z ws. (λ p. p, λ p. p))
+
+pub parity-subtract-means : Means parity-subtract.Statement.statement parity-subtract.Kinds.ps parity-subtract.Kinds.r parity-subtract.Reads.Asked parity-subtract.Reads.Learnt
+    λ κs c g p _. now (p .exit) ≡ onto (scale c (now g)) (now (p .entry))
+parity-subtract-means = (λ M. parity-subtract.Met.met, λ κs a. tt, λ κs a z ws. (λ p. p, λ p. p))
+
+pub base-least-means : Means base-least.Statement.statement base-least.Kinds.ps base-least.Kinds.r base-least.Reads.Asked base-least.Reads.Learnt
+    λ κs a b r. r ≡ min a b
+base-least-means = (λ M. base-least.Met.met, λ κs a. tt, λ κs a z ws. (λ p. p, λ p. p))
+
+pub base-up-to-means : Means base-up-to.Statement.statement base-up-to.Kinds.ps base-up-to.Kinds.r base-up-to.Reads.Asked base-up-to.Reads.Learnt
+    λ κs bytes c r. (r ≡ length (upTo c (now bytes))) × (r ≤ length (now bytes))
+base-up-to-means = (λ M. base-up-to.Met.met, λ κs a. tt, λ κs a z ws. (λ p. p, λ p. p))
+
+pub base-copy-means : Means base-copy.Statement.statement base-copy.Kinds.ps base-copy.Kinds.r base-copy.Reads.Asked base-copy.Reads.Learnt
+    λ κs src dst _. now (dst .exit) ≡ copied (now src) (now (dst .entry))
+base-copy-means = (λ M. base-copy.Met.met, λ κs a. tt, λ κs a z ws. (λ p. p, λ p. p))
