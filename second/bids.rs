@@ -24,16 +24,16 @@ pub fn run(words: &[&str]) -> i32 {
     match *words {
         ["send"] => {
             let (stream, named) = sent(&input);
-            put(&stream);
+            output(&stream);
             eprint!("{named}");
         }
         ["files", dir] => write_files(dir, 1),
         ["files", dir, seed] => write_files(dir, seed.parse().expect("a seed")),
-        ["record", seed] => put(&recorded(&input, seed.parse().expect("a seed"))),
-        ["flag", n] => put(&spoil_flag(input, n.parse().expect("a number"))),
-        ["marker", n] => put(&spoil_marker(input, n.parse().expect("a number"))),
-        ["parity", n] => put(&spoil_parity(input, n.parse().expect("a number"))),
-        ["price", n] => put(&spoil_price(input, n.parse().expect("a number"))),
+        ["record", seed] => output(&recorded(&input, seed.parse().expect("a seed"))),
+        ["flag", n] => output(&spoil_flag(input, n.parse().expect("a number"))),
+        ["marker", n] => output(&spoil_marker(input, n.parse().expect("a number"))),
+        ["parity", n] => output(&spoil_parity(input, n.parse().expect("a number"))),
+        ["price", n] => output(&spoil_price(input, n.parse().expect("a number"))),
         ["seen", file] => println!("{}", seen("The manager sees", file, &listed(&input))),
         ["framed", file] => println!("{}", seen("A framed board:", file, &framed(&input))),
         _ => return 2,
@@ -41,7 +41,7 @@ pub fn run(words: &[&str]) -> i32 {
     0
 }
 
-fn put(bytes: &[u8]) {
+fn output(bytes: &[u8]) {
     std::io::stdout().write_all(bytes).expect("standard output");
 }
 
@@ -77,13 +77,13 @@ pub fn sent(input: &[u8]) -> (Vec<u8>, String) {
     for (at, line) in lines(input).into_iter().enumerate() {
         match bid(line) {
             None => named += &format!("line {}: no bid\n", at + 1),
-            Some((port, sequence, text)) => match packet::write(port, sequence, text, usize::MAX) {
+            Some((port, sequence, text)) => match packet::escaped_packet(port, sequence, text, usize::MAX) {
                 Ok(bytes) => stream.extend(bytes),
                 Err(n) => named += &format!("line {}: refused {n}\n", at + 1),
             },
         }
     }
-    (channel::send(&stream, usize::MAX).expect("any room"), named)
+    (channel::in_blocks(&stream, usize::MAX).expect("any space"), named)
 }
 
 // ---- files of bids
@@ -120,26 +120,26 @@ fn line(random: &mut Random) -> Vec<u8> {
         _ => random.below(65536).to_string(),
     };
     let (port, sequence) = (word(random), word(random));
-    let head = format!("{port} {sequence} ").into_bytes();
+    let front = format!("{port} {sequence} ").into_bytes();
     match random.below(40) {
         0 => Vec::new(),
         1 => port.into_bytes(),
         2 => format!("{port} {sequence}").into_bytes(),
-        3 => head,
-        4 => [&b" "[..], &head, b"x"].concat(),
+        3 => front,
+        4 => [&b" "[..], &front, b"x"].concat(),
         5 => text(random, 30),
         6 => {
             let most = 8190 + random.below(6);
             let long = long_text(random, most);
-            [&head[..], &long].concat()
+            [&front[..], &long].concat()
         }
         7 => {
             let most = 8193 + random.below(70000);
-            [&head[..], &text(random, most)].concat()
+            [&front[..], &text(random, most)].concat()
         }
         _ => {
-            let some = 1 + random.below(90);
-            [&head[..], &text(random, some)].concat()
+            let length = 1 + random.below(90);
+            [&front[..], &text(random, length)].concat()
         }
     }
 }
@@ -182,27 +182,27 @@ fn recorded(stream: &[u8], seed: u64) -> Vec<u8> {
 }
 
 // Where message byte i stands in the marked stream.
-fn place(i: usize) -> usize {
+fn message_at(i: usize) -> usize {
     i / MESSAGE * BLOCK + MARKER.len() + i % MESSAGE
 }
 
 // Where flag n stands among the message bytes; the first is flag 0.
 fn flag(stream: &[u8], n: usize) -> usize {
     let count = stream.len() / BLOCK * MESSAGE;
-    (0..count).filter(|i| stream[place(*i)] == FLAG).nth(n).expect("so many flags")
+    (0..count).filter(|i| stream[message_at(*i)] == FLAG).nth(n).expect("so many flags")
 }
 
 // The byte before the flag behind packet n becomes 7D.
 fn spoil_flag(mut stream: Vec<u8>, n: usize) -> Vec<u8> {
     let at = flag(&stream, n) - 1;
-    stream[place(at)] = 0x7D;
+    stream[message_at(at)] = 0x7D;
     stream
 }
 
 // The digit before the point in packet n is one higher.
 fn spoil_price(mut stream: Vec<u8>, n: usize) -> Vec<u8> {
-    let point = (flag(&stream, n - 1)..flag(&stream, n)).find(|i| stream[place(*i)] == b'.').expect("a price");
-    stream[place(point - 1)] += 1;
+    let point = (flag(&stream, n - 1)..flag(&stream, n)).find(|i| stream[message_at(*i)] == b'.').expect("a price");
+    stream[message_at(point - 1)] += 1;
     stream
 }
 
@@ -260,10 +260,10 @@ fn unframed(bytes: &[u8]) -> Vec<Shown> {
             hidden = false;
             frame.iter_mut().for_each(|f| f.push(byte ^ 0x20));
         } else if *byte == FLAG {
-            let closed = frame.replace(Vec::new()).unwrap_or_default();
-            if closed.len() > 7 && fcs::check(&closed[..closed.len() - 2]).to_le_bytes() == closed[closed.len() - 2..] {
-                let number = |i: usize| u16::from_le_bytes([closed[i], closed[i + 1]]);
-                shown.push((number(1), number(3), closed.len() - 7));
+            let contents = frame.replace(Vec::new()).unwrap_or_default();
+            if contents.len() > 7 && fcs::check(&contents[..contents.len() - 2]).to_le_bytes() == contents[contents.len() - 2..] {
+                let number = |i: usize| u16::from_le_bytes([contents[i], contents[i + 1]]);
+                shown.push((number(1), number(3), contents.len() - 7));
             }
         } else if *byte == 0x7D {
             hidden = true;
@@ -280,7 +280,7 @@ fn seen(who: &str, file: &str, shown: &[Shown]) -> String {
     let all: Vec<Shown> = lines(&input)
         .into_iter()
         .filter_map(bid)
-        .filter(|(port, sequence, text)| packet::write(*port, *sequence, text, usize::MAX).is_ok())
+        .filter(|(port, sequence, text)| packet::escaped_packet(*port, *sequence, text, usize::MAX).is_ok())
         .map(|(port, sequence, text)| (port, sequence, text.len()))
         .collect();
     let missing: Vec<u16> = all.iter().filter(|s| !shown.contains(s)).map(|s| s.1).collect();

@@ -1,15 +1,15 @@
 //! Cases for the comparison: how they are written, which are asked, and what the second program answers.
 //! crates/answers/src/main.rt has the form of a case and of an answer.
 
-use crate::packet::Judged;
-use crate::stream::Frame;
-use crate::repair::{altered, Found};
+use crate::packet::Delivery;
+use crate::repair::altered;
+use crate::stream::Reader;
 use crate::{channel, channel_cases, fcs, interleaver, listing_cases, packet, parity, repair, stream};
 
 pub struct Case {
     pub asked: u8,
     pub number: u64,
-    pub room: u16,
+    pub space: u16,
     pub bytes: Vec<u8>,
 }
 
@@ -17,123 +17,122 @@ impl Case {
     pub fn write(&self, to: &mut Vec<u8>) {
         to.push(self.asked);
         to.extend(self.number.to_le_bytes());
-        to.extend(self.room.to_le_bytes());
+        to.extend(self.space.to_le_bytes());
         to.extend((self.bytes.len() as u16).to_le_bytes());
         to.extend(&self.bytes);
     }
 
     /// What the second program answers, as bytes.
-    pub fn answer(&self) -> Vec<u8> {
-        let mut out = vec![0xA5; self.room as usize];
-        let mut answer = match self.asked {
-            b'S' => self.read(&mut out),
-            b'O' => channel_cases::hear(self.number, &self.bytes, &mut out),
-            b'L' => listing_cases::called(self.number, &self.bytes, &mut out),
-            _ => self.tell(&mut out).to_le_bytes().to_vec(),
+    pub fn reply(&self) -> Vec<u8> {
+        let mut out = vec![0xA5; self.space as usize];
+        let mut reply = match self.asked {
+            b'S' => self.stream_in_pieces(&mut out),
+            b'O' => channel_cases::channel_in_pieces(self.number, &self.bytes, &mut out),
+            b'L' => listing_cases::recording_in_pieces(self.number, &self.bytes, &mut out),
+            _ => self.number_of_call(&mut out).to_le_bytes().to_vec(),
         };
-        answer.extend(out);
-        answer
+        reply.extend(out);
+        reply
     }
 
-    fn tell(&self, out: &mut [u8]) -> u64 {
+    fn number_of_call(&self, out: &mut [u8]) -> u64 {
         let (low, next) = (self.number as u16, (self.number >> 16) as u16);
         match self.asked {
             b'F' => fcs::check(&self.bytes) as u64,
-            b'G' => fcs::feed(low, &self.bytes) as u64,
+            b'G' => fcs::register_after(low, &self.bytes) as u64,
             b'T' => parity::times((low >> 8) as u8, low as u8) as u64,
             b'E' => parity::power(self.number) as u64,
-            b'P' => written(parity::make(self.number, &self.bytes, out.len()), out),
-            b'W' => match parity::check(self.number, &self.bytes) {
-                Ok(clean) => !clean as u64,
-                Err(n) => refusal(n),
-            },
+            b'P' => answer_in(parity::make(self.number, &self.bytes, out.len()), out),
+            b'W' => parity::check(self.number, &self.bytes).map_or_else(refusal, |clean| !clean as u64),
             b'Y' => {
-                let n = out.len().min(self.bytes.len());
-                out[..n].copy_from_slice(&self.bytes[..n]);
-                match repair::repair(self.number, out) {
-                    Ok(Found::Clean) => 0,
-                    Ok(Found::Repaired(n)) => n as u64,
-                    Ok(Found::Beyond) => 256,
-                    Err(n) => refusal(n),
-                }
+                lay(&self.bytes, out);
+                repair::repair(self.number, out).map_or_else(refusal, |repaired| repaired.map_or(256, |places| places as u64))
             }
-            b'I' => written(interleaver::turn(false, self.number, &self.bytes, out.len()), out),
-            b'J' => written(interleaver::turn(true, self.number, &self.bytes, out.len()), out),
-            b'C' => packet::class(low) as u64,
-            b'K' => written(packet::write(low, next, &self.bytes, out.len()), out),
-            b'B' => written(if out.is_empty() { Err(23) } else { Ok(vec![packet::FLAG]) }, out),
+            b'I' => answer_in(interleaver::permute(false, self.number, &self.bytes, out.len()), out),
+            b'J' => answer_in(interleaver::permute(true, self.number, &self.bytes, out.len()), out),
+            b'C' => class_number(low),
+            b'K' => answer_in(packet::escaped_packet(low, next, &self.bytes, out.len()), out),
+            b'B' => answer_in(if out.is_empty() { Err(23) } else { Ok(vec![packet::FLAG]) }, out),
             b'A' => {
                 let at = out.len().min((self.number >> 32) as usize);
-                written(packet::write(low, next, &self.bytes, out.len() - at), &mut out[at..])
+                answer_in(packet::escaped_packet(low, next, &self.bytes, out.len() - at), &mut out[at..])
             }
             b'Q' => {
-                let n = out.len().min(self.bytes.len());
-                out[..n].copy_from_slice(&self.bytes[..n]);
-                judged(packet::judge(out, self.number as usize))
+                lay(&self.bytes, out);
+                frame_number(packet::closing_flag(out, self.number as usize))
             }
-            b'M' => written(channel::mark(&self.bytes, out.len()), out),
-            b'N' => written(channel::send(&self.bytes, out.len()), out),
+            b'M' => answer_in(channel::marked_block(&self.bytes, out.len()), out),
+            b'N' => answer_in(channel::in_blocks(&self.bytes, out.len()), out),
             _ => 0,
         }
     }
 
-    /// A stream read in pieces.
-    fn read(&self, recv: &mut [u8]) -> Vec<u8> {
+    /// A stream read in pieces, the receive buffer lent.
+    fn stream_in_pieces(&self, buffer: &mut [u8]) -> Vec<u8> {
         let mut told = Vec::new();
-        let mut frame = frame(self.number);
-        let (mut at, mut seed) = (0, self.number & 0x7FFFFFFF);
-        'pieces: loop {
-            let (length, next) = stream::next_piece(seed, self.bytes.len() - at);
-            let end = at + length;
-            seed = next;
-            loop {
-                let (answer, taken) = frame.read(recv, &self.bytes[at..end]);
-                at += taken;
-                told.extend((taken as u64).to_le_bytes());
-                told.extend(answer.map_or(0, judged).to_le_bytes());
-                match answer {
-                    None => break,
-                    Some(Judged::Packet { length, .. }) => told.extend(&recv[5..5 + length]),
-                    Some(Judged::Refused(n)) if n >= 10 => break 'pieces,
-                    Some(Judged::Refused(_)) => {}
+        let mut reader = reader_in(self.number);
+        let mut at = 0;
+        let (mut end, mut seed) = stream::piece_length(self.number & 0x7FFFFFFF, self.bytes.len());
+        loop {
+            let result = reader.call(buffer, &self.bytes[at..end]);
+            let taken = result.map_or(0, |(_, taken)| taken);
+            at += taken;
+            push_all(&mut told, &[taken as u64, result.map_or_else(refusal, |(answer, _)| answer.map_or(0, frame_number))]);
+            match result {
+                Err(_) => break,
+                Ok((Some(Ok(packet)), _)) => told.extend(&buffer[5..5 + packet.payload_length]),
+                Ok((Some(Err(_)), _)) => {}
+                Ok((None, _)) if end == self.bytes.len() => break,
+                Ok((None, _)) => {
+                    let (length, next) = stream::piece_length(seed, self.bytes.len() - at);
+                    (end, seed) = (at + length, next);
                 }
             }
-            if end == self.bytes.len() {
-                break;
-            }
         }
-        for n in [frame.opened as u64, frame.raw as u64, frame.stored as u64] {
-            told.extend(n.to_le_bytes());
-        }
+        push_all(&mut told, &[!reader.waits as u64, reader.raw as u64, reader.stored as u64]);
         told
     }
 }
 
-/// The frame state in the number of a case.
-pub fn frame(number: u64) -> Frame {
-    Frame { opened: number >> 31 & 1 == 1, raw: (number >> 32) as usize & 0xFFFF, stored: (number >> 48) as usize }
+/// The reader in the number of a case.
+pub fn reader_in(number: u64) -> Reader {
+    Reader { waits: number >> 31 & 1 == 0, raw: (number >> 32) as usize & 0xFFFF, stored: (number >> 48) as usize }
 }
 
-pub fn judged(j: Judged) -> u64 {
-    match j {
-        Judged::Packet { port, sequence, length } => port as u64 | (sequence as u64) << 16 | (length as u64) << 32 | 1 << 56,
-        Judged::Refused(n) => refusal(n),
-    }
+/// The same the other way round.
+pub fn reader_number(reader: &Reader) -> u64 {
+    (!reader.waits as u64) << 31 | (reader.raw as u64) << 32 | (reader.stored as u64) << 48
 }
 
-fn refusal(n: u8) -> u64 {
+pub fn frame_number(result: Result<Delivery, u8>) -> u64 {
+    result.map_or_else(refusal, |p| p.port as u64 | (p.sequence as u64) << 16 | (p.payload_length as u64) << 32 | 1 << 56)
+}
+
+pub fn refusal(n: u8) -> u64 {
     65536 + n as u64
 }
 
+/// The classes in the order of the paper's table; the last number: may not be used.
+fn class_number(port: u16) -> u64 {
+    packet::class_letter(port).map_or(5, |letter| b"SAMDF".iter().position(|l| *l == letter).unwrap() as u64)
+}
+
+pub fn push_all(told: &mut Vec<u8>, numbers: &[u64]) {
+    numbers.iter().for_each(|n| told.extend(n.to_le_bytes()));
+}
+
+/// Lays bytes at the start of the output, as many as it holds.
+fn lay(bytes: &[u8], out: &mut [u8]) {
+    let n = out.len().min(bytes.len());
+    out[..n].copy_from_slice(&bytes[..n]);
+}
+
 /// The answer of a call that writes its result to the start of the output.
-fn written(result: Result<Vec<u8>, u8>, out: &mut [u8]) -> u64 {
-    match result {
-        Ok(bytes) => {
-            out[..bytes.len()].copy_from_slice(&bytes);
-            bytes.len() as u64
-        }
-        Err(n) => refusal(n),
-    }
+fn answer_in(result: Result<Vec<u8>, u8>, out: &mut [u8]) -> u64 {
+    result.map_or_else(refusal, |bytes| {
+        out[..bytes.len()].copy_from_slice(&bytes);
+        bytes.len() as u64
+    })
 }
 
 /// Numbers that look random, the same ones for the same seed (xorshift64*).
@@ -190,28 +189,28 @@ pub fn all(seed: u64) -> Vec<Case> {
 
 fn checks(random: &mut Random, cases: &mut Vec<Case>) {
     for b in 0..=255u8 {
-        cases.push(Case { asked: b'F', number: 0, room: 0, bytes: vec![b] });
+        cases.push(Case { asked: b'F', number: 0, space: 0, bytes: vec![b] });
     }
     for n in (0..200).chain([254, 255, 256, 1000, 8191, 8192, 8193, 65535]) {
         for bytes in [random.bytes(n), vec![0; n], vec![0xFF; n]] {
-            cases.push(Case { asked: b'F', number: 0, room: 0, bytes });
+            cases.push(Case { asked: b'F', number: 0, space: 0, bytes });
         }
         let number = random.next();
-        cases.push(Case { asked: b'G', number, room: 0, bytes: random.bytes(n) });
+        cases.push(Case { asked: b'G', number, space: 0, bytes: random.bytes(n) });
     }
 }
 
 /// Every product, and powers small and large.
 fn products(random: &mut Random, cases: &mut Vec<Case>) {
     for number in 0..65536 {
-        cases.push(Case { asked: b'T', number, room: 0, bytes: vec![] });
+        cases.push(Case { asked: b'T', number, space: 0, bytes: vec![] });
     }
     let mut exponents: Vec<u64> = (0..600).collect();
     exponents.extend((9..64).flat_map(|k| [(1 << k) - 1, 1 << k]));
     exponents.push(u64::MAX);
     exponents.extend((0..400).map(|_| random.next()));
     for number in exponents {
-        cases.push(Case { asked: b'E', number, room: 0, bytes: vec![] });
+        cases.push(Case { asked: b'E', number, space: 0, bytes: vec![] });
     }
 }
 
@@ -232,12 +231,12 @@ fn parities(random: &mut Random, cases: &mut Vec<Case>) {
     for r in roots() {
         let right = 255usize.saturating_sub(r.min(255) as usize);
         for bytes in messages(random, right) {
-            for room in [r.min(300), r.min(300) + 1, 300, r.min(300).saturating_sub(1), 0] {
-                cases.push(Case { asked: b'P', number: r, room: room as u16, bytes: bytes.clone() });
+            for space in [r.min(300), r.min(300) + 1, 300, r.min(300).saturating_sub(1), 0] {
+                cases.push(Case { asked: b'P', number: r, space: space as u16, bytes: bytes.clone() });
             }
         }
         for n in [0, 1, right.saturating_sub(1), right + 1, 254, 255, 256] {
-            cases.push(Case { asked: b'P', number: r, room: 70, bytes: random.bytes(n) });
+            cases.push(Case { asked: b'P', number: r, space: 70, bytes: random.bytes(n) });
         }
     }
 }
@@ -254,14 +253,14 @@ fn words(random: &mut Random, cases: &mut Vec<Case>) {
                     let at = random.below(255);
                     bytes[at] ^= 1 + random.below(255) as u8;
                 }
-                cases.push(Case { asked: b'W', number: r, room: 0, bytes });
+                cases.push(Case { asked: b'W', number: r, space: 0, bytes });
             }
         }
         for n in [0, 1, 254, 256, 300] {
-            cases.push(Case { asked: b'W', number: r, room: 0, bytes: vec![0; n] });
+            cases.push(Case { asked: b'W', number: r, space: 0, bytes: vec![0; n] });
         }
-        cases.push(Case { asked: b'W', number: r, room: 0, bytes: vec![0; 255] });
-        cases.push(Case { asked: b'W', number: r, room: 0, bytes: random.bytes(255) });
+        cases.push(Case { asked: b'W', number: r, space: 0, bytes: vec![0; 255] });
+        cases.push(Case { asked: b'W', number: r, space: 0, bytes: random.bytes(255) });
     }
 }
 
@@ -271,16 +270,16 @@ fn repairs(random: &mut Random, cases: &mut Vec<Case>) {
         for places in 0..=r / 2 + 3 {
             for _ in 0..2 {
                 let (_, bytes) = altered(random, r, places);
-                cases.push(Case { asked: b'Y', number: r as u64, room: 255, bytes });
+                cases.push(Case { asked: b'Y', number: r as u64, space: 255, bytes });
             }
         }
     }
     for r in roots() {
         for n in [0, 1, 254, 256, 300] {
-            cases.push(Case { asked: b'Y', number: r, room: n, bytes: random.bytes(n as usize) });
+            cases.push(Case { asked: b'Y', number: r, space: n, bytes: random.bytes(n as usize) });
         }
         for bytes in [vec![0; 255], vec![0xFF; 255], random.bytes(255)] {
-            cases.push(Case { asked: b'Y', number: r, room: 255, bytes });
+            cases.push(Case { asked: b'Y', number: r, space: 255, bytes });
         }
     }
 }
@@ -288,7 +287,7 @@ fn repairs(random: &mut Random, cases: &mut Vec<Case>) {
 /// Words for bench/repair.
 pub fn altered_words(r: usize, places: usize, n: usize) -> Vec<Case> {
     let mut random = Random::new(1);
-    (0..n).map(|_| Case { asked: b'Y', number: r as u64, room: 255, bytes: altered(&mut random, r, places).1 }).collect()
+    (0..n).map(|_| Case { asked: b'Y', number: r as u64, space: 255, bytes: altered(&mut random, r, places).1 }).collect()
 }
 
 /// Depths as they should be and not, whole matrices and others, outputs too short by one, exact and longer.
@@ -297,9 +296,9 @@ fn matrices(random: &mut Random, cases: &mut Vec<Case>) {
         let whole = 255 * depth.min(65) as usize;
         for n in [whole, whole.saturating_sub(1), whole + 1, 0, 1, 255, 510] {
             let bytes = random.bytes(n);
-            for room in [n, n.saturating_sub(1), n + 1, n + 20] {
+            for space in [n, n.saturating_sub(1), n + 1, n + 20] {
                 for asked in [b'I', b'J'] {
-                    cases.push(Case { asked, number: depth, room: room as u16, bytes: bytes.clone() });
+                    cases.push(Case { asked, number: depth, space: space as u16, bytes: bytes.clone() });
                 }
             }
         }
@@ -330,28 +329,28 @@ fn header(port: u16, sequence: u16) -> u64 {
 
 fn packets(random: &mut Random, cases: &mut Vec<Case>) {
     for number in (0..65536).step_by(13).chain(PORTS.map(u64::from)) {
-        cases.push(Case { asked: b'C', number, room: 0, bytes: vec![] });
+        cases.push(Case { asked: b'C', number, space: 0, bytes: vec![] });
     }
-    for room in [0, 1, 2, 50] {
-        cases.push(Case { asked: b'B', number: 0, room, bytes: vec![] });
+    for space in [0, 1, 2, 50] {
+        cases.push(Case { asked: b'B', number: 0, space, bytes: vec![] });
     }
     for bytes in payloads(random) {
         for port in [0x5100, 0x7D00, 0x7E7D, random.next() as u16] {
             let sequence = [0, 0x7D7E, random.next() as u16][random.below(3)];
             let number = header(port, sequence);
-            let n = packet::write(port, sequence, &bytes, usize::MAX).map_or(30, |b| b.len());
-            for room in [n, n - 1, n + 1, n + 9, 0] {
-                cases.push(Case { asked: b'K', number, room: room as u16, bytes: bytes.clone() });
+            let n = packet::escaped_packet(port, sequence, &bytes, usize::MAX).map_or(30, |b| b.len());
+            for space in [n, n - 1, n + 1, n + 9, 0] {
+                cases.push(Case { asked: b'K', number, space: space as u16, bytes: bytes.clone() });
             }
-            for (room, at) in [(n + 5, 5u64), (n + 4, 5), (n, 0), (3, 4), (3, 0xFFFFFFFF), (n + 40, 17)] {
-                cases.push(Case { asked: b'A', number: number | at << 32, room: room as u16, bytes: bytes.clone() });
+            for (space, at) in [(n + 5, 5u64), (n + 4, 5), (n, 0), (3, 4), (3, 0xFFFFFFFF), (n + 40, 17)] {
+                cases.push(Case { asked: b'A', number: number | at << 32, space: space as u16, bytes: bytes.clone() });
             }
         }
     }
 }
 
 /// Raw bytes of frames: right ones, damaged ones, every refusal.
-fn raws(random: &mut Random) -> Vec<Vec<u8>> {
+pub fn raws(random: &mut Random) -> Vec<Vec<u8>> {
     let mut all = vec![];
     for payload in payloads(random) {
         for port in [0x5100, 0x7D80, random.next() as u16] {
@@ -383,8 +382,8 @@ fn raws(random: &mut Random) -> Vec<Vec<u8>> {
 fn frames(random: &mut Random, cases: &mut Vec<Case>) {
     for bytes in raws(random) {
         let n = bytes.len();
-        for (raw, room) in [(n, n), (n, n + 7), (n, n - n.min(1)), (n + 1, n + 3), (n - n.min(1), n), (0, n)] {
-            cases.push(Case { asked: b'Q', number: raw as u64, room: room as u16, bytes: bytes.clone() });
+        for (raw, space) in [(n, n), (n, n + 7), (n, n - n.min(1)), (n + 1, n + 3), (n - n.min(1), n), (0, n)] {
+            cases.push(Case { asked: b'Q', number: raw as u64, space: space as u16, bytes: bytes.clone() });
         }
     }
 }
@@ -413,9 +412,9 @@ fn streams(random: &mut Random, cases: &mut Vec<Case>) {
         let seed = if random.below(3) == 0 { 0 } else { 1 + random.next() % 0x7FFFFFFE };
         let raw = [0, 0, 0, 1, 7, 8204, 8205, 8206, 8207, random.below(8300)][random.below(10)];
         let stored = if random.below(12) == 0 { random.below(8300) } else { raw.min(8205) };
-        let opened = random.below(2);
-        let room = if i % 40 == 0 { 8204 } else { 8205 + random.below(3) * 50 };
-        let number = if i % 2 == 0 { seed } else { seed | (opened as u64) << 31 | (raw as u64) << 32 | (stored as u64) << 48 };
-        cases.push(Case { asked: b'S', number, room: room as u16, bytes });
+        let flagged = random.below(2);
+        let space = if i % 40 == 0 { 8204 } else { 8205 + random.below(3) * 50 };
+        let number = if i % 2 == 0 { seed } else { seed | (flagged as u64) << 31 | (raw as u64) << 32 | (stored as u64) << 48 };
+        cases.push(Case { asked: b'S', number, space: space as u16, bytes });
     }
 }

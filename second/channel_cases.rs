@@ -3,10 +3,9 @@
 
 use crate::cases::{self, Case, Random};
 use crate::channel::{self, Answer, Receiver, BLOCK, MARKER, MESSAGE, ROOTS};
-use crate::packet::{self, Judged, FLAG, RAW};
+use crate::packet::{self, FLAG, RAW_LIMIT};
 use crate::parity::{self, WORD};
-use crate::repair::Found;
-use crate::stream::{self, Frame};
+use crate::stream::{self, Reader};
 
 /// One channel to be heard: the receiver, how the bytes are cut, the lent buffers and the bytes.
 struct Run {
@@ -15,73 +14,81 @@ struct Run {
     first: usize,
     seed: u64,
     word: Vec<u8>,
-    room: usize,
+    space: usize,
     bytes: Vec<u8>,
 }
 
 impl Run {
     /// A fresh receiver with buffers as they should be; everything in one piece.
     fn whole(bytes: Vec<u8>) -> Self {
-        Run { receiver: Receiver::fresh(), first: bytes.len(), seed: 0, word: vec![0xA5; WORD], room: RAW, bytes }
+        Run { receiver: Receiver::new(), first: bytes.len(), seed: 0, word: vec![0xA5; WORD], space: RAW_LIMIT, bytes }
     }
 
     fn case(self) -> Case {
         let r = self.receiver;
         let mut bytes = vec![r.locked as u8];
         bytes.extend(r.hunted);
-        for n in [r.word, r.handed, r.marker, self.first, self.word.len()] {
+        for n in [r.word_bytes, r.message_bytes, r.marker_bytes, self.first, self.word.len()] {
             bytes.extend((n as u16).to_le_bytes());
         }
         bytes.extend(self.word);
         bytes.extend(self.bytes);
-        let f = r.frame;
-        let number = self.seed | (f.opened as u64) << 31 | (f.raw as u64) << 32 | (f.stored as u64) << 48;
-        Case { asked: b'O', number, room: self.room as u16, bytes }
+        Case { asked: b'O', number: self.seed | cases::reader_number(&r.reader), space: self.space as u16, bytes }
     }
 }
 
-/// A channel heard in pieces, the receive buffer lent; what is told of it, the word buffer last.
-pub fn hear(number: u64, bytes: &[u8], recv: &mut [u8]) -> Vec<u8> {
+/// A channel read in pieces, the receive buffer lent; what is told of it, the word buffer last.
+pub fn channel_in_pieces(number: u64, bytes: &[u8], buffer: &mut [u8]) -> Vec<u8> {
     let pair = |i: usize| u16::from_le_bytes([bytes[i], bytes[i + 1]]) as usize;
-    let hunted = [bytes[1], bytes[2], bytes[3], bytes[4]];
-    let mut r =
-        Receiver { locked: bytes[0] == 1, hunted, word: pair(5), handed: pair(7), marker: pair(9), frame: cases::frame(number) };
-    let (word, heard) = bytes[15..].split_at(pair(13));
+    let mut r = Receiver {
+        locked: bytes[0] == 1,
+        hunted: [bytes[1], bytes[2], bytes[3], bytes[4]],
+        word_bytes: pair(5),
+        message_bytes: pair(7),
+        marker_bytes: pair(9),
+        reader: cases::reader_in(number),
+    };
+    let (word, stream) = bytes[15..].split_at(pair(13));
     let mut word = word.to_vec();
-    let (mut at, mut end, mut seed) = (0, pair(11).min(heard.len()), number & 0x7FFFFFFF);
+    let (mut at, mut end, mut seed) = (0, pair(11).min(stream.len()), number & 0x7FFFFFFF);
     let mut told = Vec::new();
     loop {
-        let (answer, taken) = r.read(recv, &mut word, &heard[at..end]);
+        let result = r.call(buffer, &mut word, &stream[at..end]);
+        let taken = result.map_or(0, |(_, taken)| taken);
         at += taken;
-        told.extend((taken as u64).to_le_bytes());
-        told.extend(answer.map_or(0, code).to_le_bytes());
-        match answer {
-            Some(Answer::Said(Judged::Packet { length, .. })) => told.extend(&recv[5..5 + length]),
-            Some(Answer::Said(Judged::Refused(n))) if n >= 10 => break,
-            Some(_) => {}
-            None if end == heard.len() => break,
-            None => {
-                let (length, next) = stream::next_piece(seed, heard.len() - at);
+        cases::push_all(&mut told, &[taken as u64, result.map_or_else(cases::refusal, |(answer, _)| answer.map_or(0, answer_number))]);
+        match result {
+            Err(_) => break,
+            Ok((Some(Answer::Frame(Ok(packet))), _)) => told.extend(&buffer[5..5 + packet.payload_length]),
+            Ok((Some(_), _)) => {}
+            Ok((None, _)) if end == stream.len() => break,
+            Ok((None, _)) => {
+                let (length, next) = stream::piece_length(seed, stream.len() - at);
                 (end, seed) = (at + length, next);
             }
         }
     }
-    let numbers = [r.locked as usize, r.word, r.handed, r.marker, r.frame.opened as usize, r.frame.raw, r.frame.stored];
-    for n in numbers.into_iter().chain(r.hunted.map(usize::from)) {
-        told.extend((n as u64).to_le_bytes());
-    }
+    state_numbers(&r, &mut told);
     told.extend(word);
     told
 }
 
+/// The state's numbers and the hunted bytes.
+fn state_numbers(r: &Receiver, told: &mut Vec<u8>) {
+    let counts = [r.word_bytes, r.message_bytes, r.marker_bytes, !r.reader.waits as usize, r.reader.raw, r.reader.stored];
+    cases::push_all(told, &[r.locked as u64]);
+    cases::push_all(told, &counts.map(|n| n as u64));
+    cases::push_all(told, &r.hunted.map(u64::from));
+}
+
 /// An answer as a number; 0 is kept for "more wanted".
-fn code(answer: Answer) -> u64 {
+fn answer_number(answer: Answer) -> u64 {
     match answer {
-        Answer::Block(Found::Clean) => 1,
-        Answer::Block(Found::Beyond) => 2,
+        Answer::Block(Some(0)) => 1,
+        Answer::Block(None) => 2,
         Answer::LockLost => 3,
-        Answer::Block(Found::Repaired(n)) => 256 + n as u64,
-        Answer::Said(j) => cases::judged(j),
+        Answer::Block(Some(places)) => 256 + places as u64,
+        Answer::Frame(result) => cases::frame_number(result),
     }
 }
 
@@ -95,7 +102,7 @@ pub fn all(random: &mut Random, cases: &mut Vec<Case>) {
     nearly(random, &mut runs);
     slipped(random, &mut runs);
     states(random, &mut runs);
-    begun(random, &mut runs);
+    word_in_two(random, &mut runs);
     buffers(random, &mut runs);
     longest(random, &mut runs);
     cases.extend(runs.into_iter().map(Run::case));
@@ -105,16 +112,16 @@ pub fn all(random: &mut Random, cases: &mut Vec<Case>) {
 fn senders(random: &mut Random, cases: &mut Vec<Case>) {
     for n in [0, 222, 223, 224, 255] {
         for bytes in [vec![0; n], vec![0xFF; n], vec![FLAG; n], random.bytes(n), random.bytes(n)] {
-            for room in [0, 258, 259, 260, 300] {
-                cases.push(Case { asked: b'M', number: 0, room, bytes: bytes.clone() });
+            for space in [0, 258, 259, 260, 300] {
+                cases.push(Case { asked: b'M', number: 0, space, bytes: bytes.clone() });
             }
         }
     }
     for n in [0usize, 1, 2, 222, 223, 224, 445, 446, 447, 669, 700] {
         let result = n.div_ceil(MESSAGE) * BLOCK;
         for bytes in [random.bytes(n), vec![FLAG; n], packets(random, n)] {
-            for room in [result, result.saturating_sub(1), result + 1, result + 40, 0] {
-                cases.push(Case { asked: b'N', number: 0, room: room as u16, bytes: bytes.clone() });
+            for space in [result, result.saturating_sub(1), result + 1, result + 40, 0] {
+                cases.push(Case { asked: b'N', number: 0, space: space as u16, bytes: bytes.clone() });
             }
         }
     }
@@ -158,7 +165,7 @@ pub fn packets(random: &mut Random, n: usize) -> Vec<u8> {
 pub fn sent(random: &mut Random, blocks: usize) -> Vec<u8> {
     let spare = [0, random.below(MESSAGE), random.below(30)][random.below(3)];
     let plain = packets(random, blocks * MESSAGE - spare);
-    channel::send(&plain, usize::MAX).unwrap()
+    channel::in_blocks(&plain, usize::MAX).unwrap()
 }
 
 /// Bytes in front of the first marker: none, random ones, almost the marker, the marker too early.
@@ -337,18 +344,18 @@ fn count(random: &mut Random, within: &[usize], beyond: &[usize]) -> usize {
 /// A receiver in any state: counts at and beyond their limits, also such as no run reaches.
 fn any(random: &mut Random) -> Receiver {
     let raw = [0, 0, 1, 7, 8204, 8205, 8206, 8207, random.below(8300)][random.below(9)];
-    let stored = if random.below(15) == 0 { random.below(8300) } else { raw.min(RAW) };
-    let (some, few) = (random.below(WORD), random.below(MESSAGE));
-    let marker = count(random, &[0, 1, 2, 3], &[4, 5, 65535]);
+    let stored = if random.below(15) == 0 { random.below(8300) } else { raw.min(RAW_LIMIT) };
+    let (part, few) = (random.below(WORD), random.below(MESSAGE));
+    let marker_bytes = count(random, &[0, 1, 2, 3], &[4, 5, 65535]);
     let mut hunted = [0x7D, 0x3A, 0xE2, [0x42, random.byte()][random.below(2)]];
-    hunted.rotate_left(if random.below(2) == 0 { marker % 4 } else { random.below(4) });
+    hunted.rotate_left(if random.below(2) == 0 { marker_bytes % 4 } else { random.below(4) });
     Receiver {
         locked: random.below(4) > 0,
         hunted,
-        word: count(random, &[0, 1, 253, 254, 255, 255, 255, 255, some], &[256, 259, 65535]),
-        handed: count(random, &[0, 1, 221, 222, 223, 223, few], &[224, 255, 65535]),
-        marker,
-        frame: Frame { opened: random.below(2) == 1, raw, stored },
+        word_bytes: count(random, &[0, 1, 253, 254, 255, 255, 255, 255, part], &[256, 259, 65535]),
+        message_bytes: count(random, &[0, 1, 221, 222, 223, 223, few], &[224, 255, 65535]),
+        marker_bytes,
+        reader: Reader { waits: random.below(2) == 0, raw, stored },
     }
 }
 
@@ -365,7 +372,7 @@ fn states(random: &mut Random, runs: &mut Vec<Run>) {
         if random.below(3) == 0 {
             damage(random, &mut bytes[4..BLOCK]);
         }
-        let from = [receiver.marker.min(4), random.below(5), random.below(bytes.len())][random.below(3)];
+        let from = [receiver.marker_bytes.min(4), random.below(5), random.below(bytes.len())][random.below(3)];
         bytes.drain(..from);
         bytes.truncate(random.below(bytes.len() + 1));
         let run = Run { receiver, word, ..Run::whole(bytes) };
@@ -374,7 +381,7 @@ fn states(random: &mut Random, runs: &mut Vec<Run>) {
 }
 
 /// A word begun before, whose rest is heard: the two parts belong together, and the word is clean, repaired or beyond repair.
-fn begun(random: &mut Random, runs: &mut Vec<Run>) {
+fn word_in_two(random: &mut Random, runs: &mut Vec<Run>) {
     for i in 0..300 {
         let mut word = sent(random, 1).split_off(4);
         if i % 4 < 2 {
@@ -385,24 +392,24 @@ fn begun(random: &mut Random, runs: &mut Vec<Run>) {
         bytes.extend(sent(random, 1));
         word.resize(WORD + i % 3, 0x33);
         let mut receiver = any(random);
-        (receiver.locked, receiver.word) = (true, there);
-        receiver.frame = Frame { opened: i % 2 == 0, raw: 0, stored: 0 };
+        (receiver.locked, receiver.word_bytes) = (true, there);
+        receiver.reader = Reader { waits: i % 2 == 1, raw: 0, stored: 0 };
         runs.push(cut(random, Run { receiver, word, ..Run::whole(bytes) }));
     }
 }
 
 /// Buffers too short, exact and longer, with states that are refused and such as are not.
 fn buffers(random: &mut Random, runs: &mut Vec<Run>) {
-    for room in [0, 8204, 8205, 8206, 8300] {
+    for space in [0, 8204, 8205, 8206, 8300] {
         for length in [0, 1, 223, 254, 255, 256, 300] {
             for i in 0..6 {
-                let receiver = if i < 2 { Receiver::fresh() } else { any(random) };
+                let receiver = if i < 2 { Receiver::new() } else { any(random) };
                 let mut block = sent(random, 1);
                 if i % 2 == 1 {
                     damage(random, &mut block[4..]);
                 }
                 let bytes = [stray(random), block].concat();
-                let run = Run { receiver, word: random.bytes(length), room, ..Run::whole(bytes) };
+                let run = Run { receiver, word: random.bytes(length), space, ..Run::whole(bytes) };
                 runs.push(cut(random, run));
             }
         }
@@ -417,7 +424,7 @@ fn longest(random: &mut Random, runs: &mut Vec<Run>) {
     for frame in [escaped, plain, beyond, vec![0x41; 8205], vec![0x41; 8206], vec![0x7D; 9000]] {
         let bytes = [&[FLAG][..], &frame, &[FLAG], &packet(random)].concat();
         for places in [0, 1, 16, 17] {
-            let mut bytes = channel::send(&bytes, usize::MAX).unwrap();
+            let mut bytes = channel::in_blocks(&bytes, usize::MAX).unwrap();
             let at = BLOCK * (1 + random.below(30));
             alter(random, &mut bytes[at + 4..at + BLOCK], places);
             runs.push(cut(random, Run::whole(bytes.clone())));

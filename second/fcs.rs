@@ -6,24 +6,24 @@ const fn table() -> [u16; 256] {
     let mut t = [0u16; 256];
     let mut b = 0;
     while b < 256 {
-        let mut v = b as u16;
+        let mut r = b as u16;
         let mut bit = 0;
         while bit < 8 {
-            v = if v & 1 == 1 { (v >> 1) ^ 0x8408 } else { v >> 1 };
+            r = if r & 1 == 1 { (r >> 1) ^ 0x8408 } else { r >> 1 };
             bit += 1;
         }
-        t[b] = v;
+        t[b] = r;
         b += 1;
     }
     t
 }
 
 /// The register after further bytes.
-pub fn feed(register: u16, bytes: &[u8]) -> u16 {
+pub fn register_after(register: u16, bytes: &[u8]) -> u16 {
     bytes.iter().fold(register, |r, b| (r >> 8) ^ TABLE[((r ^ *b as u16) & 0xFF) as usize])
 }
 
 /// The check of bytes.
 pub fn check(bytes: &[u8]) -> u16 {
-    !feed(0xFFFF, bytes)
+    !register_after(0xFFFF, bytes)
 }

@@ -1,12 +1,12 @@
 //! The byte interleaver: rows and columns of a matrix, as the paper's equations have them.
 
 /// The row and column of output i.
-fn place(depth: usize, i: usize) -> (usize, usize) {
+fn row_and_column(depth: usize, i: usize) -> (usize, usize) {
     ((i - 254 * (i / 255)) % depth, 53 * i % 255)
 }
 
 /// Interleaves, or restores where `back`; or the number of a refusal.
-pub fn turn(back: bool, depth: u64, bytes: &[u8], room: usize) -> Result<Vec<u8>, u8> {
+pub fn permute(back: bool, depth: u64, bytes: &[u8], space: usize) -> Result<Vec<u8>, u8> {
     if depth > 64 {
         return Err(32);
     }
@@ -14,7 +14,7 @@ pub fn turn(back: bool, depth: u64, bytes: &[u8], room: usize) -> Result<Vec<u8>
     if depth >= 2 && bytes.len() != 255 * depth {
         return Err(33);
     }
-    if room < bytes.len() {
+    if space < bytes.len() {
         return Err(23);
     }
     if depth < 2 {
@@ -23,7 +23,7 @@ pub fn turn(back: bool, depth: u64, bytes: &[u8], room: usize) -> Result<Vec<u8>
     let mut rows = vec![[0u8; 255]; depth];
     if back {
         for (i, b) in bytes.iter().enumerate() {
-            let (row, column) = place(depth, i);
+            let (row, column) = row_and_column(depth, i);
             rows[row][column] = *b;
         }
         return Ok(rows.concat());
@@ -31,5 +31,5 @@ pub fn turn(back: bool, depth: u64, bytes: &[u8], room: usize) -> Result<Vec<u8>
     for (i, b) in bytes.iter().enumerate() {
         rows[i / 255][i % 255] = *b;
     }
-    Ok((0..bytes.len()).map(|i| place(depth, i)).map(|(row, column)| rows[row][column]).collect())
+    Ok((0..bytes.len()).map(|i| row_and_column(depth, i)).map(|(row, column)| rows[row][column]).collect())
 }

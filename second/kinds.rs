@@ -1,7 +1,7 @@
 //! How often each kind of line, count of repaired places, refusal, class and ending occurs in the listings of recordings, so that none goes
 //! untested; and packets behind each kind of block.
 
-use crate::listing::{self, Lister};
+use crate::listing::{self, Scribe};
 use std::collections::BTreeMap;
 
 const LINES: [&str; 8] = ["P", "R", "B clean", "B repaired", "B beyond repair", "L", "E", "X"];
@@ -24,11 +24,11 @@ const ENDINGS: [&str; 9] = [
     "end inside a record",
 ];
 
-fn count(recording: &[u8], counts: &mut BTreeMap<String, usize>) {
-    let mut lister = Lister::new();
-    lister.feed(recording, &mut Vec::new());
+fn add_kinds(recording: &[u8], counts: &mut BTreeMap<String, usize>) {
+    let mut scribe = Scribe::new();
+    scribe.consume(recording);
     let text = String::from_utf8(listing::listing(recording)).unwrap();
-    let mut kinds = vec![lister.ending().to_string()];
+    let mut kinds = vec![scribe.ending().to_string()];
     let mut block = "none";
     for line in text.lines() {
         match line.as_bytes()[0] {
@@ -54,7 +54,7 @@ fn count(recording: &[u8], counts: &mut BTreeMap<String, usize>) {
 pub fn show(files: &[&str]) -> i32 {
     let mut counts = BTreeMap::new();
     for file in files {
-        count(&std::fs::read(file).expect(file), &mut counts);
+        add_kinds(&std::fs::read(file).expect(file), &mut counts);
     }
     let mut missing = 0;
     for kinds in [&LINES[..], &PLACES, &DELIVERED, &REFUSALS, &CLASSES, &ENDINGS] {

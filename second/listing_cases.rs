@@ -4,15 +4,15 @@
 use crate::cases::{self, Case, Random};
 use crate::channel::{self, BLOCK, MARKER};
 use crate::channel_cases::{alter, damage, damage_all, packet, packets, sent, stray};
-use crate::listing::{Lister, MOST};
-use crate::packet::{self, FLAG, RAW};
+use crate::listing::{Scribe, STREAM_LIMIT};
+use crate::packet::{self, FLAG, RAW_LIMIT};
 use crate::{fcs, stream};
 
 pub const PLAIN: u8 = 0x50;
-pub const CHANNEL: u8 = 0x4F;
+pub const OPPORTUNISTIC: u8 = 0x4F;
 
 /// The paper's case.
-const PAPER: [u8; 19] =
+pub const PAPER: [u8; 19] =
     [0x50, 0xF5, 0x5F, 5, 0, 0x7E, 0x21, 0, 0x51, 0, 0xF5, 0x5F, 5, 0, 0, 0x41, 0xE4, 0xEC, 0x7E];
 
 /// A call writes lines while so many bytes are left, whatever the next line is.
@@ -22,8 +22,8 @@ const LINE: usize = 128;
 pub type Named = (String, Vec<u8>);
 
 /// A stream in records, as long as `size` says.
-pub fn recorded(mode: u8, mut stream: &[u8], mut size: impl FnMut() -> usize) -> Vec<u8> {
-    let mut bytes = vec![mode];
+pub fn recorded(letter: u8, mut stream: &[u8], mut size: impl FnMut() -> usize) -> Vec<u8> {
+    let mut bytes = vec![letter];
     while !stream.is_empty() {
         let (record, rest) = stream.split_at(size().min(stream.len()));
         bytes.extend([0xF5, 0x5F]);
@@ -35,9 +35,9 @@ pub fn recorded(mode: u8, mut stream: &[u8], mut size: impl FnMut() -> usize) ->
 }
 
 /// A stream in records of many sizes, some of them empty.
-fn cut(random: &mut Random, mode: u8, stream: &[u8]) -> Vec<u8> {
+fn cut(random: &mut Random, letter: u8, stream: &[u8]) -> Vec<u8> {
     let most = [10, 300, 3000, 65535][random.below(4)];
-    let bytes = recorded(mode, stream, || if random.below(6) == 0 { 0 } else { 1 + random.below(most) });
+    let bytes = recorded(letter, stream, || if random.below(6) == 0 { 0 } else { 1 + random.below(most) });
     if random.below(4) == 0 { [&bytes[..], &[0xF5, 0x5F, 0, 0]].concat() } else { bytes }
 }
 
@@ -64,7 +64,7 @@ fn faults() -> Vec<u8> {
     bytes.extend(frame(0x26, 0x5100, 2, b"bid"));
     bytes.extend([0x21, FLAG, 0x21, 0x7D, FLAG, 0x7D, 0x21, FLAG, FLAG]);
     bytes.extend(frame(0x21, 0x5100, 0, &[0x41; 8193]));
-    bytes.extend([0x41; RAW + 1]);
+    bytes.extend([0x41; RAW_LIMIT + 1]);
     bytes.push(FLAG);
     bytes
 }
@@ -104,10 +104,10 @@ fn damaged(random: &mut Random, kind: usize) -> Vec<u8> {
 
 /// A recording with one of its marks' bytes altered, or its first byte, or cut short.
 fn malformed(random: &mut Random, kind: usize) -> Vec<u8> {
-    let mode = [PLAIN, CHANNEL][random.below(2)];
-    let stream = if mode == PLAIN { packets(random, 300) } else { sent(random, 2) };
+    let letter = [PLAIN, OPPORTUNISTIC][random.below(2)];
+    let stream = if letter == PLAIN { packets(random, 300) } else { sent(random, 2) };
     let mut sizes = Vec::new();
-    let mut bytes = recorded(mode, &stream, || {
+    let mut bytes = recorded(letter, &stream, || {
         sizes.push(random.below(200));
         sizes[sizes.len() - 1]
     });
@@ -126,7 +126,7 @@ fn malformed(random: &mut Random, kind: usize) -> Vec<u8> {
 }
 
 /// One recording of a kind, drawn anew each time.
-fn any(random: &mut Random, kind: usize) -> Vec<u8> {
+pub fn any(random: &mut Random, kind: usize) -> Vec<u8> {
     let n = random.below(700);
     match kind % 8 {
         0 => {
@@ -134,8 +134,8 @@ fn any(random: &mut Random, kind: usize) -> Vec<u8> {
             cut(random, PLAIN, &stream)
         }
         1 => {
-            let stream = channel::send(&clean(random, n), usize::MAX).unwrap();
-            cut(random, CHANNEL, &stream)
+            let stream = channel::in_blocks(&clean(random, n), usize::MAX).unwrap();
+            cut(random, OPPORTUNISTIC, &stream)
         }
         2 => {
             let stream = packets(random, n + 1);
@@ -143,11 +143,11 @@ fn any(random: &mut Random, kind: usize) -> Vec<u8> {
         }
         3 | 4 => {
             let stream = damaged(random, n);
-            cut(random, CHANNEL, &stream)
+            cut(random, OPPORTUNISTIC, &stream)
         }
         5 => {
-            let (mode, stream) = ([PLAIN, CHANNEL][n % 2], random.bytes(n));
-            cut(random, mode, &stream)
+            let (letter, stream) = ([PLAIN, OPPORTUNISTIC][n % 2], random.bytes(n));
+            cut(random, letter, &stream)
         }
         6 if n < 100 => random.bytes(n),
         _ => malformed(random, n),
@@ -156,7 +156,7 @@ fn any(random: &mut Random, kind: usize) -> Vec<u8> {
 
 /// Clean packets in blocks, each word altered in so many places.
 fn altered(random: &mut Random, places: usize) -> Vec<u8> {
-    let mut bytes = channel::send(&clean(random, 500), usize::MAX).unwrap();
+    let mut bytes = channel::in_blocks(&clean(random, 500), usize::MAX).unwrap();
     bytes.chunks_mut(BLOCK).for_each(|block| alter(random, &mut block[4..], places));
     bytes
 }
@@ -175,10 +175,10 @@ pub fn small(seed: u64) -> Vec<Named> {
     }
     let faults = faults();
     all.push(("faults-plain".to_string(), cut(&mut random, PLAIN, &faults)));
-    all.push(("faults-channel".to_string(), cut(&mut random, CHANNEL, &channel::send(&faults, usize::MAX).unwrap())));
+    all.push(("faults-channel".to_string(), cut(&mut random, OPPORTUNISTIC, &channel::in_blocks(&faults, usize::MAX).unwrap())));
     for places in 0..=20 {
         let stream = altered(&mut random, places);
-        all.push((format!("altered-{places:02}"), cut(&mut random, CHANNEL, &stream)));
+        all.push((format!("altered-{places:02}"), cut(&mut random, OPPORTUNISTIC, &stream)));
     }
     for kind in 0..80 {
         all.push((format!("drawn-{kind:02}"), any(&mut random, kind)));
@@ -193,11 +193,11 @@ fn repeated(stream: &[u8], length: usize) -> Vec<u8> {
 
 /// A recording of so many stream bytes at least: packets, now and then a fault; on the channel also damaged words, bytes altered anywhere
 /// and a lost marker.
-pub fn large(seed: u64, mode: u8, length: usize) -> Vec<u8> {
+pub fn large(seed: u64, letter: u8, length: usize) -> Vec<u8> {
     let mut random = Random::new(seed);
     let mut stream = packets(&mut random, 400_000);
-    if mode == CHANNEL {
-        stream = channel::send(&stream, usize::MAX).unwrap();
+    if letter == OPPORTUNISTIC {
+        stream = channel::in_blocks(&stream, usize::MAX).unwrap();
         for _ in 0..60 {
             let start = BLOCK * random.below(stream.len() / BLOCK);
             damage(&mut random, &mut stream[start + 4..start + BLOCK]);
@@ -205,124 +205,115 @@ pub fn large(seed: u64, mode: u8, length: usize) -> Vec<u8> {
         alter(&mut random, &mut stream, 60);
         stream.drain(9 * BLOCK..9 * BLOCK + 4);
     }
-    recorded(mode, &repeated(&stream, length), || [0, 1, 200, 3000, 65535][random.below(5)])
+    recorded(letter, &repeated(&stream, length), || [0, 1, 200, 3000, 65535][random.below(5)])
 }
 
 /// A clean recording of so many stream bytes at least, to be timed: packets of up to 400 bytes, in records of 4,096.
-pub fn steady(mode: u8, length: usize) -> Vec<u8> {
+pub fn steady(letter: u8, length: usize) -> Vec<u8> {
     let mut random = Random::new(1);
     let mut stream = vec![FLAG];
     while stream.len() < 1_000_000 {
         let n = 1 + random.below(400);
-        stream.extend(packet::write(0x1401, random.next() as u16, &random.bytes(n), usize::MAX).unwrap());
+        stream.extend(packet::escaped_packet(0x1401, random.next() as u16, &random.bytes(n), usize::MAX).unwrap());
     }
-    if mode == CHANNEL {
-        stream = channel::send(&stream, usize::MAX).unwrap();
+    if letter == OPPORTUNISTIC {
+        stream = channel::in_blocks(&stream, usize::MAX).unwrap();
     }
-    recorded(mode, &repeated(&stream, length), || 4096)
+    recorded(letter, &repeated(&stream, length), || 4096)
 }
 
 /// Where a recording may stand at first (bytes read, stream bytes, each total): fresh; near the stream's limit; with the offset, or the
 /// totals, near their width. crates/answers/src/listing.rt has the same.
-const STARTS: [[u64; 3]; 4] = [[0, 0, 0], [0, MOST - 300, 0], [u64::MAX - 300, 0, 0], [0, 0, u64::MAX - 140]];
+const STARTS: [[u64; 3]; 4] = [[0, 0, 0], [0, STREAM_LIMIT - 300, 0], [u64::MAX - 300, 0, 0], [0, 0, u64::MAX - 140]];
 
-/// A recording to be listed by calls: how it is cut, the receive buffer, where it stands at first, the room for lines.
+/// A recording to be listed by calls: how it is cut, the receive buffer, where it stands at first, the space for lines.
 struct Run {
     /// The length of a piece, or 0: as the seed says.
     size: usize,
     seed: u64,
-    recv: usize,
+    lent: usize,
     start: usize,
-    room: usize,
+    space: usize,
     bytes: Vec<u8>,
 }
 
 impl Run {
-    fn new(size: usize, room: usize, bytes: &[u8]) -> Self {
-        Run { size, seed: 0, recv: RAW, start: 0, room, bytes: bytes.to_vec() }
+    fn new(size: usize, space: usize, bytes: &[u8]) -> Self {
+        Run { size, seed: 0, lent: RAW_LIMIT, start: 0, space, bytes: bytes.to_vec() }
     }
 
     fn case(self) -> Case {
-        let number = self.seed | (self.size as u64) << 32 | (self.recv as u64) << 48 | (self.start as u64) << 62;
-        Case { asked: b'L', number, room: self.room as u16, bytes: self.bytes }
+        let number = self.seed | (self.size as u64) << 32 | (self.lent as u64) << 48 | (self.start as u64) << 62;
+        Case { asked: b'L', number, space: self.space as u16, bytes: self.bytes }
     }
 }
 
 /// The lines of a recording, each with the number of bytes read when it is printed; so many stream bytes count as read at first.
-fn lines(count: u64, bytes: &[u8]) -> Vec<(usize, Vec<u8>)> {
-    let (mut lister, mut lines) = (Lister::at(0, count), Vec::new());
+fn lines_of(stream_bytes: u64, bytes: &[u8]) -> Vec<(usize, Vec<u8>)> {
+    let (mut scribe, mut lines) = (Scribe::starting_at(0, stream_bytes), Vec::new());
     for (i, byte) in bytes.iter().enumerate() {
-        let mut out = Vec::new();
-        lister.feed(&[*byte], &mut out);
-        lines.extend(out.split_inclusive(|b| *b == b'\n').map(|line| (i + 1, line.to_vec())));
+        scribe.consume(&[*byte]);
+        lines.extend(scribe.lines().split_inclusive(|b| *b == b'\n').map(|line| (i + 1, line.to_vec())));
     }
     lines
 }
 
 /// Counts a line in the totals.
-fn count(totals: &mut [u64; 4], line: &[u8]) {
+fn add_up(totals: &mut [u64; 4], line: &[u8]) {
     for (total, start) in totals.iter_mut().zip(["P", "R", "B X", "L"]) {
         *total += line.starts_with(start.as_bytes()) as u64;
     }
 }
 
-/// A recording listed by calls, the room for lines lent; what is told of them.
-pub fn called(number: u64, bytes: &[u8], out: &mut [u8]) -> Vec<u8> {
-    let (size, recv) = ((number >> 32) as usize & 0xFFFF, (number >> 48) as usize & 0x3FFF);
-    let [offset, stream, total] = STARTS[(number >> 62) as usize];
-    let mut lines = lines(stream, bytes).into_iter().peekable();
-    let (mut lister, mut totals) = (Lister::at(offset, stream), [total; 4]);
+/// A recording listed by calls, the output for lines lent; what is told of them.
+pub fn recording_in_pieces(number: u64, bytes: &[u8], out: &mut [u8]) -> Vec<u8> {
+    let (size, lent) = ((number >> 32) as usize & 0xFFFF, (number >> 48) as usize & 0x3FFF);
+    let [offset, stream_bytes, total] = STARTS[(number >> 62) as usize];
+    let mut lines = lines_of(stream_bytes, bytes).into_iter().peekable();
+    let (mut scribe, mut totals) = (Scribe::starting_at(offset, stream_bytes), [total; 4]);
     let (mut at, mut end, mut seed) = (0, 0, number & 0x7FFFFFFF);
     let mut told = Vec::new();
     loop {
-        let wide = lister.holds(end - at) && totals.iter().all(|t| t.checked_add(out.len() as u64).is_some());
-        if !wide || recv < RAW {
-            tell(&mut told, &[0, 65536 + if wide { 11 } else { 10 }, 0]);
+        let countable = scribe.can_count(end - at) && totals.iter().all(|t| t.checked_add(out.len() as u64).is_some());
+        if !countable || lent < RAW_LIMIT {
+            cases::push_all(&mut told, &[0, cases::refusal(if countable { 11 } else { 10 }), 0]);
             break;
         }
-        let (mut taken, mut written) = (0, 0);
-        while out.len() - written >= LINE && lines.peek().is_some_and(|(read, _)| *read <= end) {
+        let (mut taken, mut printed) = (0, 0);
+        while out.len() - printed >= LINE && lines.peek().is_some_and(|(read, _)| *read <= end) {
             let (read, line) = lines.next().unwrap();
             taken = read - at;
-            out[written..written + line.len()].copy_from_slice(&line);
-            written += line.len();
-            count(&mut totals, &line);
+            out[printed..printed + line.len()].copy_from_slice(&line);
+            printed += line.len();
+            add_up(&mut totals, &line);
         }
-        let more = out.len() - written >= LINE;
-        if more {
-            taken = end - at;
-        }
-        lister.feed(&bytes[at..at + taken], &mut Vec::new());
+        let more = out.len() - printed >= LINE;
+        let taken = if more { end - at } else { taken };
+        scribe.consume(&bytes[at..at + taken]);
         at += taken;
-        tell(&mut told, &[taken, !more as usize, written]);
-        told.extend(&out[..written]);
-        if !more && written == 0 || more && end == bytes.len() {
+        cases::push_all(&mut told, &[taken as u64, !more as u64, printed as u64]);
+        told.extend(&out[..printed]);
+        if !more && printed == 0 || more && end == bytes.len() {
             break;
         }
         if more {
             let left = bytes.len() - at;
-            let (length, next) = if size > 0 { (size.min(left), seed) } else { stream::next_piece(seed, left) };
+            let (length, next) = if size > 0 { (size.min(left), seed) } else { stream::piece_length(seed, left) };
             (end, seed) = (at + length, next);
         }
     }
-    let mut last = Vec::new();
-    lister.last(totals, &mut last);
-    finish(&last, out, &mut told);
+    last_call(&scribe.last_line(totals), out, &mut told);
     told
 }
 
-fn tell(told: &mut Vec<u8>, numbers: &[usize]) {
-    numbers.iter().for_each(|n| told.extend((*n as u64).to_le_bytes()));
-}
-
-/// The last line with all of the room; where it fits, also with just enough, and with a byte less.
-fn finish(last: &[u8], out: &mut [u8], told: &mut Vec<u8>) {
-    let n = last.len();
+/// The last line with all of the output; where it fits, also with just enough, and with a byte less.
+fn last_call(line: &[u8], out: &mut [u8], told: &mut Vec<u8>) {
+    let n = line.len();
     if out.len() < n {
-        return tell(told, &[65536 + 23]);
+        return cases::push_all(told, &[cases::refusal(23)]);
     }
-    out[..n].copy_from_slice(last);
-    tell(told, &[n, n, 65536 + 23]);
+    out[..n].copy_from_slice(line);
+    cases::push_all(told, &[n as u64, n as u64, cases::refusal(23)]);
 }
 
 /// Every cutting of some recordings, and many recordings with some cutting, each with several rooms.
@@ -337,15 +328,15 @@ pub fn all(random: &mut Random, cases: &mut Vec<Case>) {
             1 => run.size = 1 + random.below(run.bytes.len() + 1),
             _ => run.seed = random.next() % 0x7FFFFFFF,
         }
-        run.recv = if random.below(50) == 0 { random.below(RAW) } else { RAW };
+        run.lent = if random.below(50) == 0 { random.below(RAW_LIMIT) } else { RAW_LIMIT };
         run.start = if random.below(3) == 0 { random.below(4) } else { 0 };
         runs.push(run);
     }
-    for stream in [faults(), channel::send(&faults(), usize::MAX).unwrap()] {
-        let mode = if stream[0] == FLAG { PLAIN } else { CHANNEL };
-        for (room, seed) in [(128, 0), (128, 5), (135, 9), (200, 6), (1000, 7)] {
+    for stream in [faults(), channel::in_blocks(&faults(), usize::MAX).unwrap()] {
+        let letter = if stream[0] == FLAG { PLAIN } else { OPPORTUNISTIC };
+        for (space, seed) in [(128, 0), (128, 5), (135, 9), (200, 6), (1000, 7)] {
             for start in 0..STARTS.len() {
-                runs.push(Run { seed, start, ..Run::new(0, room, &cut(random, mode, &stream)) });
+                runs.push(Run { seed, start, ..Run::new(0, space, &cut(random, letter, &stream)) });
             }
         }
     }
@@ -363,17 +354,17 @@ fn everywhere(random: &mut Random, runs: &mut Vec<Run>) {
     let recordings = [
         PAPER.to_vec(),
         recorded(PLAIN, &plain, || sizes.next().unwrap()),
-        recorded(CHANNEL, &blocks, || sizes.next().unwrap()),
-        recorded(CHANNEL, &damaged, || sizes.next().unwrap()),
+        recorded(OPPORTUNISTIC, &blocks, || sizes.next().unwrap()),
+        recorded(OPPORTUNISTIC, &damaged, || sizes.next().unwrap()),
     ];
     for bytes in recordings {
         for size in 1..=bytes.len() {
-            for room in [128, 129, 200, 1000] {
-                runs.push(Run::new(size, room, &bytes));
+            for space in [128, 129, 200, 1000] {
+                runs.push(Run::new(size, space, &bytes));
             }
         }
-        for room in [0, 1, 3, 4, 20, 64, 127] {
-            runs.push(Run::new(7, room, &bytes));
+        for space in [0, 1, 3, 4, 20, 64, 127] {
+            runs.push(Run::new(7, space, &bytes));
         }
     }
 }
@@ -381,7 +372,7 @@ fn everywhere(random: &mut Random, runs: &mut Vec<Run>) {
 /// Recordings cut short at every place, and every first byte.
 fn short(random: &mut Random, runs: &mut Vec<Run>) {
     let stream = sent(random, 1);
-    let bytes = recorded(CHANNEL, &stream, || 1 + random.below(90));
+    let bytes = recorded(OPPORTUNISTIC, &stream, || 1 + random.below(90));
     for n in 0..=bytes.len() {
         runs.push(Run::new(50, 128, &bytes[..n]));
     }

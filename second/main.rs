@@ -6,7 +6,7 @@
 //!   second parity R HEX      the parity of a message
 //!   second word R HEX        clean or damaged
 //!   second repair R HEX      what repair finds, and the word that it leaves
-//!   second test [SEED]       tests the second program's own repair
+//!   second test [SEED]       holds the second program itself to the paper (selftest.rs)
 //!   second interleave DEPTH HEX, second restore DEPTH HEX
 //!                            the bytes of a matrix, there and back
 //!   second list              the listing of the recording on standard input
@@ -34,6 +34,7 @@ mod packet;
 mod parity;
 mod repair;
 mod samples;
+mod selftest;
 mod stream;
 
 use std::io::Write;
@@ -46,16 +47,16 @@ fn main() {
         ["parity", r, bytes] => both(r, bytes).map(|(r, b)| show(parity::make(r, &b, 64))),
         ["word", r, bytes] => both(r, bytes).map(|(r, b)| show_word(r, &b)),
         ["repair", r, bytes] => both(r, bytes).map(|(r, b)| show_repair(r, b)),
-        ["test"] => Some(test(1)),
-        ["test", seed] => number(seed).map(test),
-        ["interleave", d, bytes] => both(d, bytes).map(|(d, b)| show(interleaver::turn(false, d, &b, b.len()))),
-        ["restore", d, bytes] => both(d, bytes).map(|(d, b)| show(interleaver::turn(true, d, &b, b.len()))),
+        ["test"] => Some(selftest::run(1)),
+        ["test", seed] => number(seed).map(selftest::run),
+        ["interleave", d, bytes] => both(d, bytes).map(|(d, b)| show(interleaver::permute(false, d, &b, b.len()))),
+        ["restore", d, bytes] => both(d, bytes).map(|(d, b)| show(interleaver::permute(true, d, &b, b.len()))),
         ["bids", ref rest @ ..] => std::process::exit(bids::run(rest)),
-        ["list"] => Some(listing::list().expect("standard input and output")),
+        ["list"] => Some(listing::list_input().expect("standard input and output")),
         ["kinds", ref files @ ..] => std::process::exit(kinds::show(files)),
         ["recordings", dir] => Some(write_recordings(dir, 1)),
         ["recordings", dir, seed] => number(seed).map(|seed| write_recordings(dir, seed)),
-        ["steady", kind, mib] => mode(kind).zip(number(mib)).map(|(mode, mib)| write_steady(mode, mib)),
+        ["steady", kind, mib] => first_byte(kind).zip(number(mib)).map(|(letter, mib)| write_steady(letter, mib)),
         ["samples", dir] => Some(samples::write(dir).expect(dir)),
         ["cases"] => Some(write_cases(1)),
         ["cases", seed] => number(seed).map(write_cases),
@@ -111,24 +112,21 @@ fn show_word(r: u64, word: &[u8]) {
 
 fn show_repair(r: u64, mut word: Vec<u8>) {
     match repair::repair(r, &mut word) {
-        Ok(found) => println!("{found:?} {}", hex(&word)),
+        Ok(Some(0)) => println!("clean {}", hex(&word)),
+        Ok(Some(places)) => println!("repaired in {places} places {}", hex(&word)),
+        Ok(None) => println!("beyond repair {}", hex(&word)),
         Err(n) => println!("refused {n}"),
     }
-}
-
-fn test(seed: u64) {
-    let [words, clean, repaired, beyond] = repair::test(seed);
-    println!("{words} words: {clean} clean, {repaired} repaired, {beyond} beyond repair");
 }
 
 fn three(a: &str, b: &str, c: &str) -> Option<(usize, usize, usize)> {
     Some((a.parse().ok()?, b.parse().ok()?, c.parse().ok()?))
 }
 
-fn mode(kind: &str) -> Option<u8> {
+fn first_byte(kind: &str) -> Option<u8> {
     match kind {
         "plain" => Some(listing_cases::PLAIN),
-        "marked" => Some(listing_cases::CHANNEL),
+        "marked" => Some(listing_cases::OPPORTUNISTIC),
         _ => None,
     }
 }
@@ -137,14 +135,14 @@ fn mode(kind: &str) -> Option<u8> {
 fn write_recordings(dir: &str, seed: u64) {
     let mut all = listing_cases::small(seed);
     all.push(("large-plain".to_string(), listing_cases::large(seed, listing_cases::PLAIN, 4 << 20)));
-    all.push(("large-marked".to_string(), listing_cases::large(seed, listing_cases::CHANNEL, 1 << 20)));
+    all.push(("large-marked".to_string(), listing_cases::large(seed, listing_cases::OPPORTUNISTIC, 1 << 20)));
     for (name, bytes) in all {
         std::fs::write(format!("{dir}/{name}.rec"), bytes).expect(dir);
     }
 }
 
-fn write_steady(mode: u8, mib: u64) {
-    let bytes = listing_cases::steady(mode, (mib as usize) << 20);
+fn write_steady(letter: u8, mib: u64) {
+    let bytes = listing_cases::steady(letter, (mib as usize) << 20);
     std::io::stdout().write_all(&bytes).expect("standard output");
 }
 
@@ -169,13 +167,13 @@ fn compare(asked: &str, told: &str) -> i32 {
     while at < asked.len() {
         let case = read_case(&asked[at..]);
         at += 13 + case.bytes.len();
-        let right = case.answer();
+        let right = case.reply();
         let end = told.len().min(from + right.len());
         if told[from..end] != right[..] {
             differ += 1;
             if differ <= 10 {
                 let first = right.iter().zip(&told[from..end]).take_while(|(a, b)| a == b).count();
-                println!("{} {} room {}: {}", case.asked as char, case.number, case.room, short(&case.bytes));
+                println!("{} {} space {}: {}", case.asked as char, case.number, case.space, short(&case.bytes));
                 println!("  at byte {first} of the answer the proved code has {}", short(&told[(from + first).min(end)..end]));
                 println!("  and the second program {}", short(&right[first..]));
             }
@@ -197,7 +195,7 @@ fn read_case(bytes: &[u8]) -> cases::Case {
     cases::Case {
         asked: bytes[0],
         number: u64::from_le_bytes(bytes[1..9].try_into().unwrap()),
-        room: low(9),
+        space: low(9),
         bytes: bytes[13..13 + length].to_vec(),
     }
 }

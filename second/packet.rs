@@ -1,33 +1,34 @@
-//! Packets: contents, escapes, one closed frame judged, one packet written, classes of ports.
+//! Packets: contents, escapes, what comes of a closed frame, one packet escaped, classes of ports.
 
 use crate::fcs;
 
 pub const FLAG: u8 = 0x7E;
-pub const RAW: usize = 8205;
-pub const PAYLOAD: usize = 8192;
+pub const ESCAPE: u8 = 0x7D;
+pub const RAW_LIMIT: usize = 8205;
+pub const PAYLOAD_LIMIT: usize = 8192;
 
-/// What a frame is judged to be.
-#[derive(Clone, Copy, PartialEq)]
-pub enum Judged {
-    Packet { port: u16, sequence: u16, length: usize },
-    Refused(u8),
+/// A delivered packet, without its payload's bytes.
+#[derive(Clone, Copy, Debug, PartialEq)]
+pub struct Delivery {
+    pub port: u16,
+    pub sequence: u16,
+    pub payload_length: usize,
 }
 
-/// The number of a port's class: S, A, M, D, F, may not be used.
-pub fn class(port: u16) -> u8 {
-    const RANGES: [(u16, u16, u8); 10] = [
-        (0x0000, 0x0400, 0),
-        (0x5101, 0x5200, 0),
-        (0x5208, 0x52FF, 0),
-        (0xFF00, 0xFFFF, 0),
-        (0x0401, 0x50FF, 1),
-        (0x5100, 0x5100, 2),
-        (0x5201, 0x5207, 3),
-        (0x5300, 0x7CFF, 4),
-        (0x7F00, 0xFEFF, 4),
-        (0x7D00, 0x7EFF, 5),
+/// The letter of a port's class; none where the port may not be used.
+pub fn class_letter(port: u16) -> Option<u8> {
+    const RANGES: [(u8, u16, u16); 9] = [
+        (b'S', 0x0000, 0x0400),
+        (b'S', 0x5101, 0x5200),
+        (b'S', 0x5208, 0x52FF),
+        (b'S', 0xFF00, 0xFFFF),
+        (b'A', 0x0401, 0x50FF),
+        (b'M', 0x5100, 0x5100),
+        (b'D', 0x5201, 0x5207),
+        (b'F', 0x5300, 0x7CFF),
+        (b'F', 0x7F00, 0xFEFF),
     ];
-    RANGES.iter().find(|(first, last, _)| (*first..=*last).contains(&port)).unwrap().2
+    RANGES.iter().find(|(_, from, to)| (*from..=*to).contains(&port)).map(|range| range.0)
 }
 
 pub fn escape(bytes: &[u8]) -> Vec<u8> {
@@ -42,8 +43,8 @@ pub fn escape(bytes: &[u8]) -> Vec<u8> {
 }
 
 /// Escapes undone, or refusal 2 or 3.
-fn undo(raw: &[u8]) -> Result<Vec<u8>, u8> {
-    if raw.last() == Some(&0x7D) {
+fn unescape(raw: &[u8]) -> Result<Vec<u8>, u8> {
+    if raw.last() == Some(&ESCAPE) {
         return Err(2);
     }
     let mut bytes = Vec::new();
@@ -61,40 +62,37 @@ fn undo(raw: &[u8]) -> Result<Vec<u8>, u8> {
     Ok(bytes)
 }
 
-fn judge_contents(bytes: &[u8]) -> Judged {
+/// The packet of these contents, or the number of a frame refusal.
+fn in_contents(bytes: &[u8]) -> Result<Delivery, u8> {
     let n = bytes.len();
     if n < 8 {
-        return Judged::Refused(4);
+        return Err(4);
     }
-    let word = |i: usize| u16::from_le_bytes([bytes[i], bytes[i + 1]]);
-    if fcs::check(&bytes[..n - 2]) != word(n - 2) {
-        return Judged::Refused(5);
+    let pair = |i: usize| u16::from_le_bytes([bytes[i], bytes[i + 1]]);
+    if fcs::check(&bytes[..n - 2]) != pair(n - 2) {
+        return Err(5);
     }
     if bytes[0] != 0x21 {
-        return Judged::Refused(6);
+        return Err(6);
     }
-    if class(word(1)) == 5 {
-        return Judged::Refused(7);
+    if class_letter(pair(1)).is_none() {
+        return Err(7);
     }
-    if escape(&bytes[5..n - 2]).len() > PAYLOAD {
-        return Judged::Refused(8);
+    if escape(&bytes[5..n - 2]).len() > PAYLOAD_LIMIT {
+        return Err(8);
     }
-    Judged::Packet { port: word(1), sequence: word(3), length: n - 7 }
+    Ok(Delivery { port: pair(1), sequence: pair(3), payload_length: n - 7 })
 }
 
-/// Judges a frame of `raw` raw bytes at the start of the receive buffer, and undoes its escapes there.
-pub fn judge(recv: &mut [u8], raw: usize) -> Judged {
-    if raw > RAW {
-        return Judged::Refused(1);
+/// A closing flag: a frame of so many raw bytes stands at the start of the receive buffer, and its escapes are undone there.
+pub fn closing_flag(buffer: &mut [u8], raw: usize) -> Result<Delivery, u8> {
+    if raw > RAW_LIMIT {
+        return Err(1);
     }
-    let stored = raw.min(recv.len());
-    match undo(&recv[..stored]) {
-        Err(n) => Judged::Refused(n),
-        Ok(bytes) => {
-            recv[..bytes.len()].copy_from_slice(&bytes);
-            judge_contents(&bytes)
-        }
-    }
+    let there = raw.min(buffer.len());
+    let bytes = unescape(&buffer[..there])?;
+    buffer[..bytes.len()].copy_from_slice(&bytes);
+    in_contents(&bytes)
 }
 
 pub fn contents(port: u16, sequence: u16, payload: &[u8]) -> Vec<u8> {
@@ -107,19 +105,19 @@ pub fn contents(port: u16, sequence: u16, payload: &[u8]) -> Vec<u8> {
 }
 
 /// A packet's escaped contents and one flag, or the number of a refusal.
-pub fn write(port: u16, sequence: u16, payload: &[u8], room: usize) -> Result<Vec<u8>, u8> {
+pub fn escaped_packet(port: u16, sequence: u16, payload: &[u8], space: usize) -> Result<Vec<u8>, u8> {
     if payload.is_empty() {
         return Err(20);
     }
-    if escape(payload).len() > PAYLOAD {
+    if escape(payload).len() > PAYLOAD_LIMIT {
         return Err(21);
     }
-    if class(port) == 5 {
+    if class_letter(port).is_none() {
         return Err(22);
     }
     let mut bytes = escape(&contents(port, sequence, payload));
     bytes.push(FLAG);
-    if bytes.len() > room {
+    if bytes.len() > space {
         return Err(23);
     }
     Ok(bytes)

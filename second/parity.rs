@@ -43,7 +43,7 @@ fn generator(r: usize) -> Vec<u8> {
 }
 
 /// The parity of a message, or the number of a refusal.
-pub fn make(r: u64, message: &[u8], room: usize) -> Result<Vec<u8>, u8> {
+pub fn make(r: u64, message: &[u8], space: usize) -> Result<Vec<u8>, u8> {
     if r > 64 {
         return Err(30);
     }
@@ -51,7 +51,7 @@ pub fn make(r: u64, message: &[u8], room: usize) -> Result<Vec<u8>, u8> {
     if message.len() != WORD - r {
         return Err(31);
     }
-    if room < r {
+    if space < r {
         return Err(23);
     }
     let g = generator(r);
@@ -80,7 +80,7 @@ pub fn check(r: u64, word: &[u8]) -> Result<bool, u8> {
     }
     let powers: Vec<u8> = (0..255).map(power).collect();
     Ok((1..=r as usize).all(|j| {
-        let sum = (0..WORD).fold(0, |s, i| s ^ times(word[i], powers[j * (WORD - 1 - i) % 255]));
-        sum == 0
+        let value = (0..WORD).fold(0, |s, i| s ^ times(word[i], powers[j * (WORD - 1 - i) % 255]));
+        value == 0
     }))
 }

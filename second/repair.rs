@@ -4,19 +4,11 @@
 use crate::cases::Random;
 use crate::parity::{self, power, times, WORD};
 
-/// What repair finds, the word as it is left beside it.
-#[derive(Clone, Copy, Debug, PartialEq)]
-pub enum Found {
-    Clean,
-    Repaired(usize),
-    Beyond,
-}
-
-fn inverse(a: u8) -> u8 {
+fn reciprocal(a: u8) -> u8 {
     (1..=255).find(|&b| times(a, b) == 1).expect("an element but zero")
 }
 
-fn value(p: &[u8], x: u8) -> u8 {
+fn evaluate(p: &[u8], x: u8) -> u8 {
     p.iter().rev().fold(0, |v, &c| times(v, x) ^ c)
 }
 
@@ -37,7 +29,7 @@ fn register(s: &[u8]) -> (Vec<u8>, usize) {
             continue;
         }
         let before = c.clone();
-        let factor = times(d, inverse(last));
+        let factor = times(d, reciprocal(last));
         c.resize(c.len().max(b.len() + since), 0);
         for (i, &x) in b.iter().enumerate() {
             c[i + since] ^= times(factor, x);
@@ -65,39 +57,40 @@ fn corrected(r: usize, word: &[u8]) -> Option<Vec<u8>> {
     for (i, x) in omega.iter_mut().enumerate() {
         *x = (0..=i).fold(0, |t, k| t ^ times(s[i - k], *lambda.get(k).unwrap_or(&0)));
     }
-    let slope: Vec<u8> = (1..lambda.len()).map(|i| if i % 2 == 1 { lambda[i] } else { 0 }).collect();
+    let derivative: Vec<u8> = (1..lambda.len()).map(|i| if i % 2 == 1 { lambda[i] } else { 0 }).collect();
     let (mut out, mut roots) = (word.to_vec(), 0);
     for (i, byte) in out.iter_mut().enumerate() {
         let x = power((255 - (WORD - 1 - i) as u64) % 255);
-        if value(&lambda, x) == 0 {
+        if evaluate(&lambda, x) == 0 {
             roots += 1;
-            let down = value(&slope, x);
+            let down = evaluate(&derivative, x);
             if down == 0 {
                 return None;
             }
-            *byte ^= times(value(&omega, x), inverse(down));
+            *byte ^= times(evaluate(&omega, x), reciprocal(down));
         }
     }
     (roots == length).then_some(out)
 }
 
-/// Repairs a word in its place, or gives the number of a refusal.
-pub fn repair(r: u64, word: &mut [u8]) -> Result<Found, u8> {
+/// Repairs a word in its place: in how many places, 0 of a clean word; none: it is beyond repair, and left as it came. Or the number of a
+/// refusal.
+pub fn repair(r: u64, word: &mut [u8]) -> Result<Option<usize>, u8> {
     if parity::check(r, word)? {
-        return Ok(Found::Clean);
+        return Ok(Some(0));
     }
     let Some(out) = corrected(r as usize, word) else {
-        return Ok(Found::Beyond);
+        return Ok(None);
     };
-    let changed = distance(word, &out);
+    let changed = differing(word, &out);
     if changed > r as usize / 2 || !parity::check(r, &out)? {
-        return Ok(Found::Beyond);
+        return Ok(None);
     }
     word.copy_from_slice(&out);
-    Ok(Found::Repaired(changed))
+    Ok(Some(changed))
 }
 
-pub fn distance(a: &[u8], b: &[u8]) -> usize {
+pub fn differing(a: &[u8], b: &[u8]) -> usize {
     a.iter().zip(b).filter(|(x, y)| x != y).count()
 }
 
@@ -106,56 +99,15 @@ pub fn altered(random: &mut Random, r: usize, places: usize) -> (Vec<u8>, Vec<u8
     let mut clean = random.bytes(WORD - r);
     clean.extend(parity::make(r as u64, &clean, r).unwrap());
     let mut word = clean.clone();
-    while distance(&clean, &word) < places {
+    while differing(&clean, &word) < places {
         let at = random.below(WORD);
         word[at] = random.byte();
     }
     (clean, word)
 }
 
-/// Holds repair to what is asked of it, for every R and 0 to h + 3 altered bytes: the words, and how many had each answer.
-pub fn test(seed: u64) -> [usize; 4] {
-    let mut random = Random::new(seed);
-    let mut counts = [0; 4];
-    for r in 0..=64 {
-        for places in (0..=r / 2 + 3).filter(|p| *p <= WORD) {
-            for _ in 0..3 {
-                let (clean, came) = altered(&mut random, r, places);
-                let mut word = came.clone();
-                let found = repair(r as u64, &mut word).unwrap();
-                counts[0] += 1;
-                match found {
-                    Found::Clean => {
-                        assert!(parity::check(r as u64, &came).unwrap() && word == came);
-                        counts[1] += 1;
-                    }
-                    Found::Repaired(n) => {
-                        assert!(1 <= n && n <= r / 2 && distance(&came, &word) == n);
-                        assert!(parity::check(r as u64, &word).unwrap());
-                        counts[2] += 1;
-                    }
-                    Found::Beyond => {
-                        assert!(word == came && places > r / 2 && !parity::check(r as u64, &word).unwrap());
-                        counts[3] += 1;
-                    }
-                }
-                if places <= r / 2 {
-                    assert!(word == clean && found == if places == 0 { Found::Clean } else { Found::Repaired(places) });
-                } else if places <= r {
-                    assert!(found != Found::Clean);
-                }
-                // of a few roots: no single byte, tried in every place, makes clean what was given up
-                if found == Found::Beyond && r >= 2 && r <= 6 {
-                    assert!(!near(r, &mut word));
-                }
-            }
-        }
-    }
-    counts
-}
-
 /// Whether one changed byte makes a word clean, by trying all.
-fn near(r: usize, word: &mut [u8]) -> bool {
+pub fn one_byte_off(r: usize, word: &[u8]) -> bool {
     let s = syndromes(r, word);
     (0..WORD).any(|i| {
         let points: Vec<u8> = (1..=r).map(|j| power((j * (WORD - 1 - i) % 255) as u64)).collect();

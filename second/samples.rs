@@ -3,7 +3,7 @@
 
 use crate::channel::{self, BLOCK};
 use crate::listing;
-use crate::listing_cases::{recorded, CHANNEL, PLAIN};
+use crate::listing_cases::{recorded, OPPORTUNISTIC, PLAIN};
 use crate::packet::{self, FLAG};
 
 /// Port, sequence and text: bids on ports for applications, between them the station's own packets.
@@ -26,14 +26,14 @@ const MORNING: [(u16, u16, &str); 13] = [
 fn stream() -> Vec<u8> {
     let mut bytes = vec![FLAG];
     for (port, sequence, text) in MORNING {
-        bytes.extend(packet::write(port, sequence, text.as_bytes(), usize::MAX).unwrap());
+        bytes.extend(packet::escaped_packet(port, sequence, text.as_bytes(), usize::MAX).unwrap());
     }
     bytes
 }
 
 /// Each recording by name.
 fn all() -> [(&'static str, Vec<u8>); 3] {
-    let clean = channel::send(&stream(), usize::MAX).unwrap();
+    let clean = channel::in_blocks(&stream(), usize::MAX).unwrap();
     let mut damaged = clean.clone();
     // twenty bytes around the first price, beyond repair; two digits of the last price, repaired; a marker that is lost
     damaged[4 + 60..4 + 80].iter_mut().for_each(|b| *b ^= 0x80);
@@ -43,8 +43,8 @@ fn all() -> [(&'static str, Vec<u8>); 3] {
     let mut malformed = recorded(PLAIN, &stream(), || 250);
     malformed[1 + 2 * 254 + 1] = 0x00;
     [
-        ("morning", recorded(CHANNEL, &clean, || 96)),
-        ("morning-damaged", recorded(CHANNEL, &damaged, || 96)),
+        ("morning", recorded(OPPORTUNISTIC, &clean, || 96)),
+        ("morning-damaged", recorded(OPPORTUNISTIC, &damaged, || 96)),
         ("malformed", malformed),
     ]
 }

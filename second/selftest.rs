@@ -1,0 +1,360 @@
+//! The second program held to the paper: its numbers, case, edges and slips, one by one. And where a thing is done here in two ways, the
+//! quick one of listing.rs and a plain one, both do the same.
+
+use crate::cases::{self, Random};
+use crate::channel::{self, Answer, Receiver, BLOCK, MESSAGE, ROOTS};
+use crate::channel_cases::alter;
+use crate::listing_cases::{any, recorded, small, OPPORTUNISTIC, PAPER, PLAIN};
+use crate::packet::{self, FLAG, RAW_LIMIT};
+use crate::parity::{self, WORD};
+use crate::stream::{self, Reader};
+use crate::{fcs, interleaver, listing, repair};
+
+pub fn run(seed: u64) {
+    let mut random = Random::new(seed);
+    numbers();
+    edges();
+    slips();
+    println!("the paper's numbers, its case, edges and slips: held");
+    checks(&mut random);
+    elements();
+    matrices(&mut random);
+    println!("check, products, classes and matrices by their definitions: held");
+    let words = words(&mut random);
+    let frames = frames(&mut random);
+    let listings = listings(&mut random, seed);
+    println!("{words} words, {frames} frames and {listings} recordings read in two ways: the same");
+    println!("{} packets sent, altered on the way and delivered: the same", deliveries(&mut random));
+    let [words, clean, repaired, beyond] = repairs(&mut random);
+    println!("{words} words to be repaired: {clean} clean, {repaired} repaired, {beyond} beyond repair");
+}
+
+/// The listing of one record with this stream, without its last line.
+fn listed(letter: u8, stream: &[u8]) -> String {
+    let recording = recorded(letter, stream, || stream.len());
+    let lines = both_listings(&recording);
+    lines[..lines.trim_end().rfind('\n').map_or(0, |end| end + 1)].to_string()
+}
+
+/// The paper's numbers (a) to (m), and the listing program's case.
+fn numbers() {
+    assert_eq!(fcs::check(&[]), 0x0000, "(a)");
+    assert_eq!(fcs::check(&[0x00]), 0xF078, "(b)");
+    assert_eq!(fcs::check(&[0xFF]), 0xFF00, "(c)");
+    assert_eq!(packet::contents(0x5100, 0, &[0x41]), [0x21, 0x00, 0x51, 0x00, 0x00, 0x41, 0xE4, 0xEC], "(d)");
+    assert_eq!(listed(PLAIN, &[0x7E, 0x7E]), "", "(e)");
+    assert_eq!(listed(PLAIN, &[0x7E, 0x00, 0x7E]), "R 4\n", "(f)");
+    assert_eq!(listed(PLAIN, &[0x7E, 0x21, 0x7D, 0x7E]), "R 2\n", "(g)");
+    assert_eq!(listed(PLAIN, &[0x7E, 0x7D, 0x21, 0x7E]), "R 3\n", "(h)");
+    assert_eq!(parity::times(0x80, 2), 0x1D, "(i)");
+    assert_eq!(parity::times(2, 0x8E), 1, "(j)");
+    let ending_in_one = |n: usize| [vec![0; n - 1], vec![1]].concat();
+    assert_eq!(parity::make(1, &ending_in_one(254), 1), Ok(vec![0x02]), "(k)");
+    assert_eq!(parity::make(2, &ending_in_one(253), 2), Ok(vec![0x06, 0x08]), "(l)");
+    // a byte cannot tell 510 places: once their low halves, once their high ones
+    let halves = [0, 8].map(|by| interleaver::permute(false, 2, &(0..510).map(|i| (i >> by) as u8).collect::<Vec<_>>(), 510).unwrap());
+    let input = [0, 1, 2, 254, 255, 256].map(|i| halves[0][i] as usize | (halves[1][i] as usize) << 8);
+    assert_eq!(input, [0, 308, 106, 202, 255, 53], "(m)");
+    assert_eq!(both_listings(&PAPER), "P 20736 0 1 M\nE 10 1 0 0 0\n");
+    assert_eq!(both_listings(&[]), "X 0\n");
+}
+
+fn sent(payload: &[u8]) -> Result<(), u8> {
+    packet::escaped_packet(0x5100, 0, payload, usize::MAX).map(|_| ())
+}
+
+fn read(raw: &[u8]) -> Result<usize, u8> {
+    both_deliveries(raw).map(|packet| packet.payload_length)
+}
+
+/// The edges that the paper names, sending and reading.
+fn edges() {
+    for (payload, passes) in [(vec![0; 8192], true), (vec![0; 8193], false), (vec![0x7E; 4096], true), (vec![0x7E; 4097], false)] {
+        let raw = packet::escape(&packet::contents(0x5100, 0, &payload));
+        assert_eq!(sent(&payload), if passes { Ok(()) } else { Err(21) });
+        assert_eq!(read(&raw), if passes { Ok(payload.len()) } else { Err(8) });
+    }
+    assert_eq!(sent(&[]), Err(20));
+    assert_eq!(read(&[0x41; 8205]), Err(5));
+    assert_eq!(read(&[0x41; 8206]), Err(1));
+    for (port, passes) in [(0x7CFF, true), (0x7D00, false), (0x7EFF, false), (0x7F00, true)] {
+        assert_eq!(packet::escaped_packet(port, 0, &[0], 99).err(), if passes { None } else { Some(22) });
+        assert_eq!(read(&packet::escape(&packet::contents(port, 0, &[0]))), if passes { Ok(1) } else { Err(7) });
+    }
+    assert_eq!(parity::make(64, &[0; 191], 64), Ok(vec![0; 64]));
+    assert_eq!(parity::make(65, &[0; 190], 65), Err(30));
+    assert_eq!(interleaver::permute(false, 64, &[0; 16320], 16320), Ok(vec![0; 16320]));
+    assert_eq!(interleaver::permute(false, 65, &[0; 16575], 16575), Err(32));
+}
+
+/// What the paper's last section warns of, as far as nothing above has it.
+fn slips() {
+    let packet = packet::escaped_packet(0x5100, 7, b"bid", 99).unwrap();
+    let flagged = [&[FLAG][..], &packet].concat();
+    // 7D hides no flag
+    assert_eq!(listed(PLAIN, &[&[FLAG, 0x7D], &flagged[..]].concat()), "R 2\nP 20736 7 3 M\n");
+    // the four bytes at the lost lock begin a marker
+    let block = channel::in_blocks(&flagged, BLOCK).unwrap();
+    let late = [&block[..], &[0x00], &block].concat();
+    assert_eq!(listed(OPPORTUNISTIC, &late), "B 0\nP 20736 7 3 M\nL\nB 0\nP 20736 7 3 M\n");
+    // a packet that is open when lock is lost
+    let (before, behind) = packet.split_at(4);
+    let first = channel::in_blocks(&[&[FLAG; MESSAGE - 4], before].concat(), BLOCK).unwrap();
+    let second = channel::in_blocks(&[behind, &flagged].concat(), BLOCK).unwrap();
+    assert_eq!(listed(OPPORTUNISTIC, &[&first[..], &second].concat()), "B 0\nB 0\nP 20736 7 3 M\nP 20736 7 3 M\n");
+    assert_eq!(listed(OPPORTUNISTIC, &[&first[..], &[0; 4], &second].concat()), "B 0\nL\nB 0\nP 20736 7 3 M\n");
+    // depth 1 passes bytes unchanged
+    let bytes: Vec<u8> = (0..255).collect();
+    assert_eq!(interleaver::permute(false, 1, &bytes, 255), Ok(bytes));
+}
+
+/// The check bit by bit, as the paper has it.
+fn checks(random: &mut Random) {
+    for n in 0..300 {
+        let bytes = random.bytes(n);
+        let mut register = 0xFFFFu16;
+        for bit in bytes.iter().flat_map(|b| (0..8).map(move |i| (b >> i & 1) as u16)) {
+            register = register >> 1 ^ if (register ^ bit) & 1 == 1 { 0x8408 } else { 0 };
+        }
+        assert_eq!(fcs::check(&bytes), !register);
+    }
+}
+
+/// Products by the exponents of alpha, whose first 255 powers are all elements but zero; and how many ports a class has.
+fn elements() {
+    let powers: Vec<u8> = (0..255).map(parity::power).collect();
+    assert!((1..=255).all(|a| powers.contains(&a)));
+    for i in 0..255 {
+        assert_eq!([parity::times(0, powers[i]), parity::times(powers[i], 0)], [0, 0]);
+        for j in 0..255 {
+            assert_eq!(parity::times(powers[i], powers[j]), powers[(i + j) % 255]);
+        }
+    }
+    let ports = |letter: Option<u8>| (0..=0xFFFF).filter(|port| packet::class_letter(*port) == letter).count();
+    let counts = [Some(b'S'), Some(b'A'), Some(b'M'), Some(b'D'), Some(b'F'), None].map(ports);
+    assert_eq!(counts, [0x401 + 0x100 + 0xF8 + 0x100, 0x50FF - 0x400, 1, 7, 0x2A00 + 0x8000, 0x200]);
+}
+
+/// Every matrix by the paper's equations, and back.
+fn matrices(random: &mut Random) {
+    for depth in 2..=64 {
+        let input = random.bytes(255 * depth);
+        let output = interleaver::permute(false, depth as u64, &input, input.len()).unwrap();
+        for (i, byte) in output.iter().enumerate() {
+            let (column, row) = (53 * i % 255, (i - 254 * (i / 255)) % depth);
+            assert_eq!(*byte, input[255 * row + column]);
+        }
+        assert_eq!(interleaver::permute(true, depth as u64, &output, input.len()), Ok(input));
+    }
+}
+
+/// Whether a word is clean, by division and at its roots: words as sent, altered, at random, and with a root less or more.
+fn words(random: &mut Random) -> usize {
+    let mut all = Vec::new();
+    for places in 0..=40 {
+        all.extend((0..4).map(|_| repair::altered(random, ROOTS as usize, places).1));
+    }
+    for roots in [0, 31, 33, 64] {
+        all.extend((0..20).map(|_| repair::altered(random, roots, 0).1));
+    }
+    for word in &all {
+        assert_eq!(Ok(listing::clean(word)), parity::check(ROOTS, word));
+    }
+    all.len()
+}
+
+/// What comes of a frame, by both ways.
+fn both_deliveries(raw: &[u8]) -> Result<packet::Delivery, u8> {
+    let quick = listing::delivery(raw, &mut Vec::new());
+    assert_eq!(quick, packet::closing_flag(&mut raw.to_vec(), raw.len()));
+    quick
+}
+
+/// Frames as sent, damaged, too long and at random: every refusal and a delivery are among them.
+fn frames(random: &mut Random) -> usize {
+    let mut given = [0; 9];
+    for mut raw in cases::raws(random) {
+        for _ in 0..3 {
+            if !raw.is_empty() {
+                given[both_deliveries(&raw).err().unwrap_or(0) as usize] += 1;
+                let at = random.below(raw.len());
+                raw[at] ^= 1 << random.below(8);
+            }
+        }
+    }
+    assert!(!given.contains(&0));
+    given.iter().sum()
+}
+
+/// A listing, by both ways.
+fn both_listings(recording: &[u8]) -> String {
+    let quick = String::from_utf8(listing::listing(recording)).unwrap();
+    assert_eq!(quick, Plain::listing(recording));
+    quick
+}
+
+fn listings(random: &mut Random, seed: u64) -> usize {
+    let mut all: Vec<Vec<u8>> = small(seed).into_iter().map(|(_, recording)| recording).collect();
+    all.extend((0..800).map(|kind| any(random, kind)));
+    all.iter().for_each(|recording| drop(both_listings(recording)));
+    all.len()
+}
+
+/// The plain way to a listing: records cut out of the whole recording, the readers of stream.rs and channel.rs called with each, their
+/// answers put into words.
+struct Plain {
+    opportunistic: bool,
+    receiver: Receiver,
+    reader: Reader,
+    buffer: Vec<u8>,
+    word: Vec<u8>,
+    lines: Vec<String>,
+}
+
+impl Plain {
+    fn new(opportunistic: bool) -> Self {
+        let (buffer, word) = (vec![0; RAW_LIMIT], vec![0; WORD]);
+        Plain { opportunistic, receiver: Receiver::new(), reader: Reader::new(), buffer, word, lines: Vec::new() }
+    }
+
+    fn listing(recording: &[u8]) -> String {
+        let mut plain = Plain::new(recording.first() == Some(&0x4F));
+        let last = match plain.records(recording) {
+            Err(offset) => format!("X {offset}"),
+            Ok(bytes) => {
+                let [p, r, b, l] = ["P", "R", "B X", "L"].map(|start| plain.lines.iter().filter(|line| line.starts_with(start)).count());
+                format!("E {bytes} {p} {r} {b} {l}")
+            }
+        };
+        plain.lines.push(last);
+        plain.lines.iter().map(|line| format!("{line}\n")).collect()
+    }
+
+    /// The stream bytes of all records, or the offset of a wrong byte or an early end.
+    fn records(&mut self, recording: &[u8]) -> Result<usize, usize> {
+        if !matches!(recording.first(), Some(0x50 | 0x4F)) {
+            return Err(0);
+        }
+        let (mut at, mut stream_bytes) = (1, 0);
+        while at < recording.len() {
+            for (i, right) in [0xF5, 0x5F].iter().enumerate() {
+                if recording.get(at + i) != Some(right) {
+                    return Err(at + i);
+                }
+            }
+            let two = recording.get(at + 2..at + 4).ok_or(recording.len())?;
+            let length = two[0] as usize + 256 * two[1] as usize;
+            let end = at + 4 + length;
+            self.piece(&recording[at + 4..end.min(recording.len())]);
+            if end > recording.len() {
+                return Err(recording.len());
+            }
+            (at, stream_bytes) = (end, stream_bytes + length);
+        }
+        Ok(stream_bytes)
+    }
+
+    fn piece(&mut self, mut piece: &[u8]) {
+        loop {
+            let result = match self.opportunistic {
+                true => self.receiver.call(&mut self.buffer, &mut self.word, piece),
+                false => self.reader.call(&mut self.buffer, piece).map(|(answer, taken)| (answer.map(Answer::Frame), taken)),
+            };
+            let (answer, taken) = result.expect("buffers that pass");
+            piece = &piece[taken..];
+            self.lines.push(match answer {
+                None => return assert!(piece.is_empty()),
+                Some(Answer::Block(None)) => "B X".to_string(),
+                Some(Answer::Block(Some(places))) => format!("B {places}"),
+                Some(Answer::LockLost) => "L".to_string(),
+                Some(Answer::Frame(Err(n))) => format!("R {n}"),
+                Some(Answer::Frame(Ok(p))) => {
+                    let letter = packet::class_letter(p.port).unwrap() as char;
+                    format!("P {} {} {} {letter}", p.port, p.sequence, p.payload_length)
+                }
+            });
+        }
+    }
+}
+
+/// Packets sent in blocks, up to sixteen bytes of each word altered, read in odd pieces: just what was sent is delivered.
+fn deliveries(random: &mut Random) -> usize {
+    let mut packets = Vec::new();
+    let mut stream = vec![FLAG];
+    while packets.len() < 200 {
+        let n = 1 + random.below(300);
+        let (port, sequence, payload) = (random.next() as u16, random.next() as u16, random.bytes(n));
+        if let Ok(bytes) = packet::escaped_packet(port, sequence, &payload, usize::MAX) {
+            stream.extend(bytes);
+            packets.push((port, sequence, payload));
+        }
+    }
+    let mut blocks = channel::in_blocks(&stream, usize::MAX).unwrap();
+    for block in blocks.chunks_mut(BLOCK) {
+        let places = random.below(17);
+        alter(random, &mut block[4..], places);
+    }
+    assert_eq!(delivered(&blocks, 1 + random.next() % 1000), packets);
+    packets.len()
+}
+
+fn delivered(blocks: &[u8], mut seed: u64) -> Vec<(u16, u16, Vec<u8>)> {
+    let (mut receiver, mut buffer, mut word) = (Receiver::new(), vec![0; RAW_LIMIT], vec![0; WORD]);
+    let (mut at, mut end, mut packets) = (0, 0, Vec::new());
+    loop {
+        let (answer, taken) = receiver.call(&mut buffer, &mut word, &blocks[at..end]).expect("buffers that pass");
+        at += taken;
+        match answer {
+            Some(Answer::Frame(Ok(p))) => packets.push((p.port, p.sequence, buffer[5..5 + p.payload_length].to_vec())),
+            Some(_) => {}
+            None if end == blocks.len() => return packets,
+            None => {
+                let (length, next) = stream::piece_length(seed, blocks.len() - at);
+                (end, seed) = (at + length, next);
+            }
+        }
+    }
+}
+
+/// Holds repair to what is asked of it, for every R and 0 to h + 3 altered bytes: the words, and how many had each answer.
+fn repairs(random: &mut Random) -> [usize; 4] {
+    let mut counts = [0; 4];
+    for r in 0..=64 {
+        for places in 0..=r / 2 + 3 {
+            for _ in 0..3 {
+                let (clean, came) = repair::altered(random, r, places);
+                counts[0] += 1;
+                counts[repaired(r, places, &clean, &came)] += 1;
+            }
+        }
+    }
+    counts
+}
+
+/// One word that was clean before it was altered: 1 it is clean, 2 repaired, 3 beyond repair.
+fn repaired(r: usize, places: usize, clean: &[u8], came: &[u8]) -> usize {
+    let mut word = came.to_vec();
+    let told = repair::repair(r as u64, &mut word).unwrap();
+    let is_clean = |word: &[u8]| parity::check(r as u64, word).unwrap();
+    if places <= r / 2 {
+        assert!(told == Some(places) && word == clean);
+    } else if places <= r {
+        assert!(told != Some(0));
+    }
+    match told {
+        Some(0) => {
+            assert!(is_clean(came) && word == came);
+            1
+        }
+        Some(n) => {
+            assert!(n <= r / 2 && repair::differing(came, &word) == n && is_clean(&word));
+            2
+        }
+        None => {
+            assert!(word == came && !is_clean(came));
+            // of a few roots: no single byte, tried in every place, makes clean what was given up
+            assert!(r < 2 || r > 6 || !repair::one_byte_off(r, came));
+            3
+        }
+    }
+}
