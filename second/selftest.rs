@@ -4,8 +4,9 @@
 use crate::cases::{self, Random};
 use crate::channel::{self, Answer, Receiver, BLOCK, MESSAGE, ROOTS};
 use crate::channel_cases::alter;
+use crate::listing::Scribe;
 use crate::listing_cases::{any, recorded, small, OPPORTUNISTIC, PAPER, PLAIN};
-use crate::packet::{self, FLAG, RAW_LIMIT};
+use crate::packet::{self, ESCAPE, FLAG, RAW_LIMIT};
 use crate::parity::{self, WORD};
 use crate::stream::{self, Reader};
 use crate::{fcs, interleaver, listing, repair};
@@ -30,7 +31,7 @@ pub fn run(seed: u64) {
 }
 
 /// The listing of one record with this stream, without its last line.
-fn listed(letter: u8, stream: &[u8]) -> String {
+fn lines_for(letter: u8, stream: &[u8]) -> String {
     let recording = recorded(letter, stream, || stream.len());
     let lines = both_listings(&recording);
     lines[..lines.trim_end().rfind('\n').map_or(0, |end| end + 1)].to_string()
@@ -42,10 +43,10 @@ fn numbers() {
     assert_eq!(fcs::check(&[0x00]), 0xF078, "(b)");
     assert_eq!(fcs::check(&[0xFF]), 0xFF00, "(c)");
     assert_eq!(packet::contents(0x5100, 0, &[0x41]), [0x21, 0x00, 0x51, 0x00, 0x00, 0x41, 0xE4, 0xEC], "(d)");
-    assert_eq!(listed(PLAIN, &[0x7E, 0x7E]), "", "(e)");
-    assert_eq!(listed(PLAIN, &[0x7E, 0x00, 0x7E]), "R 4\n", "(f)");
-    assert_eq!(listed(PLAIN, &[0x7E, 0x21, 0x7D, 0x7E]), "R 2\n", "(g)");
-    assert_eq!(listed(PLAIN, &[0x7E, 0x7D, 0x21, 0x7E]), "R 3\n", "(h)");
+    assert_eq!(lines_for(PLAIN, &[0x7E, 0x7E]), "", "(e)");
+    assert_eq!(lines_for(PLAIN, &[0x7E, 0x00, 0x7E]), "R 4\n", "(f)");
+    assert_eq!(lines_for(PLAIN, &[0x7E, 0x21, 0x7D, 0x7E]), "R 2\n", "(g)");
+    assert_eq!(lines_for(PLAIN, &[0x7E, 0x7D, 0x21, 0x7E]), "R 3\n", "(h)");
     assert_eq!(parity::times(0x80, 2), 0x1D, "(i)");
     assert_eq!(parity::times(2, 0x8E), 1, "(j)");
     let ending_in_one = |n: usize| [vec![0; n - 1], vec![1]].concat();
@@ -77,6 +78,9 @@ fn edges() {
     assert_eq!(sent(&[]), Err(20));
     assert_eq!(read(&[0x41; 8205]), Err(5));
     assert_eq!(read(&[0x41; 8206]), Err(1));
+    for b in (0..=255).filter(|b| *b != FLAG) {
+        assert_eq!(read(&[ESCAPE, b, 0x21]), if b == 0x5E || b == 0x5D { Err(4) } else { Err(3) });
+    }
     for (port, passes) in [(0x7CFF, true), (0x7D00, false), (0x7EFF, false), (0x7F00, true)] {
         assert_eq!(packet::escaped_packet(port, 0, &[0], 99).err(), if passes { None } else { Some(22) });
         assert_eq!(read(&packet::escape(&packet::contents(port, 0, &[0]))), if passes { Ok(1) } else { Err(7) });
@@ -85,6 +89,16 @@ fn edges() {
     assert_eq!(parity::make(65, &[0; 190], 65), Err(30));
     assert_eq!(interleaver::permute(false, 64, &[0; 16320], 16320), Ok(vec![0; 16320]));
     assert_eq!(interleaver::permute(false, 65, &[0; 16575], 16575), Err(32));
+    assert_eq!(near_stream_limit(&[0x50, 0xF5, 0x5F, 3, 0, 0x7E, 0x00, 0x7E]), b"R 4\nE 4294967295 0 1 0 0\n");
+    assert_eq!(near_stream_limit(&[0x50, 0xF5, 0x5F, 5, 0, 0x7E, 0x00, 0x7E, 0x00, 0x7E]), b"R 4\nX 8\n");
+}
+
+/// The listing where the stream may have three bytes more.
+fn near_stream_limit(recording: &[u8]) -> Vec<u8> {
+    let mut scribe = Scribe::starting_at(0, 4_294_967_292);
+    scribe.consume(recording);
+    scribe.end();
+    scribe.lines()
 }
 
 /// What the paper's last section warns of, as far as nothing above has it.
@@ -92,17 +106,17 @@ fn slips() {
     let packet = packet::escaped_packet(0x5100, 7, b"bid", 99).unwrap();
     let flagged = [&[FLAG][..], &packet].concat();
     // 7D hides no flag
-    assert_eq!(listed(PLAIN, &[&[FLAG, 0x7D], &flagged[..]].concat()), "R 2\nP 20736 7 3 M\n");
+    assert_eq!(lines_for(PLAIN, &[&[FLAG, 0x7D], &flagged[..]].concat()), "R 2\nP 20736 7 3 M\n");
     // the four bytes at the lost lock begin a marker
     let block = channel::in_blocks(&flagged, BLOCK).unwrap();
     let late = [&block[..], &[0x00], &block].concat();
-    assert_eq!(listed(OPPORTUNISTIC, &late), "B 0\nP 20736 7 3 M\nL\nB 0\nP 20736 7 3 M\n");
+    assert_eq!(lines_for(OPPORTUNISTIC, &late), "B 0\nP 20736 7 3 M\nL\nB 0\nP 20736 7 3 M\n");
     // a packet that is open when lock is lost
     let (before, behind) = packet.split_at(4);
     let first = channel::in_blocks(&[&[FLAG; MESSAGE - 4], before].concat(), BLOCK).unwrap();
     let second = channel::in_blocks(&[behind, &flagged].concat(), BLOCK).unwrap();
-    assert_eq!(listed(OPPORTUNISTIC, &[&first[..], &second].concat()), "B 0\nB 0\nP 20736 7 3 M\nP 20736 7 3 M\n");
-    assert_eq!(listed(OPPORTUNISTIC, &[&first[..], &[0; 4], &second].concat()), "B 0\nL\nB 0\nP 20736 7 3 M\n");
+    assert_eq!(lines_for(OPPORTUNISTIC, &[&first[..], &second].concat()), "B 0\nB 0\nP 20736 7 3 M\nP 20736 7 3 M\n");
+    assert_eq!(lines_for(OPPORTUNISTIC, &[&first[..], &[0; 4], &second].concat()), "B 0\nL\nB 0\nP 20736 7 3 M\n");
     // depth 1 passes bytes unchanged
     let bytes: Vec<u8> = (0..255).collect();
     assert_eq!(interleaver::permute(false, 1, &bytes, 255), Ok(bytes));
