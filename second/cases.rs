@@ -59,7 +59,7 @@ impl Case {
             }
             b'Q' => {
                 lay(&self.bytes, out);
-                frame_number(packet::closing_flag(out, self.number as usize))
+                frame_number(packet::frame_call(out, self.number as usize))
             }
             b'M' => answer_in(channel::marked_block(&self.bytes, out.len()), out),
             b'N' => answer_in(channel::in_blocks(&self.bytes, out.len()), out),
@@ -379,10 +379,12 @@ pub fn raws(random: &mut Random) -> Vec<Vec<u8>> {
     all
 }
 
+/// Closed frames, of raw counts one off and beyond their limit, in receive buffers that are long enough and not.
 fn frames(random: &mut Random, cases: &mut Vec<Case>) {
     for bytes in raws(random) {
         let n = bytes.len();
-        for (raw, space) in [(n, n), (n, n + 7), (n, n - n.min(1)), (n + 1, n + 3), (n - n.min(1), n), (0, n)] {
+        let long = n.max(8205);
+        for (raw, space) in [(n, long), (n + 1, long + 7), (n - n.min(1), long), (n, n.min(8204)), (8206, long), (8207, n)] {
             cases.push(Case { asked: b'Q', number: raw as u64, space: space as u16, bytes: bytes.clone() });
         }
     }

@@ -95,6 +95,17 @@ pub fn closing_flag(buffer: &mut [u8], raw: usize) -> Result<Delivery, u8> {
     in_contents(&bytes)
 }
 
+/// The same as a call of its own, with the refusals of every receiving call before it.
+pub fn frame_call(buffer: &mut [u8], raw: usize) -> Result<Delivery, u8> {
+    if raw > RAW_LIMIT + 1 {
+        return Err(10);
+    }
+    if buffer.len() < RAW_LIMIT {
+        return Err(11);
+    }
+    closing_flag(buffer, raw)
+}
+
 pub fn contents(port: u16, sequence: u16, payload: &[u8]) -> Vec<u8> {
     let mut bytes = vec![0x21];
     bytes.extend(port.to_le_bytes());
