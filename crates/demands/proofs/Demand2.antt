@@ -15,17 +15,18 @@
 -- part-short, part-long              the part of the receive buffer that is handed out
 -- stream-trip, stream-begun, stream-appended, stream-sent, stream-filled   a whole stream, and the calls that make it
 -- word-clean, word-only, clean-at    parity words
--- there-and-back, back-and-there     interleaving
+-- class-letters                      classes of ports
+-- output-is, depth-passes, there-and-back, back-and-there   interleaving
 -- block-answer, block-only           a block's answer and the word that is read are what repair promises
 -- plain-listing, channel-listing, totals, sent-totals   the listing's lines and totals
 -- listed-by-calls, listed-at-last, finished-at-last     the listing by calls
-use Prim.Native.Nat.{ℕ, _+_, _%_, _≤_, _<_}
+use Prim.Native.Nat.{ℕ, _+_, _-_, _*_, _/_, _%_, _≤_, _<_}
 use native.Mathlib.Omega.{arith}
 use mathlib.Core.Path.{_≡_, refl, sym, _∙_, ap}
-use mathlib.Core.Bool.{true, false}
+use mathlib.Core.Bool.{Bool, true, false}
 use mathlib.Core.Logic.{_↔_}
 use mathlib.Core.List.{List, [], _∷_, _++_, map, append-nil}
-use lib.ListN.{length, take, drop, replicate}
+use lib.ListN.{length, take, drop, getD, replicate}
 use borrow.Author.Tests.{lt-ltb, le-ltb}
 use Rattle.base.specs.Bytes.{Each, Bytes}
 use Rattle.base.specs.Calls.{joined}
@@ -36,9 +37,11 @@ use Rattle.parity.specs.Word.{clean, remainder, Zero}
 use Rattle.repair.specs.declared.Mended.{Mended}
 use Rattle.repair.specs.Promise.{Promised}
 use Rattle.parity.proofs.Clean.{clean-roots, roots-clean, parity-clean, clean-is}
-use Rattle.interleaver.specs.Matrix.{whole, interleaved, restored}
-use Rattle.interleaver.proofs.Round.{restored-interleaved, interleaved-restored}
+use Rattle.interleaver.specs.Matrix.{whole, interleaved, restored, turned}
+use Rattle.interleaver.proofs.Round.{passed, output-at, restored-interleaved, interleaved-restored}
 use Rattle.packet.specs.Escape.{flag}
+use Rattle.packet.specs.Port.{class}
+use Rattle.packet.proofs.Classes.{from-0000, from-0401, from-5100, from-5101, from-5201, from-5208, from-5300, from-7F00, from-FF00}
 use Rattle.packet.specs.Frame.{judged, closed, part}
 use Rattle.packet.specs.Sender.{writing}
 use Rattle.packet.specs.declared.frame.Judged.the-variants.{Packet as Delivered}
@@ -50,7 +53,7 @@ use Rattle.channel.specs.Sender.{parityBytes, wordOf, fillers, filled, sending,
 use Rattle.channel.specs.Channel.{conditionBy, condition, mend, IsWord, Event, frames, blocks, losses, asMended}
 use Rattle.channel.proofs.Words.{block-promised, block-determined}
 use Rattle.listed.specs.Apart.{most, records}
-use Rattle.listed.specs.Lines.{lines, isPacket, isRefusal, isDamaged, isLost, count, packetsIn, refusalsIn, damagedIn, longest}
+use Rattle.listed.specs.Lines.{letter, lines, isPacket, isRefusal, isDamaged, isLost, count, packetsIn, refusalsIn, damagedIn, longest}
 use Rattle.listed.specs.Listing.{heard, totalLine, listing}
 use Rattle.listed.proofs.Totals.{packets-counted, refusals-counted, damaged-counted, lost-counted, sent-counted}
 use Rattle.packet.specs.Contents.{rawLimit}
@@ -107,6 +110,23 @@ stream-sent ps out n e = write-is (sent ps) out n e
 pub stream-filled : (bs : List ℕ) → (n : ℕ) × (filled bs ≡ bs ++ replicate n 0x7E) × (n < 223) × ((length bs + n) % 223 ≡ 0) × (length bs % 223 ≡ 0 → n ≡ 0)
 stream-filled bs = (fillers (length bs), refl, omega arith, omega arith, λ e. omega arith)
 
+-- ---- "Port classes": S system, A applications, M, D, F future, by the letter that a listing prints
+pub class-letters : (p : ℕ)
+    → (p ≤ 0x0400 → letter (class p) ≡ 83) × (0x0401 ≤ p → p ≤ 0x50FF → letter (class p) ≡ 65) × (p ≡ 0x5100 → letter (class p) ≡ 77)
+    × (0x5101 ≤ p → p ≤ 0x5200 → letter (class p) ≡ 83) × (0x5201 ≤ p → p ≤ 0x5207 → letter (class p) ≡ 68) × (0x5208 ≤ p → p ≤ 0x52FF → letter (class p) ≡ 83)
+    × (0x5300 ≤ p → p ≤ 0x7CFF → letter (class p) ≡ 70) × (0x7F00 ≤ p → p ≤ 0xFEFF → letter (class p) ≡ 70) × (0xFF00 ≤ p → letter (class p) ≡ 83)
+class-letters p = (
+  λ h. ap letter (from-0000 p h),
+  λ l h. ap letter (from-0401 p l h),
+  λ e. ap letter (from-5100 p (omega arith) (omega arith)),
+  λ l h. ap letter (from-5101 p l h),
+  λ l h. ap letter (from-5201 p l h),
+  λ l h. ap letter (from-5208 p l h),
+  λ l h. ap letter (from-5300 p l h),
+  λ l h. ap letter (from-7F00 p l h),
+  λ l. ap letter (from-FF00 p l),
+)
+
 -- ---- "parity words": a message with its parity behind it is clean ..
 pub word-clean : (m : List ℕ) → Bytes m → clean parityBytes (wordOf m) ≡ true
 word-clean m = parity-clean parityBytes m
@@ -119,7 +139,16 @@ word-only = clean-is
 pub clean-at : (r : ℕ) (w : List ℕ) → clean r w ≡ true ↔ Zero r w
 clean-at r w = (clean-roots r w, roots-clean r w)
 
--- ---- "interleaving": the reverse operation restores a whole matrix, and the other way round
+-- ---- "interleaving": "output i, from 0 to 255D - 1, is the byte at column 53i mod 255 and row (i - 254·INT(i/255)) mod D" ..
+pub output-is : (d : ℕ) (bytes : List ℕ) → 2 ≤ d → (i : ℕ) → i < length bytes
+    → getD (interleaved d bytes) i 0 ≡ getD bytes ((i - 254 * (i / 255)) % d * 255 + 53 * i % 255) 0
+output-is = output-at
+
+-- .. "Depth 0 and 1 pass bytes unchanged", there and back
+pub depth-passes : (back : Bool) (d : ℕ) (bytes : List ℕ) → d < 2 → turned back d bytes ≡ bytes
+depth-passes = passed
+
+-- the reverse operation restores a whole matrix, and the other way round
 pub there-and-back : (d : ℕ) (bytes : List ℕ) → whole d (length bytes) ≡ true → restored d (interleaved d bytes) ≡ bytes
 there-and-back = restored-interleaved
 

@@ -21,7 +21,7 @@ use Rattle.packet.specs.Frame.{Told, packet, refusal, judgeContents, closedBy, 
 use Rattle.stream.specs.Reader.{waiting, reads}
 
 -- a letter, what the definitions give, what the paper says
-abbrev Line : Type 0
+abbrev pub Line : Type 0
 Line = ℕ × List ℕ × List ℕ
 
 -- an answer in numbers: the number of a refusal; 0, port, sequence and payload of a packet
@@ -30,7 +30,7 @@ inNumbers (packet port sequence payload) = 0 ∷ port ∷ sequence ∷ payload
 inNumbers (refusal n) = n ∷ []
 
 -- the answers of a stream from its start
-abbrev heard : List ℕ → List ℕ
+abbrev pub heard : List ℕ → List ℕ
 heard bs = joined (map inNumbers (reads waiting bs .0))
 
 -- n zeros and 01

@@ -1,16 +1,17 @@
 -- There and back, at every depth.
 -- passed                                   depth 0 and 1 pass the bytes unchanged
+-- output-at                                from depth 2 on output i is the byte of its cell
 -- length-turned                            as many bytes come out as go in
 -- restored-interleaved, interleaved-restored   each operation undoes the other, on every whole matrix
 use mathlib.Core.Path.{_≡_, refl, ap, _∙_}
 use mathlib.Core.Bool.{Bool, true, false}
 use mathlib.Core.List.{List}
-use Prim.Native.Nat.{ℕ, _*_, _<_}
+use Prim.Native.Nat.{ℕ, _*_, _≤_, _<_}
 use native.Mathlib.Omega.{arith}
 use lib.Dec.{ltb}
 use lib.ListN.{length, getD}
 use lib.Seq.{take-all}
-use borrow.Author.Tests.{lt-ltb, eqb-true}
+use borrow.Author.Tests.{lt-ltb, le-ltb, eqb-true}
 use Rattle.base.specs.Choice.{pick}
 use Rattle.interleaver.specs.Places.{cell, origin}
 use Rattle.interleaver.specs.Matrix.{tab, interleaved, restored, whole, turned}
@@ -21,6 +22,10 @@ pub passed : (back : Bool) (d : ℕ) (bytes : List ℕ) → d < 2 → turned bac
 unfolding interleaved restored
 passed true d bytes h = simp (lt-ltb d 2 h)
 passed false d bytes h = simp (lt-ltb d 2 h)
+
+pub output-at : (d : ℕ) (bytes : List ℕ) → 2 ≤ d → (i : ℕ) → i < length bytes → getD (interleaved d bytes) i 0 ≡ getD bytes (cell d i) 0
+unfolding interleaved
+output-at d bytes h i k = simp (le-ltb d 2 h) (tab-at (λ j. getD bytes (cell d j) 0) (length bytes) i k)
 
 -- bytes moved by f, or passed where the test holds
 module _ (f : ℕ → ℕ) where

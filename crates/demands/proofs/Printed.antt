@@ -1,0 +1,85 @@
+-- What the paper prints: its fixed numbers and letters said a second time, in the form of Numbers, so that a slip is seen even where code and
+-- definition slip together. The fresh states stand in Promises, the rows of refusals in Demand1, and what a law says for all numbers
+-- (classes, interleaver) in Demand2.
+-- printed    the rows
+-- as-printed there is none that does not agree
+use Prim.Native.Nat.{ℕ, zero, suc}
+use mathlib.Core.Path.{_≡_, refl}
+use mathlib.Core.Bool.{false}
+use mathlib.Core.List.{List, [], _∷_, _++_, map}
+use lib.ListN.{replicate}
+use Rattle.base.specs.Choice.{pick}
+use Rattle.fcs.specs.Fcs as check
+use Rattle.field.specs.Field as field
+use Rattle.parity.specs.Calls as parity
+use Rattle.packet.specs.Contents.{format, payloadLimit, rawLimit, checked, contents}
+use Rattle.packet.specs.Escape.{flag, escape, escapeByte, plain, plainScan, right, last, scan}
+use Rattle.packet.specs.Frame.{packet, refusal, judgeContents, closedBy, closed, judge}
+use Rattle.packet.specs.Port.{class, barred}
+use Rattle.packet.specs.declared.frame.Judged.the-variants.{Packet, Refused}
+use Rattle.channel.specs.Sender.{marker, messageBytes, parityBytes, wordBytes, blockBytes}
+use Rattle.channel.specs.Channel.{Event, said, block, lost, clean, repaired, beyond}
+use Rattle.channel.specs.Called.{freshReceiver}
+use Rattle.channel.specs.declared.receiver.Answer.the-variants.{Said, Clean, Repaired, Beyond, LockLost}
+use Rattle.listed.specs.Apart as listed
+use Rattle.listed.specs.Lines.{decimal, decimalBy, letter, told, line, lines, count, endLine, wrongLine}
+use Rattle.listed.specs.Listing.{heard as heardAs, totalLine, lastLine, listed as listedAs, listing}
+use Rattle.listed.specs.declared.Place.the-variants.{Mark}
+use Rattle.recording.specs.declared.recording.Recording.{Recording}
+use Rattle.recording.specs.Printed.{lastOf}
+use Rattle.demands.proofs.Numbers.{Line, heard, wrong}
+
+-- so many packets, refusals, blocks beyond repair and lost locks among the answers, and a clean and a repaired block besides
+abbrev answersOf : ℕ → ℕ → ℕ → ℕ → List Event
+answersOf packets refusals damaged locks =
+    block clean ∷ block (repaired 1)
+    ∷ replicate packets (said (packet 0x5100 0 (0x41 ∷ []))) ++ (replicate refusals (said (refusal 4)) ++ (replicate damaged (block beyond) ++ replicate locks lost))
+
+-- a recording that may end here, with so many stream bytes and these totals
+abbrev endsWith : ℕ → ℕ → ℕ → ℕ → ℕ → Recording
+endsWith bytes packets refusals damaged locks = record {
+  tape = record { spot = record { place = Mark; offset = 0; count = bytes }; channel = false; receiver = freshReceiver };
+  totals = record { packets = packets; refused = refusals; damaged = damaged; lost = locks };
+}
+
+-- the letter of a port's class
+abbrev letterOf : ℕ → ℕ
+letterOf port = letter (class port)
+
+-- 1 where a port may not be used
+abbrev unusable : ℕ → ℕ
+unusable port = pick (barred port) 1 0
+
+-- the number of a row, what the definitions give, what the paper prints
+abbrev pub printed : List Line
+printed =
+    (1, flag ∷ format ∷ [], 0x7E ∷ 0x21 ∷ []) ∷  -- flag 0x7E, format byte 0x21
+    (2, payloadLimit ∷ rawLimit ∷ listed.most ∷ [], 8192 ∷ 8205 ∷ 4294967295 ∷ []) ∷  -- a payload of 8,192 bytes as escaped, 8,205 raw bytes, a stream of 4,294,967,295 bytes, at most
+    (3, parity.whole ∷ parity.most ∷ [], 255 ∷ 64 ∷ []) ∷  -- a word is 255 bytes, R from 0 to 64
+    (4, messageBytes ∷ parityBytes ∷ wordBytes ∷ blockBytes ∷ [], 223 ∷ 32 ∷ 255 ∷ 259 ∷ []) ∷  -- each 223 bytes become a word with R = 32, of 255 bytes; a block is 259
+    (5, marker, 0x7D ∷ 0x3A ∷ 0xE2 ∷ 0x42 ∷ []) ∷  -- the marker 7D 3A E2 42
+    (6, check.ones ∷ check.polynomial ∷ [], 0xFFFF ∷ 0x8408 ∷ []) ∷  -- register starts at 0xFFFF, reversed polynomial 0x8408
+    (7, field.polynomial ∷ field.alpha ∷ [], 0x11D ∷ 2 ∷ []) ∷  -- x^8+x^4+x^3+x^2+1; alpha is 2
+    (8, escape (0x7E ∷ 0x7D ∷ 0x5E ∷ 0x5D ∷ 0x21 ∷ []), 0x7D ∷ 0x5E ∷ 0x7D ∷ 0x5D ∷ 0x5E ∷ 0x5D ∷ 0x21 ∷ []) ∷  -- 0x7E becomes 7D 5E, 0x7D becomes 7D 5D; no other byte is escaped
+    (9, contents 0x1234 0x0102 (0x41 ∷ []), 0x21 ∷ 0x34 ∷ 0x12 ∷ 0x02 ∷ 0x01 ∷ 0x41 ∷ 0x3F ∷ 0x8A ∷ []) ∷  -- port and sequence each two bytes, low first: port 1234, sequence 0102
+    (10, heard (0x7E ∷ 0x21 ∷ 0x34 ∷ 0x12 ∷ 0x02 ∷ 0x01 ∷ 0x41 ∷ 0x3F ∷ 0x8A ∷ 0x7E ∷ []), 0 ∷ 0x1234 ∷ 0x0102 ∷ 0x41 ∷ []) ∷  -- .. and taken apart
+    (11, line (Said (Packet 0x5100 0x0102 3)), 80 ∷ 32 ∷ 50 ∷ 48 ∷ 55 ∷ 51 ∷ 54 ∷ 32 ∷ 50 ∷ 53 ∷ 56 ∷ 32 ∷ 51 ∷ 32 ∷ 77 ∷ 10 ∷ []) ∷  -- `P port sequence payload-length class`: P 20736 258 3 M
+    (12, line (Said (Refused 4)), 82 ∷ 32 ∷ 52 ∷ 10 ∷ []) ∷  -- `R n`: R 4
+    (13, line Clean, 66 ∷ 32 ∷ 48 ∷ 10 ∷ []) ∷  -- `B 0` clean
+    (14, line (Repaired 16), 66 ∷ 32 ∷ 49 ∷ 54 ∷ 10 ∷ []) ∷  -- `B count` repaired: B 16
+    (15, line Beyond, 66 ∷ 32 ∷ 88 ∷ 10 ∷ []) ∷  -- `B X` beyond repair
+    (16, line LockLost, 76 ∷ 10 ∷ []) ∷  -- `L` lock lost
+    (17, totalLine 50 (answersOf 1 2 3 4), 69 ∷ 32 ∷ 53 ∷ 48 ∷ 32 ∷ 49 ∷ 32 ∷ 50 ∷ 32 ∷ 51 ∷ 32 ∷ 52 ∷ 10 ∷ []) ∷  -- `E` with stream bytes, packets, frame refusals, damaged blocks, lost locks: 50 bytes, 1, 2, 3 and 4 of them
+    (18, lastOf (endsWith 50 1 2 3 4), 69 ∷ 32 ∷ 53 ∷ 48 ∷ 32 ∷ 49 ∷ 32 ∷ 50 ∷ 32 ∷ 51 ∷ 32 ∷ 52 ∷ 10 ∷ []) ∷  -- .. and as the finishing call prints it
+    (19, wrongLine 7, 88 ∷ 32 ∷ 55 ∷ 10 ∷ []) ∷  -- `X offset`: X 7
+    (20, listing [], 88 ∷ 32 ∷ 48 ∷ 10 ∷ []) ∷  -- empty input gives `X 0`
+    (21, listing (0x50 ∷ 0xF5 ∷ 0x5F ∷ 0x05 ∷ 0x00 ∷ 0x7E ∷ 0x21 ∷ 0x00 ∷ 0x51 ∷ 0x00 ∷ 0xF5 ∷ 0x5F ∷ 0x05 ∷ 0x00 ∷ 0x00 ∷ 0x41 ∷ 0xE4 ∷ 0xEC ∷ 0x7E ∷ []), 80 ∷ 32 ∷ 50 ∷ 48 ∷ 55 ∷ 51 ∷ 54 ∷ 32 ∷ 48 ∷ 32 ∷ 49 ∷ 32 ∷ 77 ∷ 10 ∷ 69 ∷ 32 ∷ 49 ∷ 48 ∷ 32 ∷ 49 ∷ 32 ∷ 48 ∷ 32 ∷ 48 ∷ 32 ∷ 48 ∷ 10 ∷ []) ∷  -- the paper's case: P 20736 0 1 M and E 10 1 0 0 0
+    (22, map letterOf (0x0000 ∷ 0x0400 ∷ 0x5101 ∷ 0x5200 ∷ 0x5208 ∷ 0x52FF ∷ 0xFF00 ∷ 0xFFFF ∷ []), 83 ∷ 83 ∷ 83 ∷ 83 ∷ 83 ∷ 83 ∷ 83 ∷ 83 ∷ []) ∷  -- S 0000 0400 5101 5200 5208 52FF FF00 FFFF
+    (23, map letterOf (0x0401 ∷ 0x50FF ∷ 0x5100 ∷ 0x5201 ∷ 0x5207 ∷ []), 65 ∷ 65 ∷ 77 ∷ 68 ∷ 68 ∷ []) ∷  -- A 0401 50FF, M 5100, D 5201 5207
+    (24, map letterOf (0x5300 ∷ 0x7CFF ∷ 0x7F00 ∷ 0xFEFF ∷ []), 70 ∷ 70 ∷ 70 ∷ 70 ∷ []) ∷  -- F 5300 7CFF 7F00 FEFF
+    (25, map unusable (0x7CFF ∷ 0x7D00 ∷ 0x7EFF ∷ 0x7F00 ∷ []), 0 ∷ 1 ∷ 1 ∷ 0 ∷ []) ∷  -- 7D00-7EFF may not be used, and the ports beside them may
+    []
+
+pub as-printed : wrong printed ≡ []
+unfolding check.fcs check.register check.entered contents checked escape escapeByte judge closed closedBy judgeContents scan last plainScan right plain class told lines count endLine wrongLine decimal decimalBy heardAs lastLine listedAs listing listed.apart listed.inStream listed.nextAt
+as-printed = refl
