@@ -36,7 +36,7 @@ use Rattle.office.specs.declared.Answer.the-variants.{More, Refused}
 use Rattle.office.specs.declared.Heard.{Heard}
 use Rattle.office.specs.declared.Ended.{Ended}
 use Rattle.office.specs.Desk.{Said, endingBy, Desk, desk, kept, endingOf, ended, eat}
-use Rattle.office.specs.Called.{heldLimit, holdLimit, outLimit, begins, starting, sound, roomy, hearOn, denied, hearBy, hearCall, endBytes, closeCall, HeardIs, finishBy, finishing}
+use Rattle.office.specs.Called.{heldLimit, holdLimit, outLimit, begins, starting, sound, roomy, hearOn, denied, hearBy, hearCall, lastFeed, endBytes, closeCall, HeardIs, finishBy, finishing}
 use Rattle.office.specs.Private.{EndedIs}
 
 -- ---- bytes of a line stored
@@ -257,10 +257,10 @@ close-as room d out {r = r} {line′ = line′} {hold′ = hold′} {out′ = ou
     subst (λ (bs : List ℕ). HeardIs (hearCall room d bs) out r line′ hold′ out′) (sym e) x
 
 pub none-begun : (d : Desk) → d .st .stored ≡ 0 → endBytes d ≡ []
-none-begun d e = ap (λ (t : Bool). pick t [] (feed ∷ [])) (eq-eqb _ _ e)
+none-begun d e = ap (λ (t : Bool). pick t [] lastFeed) (eq-eqb _ _ e)
 
-pub one-begun : (d : Desk) → (d .st .stored ≡ 0 → ⊥) → endBytes d ≡ feed ∷ []
-one-begun d n = ap (λ (t : Bool). pick t [] (feed ∷ [])) (ne-eqb _ _ n)
+pub one-begun : (d : Desk) → (d .st .stored ≡ 0 → ⊥) → endBytes d ≡ lastFeed
+one-begun d n = ap (λ (t : Bool). pick t [] lastFeed) (ne-eqb _ _ n)
 
 -- the start
 pub start-short : (hold : List ℕ) → length hold < holdLimit → starting hold ≡ (StartRefused 11, hold)

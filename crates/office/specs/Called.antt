@@ -73,9 +73,13 @@ hearBy true true true d bs = hearOn d bs
 abbrev pub hearCall : ℕ → Desk → List ℕ → Option Said × ℕ × Desk
 hearCall room d bs = hearBy (sound (d .st)) (roomy (d .line) (d .hold)) (leb outLimit room) d bs
 
--- the bytes that the end of the input stands for: where a line is begun, a line feed
+-- what ends a last line that has no line feed
+abbrev pub lastFeed : List ℕ
+lastFeed = feed ∷ []
+
+-- the bytes that the end of the input stands for: that, where a line is begun
 abbrev pub endBytes : Desk → List ℕ
-endBytes d = pick (eqb (d .st .stored) 0) [] (feed ∷ [])
+endBytes d = pick (eqb (d .st .stored) 0) [] lastFeed
 
 -- the end of the input: a call on those bytes
 abbrev pub closeCall : ℕ → Desk → Option Said × ℕ × Desk

@@ -175,7 +175,7 @@ impl Office {
     pub fn start(hold: &mut [u8]) -> Started
         ensures { λ r. ⌜ starting (now (hold .entry)) ≡ (r, now (hold .exit)) ⌝ }
     {
-        if hold.len() < Office::HOLD {
+        if hold.len() < Self::HOLD {
             return Started::Refused(Refusal::BUFFER);
         }
         let first = [Packet::FLAG];
