@@ -1,4 +1,5 @@
 -- `office::Office::start` meets its contract: refused with 11, or one flag is held.
+use native.Mathlib.Omega.{arith}
 use borrow.Author.Needs.{needs}
 use Rattle.office.proofs.Hearing.{start-short, start-copied}
 use Rattle.office.proofs.Office.start.Statement.{statement}
@@ -8,7 +9,7 @@ pub start-spec : {M : Type 1} → statement M
 start-spec =
     tie.close
     (tie.spec
-    (λ c. start-short (c .before .before .args .hold .now) (c .if1 .taken))
+    (λ c. start-short (c .before .before .args .hold .now) (omega (arith, c .if1 .taken)))
     (search needs)
     (search needs)
     (search needs)
