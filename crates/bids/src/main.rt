@@ -10,6 +10,7 @@ use libc::STDOUT_FILENO;
 use office::Answer;
 use office::Heard;
 use office::Office;
+use office::Started;
 
 // How the program stands: the sender, and the bytes that wait in the output.
 struct Stand {
@@ -36,12 +37,19 @@ fn main() {
 // The whole input, sent.
 fn send(recording: bool) {
     let mut hold = io::large_buffer();
+    match Office::start(&mut hold) {
+        Started::Ready(office) => send_from(recording, office, &mut hold),
+        Started::Refused(number) => say_refused(number),
+    }
+}
+
+// The same behind the start.
+fn send_from(recording: bool, office: Office, hold: &mut [u8]) {
     let mut line = io::large_buffer();
     let mut out = io::large_buffer();
-    let office = Office::start(&mut hold);
-    let last = read_all(recording, office, &mut line, &mut hold, &mut out);
-    let ended = end(recording, last, &mut line, &mut hold, &mut out);
-    finish(recording, ended, &hold, &mut out);
+    let last = read_all(recording, office, &mut line, hold, &mut out);
+    let ended = end(recording, last, &mut line, hold, &mut out);
+    finish(recording, ended, hold, &mut out);
 }
 
 // Whether a recording is asked for.
@@ -145,9 +153,8 @@ fn told_bytes(answer: Answer, line: u64, room: usize) -> usize
         }
         Answer::Refused(number) => {
             name_line(line);
-            io::write_all(STDERR_FILENO, b": refused ");
-            io::print_decimal(STDERR_FILENO, number as u64);
-            io::write_all(STDERR_FILENO, b"\n");
+            io::write_all(STDERR_FILENO, b": ");
+            say_refused(number);
             0
         }
     }
@@ -156,6 +163,12 @@ fn told_bytes(answer: Answer, line: u64, room: usize) -> usize
 fn name_line(line: u64) {
     io::write_all(STDERR_FILENO, b"line ");
     io::print_decimal(STDERR_FILENO, line);
+}
+
+fn say_refused(number: u8) {
+    io::write_all(STDERR_FILENO, b"refused ");
+    io::print_decimal(STDERR_FILENO, number as u64);
+    io::write_all(STDERR_FILENO, b"\n");
 }
 
 // The end of the input: it ends a line that is begun.

@@ -49,12 +49,22 @@ use Rattle.recording.specs.declared.recording.Recording.{Recording}
 use Rattle.recording.specs.declared.recording.Wants.the-variants.{Refused}
 use Rattle.recording.specs.Deck.{Deck}
 use Rattle.recording.specs.Printed.{printed, takes, lastOf, finishing}
+use Rattle.channel.specs.declared.receiver.Answer.{Answer}
+use Rattle.listed.specs.Lines.{line, endLine, wrongLine}
+use Rattle.bid.specs.Line.{verdict}
+use Rattle.office.specs.declared.Office.{Office}
+use Rattle.office.specs.declared.Started.the-variants.{Refused as StartRefused}
+use Rattle.office.specs.Desk.{Desk}
+use Rattle.office.specs.Called.{holdLimit, outLimit, starting, denied, hearCall as desk-hear, closeCall, answeredOut, finishing as desk-finish}
 use Rattle.demands.specs.Table.{Exact}
+use Rattle.demands.specs.Desks.{DeskBeyond, DeskShort, lineRows, ByDesk, ByStart, ByLine}
 use Rattle.demands.specs.Refusals.{Unusable, frameRows, FrameBeyond, Beyond, TapeBeyond, Short, ByFrame, ByCall, ByCheck, ByRepair, ByRead, ByHear, ByTake}
 use Rattle.demands.proofs.Rows.{row, row-not, not-less, not-same, refuses, wrote, refuses-word, found, repair-as-check, not-whole, is-whole}
 use Rattle.demands.proofs.Frames.{barred-is, free-is, closed-exact, judging-exact, judging-same, judge-exact, undone}
 use Rattle.demands.proofs.Called.{read-given, hear-given, read-exact, read-same, hear-exact, hear-same}
 use Rattle.demands.proofs.Taken.{take-exact, take-same}
+use Rattle.demands.proofs.Desk.{line-exact, office-start-exact, office-start-same, office-hear-exact, office-hear-same, office-close-exact, office-close-same, office-finish-exact, office-finish-same}
+use Rattle.demands.proofs.Desk.{lines-print-exact, lines-print-same, lines-print-end-exact, lines-print-wrong-exact}
 
 -- ---- "Sender and receiver accept every input and come to an end": of each call that is the first half of its law in Promises. Reading comes to
 -- an end too: the pieces of every byte string, each handed in until "more wanted", from every state and buffers that pass 10 and 11, with a
@@ -193,6 +203,39 @@ mark-refusals message out =
 pub send-refusals : (bs out : List ℕ) → Exact ByCall (sending bs out) ((23, length out < length (marked bs)) ∷ [])
 send-refusals bs out = wrote (marked bs) out _ refl
 
+-- a line printed: an answer's, and the last
+pub print-refusals : (a : Answer) (out : List ℕ) → Exact ByCall (write (line a) out) ((23, length out < length (line a)) ∷ [])
+print-refusals = lines-print-exact
+
+pub print-end-refusals : (bytes packets rejected damaged lost : ℕ) (out : List ℕ)
+    → Exact ByCall (write (endLine bytes packets rejected damaged lost) out) ((23, length out < length (endLine bytes packets rejected damaged lost)) ∷ [])
+print-end-refusals = lines-print-end-exact
+
+pub print-wrong-refusals : (offset : ℕ) (out : List ℕ) → Exact ByCall (write (wrongLine offset) out) ((23, length out < length (wrongLine offset)) ∷ [])
+print-wrong-refusals = lines-print-wrong-exact
+
+-- the office: its start, bytes of its input, the end of the input, the last block; and a line, of which a number is told only where it is a bid
+pub start-refusals : (hold : List ℕ) → Exact ByStart (starting hold) ((11, length hold < holdLimit) ∷ [])
+start-refusals = office-start-exact
+
+pub desk-refusals : (room : ℕ) (d : Desk) (bs : List ℕ) → Exact ByDesk (desk-hear room d bs)
+    ((10, DeskBeyond (d .st)) ∷  -- a count of the state is beyond its limit
+    (11, DeskShort (d .line) (d .hold)) ∷  -- a lent buffer is too short
+    (23, room < outLimit) ∷  -- output shorter than any line's blocks
+    [])
+desk-refusals = office-hear-exact
+
+pub close-refusals : (room : ℕ) (d : Desk) → Exact ByDesk (closeCall room d)
+    ((10, DeskBeyond (d .st)) ∷ (11, DeskShort (d .line) (d .hold)) ∷ (23, room < outLimit) ∷ [])
+close-refusals = office-close-exact
+
+pub last-refusals : (s : Office) (hold out : List ℕ) → Exact ByCall (desk-finish s hold out)
+    ((10, DeskBeyond s) ∷ (11, length hold < holdLimit) ∷ (23, length out < length (marked (take (s .held) hold))) ∷ [])
+last-refusals = office-finish-exact
+
+pub line-refusals : (l : List ℕ) → Exact ByLine (verdict l) (lineRows l)
+line-refusals = line-exact
+
 -- ---- "A refused call changes no lent memory": a call that writes leaves the output as it was ..
 pub write-keeps-out : (port sequence : ℕ) (payload out : List ℕ) → Keeps out (writing port sequence payload out)
 write-keeps-out = writing-keeps
@@ -217,6 +260,24 @@ send-keeps-out = sending-keeps
 
 pub finish-keeps-out : (r : Recording) (out : List ℕ) → Keeps out (finishing r out)
 finish-keeps-out r out = write-keeps (lastOf r) out
+
+pub print-keeps-out : (a : Answer) (out : List ℕ) → Keeps out (write (line a) out)
+print-keeps-out = lines-print-same
+
+pub last-keeps-out : (s : Office) (hold out : List ℕ) → Keeps out (desk-finish s hold out)
+last-keeps-out = office-finish-same
+
+-- .. the office its state, its buffers and the output ..
+pub start-keeps-hold : (hold : List ℕ) (n : ℕ) → ByStart (starting hold) n → starting hold ≡ (StartRefused n, hold)
+start-keeps-hold = office-start-same
+
+pub desk-keeps-all : (room : ℕ) (d : Desk) (bs : List ℕ) (n : ℕ) → ByDesk (desk-hear room d bs) n
+    → (desk-hear room d bs ≡ denied n d) × ((out : List ℕ) → answeredOut (desk-hear room d bs .0) out ≡ out)
+desk-keeps-all = office-hear-same
+
+pub close-keeps-all : (room : ℕ) (d : Desk) (n : ℕ) → ByDesk (closeCall room d) n
+    → (closeCall room d ≡ denied n d) × ((out : List ℕ) → answeredOut (closeCall room d .0) out ≡ out)
+close-keeps-all = office-close-same
 
 -- .. the call that judges a frame the receive buffer ..
 pub judge-keeps-recv : (recv : List ℕ) (m n : ℕ) → judging recv m .told ≡ refusal n → 10 ≤ n → judging recv m .recv ≡ recv

@@ -1,6 +1,7 @@
 pub mod Rows
 pub mod Frames
 pub mod Called
+pub mod Desk
 pub mod Taken
 pub mod Trips
 pub mod Promises

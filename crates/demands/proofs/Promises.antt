@@ -9,7 +9,9 @@ use mathlib.Core.Option.{some, none}
 use mathlib.Core.Bool.{true, false}
 use mathlib.Core.List.{List, [], _∷_, _++_}
 use lib.ListN.{length, drop}
+use lib.Dec.{ltb}
 use denote.Ref.{now}
+use Rattle.base.specs.Choice.{pick}
 use Rattle.base.specs.UpTo.{upTo}
 use Rattle.base.specs.Written.{outcome, write, copied}
 use Rattle.fcs.specs.Fcs as check
@@ -36,6 +38,8 @@ use Rattle.recording.specs.Printed as recording
 use Rattle.bid.specs.Line.{reading}
 use Rattle.office.specs.Desk.{desk, blocks, unread, refusal as denied}
 use Rattle.office.specs.declared.Answer.the-variants as office-answer
+use Rattle.office.specs.declared.Started.{Started}
+use Rattle.office.specs.declared.Started.the-variants.{Ready, Refused as Denied}
 use Rattle.office.specs.Called as office
 use Rattle.demands.specs.Means.{Means}
 use Rattle.packet.proofs.write as packet-write
@@ -230,9 +234,12 @@ pub lines-print-wrong-means : Means lines-print-wrong.Statement.statement lines-
     λ κs offset out w. outcome w (now (out .exit)) ≡ write (wrongLine offset) (now (out .entry))
 lines-print-wrong-means = (λ M. lines-print-wrong.Met.met, λ κs a. tt, λ κs a z ws. (λ p. p, λ p. p))
 
--- ---- the office. Before the first line one flag is held
+-- ---- the office. Before the first line one flag is held, in a buffer of 8,428 bytes or more
 pub office-start-means : Means office-start.Statement.statement office-start.Kinds.ps office-start.Kinds.r office-start.Reads.Asked office-start.Reads.Learnt
-    λ κs hold r. (r ≡ record { lines = 0; stored = 0; held = 1 }) × (now (hold .exit) ≡ copied (flag ∷ []) (now (hold .entry)))
+    λ κs hold r.
+    _≡_ {A = Started × List ℕ}
+    (pick (ltb (length (now (hold .entry))) 8428) (Denied 11, now (hold .entry)) (Ready (record { lines = 0; stored = 0; held = 1 }), 0x7E ∷ drop 1 (now (hold .entry))))
+    (r, now (hold .exit))
 office-start-means = (λ M. office-start.Met.met, λ κs a. tt, λ κs a z ws. (λ p. p, λ p. p))
 
 pub office-hear-means : Means office-hear.Statement.statement office-hear.Kinds.ps office-hear.Kinds.r office-hear.Reads.Asked office-hear.Reads.Learnt

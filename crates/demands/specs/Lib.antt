@@ -1,4 +1,5 @@
 pub mod Means
 pub mod Table
 pub mod Refusals
+pub mod Desks
 pub mod Guarantee

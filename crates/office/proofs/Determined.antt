@@ -1,7 +1,10 @@
 -- Each public function's promise determines its result, and what each lent buffer then holds.
-use mathlib.Core.Path.{refl}
+use Prim.Native.Nat.{ℕ}
+use mathlib.Core.Path.{_≡_, refl, sym}
+use mathlib.Core.List.{List}
 use Rattle.base.specs.Determined.{Determined}
 use Rattle.base.proofs.Determining.{same, same-answer, same-output, buffer, skip}
+use Rattle.office.specs.declared.Started.{Started}
 use Rattle.office.proofs.Office.start.Kinds as start-kinds
 use Rattle.office.proofs.Office.start.Reads as start-reads
 use Rattle.office.proofs.Office.hear.Kinds as hear-kinds
@@ -12,7 +15,9 @@ use Rattle.office.proofs.Office.finish.Kinds as finish-kinds
 use Rattle.office.proofs.Office.finish.Reads as finish-reads
 
 pub start-determined : Determined start-kinds.ps start-kinds.r start-reads.Asked start-reads.Learnt
-start-determined κs a z z′ ws ws′ pre p q = (same (p .0) (q .0), buffer (same (p .1) (q .1)) refl)
+start-determined κs a z z′ ws ws′ pre p q =
+    let e : _≡_ {A = Started × List ℕ} _ _ = same (sym p) (sym q) in
+    ((λ i. e i .0), buffer (λ i. e i .1) refl)
 
 pub hear-determined : Determined hear-kinds.ps hear-kinds.r hear-reads.Asked hear-reads.Learnt
 hear-determined κs a z z′ ws ws′ pre p q =

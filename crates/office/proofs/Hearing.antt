@@ -4,7 +4,8 @@
 -- hear-all, hear-line           a call that finds no line feed, and one that finds it
 -- heard-more, heard-line        what the code then answers and leaves; stored-fits, what it asks before
 -- call-unsound .. call-on       refusals 10, 11 and 23, or let on
--- close-none, close-line        the end of the input
+-- close-as                      the end of the input; none-begun, one-begun, what it stands for
+-- start-short .. start-copied   the start
 -- finish-unsound .. finish-on   the last block
 use Prim.Native.Nat.{ℕ, suc, _+_, _-_, _≤_, _<_, min}
 use native.Mathlib.Omega.{arith}
@@ -16,7 +17,7 @@ use mathlib.Core.Option.{Option, none}
 use lib.Dec.{leb}
 use lib.ListN.{length, take, drop, length-drop, take-append-drop}
 use lib.Seq.{sets, sets-eq, length-sets, take-nil, take-all, length-take-le, drop-drop, drop-append-le}
-use borrow.Author.Tests.{eq-eqb, ne-eqb, le-leb, lt-leb, leb-true}
+use borrow.Author.Tests.{eq-eqb, ne-eqb, lt-ltb, le-ltb, le-leb, lt-leb, leb-true}
 use borrow.Rule.Slice.PartMut.{putMid}
 use Rattle.base.specs.Choice.{pick}
 use Rattle.base.specs.Calls.{unless, oneMore}
@@ -25,14 +26,17 @@ use Rattle.base.proofs.UpTo.{up-to-is, up-to-short}
 use Rattle.base.specs.Written.{Outcome, refused, copied}
 use Rattle.base.proofs.Lists.{over}
 use Rattle.base.proofs.Tests.{by-eq, by-le, and-parts}
+use Rattle.base.proofs.Writing.{copied-fits}
+use Rattle.packet.specs.Escape.{flag}
 use Rattle.bid.specs.Line.{feed, lineLimit, verdict}
 use Rattle.bid.specs.Input.{numbered}
 use Rattle.office.specs.declared.Office.{Office}
+use Rattle.office.specs.declared.Started.the-variants.{Ready, Refused as StartRefused}
 use Rattle.office.specs.declared.Answer.the-variants.{More, Refused}
 use Rattle.office.specs.declared.Heard.{Heard}
 use Rattle.office.specs.declared.Ended.{Ended}
 use Rattle.office.specs.Desk.{Said, endingBy, Desk, desk, kept, endingOf, ended, eat}
-use Rattle.office.specs.Called.{heldLimit, holdLimit, outLimit, sound, roomy, hearOn, denied, hearBy, hearCall, closeBy, closeCall, HeardIs, finishBy, finishing}
+use Rattle.office.specs.Called.{heldLimit, holdLimit, outLimit, begins, starting, sound, roomy, hearOn, denied, hearBy, hearCall, lastFeed, endBytes, closeCall, HeardIs, finishBy, finishing}
 use Rattle.office.specs.Private.{EndedIs}
 
 -- ---- bytes of a line stored
@@ -247,17 +251,26 @@ pub roomy-hold : (line hold : List ℕ) → roomy line hold ≡ true → holdLim
 roomy-hold line hold e = leb-true _ _ (and-parts (leb lineLimit (length line)) (leb holdLimit (length hold)) e .1)
 
 -- the end of the input
-pub close-none : (room : ℕ) (s : Office) (line hold out : List ℕ) → s .stored ≡ 0
-    → HeardIs (closeCall room (desk s line hold)) out (record { answer = More; taken = 0; office = s }) line hold out
-close-none room s line hold out e =
-    subst (λ (x : Option Said × ℕ × Desk). HeardIs x out (record { answer = More; taken = 0; office = s }) line hold out)
-    (sym (ap (λ (t : Bool). closeBy t room (desk s line hold)) (eq-eqb _ _ e))) (refl, refl, refl, refl)
+pub close-as : (room : ℕ) (d : Desk) (out : List ℕ) {bs : List ℕ} {r : Heard} {line′ hold′ out′ : List ℕ} → endBytes d ≡ bs
+    → HeardIs (hearCall room d bs) out r line′ hold′ out′ → HeardIs (closeCall room d) out r line′ hold′ out′
+close-as room d out {r = r} {line′ = line′} {hold′ = hold′} {out′ = out′} e x =
+    subst (λ (bs : List ℕ). HeardIs (hearCall room d bs) out r line′ hold′ out′) (sym e) x
 
-pub close-line : (room : ℕ) (s : Office) (line hold out : List ℕ) {r : Heard} {line′ hold′ out′ : List ℕ} → (s .stored ≡ 0 → ⊥)
-    → HeardIs (closeBy false room (desk s line hold)) out r line′ hold′ out′ → HeardIs (closeCall room (desk s line hold)) out r line′ hold′ out′
-close-line room s line hold out {r} {line′} {hold′} {out′} n x =
-    subst (λ (y : Option Said × ℕ × Desk). HeardIs y out r line′ hold′ out′)
-    (sym (ap (λ (t : Bool). closeBy t room (desk s line hold)) (ne-eqb _ _ n))) x
+pub none-begun : (d : Desk) → d .st .stored ≡ 0 → endBytes d ≡ []
+none-begun d e = ap (λ (t : Bool). pick t [] lastFeed) (eq-eqb _ _ e)
+
+pub one-begun : (d : Desk) → (d .st .stored ≡ 0 → ⊥) → endBytes d ≡ lastFeed
+one-begun d n = ap (λ (t : Bool). pick t [] lastFeed) (ne-eqb _ _ n)
+
+-- the start
+pub start-short : (hold : List ℕ) → length hold < holdLimit → starting hold ≡ (StartRefused 11, hold)
+start-short hold h = ap (λ (t : Bool). pick t (StartRefused 11, hold) (Ready begins, flag ∷ drop 1 hold)) (lt-ltb _ _ h)
+
+pub start-ready : (hold : List ℕ) → holdLimit ≤ length hold → starting hold ≡ (Ready begins, flag ∷ drop 1 hold)
+start-ready hold h = ap (λ (t : Bool). pick t (StartRefused 11, hold) (Ready begins, flag ∷ drop 1 hold)) (le-ltb _ _ h)
+
+pub start-copied : (hold : List ℕ) {y : List ℕ} → holdLimit ≤ length hold → y ≡ copied (flag ∷ []) hold → starting hold ≡ (Ready begins, y)
+start-copied hold h e = start-ready hold h ∙ (λ i. (Ready begins, sym (e ∙ copied-fits (flag ∷ []) hold (omega arith)) i))
 
 -- the last block
 pub finish-unsound : (s : Office) (hold out : List ℕ) → sound s ≡ false → refused 10 out ≡ finishing s hold out

@@ -1,6 +1,6 @@
 -- What is sent is the stream of exactly the accepted lines, in order; the others are named.
 -- line-sent, line-named   a line
--- Fine, fine-eat          what passes 10 and 11
+-- fine-eat, fine-closed   what passes 10 and 11
 -- Shows, shows-kept       the line so far
 -- says, names             an input, byte by byte
 use Prim.Native.Nat.{ℕ, suc, _+_, _-_, _*_, _/_, _≤_, min}
@@ -8,8 +8,7 @@ use native.Mathlib.Omega.{arith}
 use mathlib.Core.Path.{_≡_, refl, sym, _∙_, ap, subst}
 use mathlib.Core.Bool.{Bool, true, _&&_}
 use mathlib.Core.List.{List, [], _∷_, _++_, map, append-assoc, append-nil}
-use mathlib.Core.Option.{Option, some, none}
-use lib.Dec.{eqb}
+use mathlib.Core.Option.{Option, none}
 use lib.ListN.{length, take, drop, length-append, length-drop, length-take}
 use lib.Seq.{sets, length-sets, take-nil, take-all, take-at, length-take-le, take-append-le, take-suc-set}
 use borrow.Author.Tests.{eq-eqb, ne-eqb, le-leb}
@@ -24,9 +23,9 @@ use Rattle.bid.specs.Line.{feed, lineLimit, Verdict, noBid, refused, accepted, 
 use Rattle.bid.specs.Input.{linesFrom, packets, numbered, complaintsFrom}
 use Rattle.bid.proofs.Verdicts.{verdict-first}
 use Rattle.office.specs.Desk.{wholes, restOf, Spoken, blocks, unread, refusal, Said, putOut, endingBy, Desk, soFar, waiting, kept, endingOf, ended, eat, deskAll, sentBy, complaintsBy}
-use Rattle.office.specs.Called.{heldLimit, holdLimit, sound, roomy, hearOn}
+use Rattle.office.specs.Called.{heldLimit, holdLimit, sound, roomy, hearOn, endBytes, Fine, lastOf}
 use Rattle.office.proofs.Marking.{rest-short, marked-rest}
-use Rattle.office.proofs.Hearing.{eat-feed, eat-other}
+use Rattle.office.proofs.Hearing.{eat-feed, eat-other, none-begun, one-begun}
 
 -- ---- a line
 -- the stream bytes of a line
@@ -92,12 +91,6 @@ line-named (refused n) k at hold xs vs e = ap (λ (l : List (ℕ × ℕ)). (numb
 line-named (accepted p) k at hold xs vs e = e
 
 -- ---- what passes 10 and 11
-pub record Fine (d : Desk) : Type 0 where
-  pub stored : d .st .stored ≤ lineLimit
-  pub held : d .st .held ≤ heldLimit
-  pub line : lineLimit ≤ length (d .line)
-  pub hold : holdLimit ≤ length (d .hold)
-
 pub fine-sound : (d : Desk) → Fine d → sound (d .st) ≡ true
 fine-sound d f = λ i. le-leb _ _ (f .stored) i && le-leb _ _ (f .held) i
 
@@ -167,11 +160,11 @@ module _ (d : Desk) (l : List ℕ) (f : Fine d) (w : Shows d l) where
       ∙ sym (take-all lineLimit (l ++ b ∷ []) (omega (arith, length-append l (b ∷ [])))))
 
   -- a line is begun exactly where some of it is stored
-  pub none-begun : d .st .stored ≡ 0 → length l ≡ 0
-  none-begun e = omega (arith, stored-is, length-take lineLimit l)
+  pub none-stored : d .st .stored ≡ 0 → length l ≡ 0
+  none-stored e = omega (arith, stored-is, length-take lineLimit l)
 
-  pub some-begun : (d .st .stored ≡ 0 → ⊥) → length l ≡ 0 → ⊥
-  some-begun n e = n (stored-is ∙ length-take lineLimit l ∙ omega arith)
+  pub some-stored : (d .st .stored ≡ 0 → ⊥) → length l ≡ 0 → ⊥
+  some-stored n e = n (stored-is ∙ length-take lineLimit l ∙ omega arith)
 
 -- ---- the lines of an input
 pub lines-feed : (l : List ℕ) (b : ℕ) (bs : List ℕ) → b ≡ feed → linesFrom l (b ∷ bs) ≡ l ∷ linesFrom [] bs
@@ -194,22 +187,23 @@ abbrev streamFrom : List (List ℕ) → List ℕ
 streamFrom ls = behind (packets (map verdict ls))
 
 -- the end of the input: a line that is begun ends
-abbrev pub lastOf : Option Said → List Said
-lastOf none = []
-lastOf (some x) = x ∷ []
-
 abbrev pub closed : Desk → Option Said × ℕ × Desk
-closed d = pick (eqb (d .st .stored) 0) (none, 0, d) (hearOn d (feed ∷ []))
+closed d = hearOn d (endBytes d)
 
 abbrev lastly : Option Said × ℕ × Desk → List ℕ
 lastly r = sentBy (lastOf (r .0)) ++ marked (waiting (r .2))
 
 closed-none : (d : Desk) → d .st .stored ≡ 0 → closed d ≡ (none, 0, d)
-closed-none d e = ap (λ (t : Bool). pick t (none, 0, d) (hearOn d (feed ∷ []))) (eq-eqb _ _ e)
+closed-none d e = ap (hearOn d) (none-begun d e)
 
 closed-line : (d : Desk) → (d .st .stored ≡ 0 → ⊥) → closed d ≡ (ended d .0, 1, ended d .1)
 unfolding eat
-closed-line d n = ap (λ (t : Bool). pick t (none, 0, d) (hearOn d (feed ∷ []))) (ne-eqb _ _ n)
+closed-line d n = ap (hearOn d) (one-begun d n)
+
+pub fine-closed : (d : Desk) → Fine d → Fine (closed d .2)
+fine-closed d f =
+    by-eq (d .st .stored) 0 (λ e. subst (λ (r : Option Said × ℕ × Desk). Fine (r .2)) (sym (closed-none d e)) f)
+    (λ n. subst (λ (r : Option Said × ℕ × Desk). Fine (r .2)) (sym (closed-line d n)) (fine-ended d f))
 
 -- what a line puts out, and what is sent behind it
 line-then : (d : Desk) (l : List ℕ) (k : ℕ) (ls : List (List ℕ)) → verdict (soFar d) ≡ verdict l
@@ -226,13 +220,13 @@ says [] d l f w =
     by-eq (d .st .stored) 0
     (λ e.
     ap lastly (closed-none d e) ∙ ap marked (sym (append-nil (waiting d)))
-    ∙ ap (λ (ls : List (List ℕ)). marked (waiting d ++ streamFrom ls)) (sym (lines-none l (none-begun d l f w e))))
+    ∙ ap (λ (ls : List (List ℕ)). marked (waiting d ++ streamFrom ls)) (sym (lines-none l (none-stored d l f w e))))
     (λ n.
     ap lastly (closed-line d n)
     ∙ ap (λ (x : List ℕ). x ++ marked (waiting (ended d .1))) (sent-cons (numbered (d .st .lines)) (endingOf d .said) [] ∙ append-nil (blocksOf (endingOf d .said)))
     ∙ ap (λ (x : List ℕ). blocksOf (endingOf d .said) ++ marked x) (sym (append-nil (waiting (ended d .1))))
     ∙ line-then d l 0 [] (same-verdict d l f w)
-    ∙ ap (λ (ls : List (List ℕ)). marked (waiting d ++ streamFrom ls)) (sym (lines-one l (some-begun d l f w n))))
+    ∙ ap (λ (ls : List (List ℕ)). marked (waiting d ++ streamFrom ls)) (sym (lines-one l (some-stored d l f w n))))
 says (b ∷ bs) d l f w =
     by-eq b feed
     (λ e.
@@ -259,12 +253,12 @@ pub names : (bs : List ℕ) (d : Desk) (l : List ℕ) → Fine d → Shows d l
 names [] d l f w =
     by-eq (d .st .stored) 0
     (λ e.
-    ap namedLast (closed-none d e) ∙ none-named (d .st .lines) ∙ ap (λ (ls : List (List ℕ)). complaintsFrom (d .st .lines) (map verdict ls)) (sym (lines-none l (none-begun d l f w e))))
+    ap namedLast (closed-none d e) ∙ none-named (d .st .lines) ∙ ap (λ (ls : List (List ℕ)). complaintsFrom (d .st .lines) (map verdict ls)) (sym (lines-none l (none-stored d l f w e))))
     (λ n.
     ap namedLast (closed-line d n)
     ∙ line-named (verdict (soFar d)) (d .st .lines) (d .st .held) (d .hold) [] [] (none-named (numbered (d .st .lines)))
     ∙ ap (λ (v : Verdict). complaintsFrom (d .st .lines) (v ∷ [])) (same-verdict d l f w)
-    ∙ ap (λ (ls : List (List ℕ)). complaintsFrom (d .st .lines) (map verdict ls)) (sym (lines-one l (some-begun d l f w n))))
+    ∙ ap (λ (ls : List (List ℕ)). complaintsFrom (d .st .lines) (map verdict ls)) (sym (lines-one l (some-stored d l f w n))))
 names (b ∷ bs) d l f w =
     by-eq b feed
     (λ e.

@@ -1,25 +1,30 @@
 -- The office as it is called: its state and the lent buffers go in and come back, and one call gives at most one answer.
--- begins                   the start
+-- begins, starting         the start
 -- hearCall, HeardIs        one call on bytes, and that the code's results are those
--- closeCall                the end of the input
+-- endBytes, closeCall      the end of the input
 -- finishing                the last block
-use Prim.Native.Nat.{ℕ}
+-- Fine                     desks that pass 10 and 11
+-- first, lastOf            from where, and to what end, an input is sent
+use Prim.Native.Nat.{ℕ, _≤_}
 use mathlib.Core.Path.{_≡_}
 use mathlib.Core.Bool.{Bool, true, false, _&&_}
 use mathlib.Core.List.{List, [], _∷_, _++_}
 use mathlib.Core.Option.{Option, some, none}
-use lib.Dec.{eqb, leb}
+use lib.Dec.{eqb, ltb, leb}
 use lib.ListN.{length, take, drop}
+use Rattle.base.specs.Choice.{pick}
 use Rattle.base.specs.Calls.{owesNone, handsNone, hear}
-use Rattle.base.specs.Written.{Outcome, refused, copied}
-use Rattle.channel.specs.Sender.{marked, sending}
+use Rattle.base.specs.Written.{Outcome, refused}
+use Rattle.packet.specs.Escape.{flag}
+use Rattle.channel.specs.Sender.{sending}
 use Rattle.bid.specs.Line.{feed, lineLimit}
 use Rattle.office.specs.declared.Office.{Office}
+use Rattle.office.specs.declared.Started.{Started}
+use Rattle.office.specs.declared.Started.the-variants.{Ready, Refused as StartRefused}
 use Rattle.office.specs.declared.Answer.{Answer}
 use Rattle.office.specs.declared.Answer.the-variants.{More, Sent, NoBid, Refused}
 use Rattle.office.specs.declared.Heard.{Heard}
-use Rattle.office.specs.declared.Ended.{Ended}
-use Rattle.office.specs.Desk.{wholes, restOf, Spoken, blocks, unread, refusal, Said, Ending, Desk, eat}
+use Rattle.office.specs.Desk.{Spoken, blocks, unread, refusal, Said, Desk, desk, eat}
 
 -- bytes held between lines, at most
 abbrev pub heldLimit : ℕ
@@ -36,6 +41,10 @@ outLimit = 9583
 -- before the first byte one flag is held
 abbrev pub begins : Office
 begins = record { lines = 0; stored = 0; held = 1 }
+
+-- the starting call: its answer, and the buffer of the bytes held then. 11: it is too short
+abbrev pub starting : List ℕ → Started × List ℕ
+starting hold = pick (ltb (length hold) holdLimit) (StartRefused 11, hold) (Ready begins, flag ∷ drop 1 hold)
 
 -- passes 10: no count is beyond its limit
 abbrev pub sound : Office → Bool
@@ -64,14 +73,17 @@ hearBy true true true d bs = hearOn d bs
 abbrev pub hearCall : ℕ → Desk → List ℕ → Option Said × ℕ × Desk
 hearCall room d bs = hearBy (sound (d .st)) (roomy (d .line) (d .hold)) (leb outLimit room) d bs
 
--- the end of the input ends a line, by: is none begun
-abbrev pub closeBy : Bool → ℕ → Desk → Option Said × ℕ × Desk
-closeBy true room d = (none, 0, d)
-closeBy false room d = hearCall room d (feed ∷ [])
+-- what ends a last line that has no line feed
+abbrev pub lastFeed : List ℕ
+lastFeed = feed ∷ []
 
--- the end of the input
+-- the bytes that the end of the input stands for: that, where a line is begun
+abbrev pub endBytes : Desk → List ℕ
+endBytes d = pick (eqb (d .st .stored) 0) [] lastFeed
+
+-- the end of the input: a call on those bytes
 abbrev pub closeCall : ℕ → Desk → Option Said × ℕ × Desk
-closeCall room d = closeBy (eqb (d .st .stored) 0) room d
+closeCall room d = hearCall room d (endBytes d)
 
 -- the code's answer, of what is said of a line ..
 abbrev pub spoken : Spoken → Answer
@@ -112,3 +124,19 @@ finishBy true true s hold out = sending (take (s .held) hold) out
 -- the finishing call
 abbrev pub finishing : Office → List ℕ → List ℕ → Outcome
 finishing s hold out = finishBy (sound s) (leb holdLimit (length hold)) s hold out
+
+-- state and buffers pass 10 and 11
+pub record Fine (d : Desk) : Type 0 where
+  pub stored : d .st .stored ≤ lineLimit
+  pub held : d .st .held ≤ heldLimit
+  pub line : lineLimit ≤ length (d .line)
+  pub hold : holdLimit ≤ length (d .hold)
+
+-- the desk behind the start, with these buffers
+abbrev pub first : List ℕ → List ℕ → Desk
+first line hold = desk begins line (starting hold .1)
+
+-- what the last call says, as a list
+abbrev pub lastOf : Option Said → List Said
+lastOf none = []
+lastOf (some x) = x ∷ []

@@ -1,17 +1,15 @@
 //! The office's sender: lines of bids in, marked blocks out, any cutting of the input, in constant memory.
 ghost use mathlib.Core.Path.{_≡_};
-ghost use mathlib.Core.List.{[], _∷_};
 ghost use mathlib.Core.Bool.{true};
 ghost use Prim.Native.Nat.{_+_, _-_, _≤_, min};
 ghost use lib.ListN.{length, take};
 ghost use lib.Seq.{sets};
-ghost use Rattle.base.specs.Written.{outcome, copied};
-ghost use Rattle.packet.specs.Escape.{flag};
+ghost use Rattle.base.specs.Written.{outcome};
 ghost use Rattle.bid.specs.Line.{lineLimit, judged, verdict};
 ghost use Rattle.bid.specs.Input.{numbered};
 ghost use Rattle.office.specs.declared.Answer.the-variants.{Refused};
 ghost use Rattle.office.specs.Desk.{endingBy, desk};
-ghost use Rattle.office.specs.Called.{heldLimit, holdLimit, outLimit, begins, sound, roomy, hearOn, hearCall, closeCall, HeardIs, finishing};
+ghost use Rattle.office.specs.Called.{heldLimit, holdLimit, outLimit, starting, sound, roomy, hearOn, hearCall, closeCall, HeardIs, finishing};
 ghost use Rattle.office.specs.Private.{EndedIs, PutIs};
 use base::Refusal;
 use base::Written;
@@ -28,6 +26,14 @@ pub struct Office {
     pub stored: usize,
     /// Stream bytes not yet sent.
     pub held: usize,
+}
+
+/// What the start answers.
+pub enum Started {
+    /// One flag is held.
+    Ready(Office),
+    /// The call is refused, by this number of the paper.
+    Refused(u8),
 }
 
 /// What a call answers; the line's number is then `lines` of the state.
@@ -166,16 +172,19 @@ impl Office {
     pub const OUTPUT: usize = Self::HOLD / Block::MESSAGE * Block::LENGTH;
 
     /// Before the first byte: one flag is held.
-    pub fn start(hold: &mut [u8]) -> Self
-        ensures { λ r. ⌜ (r ≡ begins) × (now (hold .exit) ≡ copied (flag ∷ []) (now (hold .entry))) ⌝ }
+    pub fn start(hold: &mut [u8]) -> Started
+        ensures { λ r. ⌜ starting (now (hold .entry)) ≡ (r, now (hold .exit)) ⌝ }
     {
+        if hold.len() < Self::HOLD {
+            return Started::Refused(Refusal::BUFFER);
+        }
         let first = [Packet::FLAG];
         base::copy(&first, hold);
-        Office {
+        Started::Ready(Office {
             lines: 0,
             stored: 0,
             held: 1,
-        }
+        })
     }
 
     // Whether no count is beyond its limit.
@@ -249,14 +258,10 @@ impl Office {
     pub fn close(self, line: &mut [u8], hold: &mut [u8], out: &mut [u8]) -> Heard
         ensures { λ r. ⌜ HeardIs (closeCall (length (now (out .entry))) (desk self (now (line .entry)) (now (hold .entry)))) (now (out .entry)) r (now (line .exit)) (now (hold .exit)) (now (out .exit)) ⌝ }
     {
-        if self.stored == 0 {
-            return Heard {
-                answer: Answer::More,
-                taken: 0,
-                office: self,
-            };
-        }
         let feed = [Line::FEED];
+        if self.stored == 0 {
+            return self.hear(line, hold, &feed[0..0], out);
+        }
         self.hear(line, hold, &feed, out)
     }
 

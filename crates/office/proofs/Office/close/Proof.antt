@@ -1,7 +1,8 @@
--- `office::Office::close` meets its contract: a line is begun, or none.
+-- `office::Office::close` meets its contract: no line is begun, or one.
 use borrow.Author.Needs.{needs}
 use lib.ListN.{length}
-use Rattle.office.proofs.Hearing.{close-none, close-line}
+use Rattle.office.specs.Desk.{desk}
+use Rattle.office.proofs.Hearing.{close-as, none-begun, one-begun}
 use Rattle.office.proofs.Office.close.Statement.{statement}
 use Rattle.office.proofs.Office.close.Tie as tie
 
@@ -9,10 +10,17 @@ pub close-spec : {M : Type 1} → statement M
 close-spec =
     tie.close
     (tie.spec
-    (λ c. let s = c .before .before .before .before .before in close-none (length (s .args .out .now)) (s .args .self) (s .args .line .now) (s .args .hold .now) (s .args .out .now) (c .if1 .taken))
     (search needs)
     (search needs)
     (search needs)
     (search needs)
     (search needs)
-    (λ c. let s = c .before .before .before .before .before .before .before .before .before .before .before .before .before .before .before .before in close-line (length (s .args .out .now)) (s .args .self) (s .args .line .now) (s .args .hold .now) (s .args .out .now) (c .before .before .before .before .before .before .before .before .before .before .before .if1 .left) (c .before .before .before .before .before .before .hear .ensures)))
+    (search needs)
+    (search needs)
+    (λ c. let s = c .before .before .before .before .before .before .before .before .before .before .before .before .before .before .before .before .before in let d = desk (s .args .self) (s .args .line .now) (s .args .hold .now) in close-as (length (s .args .out .now)) d (s .args .out .now) (none-begun d (c .before .before .before .before .before .before .before .before .before .before .before .before .if1 .taken)) (c .before .before .before .before .before .before .hear .ensures))
+    (search needs)
+    (search needs)
+    (search needs)
+    (search needs)
+    (search needs)
+    (λ c. let s = c .before .before .before .before .before .before .before .before .before .before .before .before .before .before .before .before in let d = desk (s .args .self) (s .args .line .now) (s .args .hold .now) in close-as (length (s .args .out .now)) d (s .args .out .now) (one-begun d (c .before .before .before .before .before .before .before .before .before .before .before .if1 .left)) (c .before .before .before .before .before .before .hear2 .ensures)))
