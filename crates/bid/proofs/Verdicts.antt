@@ -19,12 +19,12 @@ use Rattle.base.proofs.Lists.{drop-take}
 use Rattle.base.proofs.UpTo.{up-to-take, up-to-long}
 use Rattle.base.proofs.Tests.{by-eq, by-le, by-test}
 use Rattle.packet.specs.Port.{barred}
-use Rattle.packet.specs.Contents.{payloadLimit}
+use Rattle.packet.specs.Contents.{payloadLimit, Packet}
 use Rattle.packet.specs.Escape.{escape}
 use Rattle.packet.proofs.Escaping.{plain-short}
 use Rattle.packet.proofs.Round.{plain-undoes}
 use Rattle.packet.proofs.Sending.{refusing-empty, refusing-long, refusing-barred, refusing-free}
-use Rattle.stream.specs.Sender.{Packet, Accepted}
+use Rattle.stream.specs.Sender.{Accepted}
 use Rattle.bid.specs.Line.{space, past, noNumber, number, port, sequence, text, isBid, lineLimit, Verdict, noBid, refused, accepted, judged, verdict}
 use Rattle.bid.proofs.Decimal.{number-long}
 use Rattle.bid.proofs.Reading.{bid-no-port, bid-no-sequence, bid-both}

@@ -13,7 +13,7 @@ use lib.ListN.{length, drop}
 use Rattle.base.specs.Choice.{pick}
 use Rattle.base.specs.UpTo.{upTo}
 use Rattle.packet.specs.Sender.{refusing}
-use Rattle.stream.specs.Sender.{Packet}
+use Rattle.packet.specs.Contents.{Packet}
 use Rattle.bid.specs.declared.Found.{Found}
 use Rattle.bid.specs.declared.Found.the-variants.{Bid, NoBid}
 

@@ -12,9 +12,9 @@ use Rattle.base.specs.Bytes.{Each}
 use Rattle.base.specs.Calls.{joined, Yields}
 use Rattle.base.proofs.Calls.{yields-so}
 use Rattle.packet.specs.Escape.{flag}
-use Rattle.packet.specs.Contents.{rawLimit}
+use Rattle.packet.specs.Contents.{rawLimit, Packet}
 use Rattle.stream.specs.Reader.{waiting, reads}
-use Rattle.stream.specs.Sender.{Packet, Accepted, delivered, openedFrom}
+use Rattle.stream.specs.Sender.{Accepted, delivered, openedFrom}
 use Rattle.channel.specs.Sender.{wordBytes, framed, sentWords, sent}
 use Rattle.channel.specs.Channel.{clean, condition, Event, frames, blocks, losses, start, hears, answers, IsWord, carried, FirstMarker}
 use Rattle.channel.specs.Called.{Board, board, freshReceiver, hearCall, hearAll, EveryCut, boardOf, inUse}

@@ -13,7 +13,8 @@ use Rattle.base.specs.Written.{Outcome, refused, write}
 use Rattle.packet.specs.Escape.{flag}
 use Rattle.parity.specs.Word.{remainder}
 use Rattle.parity.specs.Calls.{whole}
-use Rattle.stream.specs.Sender.{Packet, stream}
+use Rattle.stream.specs.Sender.{stream}
+use Rattle.packet.specs.Contents.{Packet}
 
 -- the marker that stands before each word
 abbrev pub marker : List ℕ

@@ -46,7 +46,7 @@ use Rattle.packet.specs.Frame.{judged, closed, part}
 use Rattle.packet.specs.Sender.{writing}
 use Rattle.packet.specs.declared.frame.Judged.the-variants.{Packet as Delivered}
 use Rattle.stream.specs.Reader.{waiting, inside, reads}
-use Rattle.stream.specs.Sender.{Packet, Accepted, rawOf, stream, delivered, appending}
+use Rattle.stream.specs.Sender.{Accepted, rawOf, stream, delivered, appending}
 use Rattle.stream.proofs.Streaming.{stream-read}
 use Rattle.stream.proofs.Sending.{begin-stream, append-stream}
 use Rattle.channel.specs.Sender.{parityBytes, wordOf, fillers, filled, sending, sent}
@@ -56,7 +56,7 @@ use Rattle.listed.specs.Apart.{most, records}
 use Rattle.listed.specs.Lines.{letter, lines, isPacket, isRefusal, isDamaged, isLost, count, packetsIn, refusalsIn, damagedIn, longest}
 use Rattle.listed.specs.Listing.{heard, totalLine, listing}
 use Rattle.listed.proofs.Totals.{packets-counted, refusals-counted, damaged-counted, lost-counted, sent-counted}
-use Rattle.packet.specs.Contents.{rawLimit}
+use Rattle.packet.specs.Contents.{rawLimit, Packet}
 use Rattle.channel.specs.Sender.{wordBytes}
 use Rattle.recording.specs.declared.recording.Totals.{Totals}
 use Rattle.recording.specs.declared.recording.Recording.{Recording}
@@ -70,8 +70,8 @@ use Rattle.demands.proofs.Trips.{packet-back, judged-back, plain-listed
 -- ---- "a packet the sender accepts, written and read back, is the same packet": where n bytes are written of a packet (numbers of two
 -- bytes, a payload of bytes), those n bytes, read behind a flag, give that packet and nothing else ..
 pub round-trip : (p : Packet) → p .port < 65536 → p .sequence < 65536 → Bytes (p .payload) → (out : List ℕ) (n : ℕ)
-    → writing (p .port) (p .sequence) (p .payload) out .answer ≡ Wrote n
-    → reads (inside []) (take n (writing (p .port) (p .sequence) (p .payload) out .output)) ≡ (delivered p ∷ [], inside [])
+    → writing p out .answer ≡ Wrote n
+    → reads (inside []) (take n (writing p out .output)) ≡ (delivered p ∷ [], inside [])
 round-trip = packet-back
 
 -- .. and in the code's answer: a frame of its raw bytes, wherever they came from, is judged to have its port, its sequence and its length,
@@ -98,8 +98,8 @@ stream-begun = begin-stream
 
 -- .. where the first `at` bytes are the stream of some packets, behind one more they are that of these and it ..
 pub stream-appended : (ps : List Packet) (p : Packet) (out : List ℕ) (at n : ℕ) → at ≤ length out → take at out ≡ stream ps
-    → appending at (p .port) (p .sequence) (p .payload) out .answer ≡ Wrote n
-    → take (at + n) (appending at (p .port) (p .sequence) (p .payload) out .output) ≡ stream (ps ++ p ∷ [])
+    → appending at p out .answer ≡ Wrote n
+    → take (at + n) (appending at p out .output) ≡ stream (ps ++ p ∷ [])
 stream-appended = append-stream
 
 -- .. and sent on the channel, what is written is the marked stream of demand 3

@@ -25,11 +25,11 @@ use Rattle.base.specs.Calls.{With, joined, Reads, ReadsAll, Yields}
 use Rattle.base.specs.Calls.Reads.{more, answer}
 use Rattle.base.specs.Calls.ReadsAll.{piece}
 use Rattle.base.proofs.Calls.{yields-so}
-use Rattle.packet.specs.Contents.{rawLimit}
+use Rattle.packet.specs.Contents.{rawLimit, Packet}
 use Rattle.packet.specs.Escape.{flag, NoFlag}
 use Rattle.packet.specs.Frame.{Told}
 use Rattle.stream.specs.Reader.{waiting, reads}
-use Rattle.stream.specs.Sender.{Packet, Accepted, rawOf, behind, stream, delivered, openedFrom}
+use Rattle.stream.specs.Sender.{Accepted, rawOf, behind, stream, delivered, openedFrom}
 use Rattle.stream.specs.Called.{Held, readCall, heldOf, inUse as plainInUse, ThereHeld, EveryCut as EveryPlainCut}
 use Rattle.stream.proofs.Accepting.{clear}
 use Rattle.stream.proofs.Cutting.{every-cut-reads}

@@ -21,7 +21,8 @@ use Rattle.packet.proofs.Judging.{judge-is, payload-there}
 use Rattle.packet.proofs.Round.{raw-fits}
 use Rattle.packet.proofs.Sending.{wrote-is}
 use Rattle.stream.specs.Reader.{inside, reads}
-use Rattle.stream.specs.Sender.{Packet, Accepted, rawOf, delivered}
+use Rattle.stream.specs.Sender.{Accepted, rawOf, delivered}
+use Rattle.packet.specs.Contents.{Packet}
 use Rattle.stream.proofs.Accepting.{judged-is}
 use Rattle.stream.proofs.Streaming.{behind-read}
 use Rattle.listed.specs.Apart.{most, records}
@@ -30,16 +31,16 @@ use Rattle.listed.specs.Listing.{heard, totalLine, lastLine, listed, listing}
 use Rattle.listed.proofs.Apart.{records-apart, records-channel}
 
 module _ (p : Packet) (port-fits : p .port < 65536) (sequence-fits : p .sequence < 65536) (bytes : Bytes (p .payload)) (out : List ℕ) (n : ℕ)
-    (wrote : writing (p .port) (p .sequence) (p .payload) out .answer ≡ Wrote n) where
+    (wrote : writing p out .answer ≡ Wrote n) where
   pub accepted : Accepted p
   accepted =
-      let w = wrote-is (p .port) (p .sequence) (p .payload) out n wrote in
+      let w = wrote-is p out n wrote in
       record { some = w .some; short = w .short; free = w .free; port-fits = port-fits; sequence-fits = sequence-fits; bytes = bytes }
 
-  pub packet-back : reads (inside []) (take n (writing (p .port) (p .sequence) (p .payload) out .output)) ≡ (delivered p ∷ [], inside [])
+  pub packet-back : reads (inside []) (take n (writing p out .output)) ≡ (delivered p ∷ [], inside [])
   unfolding sent framed
   packet-back =
-      let w = wrote-is (p .port) (p .sequence) (p .payload) out n wrote in
+      let w = wrote-is p out n wrote in
       let bs : List ℕ = rawOf p ++ flag ∷ [] in
       ap (reads (inside [])) (ap (take n) (w .holds) ∙ take-at bs (drop (length bs) out) n (sym (w .long)) ∙ sym (append-nil bs)) ∙ behind-read (p ∷ []) (accepted, tt) 0
 
@@ -47,7 +48,7 @@ module _ (p : Packet) (a : Accepted p) (recv : List ℕ) (there : take (length (
   told-back : closed recv (length (rawOf p)) .told ≡ delivered p
   told-back =
       let l : length (rawOf p) ≤ length recv = omega (arith, sym (ap length there) ∙ length-take (length (rawOf p)) recv) in
-      judge-is recv (length (rawOf p)) (raw-fits (p .port) (p .sequence) (p .payload) (a .some) (a .short) (a .free)) l
+      judge-is recv (length (rawOf p)) (raw-fits p (a .some) (a .short) (a .free)) l
       ∙ ap judge there ∙ judged-is p a
 
   pub judged-back : (judged (closed recv (length (rawOf p)) .told) ≡ Delivered (p .port) (p .sequence) (length (p .payload)))

@@ -8,14 +8,15 @@ use mathlib.Core.Path.{_≡_, refl, ap}
 use mathlib.Core.List.{List, [], _∷_, map}
 use lib.ListN.{length}
 use Rattle.packet.specs.Frame.{Told, packet, refusal}
-use Rattle.stream.specs.Sender.{Packet, delivered}
+use Rattle.stream.specs.Sender.{delivered}
+use Rattle.packet.specs.Contents.{Packet}
 use Rattle.channel.specs.Channel.{Condition, clean, repaired, beyond, Event, said, block, lost, frames, blocks, losses}
 use Rattle.listed.specs.Lines.{isPacket, isRefusal, isDamaged, isLost, count, packetsIn, refusalsIn, damagedIn}
 
 pub packets-counted : (es : List Event) → count isPacket es ≡ packetsIn (frames es)
 unfolding count
 packets-counted [] = refl
-packets-counted (said (packet port sequence payload) ∷ es) = omega (arith, packets-counted es)
+packets-counted (said (packet p) ∷ es) = omega (arith, packets-counted es)
 packets-counted (said (refusal n) ∷ es) = omega (arith, packets-counted es)
 packets-counted (block clean ∷ es) = omega (arith, packets-counted es)
 packets-counted (block (repaired n) ∷ es) = omega (arith, packets-counted es)
@@ -25,7 +26,7 @@ packets-counted (lost ∷ es) = omega (arith, packets-counted es)
 pub refusals-counted : (es : List Event) → count isRefusal es ≡ refusalsIn (frames es)
 unfolding count
 refusals-counted [] = refl
-refusals-counted (said (packet port sequence payload) ∷ es) = omega (arith, refusals-counted es)
+refusals-counted (said (packet p) ∷ es) = omega (arith, refusals-counted es)
 refusals-counted (said (refusal n) ∷ es) = omega (arith, refusals-counted es)
 refusals-counted (block clean ∷ es) = omega (arith, refusals-counted es)
 refusals-counted (block (repaired n) ∷ es) = omega (arith, refusals-counted es)

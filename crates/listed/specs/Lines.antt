@@ -42,8 +42,8 @@ letter Barred = 70
 
 -- `P port sequence payload-length class`, or `R n`
 unfoldable pub told : Judged → List ℕ
-told (Packet port sequence n) =
-    80 ∷ 32 ∷ (decimal port ++ 32 ∷ (decimal sequence ++ 32 ∷ (decimal n ++ 32 ∷ letter (class port) ∷ 10 ∷ [])))
+told (Packet d) =
+    80 ∷ 32 ∷ (decimal (d .port) ++ 32 ∷ (decimal (d .sequence) ++ 32 ∷ (decimal (d .length) ++ 32 ∷ letter (class (d .port)) ∷ 10 ∷ [])))
 told (Refused n) = 82 ∷ 32 ∷ (decimal n ++ 10 ∷ [])
 
 -- that; `B 0` clean, `B count` repaired, `B X` beyond repair; `L` lock lost; "more wanted" has no line
@@ -71,7 +71,7 @@ lines (e ∷ es) = line (given e) ++ lines es
 -- a delivered packet
 abbrev pub isPacket : Answer → Bool
 isPacket More = false
-isPacket (Said (Packet port sequence n)) = true
+isPacket (Said (Packet d)) = true
 isPacket (Said (Refused n)) = false
 isPacket Clean = false
 isPacket (Repaired n) = false
@@ -81,7 +81,7 @@ isPacket LockLost = false
 -- a frame refusal
 abbrev pub isRefusal : Answer → Bool
 isRefusal More = false
-isRefusal (Said (Packet port sequence n)) = false
+isRefusal (Said (Packet d)) = false
 isRefusal (Said (Refused n)) = true
 isRefusal Clean = false
 isRefusal (Repaired n) = false
@@ -118,13 +118,13 @@ count f (e ∷ es) = one (f (given e)) + count f es
 -- of the frame answers: how many are packets ..
 abbrev pub packetsIn : List Told → ℕ
 packetsIn [] = 0
-packetsIn (packet port sequence payload ∷ ts) = suc (packetsIn ts)
+packetsIn (packet p ∷ ts) = suc (packetsIn ts)
 packetsIn (refusal n ∷ ts) = packetsIn ts
 
 -- .. and how many are refusals
 abbrev pub refusalsIn : List Told → ℕ
 refusalsIn [] = 0
-refusalsIn (packet port sequence payload ∷ ts) = refusalsIn ts
+refusalsIn (packet p ∷ ts) = refusalsIn ts
 refusalsIn (refusal n ∷ ts) = suc (refusalsIn ts)
 
 -- of the block answers: how many are beyond repair

@@ -17,12 +17,12 @@ use Rattle.base.proofs.Lists.{drop-take}
 use Rattle.base.proofs.Tests.{by-eq, by-le, by-test}
 use Rattle.base.proofs.Writing.{copied-fits, room-wrote, room-never}
 use Rattle.packet.specs.Port.{barred}
-use Rattle.packet.specs.Contents.{payloadLimit}
+use Rattle.packet.specs.Contents.{payloadLimit, Packet}
 use Rattle.packet.specs.Escape.{flag, escape}
 use Rattle.packet.specs.Sender.{framed, sent, writing}
 use Rattle.packet.proofs.Sending.{Wrote-is, wrote-is, write-empty, write-long, write-barred, write-free}
 use Rattle.packet.proofs.Round.{raw-fits}
-use Rattle.stream.specs.Sender.{Packet, rawOf, appending}
+use Rattle.stream.specs.Sender.{rawOf, appending}
 use Rattle.stream.proofs.Sending.{appending-keeps}
 use Rattle.channel.specs.Sender.{marked, sending}
 use Rattle.bid.specs.Line.{port, sequence, text, reading, Verdict, refused, accepted, judged, verdict}
@@ -99,14 +99,14 @@ module _ (p : Packet) (at : ℕ) (hold : List ℕ) (small : at ≤ heldLimit) (r
   behind-length : length (drop at hold) ≡ length hold - at
   behind-length = length-drop at hold
 
-  module _ {w : Written} {hold′ : List ℕ} (e : outcome w hold′ ≡ appending at (p .port) (p .sequence) (p .payload) hold) where
+  module _ {w : Written} {hold′ : List ℕ} (e : outcome w hold′ ≡ appending at p hold) where
     abbrev told : Outcome
-    told = writing (p .port) (p .sequence) (p .payload) (drop at hold)
+    told = writing p (drop at hold)
 
     -- written
     module _ (n : ℕ) (f : w ≡ Wrote n) where
-      shows : Wrote-is (p .port) (p .sequence) (p .payload) (drop at hold) n (told .output)
-      shows = wrote-is (p .port) (p .sequence) (p .payload) (drop at hold) n (sym (ap (λ (o : Outcome). o .answer) e) ∙ f)
+      shows : Wrote-is p (drop at hold) n (told .output)
+      shows = wrote-is p (drop at hold) n (sym (ap (λ (o : Outcome). o .answer) e) ∙ f)
 
       is-accepted : judged p ≡ accepted p
       is-accepted = judged-free p (shows .some) (shows .short) (shows .free)
@@ -117,7 +117,7 @@ module _ (p : Packet) (at : ℕ) (hold : List ℕ) (small : at ≤ heldLimit) (r
 
       frame-short : length frame ≤ 8206
       frame-short =
-          omega (arith, length-append (rawOf p) (flag ∷ []), raw-fits (p .port) (p .sequence) (p .payload) (shows .some) (shows .short) (shows .free))
+          omega (arith, length-append (rawOf p) (flag ∷ []), raw-fits p (shows .some) (shows .short) (shows .free))
 
       held-is : hold′ ≡ all ++ drop (length all) hold
       unfolding sent framed
@@ -157,26 +157,26 @@ module _ (p : Packet) (at : ℕ) (hold : List ℕ) (small : at ≤ heldLimit) (r
           let y : k ≡ n = cc in
           j ∙ ap refused y
 
-      no-room : length (sent (p .port) (p .sequence) (p .payload)) ≤ length (drop at hold) → told ≡ write (sent (p .port) (p .sequence) (p .payload)) (drop at hold) → ⊥
-      no-room h g = room-never (sent (p .port) (p .sequence) (p .payload)) (drop at hold) h g answer-is
+      no-room : length (sent p) ≤ length (drop at hold) → told ≡ write (sent p) (drop at hold) → ⊥
+      no-room h g = room-never (sent p) (drop at hold) h g answer-is
 
       is-refused : judged p ≡ refused n
       unfolding sent framed
       is-refused =
-          by-eq (length (p .payload)) 0 (λ z. by-number 20 (write-empty (p .port) (p .sequence) (p .payload) (drop at hold) z) (judged-empty p z))
+          by-eq (length (p .payload)) 0 (λ z. by-number 20 (write-empty p (drop at hold) z) (judged-empty p z))
           (λ z.
           by-le (length (escape (p .payload))) payloadLimit
           (λ s.
           by-test (barred (p .port))
-          (λ t. by-number 22 (write-barred (p .port) (p .sequence) (p .payload) (drop at hold) z s t) (judged-barred p z s t))
+          (λ t. by-number 22 (write-barred p (drop at hold) z s t) (judged-barred p z s t))
           (λ t.
           absurd
-          (no-room (omega (arith, behind-length, length-append (rawOf p) (flag ∷ []), raw-fits (p .port) (p .sequence) (p .payload) z s t))
-          (write-free (p .port) (p .sequence) (p .payload) (drop at hold) z s t))))
-          (λ s. by-number 21 (write-long (p .port) (p .sequence) (p .payload) (drop at hold) z s) (judged-long p z s)))
+          (no-room (omega (arith, behind-length, length-append (rawOf p) (flag ∷ []), raw-fits p z s t))
+          (write-free p (drop at hold) z s t))))
+          (λ s. by-number 21 (write-long p (drop at hold) z s) (judged-long p z s)))
 
       kept-is : hold′ ≡ hold
-      kept-is = ap (λ (o : Outcome). o .output) e ∙ appending-keeps at (p .port) (p .sequence) (p .payload) hold n answer-is
+      kept-is = ap (λ (o : Outcome). o .output) e ∙ appending-keeps at p hold n answer-is
 
       pub send-not : (out : List ℕ) → EndedIs (endingBy (judged p) at hold) out (record { answer = Refused n; held = at }) hold′ out
       send-not out =

@@ -1,5 +1,7 @@
 -- Laws of a closed frame.
--- judge-short .. judge-packet       which answer contents have, by facts on numbers
+-- body-format .. body-told          which answer format byte to last payload byte have, by facts on numbers
+-- judge-short, judge-check, judge-body   .. and contents
+-- payload-body                      the payload, seen from the contents
 -- closed-over, closed-as, closed-stored   the same of the raw bytes in the receive buffer
 -- judging-is, ..-over, ..-short     the call that judges, where 10 and 11 are passed and where not
 -- judge-is                          the buffer's raw bytes alone decide
@@ -16,52 +18,62 @@ use lib.Dec.{eqb, ltb}
 use lib.ListN.{length, getD, take, drop, length-append, length-take, length-drop}
 use lib.Seq.{take-append-le, drop-append-le, length-take-le, take-all}
 use Rattle.base.specs.Choice.{pick}
+use Rattle.base.proofs.Lists.{drop-take}
 use Rattle.base.proofs.Tests.{by-le}
 use Rattle.fcs.specs.Fcs.{fcs}
 use Rattle.packet.specs.Port.{barred}
-use Rattle.packet.specs.Contents.{format, payloadLimit, rawLimit, wordAt, payloadOf}
+use Rattle.packet.specs.Contents.{format, payloadLimit, rawLimit, wordAt, body, payloadOf}
 use Rattle.packet.specs.Escape.{escape, scan, plain}
-use Rattle.packet.specs.Frame.{Told, packet, refusal, judged, Closed, kept, judgeContents, closedBy, closed, judging, judge, part, There}
+use Rattle.packet.specs.Frame.{Told, packet, refusal, judged, Closed, kept, judgeBody, judgeContents, closedBy, closed, judging, judge, part, There}
 use Rattle.packet.specs.declared.escape.Escapes.{Escapes}
 use Rattle.packet.specs.declared.escape.Escapes.the-variants.{Right, Unfinished, Wrong}
-use Rattle.packet.specs.declared.frame.Judged.the-variants.{Packet}
+use Rattle.packet.specs.declared.frame.Judged.the-variants.{Packet as Delivered}
 use Rattle.packet.proofs.Escaping.{plain-short}
+
+module _ (bs : List ℕ) where
+  pub body-format : (getD bs 0 0 ≡ format → ⊥) → judgeBody bs ≡ refusal 6
+  unfolding judgeBody
+  body-format n = simp (ne-eqb _ _ n)
+
+  module _ (same : getD bs 0 0 ≡ format) where
+    pub body-port : barred (wordAt bs 1) ≡ true → judgeBody bs ≡ refusal 7
+    unfolding judgeBody
+    body-port b = simp (eq-eqb _ _ same, b)
+
+    module _ (free : barred (wordAt bs 1) ≡ false) where
+      pub body-payload : payloadLimit < length (escape (drop 5 bs)) → judgeBody bs ≡ refusal 8
+      unfolding judgeBody
+      body-payload h = simp (eq-eqb _ _ same, free, lt-ltb _ _ h)
+
+      pub body-packet : length (escape (drop 5 bs)) ≤ payloadLimit → judgeBody bs ≡ packet (record { port = wordAt bs 1; sequence = wordAt bs 3; payload = drop 5 bs })
+      unfolding judgeBody
+      body-packet h = simp (eq-eqb _ _ same, free, le-ltb _ _ h)
+
+-- the answer of a packet: of the payload the length
+pub body-told : (bs : List ℕ) {p s n : ℕ} → p ≡ wordAt bs 1 → s ≡ wordAt bs 3 → n ≡ length bs - 5
+    → Delivered (record { port = p; sequence = s; length = n }) ≡ judged (packet (record { port = wordAt bs 1; sequence = wordAt bs 3; payload = drop 5 bs }))
+body-told bs p s n i = Delivered (record { port = p i; sequence = s i; length = (n ∙ sym (length-drop 5 bs)) i })
+
+-- the bytes behind the opening, as a part of those lent
+pub escaped-rest : (bs : List ℕ) {n : ℕ} → n ≡ length (escape (take (length bs - 5) (drop 5 bs))) → n ≡ length (escape (drop 5 bs))
+escaped-rest bs e = e ∙ ap (λ (l : List ℕ). length (escape l)) (take-all (length bs - 5) (drop 5 bs) (omega (arith, length-drop 5 bs)))
+
+-- what stands behind the opening, seen from the contents
+pub payload-body : (cs : List ℕ) → drop 5 (body cs) ≡ payloadOf cs
+payload-body cs = drop-take 5 (length cs - 2) cs
 
 pub judge-short : (cs : List ℕ) → length cs < 8 → judgeContents cs ≡ refusal 4
 unfolding judgeContents
 judge-short cs h = simp (lt-ltb _ _ h)
 
 module _ (cs : List ℕ) (long : 8 ≤ length cs) where
-  pub judge-check : (fcs (take (length cs - 2) cs) ≡ wordAt cs (length cs - 2) → ⊥) → judgeContents cs ≡ refusal 5
+  pub judge-check : (fcs (body cs) ≡ wordAt cs (length cs - 2) → ⊥) → judgeContents cs ≡ refusal 5
   unfolding judgeContents
   judge-check n = simp (le-ltb _ _ long, ne-eqb _ _ n)
 
-  module _ (right : fcs (take (length cs - 2) cs) ≡ wordAt cs (length cs - 2)) where
-    pub judge-format : (getD cs 0 0 ≡ format → ⊥) → judgeContents cs ≡ refusal 6
-    unfolding judgeContents
-    judge-format n = simp (le-ltb _ _ long, eq-eqb _ _ right, ne-eqb _ _ n)
-
-    module _ (same : getD cs 0 0 ≡ format) where
-      pub judge-port : barred (wordAt cs 1) ≡ true → judgeContents cs ≡ refusal 7
-      unfolding judgeContents
-      judge-port b = simp (le-ltb _ _ long, eq-eqb _ _ right, eq-eqb _ _ same, b)
-
-      module _ (free : barred (wordAt cs 1) ≡ false) where
-        pub judge-payload : payloadLimit < length (escape (payloadOf cs)) → judgeContents cs ≡ refusal 8
-        unfolding judgeContents
-        judge-payload h = simp (le-ltb _ _ long, eq-eqb _ _ right, eq-eqb _ _ same, free, lt-ltb _ _ h)
-
-        pub judge-packet : length (escape (payloadOf cs)) ≤ payloadLimit → judgeContents cs ≡ packet (wordAt cs 1) (wordAt cs 3) (payloadOf cs)
-        unfolding judgeContents
-        judge-packet h = simp (le-ltb _ _ long, eq-eqb _ _ right, eq-eqb _ _ same, free, le-ltb _ _ h)
-
--- the length that a delivery tells
-pub length-payload : (cs : List ℕ) → 8 ≤ length cs → length (payloadOf cs) ≡ length cs - 7
-length-payload cs h = length-take-le (length cs - 2 - 5) (drop 5 cs) (omega (arith, length-drop 5 cs)) ∙ omega arith
-
-pub judged-packet : (cs : List ℕ) {p s : ℕ} → 8 ≤ length cs → p ≡ wordAt cs 1 → s ≡ wordAt cs 3
-    → Packet p s (length cs - 7) ≡ judged (packet (wordAt cs 1) (wordAt cs 3) (payloadOf cs))
-judged-packet cs h p s i = Packet (p i) (s i) (sym (length-payload cs h) i)
+  pub judge-body : fcs (body cs) ≡ wordAt cs (length cs - 2) → judgeContents cs ≡ judgeBody (body cs)
+  unfolding judgeContents
+  judge-body e = simp (le-ltb _ _ long, eq-eqb _ _ e)
 
 -- ---- a whole frame
 module _ (recv : List ℕ) (n : ℕ) where
@@ -145,30 +157,36 @@ pub both : {c d : Closed} → c ≡ d → (judged (d .told) ≡ judged (c .told)
 both e = (ap (λ (c : Closed). judged (c .told)) (sym e), ap (λ (c : Closed). c .recv) (sym e))
 
 -- ---- a delivered payload stands in the buffer
-part-there : (cs t : List ℕ) → 8 ≤ length cs → part (cs ++ t) (length (payloadOf cs)) ≡ payloadOf cs
+part-there : (cs t : List ℕ) → 8 ≤ length cs → part (cs ++ t) (length (drop 5 (body cs))) ≡ drop 5 (body cs)
 part-there cs t h =
-    let n : length (payloadOf cs) ≡ length cs - 7 = length-payload cs h in
-    let m : length (payloadOf cs) ≡ length cs - 2 - 5 = n ∙ omega arith in
+    let b : length (body cs) ≡ length cs - 2 = length-take-le (length cs - 2) cs (omega arith) in
+    let n : length (drop 5 (body cs)) ≡ length cs - 7 = length-drop 5 (body cs) ∙ omega (arith, b) in
+    let m : length (drop 5 (body cs)) ≡ length cs - 2 - 5 = n ∙ omega arith in
     let k : length (cs ++ t) ≡ length cs + length t = length-append cs t in
-    ap (λ (u : Bool). pick u [] (take (length (payloadOf cs)) (drop 5 (cs ++ t)))) (le-ltb (length (cs ++ t)) (length (payloadOf cs) + 5) (omega arith))
-    ∙ ap (take (length (payloadOf cs))) (drop-append-le 5 cs t (omega arith))
-    ∙ take-append-le (length (payloadOf cs)) (drop 5 cs) t (omega (arith, length-drop 5 cs))
-    ∙ ap (λ (m : ℕ). take m (drop 5 cs)) m
+    ap (λ (u : Bool). pick u [] (take (length (drop 5 (body cs))) (drop 5 (cs ++ t)))) (le-ltb (length (cs ++ t)) (length (drop 5 (body cs)) + 5) (omega arith))
+    ∙ ap (take (length (drop 5 (body cs)))) (drop-append-le 5 cs t (omega arith))
+    ∙ take-append-le (length (drop 5 (body cs))) (drop 5 cs) t (omega (arith, length-drop 5 cs))
+    ∙ ap (λ (m : ℕ). take m (drop 5 cs)) m ∙ sym (payload-body cs)
+
+there-body : (bs recv : List ℕ) → part recv (length (drop 5 bs)) ≡ drop 5 bs → There (judgeBody bs) recv
+unfolding judgeBody
+there-body bs recv h = go (eqb (getD bs 0 0) format) (barred (wordAt bs 1)) (ltb payloadLimit (length (escape (drop 5 bs))))
+  where
+    go : (kind bar long : Bool)
+        → There (pick kind (pick bar (refusal 7) (pick long (refusal 8) (packet (record { port = wordAt bs 1; sequence = wordAt bs 3; payload = drop 5 bs })))) (refusal 6)) recv
+    go false b l = tt
+    go true true l = tt
+    go true false true = tt
+    go true false false = h
 
 there-contents : (cs t : List ℕ) → There (judgeContents cs) (cs ++ t)
 unfolding judgeContents
-there-contents cs t =
-    go (ltb (length cs) 8) (eqb (fcs (take (length cs - 2) cs)) (wordAt cs (length cs - 2))) (eqb (getD cs 0 0) format) (barred (wordAt cs 1))
-    (ltb payloadLimit (length (escape (payloadOf cs)))) refl
+there-contents cs t = go (ltb (length cs) 8) (eqb (fcs (body cs)) (wordAt cs (length cs - 2))) refl
   where
-    go : (short right kind bar long : Bool) → ltb (length cs) 8 ≡ short
-        → There (pick short (refusal 4) (pick right (pick kind (pick bar (refusal 7) (pick long (refusal 8) (packet (wordAt cs 1) (wordAt cs 3) (payloadOf cs)))) (refusal 6)) (refusal 5))) (cs ++ t)
-    go true r f b l e = tt
-    go false false f b l e = tt
-    go false true false b l e = tt
-    go false true true true l e = tt
-    go false true true false true e = tt
-    go false true true false false e = part-there cs t (ltb-false _ _ e)
+    go : (short right : Bool) → ltb (length cs) 8 ≡ short → There (pick short (refusal 4) (pick right (judgeBody (body cs)) (refusal 5))) (cs ++ t)
+    go true r e = tt
+    go false false e = tt
+    go false true e = there-body (body cs) (cs ++ t) (part-there cs t (ltb-false _ _ e))
 
 there-by : (e : Escapes) (raw recv : List ℕ) → There (closedBy e raw recv .told) (closedBy e raw recv .recv)
 unfolding closedBy
@@ -181,23 +199,28 @@ payload-there recv n = by-ways recv n (λ c. There (c .told) (c .recv)) tt (λ e
 
 -- ---- refused with 1, 2 or 3
 abbrev KeptBy : Told → List ℕ → List ℕ → Type 0
-KeptBy (packet port sequence payload) after before = Unit {0}
+KeptBy (packet p) after before = Unit {0}
 KeptBy (refusal n) after before = n ≤ 3 → after ≡ before
+
+kept-body : (bs after before : List ℕ) → KeptBy (judgeBody bs) after before
+unfolding judgeBody
+kept-body bs after before = go (eqb (getD bs 0 0) format) (barred (wordAt bs 1)) (ltb payloadLimit (length (escape (drop 5 bs))))
+  where
+    go : (kind bar long : Bool)
+        → KeptBy (pick kind (pick bar (refusal 7) (pick long (refusal 8) (packet (record { port = wordAt bs 1; sequence = wordAt bs 3; payload = drop 5 bs })))) (refusal 6)) after before
+    go false b l = λ h. absurd (omega arith)
+    go true true l = λ h. absurd (omega arith)
+    go true false true = λ h. absurd (omega arith)
+    go true false false = tt
 
 kept-contents : (cs after before : List ℕ) → KeptBy (judgeContents cs) after before
 unfolding judgeContents
-kept-contents cs after before =
-    go (ltb (length cs) 8) (eqb (fcs (take (length cs - 2) cs)) (wordAt cs (length cs - 2))) (eqb (getD cs 0 0) format) (barred (wordAt cs 1))
-    (ltb payloadLimit (length (escape (payloadOf cs))))
+kept-contents cs after before = go (ltb (length cs) 8) (eqb (fcs (body cs)) (wordAt cs (length cs - 2)))
   where
-    go : (short right kind bar long : Bool)
-        → KeptBy (pick short (refusal 4) (pick right (pick kind (pick bar (refusal 7) (pick long (refusal 8) (packet (wordAt cs 1) (wordAt cs 3) (payloadOf cs)))) (refusal 6)) (refusal 5))) after before
-    go true r f b l = λ h. absurd (omega arith)
-    go false false f b l = λ h. absurd (omega arith)
-    go false true false b l = λ h. absurd (omega arith)
-    go false true true true l = λ h. absurd (omega arith)
-    go false true true false true = λ h. absurd (omega arith)
-    go false true true false false = tt
+    go : (short right : Bool) → KeptBy (pick short (refusal 4) (pick right (judgeBody (body cs)) (refusal 5))) after before
+    go true r = λ h. absurd (omega arith)
+    go false false = λ h. absurd (omega arith)
+    go false true = kept-body (body cs) after before
 
 kept-by : (e : Escapes) (raw recv : List ℕ) → KeptBy (closedBy e raw recv .told) (closedBy e raw recv .recv) recv
 unfolding closedBy

@@ -10,13 +10,13 @@ use Rattle.packet.specs.Escape.{escapeByte, escape, last, scan}
 use Rattle.packet.specs.Frame.{Told, refusal, closedBy, closed, judge}
 use Rattle.packet.specs.Sender.{refusing}
 
-pub numbers : contents 0x5100 0 (0x41 ∷ []) ≡ 0x21 ∷ 0x00 ∷ 0x51 ∷ 0x00 ∷ 0x00 ∷ 0x41 ∷ 0xE4 ∷ 0xEC ∷ []
+pub numbers : contents (record { port = 0x5100; sequence = 0; payload = 0x41 ∷ [] }) ≡ 0x21 ∷ 0x00 ∷ 0x51 ∷ 0x00 ∷ 0x00 ∷ 0x41 ∷ 0xE4 ∷ 0xEC ∷ []
 unfolding contents checked fcs register entered escape escapeByte
 numbers = refl
 
 -- the number by which a payload for port 5100 is refused; 0 where it passes
 abbrev refusalOf : List ℕ → ℕ
-refusalOf payload = refusing 0x5100 payload (λ n. n) 0
+refusalOf payload = refusing (record { port = 0x5100; sequence = 0; payload = payload }) (λ n. n) 0
 
 -- 8,192 plain payload bytes pass and 8,193 get 21; 4,096 bytes of 7E pass and 4,097 get 21
 pub edges : _≡_ {A = List ℕ}

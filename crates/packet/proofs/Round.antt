@@ -15,13 +15,13 @@ use Rattle.base.specs.Bytes.{Each}
 use Rattle.base.proofs.Bytes.{each-append}
 use Rattle.fcs.specs.Fcs.{fcs}
 use Rattle.packet.specs.Escape.{escape, escapeByte, plain, plainScan, scan, last, right, NoFlag}
-use Rattle.packet.specs.Contents.{payloadLimit, rawLimit, contents, checked, opening, two, wordAt, payloadOf}
+use Rattle.packet.specs.Contents.{Packet, format, payloadLimit, plainLimit, contents, checked, packed, two, wordAt, body}
 use Rattle.packet.specs.Port.{barred}
-use Rattle.packet.specs.Frame.{Closed, packet, judge, judgeContents, closedBy}
+use Rattle.packet.specs.Frame.{Closed, packet, judge, judgeBody, judgeContents, closedBy}
 use Rattle.packet.specs.declared.escape.Escapes.the-variants.{Right}
 use Rattle.packet.proofs.Escaping.Kind.{flag, esc, other}
 use Rattle.packet.proofs.Escaping.{Kind, kind, escape-other, escape-append, width-most}
-use Rattle.packet.proofs.Judging.{judge-packet, closed-as}
+use Rattle.packet.proofs.Judging.{body-packet, judge-body, closed-as}
 
 -- ---- undoing what escaping did
 plain-byte : {b : ℕ} → Kind b → (t : List ℕ) → plain (escapeByte b ++ t) ≡ b ∷ plain t
@@ -98,48 +98,49 @@ module _ (bs : List ℕ) (n : ℕ) where
   word-behind = rw (behind, getD-append-seam bs (n % 256) (n / 256 ∷ []) 0, getD-append-add bs (two n) 1 0) (omega arith)
 
 -- ---- the contents of a packet, taken apart
-module _ (port sequence : ℕ) (payload : List ℕ) where
-  length-contents : length (contents port sequence payload) ≡ length payload + 7
+module _ (p : Packet) where
+  length-contents : length (contents p) ≡ length (p .payload) + 7
   unfolding contents checked
   length-contents = simp length-append (omega arith)
 
-  payload-contents : payloadOf (contents port sequence payload) ≡ payload
+  body-contents : body (contents p) ≡ packed p
   unfolding contents checked
-  payload-contents = take-at payload (two (fcs (opening port sequence ++ payload))) (length (contents port sequence payload) - 2 - 5) (omega (arith, length-contents))
+  body-contents = take-behind (packed p) (fcs (packed p))
 
-  module _ (some : length payload ≡ 0 → ⊥) (short : length (escape payload) ≤ payloadLimit) (free : barred port ≡ false) where
-    pub judge-contents : judgeContents (contents port sequence payload) ≡ packet port sequence payload
+  module _ (some : length (p .payload) ≡ 0 → ⊥) (short : length (escape (p .payload)) ≤ payloadLimit) (free : barred (p .port) ≡ false) where
+    judge-packed : judgeBody (packed p) ≡ packet p
+    judge-packed =
+        let q : wordAt (packed p) 1 ≡ p .port = omega arith in
+        let s : wordAt (packed p) 3 ≡ p .sequence = omega arith in
+        body-packet (packed p) refl (rw q free) short ∙ (λ i. packet (record { port = q i; sequence = s i; payload = p .payload }))
+
+    pub judge-contents : judgeContents (contents p) ≡ packet p
     unfolding contents checked
     judge-contents =
-        let cs : List ℕ = contents port sequence payload in
-        let p : wordAt cs 1 ≡ port = omega arith in
-        let s : wordAt cs 3 ≡ sequence = omega arith in
-        judge-packet cs (omega (arith, length-contents))
-        (ap fcs (take-behind (opening port sequence ++ payload) _) ∙ sym (word-behind (opening port sequence ++ payload) _))
-        refl (rw p free) (rw payload-contents short)
-        ∙ (λ i. packet (p i) (s i) (payload-contents i))
+        judge-body (contents p) (omega (arith, length-contents)) (ap fcs body-contents ∙ sym (word-behind (packed p) (fcs (packed p))))
+        ∙ ap judgeBody body-contents ∙ judge-packed
 
-    pub raw-fits : length (escape (contents port sequence payload)) ≤ rawLimit
+    pub raw-fits : length (escape (contents p)) ≤ plainLimit
     unfolding contents checked escape
     raw-fits =
         simp (length-append, escape-append)
         (omega (
           arith,
-          ap length (escape-other 0x21 (omega arith) (omega arith)),
-          width-most (port % 256),
-          width-most (port / 256),
-          width-most (sequence % 256),
-          width-most (sequence / 256),
-          width-most (fcs (opening port sequence ++ payload) % 256),
-          width-most (fcs (opening port sequence ++ payload) / 256),
+          ap length (escape-other format (omega arith) (omega arith)),
+          width-most (p .port % 256),
+          width-most (p .port / 256),
+          width-most (p .sequence % 256),
+          width-most (p .sequence / 256),
+          width-most (fcs (packed p) % 256),
+          width-most (fcs (packed p) / 256),
         ))
 
     -- the round trip
-    pub round : judge (escape (contents port sequence payload)) ≡ packet port sequence payload
+    pub round : judge (escape (contents p)) ≡ packet p
     unfolding judge closedBy
     round =
-        let cs = contents port sequence payload in
+        let cs = contents p in
         let raw = escape cs in
         let all : take (length raw) raw ≡ raw = take-all (length raw) raw (omega arith) in
-        ap (λ (c : Closed). c .told) (closed-as raw (length raw) raw-fits Right (ap scan all ∙ scan-right cs))
+        ap (λ (c : Closed). c .told) (closed-as raw (length raw) (omega (arith, raw-fits)) Right (ap scan all ∙ scan-right cs))
         ∙ ap judgeContents (ap plain all ∙ plain-undoes cs) ∙ judge-contents

@@ -1,5 +1,5 @@
 -- Laws of the sender.
--- refusing-empty .. refusing-free   what the sender says of a port and a payload, by facts on numbers
+-- refusing-empty .. refusing-free   what the sender says of a packet, by facts on numbers
 -- write-empty .. write-free   what the call answers and leaves, by the same
 -- laid-frame, frame-fits      a frame stored part by part
 -- sent-parts                  the parts that are stored are the packet's frame
@@ -21,51 +21,51 @@ use Rattle.base.proofs.Laid.{laid-append, laid-start}
 use Rattle.base.proofs.Writing.{refused-keeps, write-keeps, pick-keeps}
 use Rattle.fcs.specs.Fcs.{fcs}
 use Rattle.packet.specs.Port.{barred}
-use Rattle.packet.specs.Contents.{payloadLimit, contents, checked, opening, two}
+use Rattle.packet.specs.Contents.{Packet, payloadLimit, contents, checked, opening, two}
 use Rattle.packet.specs.Escape.{flag, escape}
 use Rattle.packet.specs.Sender.{framed, sent, refusing, writing}
 use Rattle.packet.proofs.Escaping.{escape-append}
 
-module _ {A : Type 0} (port : ℕ) (payload : List ℕ) (refuse : ℕ → A) (send : A) where
-  pub refusing-empty : length payload ≡ 0 → refusing port payload refuse send ≡ refuse 20
+module _ {A : Type 0} (p : Packet) (refuse : ℕ → A) (send : A) where
+  pub refusing-empty : length (p .payload) ≡ 0 → refusing p refuse send ≡ refuse 20
   refusing-empty e = simp (eq-eqb _ _ e)
 
-  module _ (some : length payload ≡ 0 → ⊥) where
-    pub refusing-long : payloadLimit < length (escape payload) → refusing port payload refuse send ≡ refuse 21
+  module _ (some : length (p .payload) ≡ 0 → ⊥) where
+    pub refusing-long : payloadLimit < length (escape (p .payload)) → refusing p refuse send ≡ refuse 21
     refusing-long h = simp (ne-eqb _ _ some, lt-ltb _ _ h)
 
-    module _ (short : length (escape payload) ≤ payloadLimit) where
-      pub refusing-barred : barred port ≡ true → refusing port payload refuse send ≡ refuse 22
+    module _ (short : length (escape (p .payload)) ≤ payloadLimit) where
+      pub refusing-barred : barred (p .port) ≡ true → refusing p refuse send ≡ refuse 22
       refusing-barred b = simp (ne-eqb _ _ some, le-ltb _ _ short) (ap (λ (t : Bool). pick t (refuse 22) send) b)
 
-      pub refusing-free : barred port ≡ false → refusing port payload refuse send ≡ send
+      pub refusing-free : barred (p .port) ≡ false → refusing p refuse send ≡ send
       refusing-free b = simp (ne-eqb _ _ some, le-ltb _ _ short) (ap (λ (t : Bool). pick t (refuse 22) send) b)
 
-module _ (port sequence : ℕ) (payload out : List ℕ) where
-  pub write-empty : length payload ≡ 0 → writing port sequence payload out ≡ refused 20 out
+module _ (p : Packet) (out : List ℕ) where
+  pub write-empty : length (p .payload) ≡ 0 → writing p out ≡ refused 20 out
   unfolding writing
-  write-empty = refusing-empty port payload (λ n. refused n out) _
+  write-empty = refusing-empty p (λ n. refused n out) _
 
-  module _ (some : length payload ≡ 0 → ⊥) where
-    pub write-long : payloadLimit < length (escape payload) → writing port sequence payload out ≡ refused 21 out
+  module _ (some : length (p .payload) ≡ 0 → ⊥) where
+    pub write-long : payloadLimit < length (escape (p .payload)) → writing p out ≡ refused 21 out
     unfolding writing
-    write-long = refusing-long port payload (λ n. refused n out) _ some
+    write-long = refusing-long p (λ n. refused n out) _ some
 
-    module _ (short : length (escape payload) ≤ payloadLimit) where
-      pub write-barred : barred port ≡ true → writing port sequence payload out ≡ refused 22 out
+    module _ (short : length (escape (p .payload)) ≤ payloadLimit) where
+      pub write-barred : barred (p .port) ≡ true → writing p out ≡ refused 22 out
       unfolding writing
-      write-barred = refusing-barred port payload (λ n. refused n out) _ some short
+      write-barred = refusing-barred p (λ n. refused n out) _ some short
 
-      pub write-free : barred port ≡ false → writing port sequence payload out ≡ write (sent port sequence payload) out
+      pub write-free : barred (p .port) ≡ false → writing p out ≡ write (sent p) out
       unfolding writing
-      write-free = refusing-free port payload (λ n. refused n out) _ some short
+      write-free = refusing-free p (λ n. refused n out) _ some short
 
-  pub writing-keeps : Keeps out (writing port sequence payload out)
+  pub writing-keeps : Keeps out (writing p out)
   unfolding writing
   writing-keeps =
-      pick-keeps (eqb (length payload) 0) out (refused-keeps 20 out)
-      (pick-keeps (ltb payloadLimit (length (escape payload))) out (refused-keeps 21 out)
-      (pick-keeps (barred port) out (refused-keeps 22 out) (write-keeps (sent port sequence payload) out)))
+      pick-keeps (eqb (length (p .payload)) 0) out (refused-keeps 20 out)
+      (pick-keeps (ltb payloadLimit (length (escape (p .payload)))) out (refused-keeps 21 out)
+      (pick-keeps (barred (p .port)) out (refused-keeps 22 out) (write-keeps (sent p) out)))
 
 module _ (a b c : List ℕ) where
   pub framed-parts : framed (a ++ b ++ c) ≡ escape a ++ escape b ++ escape c ++ (flag ∷ [])
@@ -89,34 +89,34 @@ frame-fits {l} {bs} h k =
     ap₂ (λ (n : ℕ) (x : List ℕ). outcome (Wrote n) x) (h .ends ∙ e) (laid-start h k) ∙ simp (le-ltb (length l) (length bs) k)
 
 -- the parts that the sender stores are the packet's frame
-pub sent-parts : (port sequence k : ℕ) (payload head tail : List ℕ)
-    → head ≡ opening port sequence → tail ≡ two k → k ≡ fcs (head ++ payload) → framed (head ++ payload ++ tail) ≡ sent port sequence payload
+pub sent-parts : (p : Packet) (k : ℕ) (head tail : List ℕ)
+    → head ≡ opening p → tail ≡ two k → k ≡ fcs (head ++ p .payload) → framed (head ++ p .payload ++ tail) ≡ sent p
 unfolding sent contents checked
-sent-parts port sequence k payload head tail h t e = rw (t, e, h)
+sent-parts p k head tail h t e = rw (t, e, h)
 
 -- ---- what a packet that was written shows: that the sender takes it, and where it stands
-pub record Wrote-is (port sequence : ℕ) (payload out : List ℕ) (n : ℕ) (out′ : List ℕ) : Type 0 where
-  pub some : length payload ≡ 0 → ⊥
-  pub short : length (escape payload) ≤ payloadLimit
-  pub free : barred port ≡ false
-  pub long : n ≡ length (sent port sequence payload)
-  pub holds : out′ ≡ sent port sequence payload ++ drop (length (sent port sequence payload)) out
+pub record Wrote-is (p : Packet) (out : List ℕ) (n : ℕ) (out′ : List ℕ) : Type 0 where
+  pub some : length (p .payload) ≡ 0 → ⊥
+  pub short : length (escape (p .payload)) ≤ payloadLimit
+  pub free : barred (p .port) ≡ false
+  pub long : n ≡ length (sent p)
+  pub holds : out′ ≡ sent p ++ drop (length (sent p)) out
 
-pub wrote-is : (port sequence : ℕ) (payload out : List ℕ) (n : ℕ) → writing port sequence payload out .answer ≡ Wrote n
-    → Wrote-is port sequence payload out n (writing port sequence payload out .output)
+pub wrote-is : (p : Packet) (out : List ℕ) (n : ℕ) → writing p out .answer ≡ Wrote n
+    → Wrote-is p out n (writing p out .output)
 unfolding writing
-wrote-is port sequence payload out n =
-    go (eqb (length payload) 0) (ltb payloadLimit (length (escape payload))) (barred port) (ltb (length out) (length bs)) refl refl refl
+wrote-is p out n =
+    go (eqb (length (p .payload)) 0) (ltb payloadLimit (length (escape (p .payload)))) (barred (p .port)) (ltb (length out) (length bs)) refl refl refl
   where
     bs : List ℕ
-    bs = sent port sequence payload
+    bs = sent p
 
     wrong : {m : ℕ} → Refused m ≡ Wrote n → ⊥
     wrong e = let z : _≡_ {A = ℕ} 0 1 = cc in omega arith
 
-    go : (e l b r : Bool) → eqb (length payload) 0 ≡ e → ltb payloadLimit (length (escape payload)) ≡ l → barred port ≡ b
+    go : (e l b r : Bool) → eqb (length (p .payload)) 0 ≡ e → ltb payloadLimit (length (escape (p .payload))) ≡ l → barred (p .port) ≡ b
         → pick e (refused 20 out) (pick l (refused 21 out) (pick b (refused 22 out) (pick r (refused 23 out) (outcome (Wrote (length bs)) (bs ++ drop (length bs) out))))) .answer ≡ Wrote n
-        → Wrote-is port sequence payload out n (pick e (refused 20 out) (pick l (refused 21 out) (pick b (refused 22 out) (pick r (refused 23 out) (outcome (Wrote (length bs)) (bs ++ drop (length bs) out))))) .output)
+        → Wrote-is p out n (pick e (refused 20 out) (pick l (refused 21 out) (pick b (refused 22 out) (pick r (refused 23 out) (outcome (Wrote (length bs)) (bs ++ drop (length bs) out))))) .output)
     go true l b r he hl hb q = absurd (wrong q)
     go false true b r he hl hb q = absurd (wrong q)
     go false false true r he hl hb q = absurd (wrong q)

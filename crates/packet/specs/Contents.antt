@@ -1,11 +1,18 @@
 -- The contents of a frame (paper 01, "Packet and frame"), before escaping.
--- contents                         of a packet
--- wordAt, payloadOf                the same taken apart
--- format, payloadLimit, rawLimit   the paper's numbers
+-- Packet                    a packet: port, sequence, payload
+-- packed, contents          format byte to last payload byte, and the check behind it
+-- body, wordAt, payloadOf   the same taken apart
+-- format, ..Limit           the paper's numbers
 use Prim.Native.Nat.{ℕ, _+_, _*_, _-_, _/_, _%_}
 use mathlib.Core.List.{List, [], _∷_, _++_}
 use lib.ListN.{length, getD, take, drop}
 use Rattle.fcs.specs.Fcs.{fcs}
+
+-- port, sequence, payload
+pub record Packet : Type 0 where
+  pub port : ℕ
+  pub sequence : ℕ
+  pub payload : List ℕ
 
 -- the format byte
 abbrev pub format : ℕ
@@ -15,9 +22,13 @@ format = 0x21
 abbrev pub payloadLimit : ℕ
 payloadLimit = 8192
 
--- raw bytes of a frame, at most
+-- raw bytes of a frame of this format, at most: port, sequence and check may be twice as long as escaped
+abbrev pub plainLimit : ℕ
+plainLimit = 8205
+
+-- raw bytes that a receiver stores, at most
 abbrev pub rawLimit : ℕ
-rawLimit = 8205
+rawLimit = plainLimit
 
 -- a number as two bytes, low first
 abbrev pub two : ℕ → List ℕ
@@ -32,16 +43,24 @@ abbrev pub wordAt : List ℕ → ℕ → ℕ
 wordAt cs i = word (getD cs i 0) (getD cs (i + 1) 0)
 
 -- format byte, port, sequence
-abbrev pub opening : ℕ → ℕ → List ℕ
-opening port sequence = format ∷ port % 256 ∷ port / 256 ∷ sequence % 256 ∷ sequence / 256 ∷ []
+abbrev pub opening : Packet → List ℕ
+opening p = format ∷ p .port % 256 ∷ p .port / 256 ∷ p .sequence % 256 ∷ p .sequence / 256 ∷ []
+
+-- format byte to last payload byte
+abbrev pub packed : Packet → List ℕ
+packed p = opening p ++ p .payload
 
 -- bytes, and their check behind them
 unfoldable pub checked : List ℕ → List ℕ
 checked bs = bs ++ two (fcs bs)
 
 -- format byte, port, sequence, payload, check
-unfoldable pub contents : ℕ → ℕ → List ℕ → List ℕ
-contents port sequence payload = checked (opening port sequence ++ payload)
+unfoldable pub contents : Packet → List ℕ
+contents p = checked (packed p)
+
+-- before the two bytes of the check
+abbrev pub body : List ℕ → List ℕ
+body cs = take (length cs - 2) cs
 
 -- between the five bytes of the opening and the two of the check
 abbrev pub payloadOf : List ℕ → List ℕ

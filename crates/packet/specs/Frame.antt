@@ -1,5 +1,6 @@
 -- A closed frame (paper 01, "Numbered refusals"): the first refusal that applies of 1 to 8, or the packet.
 -- Told     what a frame is told to be, and judged, the answer that the code gives of it
+-- judgeBody, judgeContents   what is told of format byte to last payload byte, and of these with their check
 -- closed   what it is told to be, and what the receive buffer then holds
 -- judging  the same by a call, behind refusals 10 and 11
 -- judge    the same of raw bytes alone
@@ -12,21 +13,26 @@ use lib.ListN.{length, getD, take, drop}
 use Rattle.base.specs.Choice.{pick}
 use Rattle.fcs.specs.Fcs.{fcs}
 use Rattle.packet.specs.Port.{barred}
-use Rattle.packet.specs.Contents.{format, payloadLimit, rawLimit, wordAt, payloadOf}
+use Rattle.packet.specs.Contents.{Packet, format, payloadLimit, rawLimit, wordAt, body}
 use Rattle.packet.specs.Escape.{escape, plain, scan}
 use Rattle.packet.specs.declared.escape.Escapes.{Escapes}
 use Rattle.packet.specs.declared.escape.Escapes.the-variants.{Right, Unfinished, Wrong}
+use Rattle.packet.specs.declared.frame.Delivery.{Delivery}
 use Rattle.packet.specs.declared.frame.Judged.{Judged}
-use Rattle.packet.specs.declared.frame.Judged.the-variants.{Packet, Refused}
+use Rattle.packet.specs.declared.frame.Judged.the-variants.{Packet as Delivered, Refused}
 
--- a packet (port, sequence, payload), or refused by its number
+-- a packet, or refused by its number
 pub data Told : Type 0 where
-  packet : ℕ → ℕ → List ℕ → Told
+  packet : Packet → Told
   refusal : ℕ → Told
 
--- the code's answer: of a payload it tells the length
+-- a packet as the code's answer tells of it: of the payload the length
+abbrev pub delivery : Packet → Delivery
+delivery p = record { port = p .port; sequence = p .sequence; length = length (p .payload) }
+
+-- the code's answer
 abbrev pub judged : Told → Judged
-judged (packet port sequence payload) = Packet port sequence (length payload)
+judged (packet p) = Delivered (delivery p)
 judged (refusal n) = Refused n
 
 -- what a frame is told to be, and the receive buffer then
@@ -34,17 +40,20 @@ pub record Closed : Type 0 where
   pub told : Told
   pub recv : List ℕ
 
--- contents: 4 fewer than 8 bytes, 5 check differs, 6 format, 7 port, 8 payload too long as escaped
+-- format byte to last payload byte: 6 format, 7 port, 8 payload too long as escaped
+unfoldable pub judgeBody : List ℕ → Told
+judgeBody bs =
+    pick (eqb (getD bs 0 0) format)
+    (pick (barred (wordAt bs 1)) (refusal 7)
+    (pick (ltb payloadLimit (length (escape (drop 5 bs)))) (refusal 8)
+    (packet (record { port = wordAt bs 1; sequence = wordAt bs 3; payload = drop 5 bs }))))
+    (refusal 6)
+
+-- contents: 4 fewer than 8 bytes, 5 check differs, then as above
 unfoldable pub judgeContents : List ℕ → Told
 judgeContents cs =
     pick (ltb (length cs) 8) (refusal 4)
-    (pick (eqb (fcs (take (length cs - 2) cs)) (wordAt cs (length cs - 2)))
-    (pick (eqb (getD cs 0 0) format)
-    (pick (barred (wordAt cs 1)) (refusal 7)
-    (pick (ltb payloadLimit (length (escape (payloadOf cs)))) (refusal 8)
-    (packet (wordAt cs 1) (wordAt cs 3) (payloadOf cs))))
-    (refusal 6))
-    (refusal 5))
+    (pick (eqb (fcs (body cs)) (wordAt cs (length cs - 2))) (judgeBody (body cs)) (refusal 5))
 
 -- refused with the raw bytes left as they are
 abbrev pub kept : ℕ → List ℕ → Closed
@@ -74,5 +83,5 @@ part recv n = pick (ltb (length recv) (n + 5)) [] (take n (drop 5 recv))
 
 -- a delivered payload is that part of the receive buffer
 abbrev pub There : Told → List ℕ → Type 0
-There (packet port sequence payload) recv = part recv (length payload) ≡ payload
+There (packet p) recv = part recv (length (p .payload)) ≡ p .payload
 There (refusal n) recv = Unit {0}

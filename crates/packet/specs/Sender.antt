@@ -1,6 +1,6 @@
 -- One packet written (paper 01, "Packet and frame", "Numbered refusals").
 -- sent       its escaped contents, and one flag behind them
--- refusing   what the sender says of a port and a payload
+-- refusing   what the sender says of it
 -- writing    what the call answers and leaves
 use Prim.Native.Nat.{ℕ}
 use mathlib.Core.List.{List, [], _∷_, _++_}
@@ -9,7 +9,7 @@ use lib.ListN.{length}
 use Rattle.base.specs.Choice.{pick}
 use Rattle.base.specs.Written.{Outcome, refused, write}
 use Rattle.packet.specs.Port.{barred}
-use Rattle.packet.specs.Contents.{payloadLimit, contents}
+use Rattle.packet.specs.Contents.{Packet, payloadLimit, contents}
 use Rattle.packet.specs.Escape.{flag, escape}
 
 -- escaped, and a flag behind
@@ -17,17 +17,17 @@ unfoldable pub framed : List ℕ → List ℕ
 framed cs = escape cs ++ flag ∷ []
 
 -- a packet in the sender's stream
-unfoldable pub sent : ℕ → ℕ → List ℕ → List ℕ
-sent port sequence payload = framed (contents port sequence payload)
+unfoldable pub sent : Packet → List ℕ
+sent p = framed (contents p)
 
 -- 20 payload empty, 21 payload too long as escaped, 22 port barred: `refuse` by the first that applies, or else `send`
-abbrev pub refusing : {A : Type 0} → ℕ → List ℕ → (ℕ → A) → A → A
-refusing port payload refuse send =
-    pick (eqb (length payload) 0) (refuse 20)
-    (pick (ltb payloadLimit (length (escape payload))) (refuse 21)
-    (pick (barred port) (refuse 22)
+abbrev pub refusing : {A : Type 0} → Packet → (ℕ → A) → A → A
+refusing p refuse send =
+    pick (eqb (length (p .payload)) 0) (refuse 20)
+    (pick (ltb payloadLimit (length (escape (p .payload)))) (refuse 21)
+    (pick (barred (p .port)) (refuse 22)
     send))
 
 -- one packet; then 23 as for every call that writes
-unfoldable pub writing : ℕ → ℕ → List ℕ → List ℕ → Outcome
-writing port sequence payload out = refusing port payload (λ n. refused n out) (write (sent port sequence payload) out)
+unfoldable pub writing : Packet → List ℕ → Outcome
+writing p out = refusing p (λ n. refused n out) (write (sent p) out)

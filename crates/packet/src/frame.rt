@@ -1,9 +1,9 @@
 //! A closed frame, judged.
 ghost use mathlib.Core.Path.{_≡_};
-ghost use Prim.Native.Nat.{_+_, _<_};
+ghost use Prim.Native.Nat.{_+_, _≤_, _<_};
 ghost use lib.ListN.{length};
 ghost use Rattle.packet.specs.Contents.{word, wordAt};
-ghost use Rattle.packet.specs.Frame.{judged, judgeContents, closed, judging};
+ghost use Rattle.packet.specs.Frame.{judged, judgeBody, judgeContents, closed, judging};
 use crate::escape;
 use crate::escape::Escapes;
 use crate::port;
@@ -17,22 +17,26 @@ impl Packet {
     pub const FLAG: u8 = 0x7E;
     /// The format byte.
     pub const FORMAT: u8 = 0x21;
-    /// Raw bytes, at most.
-    pub const RAW: usize = 8205;
+    /// Raw bytes of a frame of this format, at most.
+    pub const PLAIN: usize = 8205;
+    /// Raw bytes that a receiver stores, at most.
+    pub const RAW: usize = Self::PLAIN;
     /// The raw count that means "over".
     pub const OVER: usize = Self::RAW + 1;
     /// Bytes of the payload as escaped, at most.
     pub const PAYLOAD: usize = 8192;
 }
 
+/// A packet as it is told of; its payload is so many bytes of the receive buffer.
+pub struct Delivery {
+    pub port: u16,
+    pub sequence: u16,
+    pub length: usize,
+}
+
 /// What a closed frame is judged to be.
 pub enum Judged {
-    /// A packet; its payload is so many bytes of the receive buffer.
-    Packet {
-        port: u16,
-        sequence: u16,
-        length: usize,
-    },
+    Packet(Delivery),
     /// Refused, by this number of the paper.
     Refused(u8),
 }
@@ -52,6 +56,28 @@ fn word_at(cs: &[u8], i: usize) -> u16
     word(cs[i], cs[i + 1])
 }
 
+// Judges format byte to last payload byte.
+fn judge_body(body: &[u8]) -> Judged
+    requires { ⌜ 5 ≤ length (now body) ⌝ }
+    ensures { λ r. ⌜ r ≡ judged (judgeBody (now (body .entry))) ⌝ }
+{
+    if body[0] != Packet::FORMAT {
+        return Judged::Refused(Refusal::FORMAT);
+    }
+    let port = word_at(body, 1);
+    if port::barred(port) {
+        return Judged::Refused(Refusal::PORT);
+    }
+    if Packet::PAYLOAD < escape::escaped_len(&body[5..]) {
+        return Judged::Refused(Refusal::PAYLOAD);
+    }
+    Judged::Packet(Delivery {
+        port,
+        sequence: word_at(body, 3),
+        length: body.len() - 5,
+    })
+}
+
 // Judges contents.
 fn judge_contents(cs: &[u8]) -> Judged
     ensures { λ r. ⌜ r ≡ judged (judgeContents (now (cs .entry))) ⌝ }
@@ -60,24 +86,11 @@ fn judge_contents(cs: &[u8]) -> Judged
     if n < 8 {
         return Judged::Refused(Refusal::SHORT);
     }
-    if fcs::fcs(&cs[..n - 2]) != word_at(cs, n - 2) {
+    let end = n - 2;
+    if fcs::fcs(&cs[..end]) != word_at(cs, end) {
         return Judged::Refused(Refusal::CHECK);
     }
-    if cs[0] != Packet::FORMAT {
-        return Judged::Refused(Refusal::FORMAT);
-    }
-    let port = word_at(cs, 1);
-    if port::barred(port) {
-        return Judged::Refused(Refusal::PORT);
-    }
-    if Packet::PAYLOAD < escape::escaped_len(&cs[5..n - 2]) {
-        return Judged::Refused(Refusal::PAYLOAD);
-    }
-    Judged::Packet {
-        port,
-        sequence: word_at(cs, 3),
-        length: n - 7,
-    }
+    judge_body(&cs[..end])
 }
 
 // A frame of `raw` raw bytes, which `recv` holds from its start, is closed: escapes are undone in `recv`.

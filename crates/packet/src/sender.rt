@@ -1,6 +1,6 @@
 //! A packet, written.
 ghost use mathlib.Core.Path.{_≡_};
-ghost use mathlib.Core.List.{_++_};
+ghost use mathlib.Core.List.{[], _++_};
 ghost use Prim.Native.Nat.{_≤_};
 ghost use lib.ListN.{length};
 ghost use Rattle.base.specs.Written.{outcome, write};
@@ -17,7 +17,7 @@ use fcs::Register;
 
 // Format byte, port, sequence.
 fn opening(port: u16, sequence: u16) -> [u8; 5]
-    ensures { λ r. ⌜ r ≡ opening port sequence ⌝ }
+    ensures { λ r. ⌜ r ≡ opening (record { port = port; sequence = sequence; payload = [] }) ⌝ }
 {
     [
         Packet::FORMAT,
@@ -60,7 +60,7 @@ fn put_frame(head: &[u8; 5], payload: &[u8], tail: &[u8; 2], out: &mut [u8]) -> 
 
 /// Writes a packet: its escaped contents, and one flag behind them.
 pub fn write(port: u16, sequence: u16, payload: &[u8], out: &mut [u8]) -> Written
-    ensures { λ w. ⌜ outcome w (now (out .exit)) ≡ writing port sequence (now (payload .entry)) (now (out .entry)) ⌝ }
+    ensures { λ w. ⌜ outcome w (now (out .exit)) ≡ writing (record { port = port; sequence = sequence; payload = now (payload .entry) }) (now (out .entry)) ⌝ }
 {
     if payload.len() == 0 {
         return Written::Refused(Refusal::EMPTY);

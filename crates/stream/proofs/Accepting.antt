@@ -13,13 +13,14 @@ use Rattle.base.specs.Bytes.{IsByte, Bytes}
 use Rattle.base.proofs.Bytes.{each-append}
 use Rattle.fcs.specs.Fcs.{fcs}
 use Rattle.fcs.proofs.Laws.{fcs-lt}
-use Rattle.packet.specs.Contents.{contents, checked, opening, two}
+use Rattle.packet.specs.Contents.{contents, checked, packed, two}
 use Rattle.packet.specs.Escape.{escape, escapeByte, NoFlag}
 use Rattle.packet.specs.Frame.{judge}
 use Rattle.packet.proofs.Escaping.{Kind, kind, escape-other}
 use Rattle.packet.proofs.Escaping.Kind.{flag, esc, other}
 use Rattle.packet.proofs.Round.{no-flag, round}
-use Rattle.stream.specs.Sender.{Packet, Accepted, rawOf, delivered}
+use Rattle.stream.specs.Sender.{Accepted, rawOf, delivered}
+use Rattle.packet.specs.Contents.{Packet}
 
 bytes-byte : {b : ℕ} → Kind b → IsByte b → Bytes (escapeByte b)
 unfolding escapeByte
@@ -40,16 +41,16 @@ some-byte (other n m) = subst (λ (l : List ℕ). 0 < length l) (sym (escape-oth
 
 module _ (p : Packet) (a : Accepted p) where
   pub clear : NoFlag (rawOf p)
-  clear = no-flag (contents (p .port) (p .sequence) (p .payload))
+  clear = no-flag (contents p)
 
   pub some-raw : rawOf p ≢ []
   unfolding contents checked escape
   some-raw e =
       let n : length (rawOf p) ≡ 0 = ap length e in
-      omega (arith, some-byte (kind 0x21), length-append (escapeByte 0x21) (escape (p .port % 256 ∷ p .port / 256 ∷ p .sequence % 256 ∷ p .sequence / 256 ∷ (p .payload ++ two (fcs (opening (p .port) (p .sequence) ++ p .payload))))))
+      omega (arith, some-byte (kind 0x21), length-append (escapeByte 0x21) (escape (p .port % 256 ∷ p .port / 256 ∷ p .sequence % 256 ∷ p .sequence / 256 ∷ (p .payload ++ two (fcs (packed p))))))
 
   pub judged-is : judge (rawOf p) ≡ delivered p
-  judged-is = round (p .port) (p .sequence) (p .payload) (a .some) (a .short) (a .free)
+  judged-is = round p (a .some) (a .short) (a .free)
 
   bytes-two : (n : ℕ) → n < 65536 → Bytes (two n)
   bytes-two n h = (omega arith, (omega arith, tt))
@@ -57,7 +58,6 @@ module _ (p : Packet) (a : Accepted p) where
   pub raw-bytes : Bytes (rawOf p)
   unfolding contents checked
   raw-bytes =
-      let head : List ℕ = opening (p .port) (p .sequence) in
-      let front : Bytes (head ++ p .payload) = (omega arith, (omega arith, (omega (arith, a .port-fits), (omega arith, (omega (arith, a .sequence-fits), a .bytes))))) in
-      bytes-escape (contents (p .port) (p .sequence) (p .payload))
-      (each-append IsByte (head ++ p .payload) (two (fcs (head ++ p .payload))) front (bytes-two (fcs (head ++ p .payload)) (fcs-lt (head ++ p .payload))))
+      let front : Bytes (packed p) = (omega arith, (omega arith, (omega (arith, a .port-fits), (omega arith, (omega (arith, a .sequence-fits), a .bytes))))) in
+      bytes-escape (contents p)
+      (each-append IsByte (packed p) (two (fcs (packed p))) front (bytes-two (fcs (packed p)) (fcs-lt (packed p))))

@@ -21,7 +21,8 @@ use Rattle.base.proofs.Writing.{write-fits, copied-fits, write-is}
 use Rattle.packet.specs.Escape.{flag}
 use Rattle.packet.specs.Sender.{sent, framed}
 use Rattle.packet.proofs.Sending.{writing-keeps, wrote-is}
-use Rattle.stream.specs.Sender.{Packet, rawOf, behind, stream, appending}
+use Rattle.stream.specs.Sender.{rawOf, behind, stream, appending}
+use Rattle.packet.specs.Contents.{Packet}
 
 set-first : (l : List ℕ) (b : ℕ) → 0 < length l → set l 0 b ≡ b ∷ drop 1 l
 set-first [] b h = absurd (omega arith)
@@ -51,9 +52,9 @@ module _ (at from : ℕ) (out : List ℕ) (e : from ≡ min at (length out)) whe
       λ i. outcome (q i .answer)
       ((tail-put from out y ∙ ap₂ _++_ same-take (ap (λ (o : Outcome). o .output) q)) i)
 
-pub appending-keeps : (at port sequence : ℕ) (payload out : List ℕ) → Keeps out (appending at port sequence payload out)
-appending-keeps at port sequence payload out n e =
-    ap (λ (x : List ℕ). take at out ++ x) (writing-keeps port sequence payload (drop at out) n e) ∙ take-append-drop at out
+pub appending-keeps : (at : ℕ) (p : Packet) (out : List ℕ) → Keeps out (appending at p out)
+appending-keeps at p out n e =
+    ap (λ (x : List ℕ). take at out ++ x) (writing-keeps p (drop at out) n e) ∙ take-append-drop at out
 
 -- ---- the stream
 behind-append : (ps : List Packet) (p : Packet) → behind (ps ++ p ∷ []) ≡ behind ps ++ (rawOf p ++ flag ∷ [])
@@ -64,11 +65,11 @@ pub begin-stream : (out : List ℕ) (n : ℕ) → write (flag ∷ []) out .answe
 begin-stream out n e = write-is (flag ∷ []) out n e
 
 pub append-stream : (ps : List Packet) (p : Packet) (out : List ℕ) (at n : ℕ) → at ≤ length out → take at out ≡ stream ps
-    → appending at (p .port) (p .sequence) (p .payload) out .answer ≡ Wrote n
-    → take (at + n) (appending at (p .port) (p .sequence) (p .payload) out .output) ≡ stream (ps ++ p ∷ [])
+    → appending at p out .answer ≡ Wrote n
+    → take (at + n) (appending at p out .output) ≡ stream (ps ++ p ∷ [])
 unfolding sent framed
 append-stream ps p out at n h e a =
-    let w = wrote-is (p .port) (p .sequence) (p .payload) (drop at out) n a in
+    let w = wrote-is p (drop at out) n a in
     let bs : List ℕ = rawOf p ++ flag ∷ [] in
     let l : length (take at out ++ bs) ≡ at + n = length-append (take at out) bs ∙ omega (arith, length-take-le at out h, w .long) in
     ap (λ (x : List ℕ). take (at + n) (take at out ++ x)) (w .holds)

@@ -1,5 +1,5 @@
 -- The sender's stream (paper 01, "Packet and frame"): one flag, then each packet's escaped contents with one flag behind it.
--- Packet, Accepted   a packet to be sent, and that the sender takes it
+-- Accepted           that the sender takes a packet
 -- stream             the whole stream of packets
 -- openedFrom         the packets that are opened from a flag of it on
 -- appending          what the call that appends a packet answers and leaves
@@ -11,16 +11,10 @@ use lib.ListN.{length, take, drop}
 use Rattle.base.specs.Bytes.{Bytes}
 use Rattle.base.specs.Written.{Outcome, outcome}
 use Rattle.packet.specs.Port.{barred}
-use Rattle.packet.specs.Contents.{payloadLimit, contents}
+use Rattle.packet.specs.Contents.{Packet, payloadLimit, contents}
 use Rattle.packet.specs.Escape.{flag, escape}
 use Rattle.packet.specs.Frame.{Told, packet}
 use Rattle.packet.specs.Sender.{writing}
-
--- port, sequence, payload
-pub record Packet : Type 0 where
-  pub port : ℕ
-  pub sequence : ℕ
-  pub payload : List ℕ
 
 -- what refusals 20, 21 and 22 ask, of numbers that fit their bytes
 pub record Accepted (p : Packet) : Type 0 where
@@ -33,7 +27,7 @@ pub record Accepted (p : Packet) : Type 0 where
 
 -- a packet's raw bytes: its escaped contents
 abbrev pub rawOf : Packet → List ℕ
-rawOf p = escape (contents (p .port) (p .sequence) (p .payload))
+rawOf p = escape (contents p)
 
 -- each packet's raw bytes with one flag behind them ..
 abbrev pub behind : List Packet → List ℕ
@@ -46,7 +40,7 @@ stream ps = flag ∷ behind ps
 
 -- a packet as it is delivered
 abbrev pub delivered : Packet → Told
-delivered p = packet (p .port) (p .sequence) (p .payload)
+delivered p = packet p
 
 -- the packets that are opened by the flag at place n of the stream, or by a later one
 abbrev pub openedFrom : List Packet → ℕ → List Packet
@@ -55,6 +49,5 @@ openedFrom (p ∷ ps) zero = p ∷ ps
 openedFrom (p ∷ ps) (suc n) = openedFrom ps (n - length (rawOf p))
 
 -- a packet written behind the first `at` bytes of the output
-abbrev pub appending : ℕ → ℕ → ℕ → List ℕ → List ℕ → Outcome
-appending at port sequence payload out =
-    outcome (writing port sequence payload (drop at out) .answer) (take at out ++ writing port sequence payload (drop at out) .output)
+abbrev pub appending : ℕ → Packet → List ℕ → Outcome
+appending at p out = outcome (writing p (drop at out) .answer) (take at out ++ writing p (drop at out) .output)

@@ -9,6 +9,7 @@ ghost use Rattle.packet.specs.Frame.{part};
 ghost use Rattle.stream.specs.Called.{held, fresh, begun, readOn, readCall, sound, ReadIs};
 ghost use Rattle.stream.specs.Private.{before, counted, gathered, closes, TurnIs};
 use base::Refusal;
+use packet::Delivery;
 use packet::Judged;
 use packet::Packet;
 
@@ -232,9 +233,10 @@ impl Frame {
 }
 
 /// The payload of a delivered packet, where it stands in the receive buffer; an empty part where that is too short to hold it.
-pub fn payload(recv: &[u8], length: usize) -> &[u8]
-    ensures { λ r. ⌜ now r ≡ part (now (recv .entry)) length ⌝ }
+pub fn payload(recv: &[u8], delivery: Delivery) -> &[u8]
+    ensures { λ r. ⌜ now r ≡ part (now (recv .entry)) (delivery .length) ⌝ }
 {
+    let length = delivery.length;
     if recv.len() < 5 {
         return &recv[..0];
     }

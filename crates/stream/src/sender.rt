@@ -21,7 +21,7 @@ pub fn begin(out: &mut [u8]) -> Written
 
 /// Appends a packet to a stream, which is the first `at` bytes of the output.
 pub fn append(out: &mut [u8], at: usize, port: u16, sequence: u16, payload: &[u8]) -> Written
-    ensures { λ w. ⌜ outcome w (now (out .exit)) ≡ appending at port sequence (now (payload .entry)) (now (out .entry)) ⌝ }
+    ensures { λ w. ⌜ outcome w (now (out .exit)) ≡ appending at (record { port = port; sequence = sequence; payload = now (payload .entry) }) (now (out .entry)) ⌝ }
 {
     let from = base::least(at, out.len());
     packet::write(port, sequence, payload, &mut out[from..])

@@ -13,16 +13,16 @@ pub write-spec : {M : Type 1} → statement M
 write-spec =
     tie.close
     (tie.spec
-    (λ c. let a = c .before .before .before .args in sym (write-empty (a .port) (a .sequence) (a .payload .now) (a .out .now) (c .if1 .taken)))
+    (λ c. let a = c .before .before .before .args in sym (write-empty (record { port = a .port; sequence = a .sequence; payload = a .payload .now }) (a .out .now) (c .if1 .taken)))
     (search needs)
     (λ c.
     let a = c .before .before .before .before .before .args in
-    sym (write-long (a .port) (a .sequence) (a .payload .now) (a .out .now) (c .before .before .if1 .left) (omega arith)))
+    sym (write-long (record { port = a .port; sequence = a .sequence; payload = a .payload .now }) (a .out .now) (c .before .before .if1 .left) (omega arith)))
     (search needs)
     (λ c.
     let t = c .before .before .before .before in
     let a = t .before .before .before .args in
-    sym (write-barred (a .port) (a .sequence) (a .payload .now) (a .out .now) (t .if1 .left) (omega arith) (sym (c .before .barred .ensures) ∙ c .if3 .taken)))
+    sym (write-barred (record { port = a .port; sequence = a .sequence; payload = a .payload .now }) (a .out .now) (t .if1 .left) (omega arith) (sym (c .before .barred .ensures) ∙ c .if3 .taken)))
     (search needs)
     (search needs)
     (search needs)
@@ -34,5 +34,5 @@ write-spec =
     let t = free .before .before .before .before in
     let a = t .before .before .before .args in
     c .before .before .put-frame .ensures
-    ∙ ap (λ (bs : List ℕ). write bs (a .out .now)) (sent-parts (a .port) (a .sequence) _ (a .payload .now) _ _ (made .before .before .before .opening .ensures) (made .two .ensures) (made .before .check-of .ensures))
-    ∙ sym (write-free (a .port) (a .sequence) (a .payload .now) (a .out .now) (t .if1 .left) (omega arith) (sym (free .before .barred .ensures) ∙ free .if3 .left))))
+    ∙ ap (λ (bs : List ℕ). write bs (a .out .now)) (sent-parts (record { port = a .port; sequence = a .sequence; payload = a .payload .now }) _ _ _ (made .before .before .before .opening .ensures) (made .two .ensures) (made .before .check-of .ensures))
+    ∙ sym (write-free (record { port = a .port; sequence = a .sequence; payload = a .payload .now }) (a .out .now) (t .if1 .left) (omega arith) (sym (free .before .barred .ensures) ∙ free .if3 .left))))

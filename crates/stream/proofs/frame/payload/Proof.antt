@@ -13,15 +13,15 @@ payload-spec =
     tie.close
     (tie.spec
     (search needs)
-    (λ c. let a = c .before .before .args in simp (lt-ltb (length (a .recv .now)) (a .length + 5) (omega arith)))
+    (λ c. let a = c .before .before .args in simp (lt-ltb (length (a .recv .now)) (a .delivery .length + 5) (omega arith)))
     (search needs)
     (search needs)
-    (λ c. let a = c .before .before .before .args in simp (lt-ltb (length (a .recv .now)) (a .length + 5) (omega arith)))
+    (λ c. let a = c .before .before .before .args in simp (lt-ltb (length (a .recv .now)) (a .delivery .length + 5) (omega arith)))
     (search needs)
     (search needs)
     (search needs)
     (search needs)
     (λ c.
     let a = c .before .before .before .args in
-    let e : a .length + 5 - 5 ≡ a .length = omega arith in
-    simp (e, le-ltb (length (a .recv .now)) (a .length + 5) (omega arith))))
+    let e : a .delivery .length + 5 - 5 ≡ a .delivery .length = omega arith in
+    simp (e, le-ltb (length (a .recv .now)) (a .delivery .length + 5) (omega arith))))

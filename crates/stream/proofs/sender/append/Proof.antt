@@ -17,4 +17,4 @@ append-spec =
     (search needs)
     (λ c.
     let a = c .before .before .before .before .before .before .before .args in
-    appended (a .at) _ (a .out .now) (c .before .before .before .before .least .ensures) (writing (a .port) (a .sequence) (a .payload .now)) (c .before .before .write .ensures)))
+    appended (a .at) _ (a .out .now) (c .before .before .before .before .least .ensures) (writing (record { port = a .port; sequence = a .sequence; payload = a .payload .now })) (c .before .before .write .ensures)))
