@@ -2,25 +2,22 @@
 -- words-given   each word gives its block answer, and then the answers of its message bytes
 -- lock-kept     up to three bytes behind a word give no answer, whatever they are
 -- lock-lost     four that are not the marker give "lock lost"
-use Prim.Native.Nat.{ℕ, suc, _<_}
+use Prim.Native.Nat.{ℕ, _<_}
 use native.Mathlib.Omega.{arith}
 use mathlib.Core.Path.{_≡_, refl, sym, _∙_, ap}
-use mathlib.Core.Bool.{Bool, true, false, _&&_}
+use mathlib.Core.Bool.{Bool, true, false}
 use mathlib.Core.Logic.{_≢_}
 use mathlib.Core.List.{List, [], _∷_, _++_, map, append-nil, append-assoc}
-use lib.Dec.{eqb}
 use lib.ListN.{length}
-use borrow.Author.Tests.{eqb-true}
 use Rattle.base.specs.Bytes.{Each}
 use Rattle.base.specs.Calls.{andThen}
-use Rattle.base.proofs.Tests.{and-parts}
 use Rattle.stream.specs.Reader.{Reading, waiting, reads}
 use Rattle.channel.specs.declared.hunting.Hunting.{Hunting}
 use Rattle.channel.specs.Sender.{marker, framed}
 use Rattle.channel.specs.Channel.{condition, mend, Event, said, block, lost, message, isMarker, zeros, Chan, inMark, start, whole, compared, hears, answers}
 use Rattle.channel.specs.Channel.{IsWord, wordsGive, FirstMarker}
 use Rattle.channel.specs.Called.{EveryCut}
-use Rattle.channel.proofs.Streaming.{hears-append, theMarker, wholes, behindWords, received}
+use Rattle.channel.proofs.Streaming.{hears-append, theMarker, wholes, behindWords, is-marker, received}
 use Rattle.channel.proofs.Demands.{cut-so, every-cut}
 
 wholes-give : (ws : List (List ℕ)) (r : Reading) → wholes ws r .0 ≡ wordsGive ws r
@@ -39,13 +36,6 @@ few g v q (a ∷ []) h = refl
 few g v q (a ∷ b ∷ []) h = refl
 few g v q (a ∷ b ∷ c ∷ []) h = refl
 few g v q (a ∷ b ∷ c ∷ d ∷ bs) h = absurd (omega arith)
-
-is-marker : (f : Hunting) → isMarker f ≡ true → f .a ∷ f .b ∷ f .c ∷ f .d ∷ [] ≡ marker
-is-marker f e =
-    let p = and-parts (eqb (f .d) 0x42) _ e in
-    let q = and-parts (eqb (f .c) 0xE2) _ (p .1) in
-    let r = and-parts (eqb (f .b) 0x3A) (eqb (f .a) 0x7D) (q .1) in
-    λ i. eqb-true (f .a) 0x7D (r .1) i ∷ eqb-true (f .b) 0x3A (r .0) i ∷ eqb-true (f .c) 0xE2 (q .0) i ∷ eqb-true (f .d) 0x42 (p .0) i ∷ []
 
 -- four that differ
 four : (g : Hunting) (v : List ℕ) (q : Reading) (bs : List ℕ) → length bs ≡ 4 → bs ≢ marker → hears (inMark g v 0 q) bs .0 ≡ lost ∷ []

@@ -23,10 +23,10 @@ use Rattle.repair.specs.declared.Mended.{Mended}
 use Rattle.repair.specs.Promise.{Promised}
 use Rattle.repair.proofs.Apart.{checked-is}
 use Rattle.channel.specs.declared.receiver.Receiver.{Receiver}
-use Rattle.channel.specs.declared.receiver.Answer.the-variants as answer
-use Rattle.channel.specs.Sender.{parityBytes, wordBytes}
+use Rattle.channel.specs.declared.answer.Condition.the-variants.{Clean}
+use Rattle.channel.specs.Sender.{parityBytes, wordBytes, messageBytes}
 use Rattle.channel.specs.Channel.{conditionBy, condition, mend}
-use Rattle.channel.specs.Called.{owedBy, owes, mendIn, blockAnswer}
+use Rattle.channel.specs.Called.{owedBy, owes, mendIn}
 use Rattle.channel.proofs.Words.{condition-clean, mend-clean, never-refused, block-determined}
 
 pub two-and : {a b x : Bool} → a ≡ true → b ≡ true → x ≡ a && (b && x)
@@ -36,11 +36,11 @@ pub three-and : {a b d x : Bool} → a ≡ true → b ≡ true → d ≡ true �
 three-and p q r = rw (p, q, r)
 
 module _ (s : Receiver) (o : s .locked ≡ true) where
-  pub owes-some : s .lock .word ≡ 255 → 223 - s .lock .handed ≡ owes s
-  owes-some w = λ i. owedBy (sym o i) (sym (eq-eqb (s .lock .word) 255 w) i) (s .lock .handed)
+  pub owes-some : s .lock .word ≡ wordBytes → messageBytes - s .lock .handed ≡ owes s
+  owes-some w = λ i. owedBy (sym o i) (sym (eq-eqb (s .lock .word) wordBytes w) i) (s .lock .handed)
 
-  pub owes-none : (s .lock .word ≡ 255 → ⊥) → 0 ≡ owes s
-  owes-none w = λ i. owedBy (sym o i) (sym (ne-eqb (s .lock .word) 255 w) i) (s .lock .handed)
+  pub owes-none : (s .lock .word ≡ wordBytes → ⊥) → 0 ≡ owes s
+  owes-none w = λ i. owedBy (sym o i) (sym (ne-eqb (s .lock .word) wordBytes w) i) (s .lock .handed)
 
 true-by : (t : Bool) → pick t check.Clean check.Damaged ≡ check.Clean → true ≡ t
 true-by true e = refl
@@ -65,17 +65,17 @@ module _ (w : List ℕ) (h : length w ≡ wordBytes) (r : Checked) (e : r ≡ ch
 
 -- what repair finds of the word w, and leaves of it
 module _ (w : List ℕ) (h : length w ≡ wordBytes) (b : Bytes w) {a x : Mended} {o : List ℕ} (p : Promised parityBytes w a o) where
-  pub told-mended : a ≡ x → (blockAnswer (conditionBy x) ≡ blockAnswer (condition w)) × (o ≡ mend w)
+  pub told-mended : a ≡ x → (conditionBy x ≡ condition w) × (o ≡ mend w)
   told-mended e =
       let s = block-determined w h b a o p in
-      (ap (λ y. blockAnswer (conditionBy y)) (sym e) ∙ ap blockAnswer (s .0), s .1)
+      (ap conditionBy (sym e) ∙ s .0, s .1)
 
 -- the word at the start of the buffer k: clean ..
 module _ (k : List ℕ) (h : wordBytes ≤ length k) where
-  pub settled-clean : true ≡ clean parityBytes (take wordBytes k) → (answer.Clean ≡ blockAnswer (condition (take wordBytes k))) × (k ≡ mendIn k)
+  pub settled-clean : true ≡ clean parityBytes (take wordBytes k) → (Clean ≡ condition (take wordBytes k)) × (k ≡ mendIn k)
   settled-clean e =
       let l : length (take wordBytes k) ≡ wordBytes = length-take-le wordBytes k h in (
-        ap blockAnswer (sym (condition-clean (take wordBytes k) l (sym e))),
+        sym (condition-clean (take wordBytes k) l (sym e)),
         sym (take-append-drop wordBytes k) ∙ ap (λ x. x ++ drop wordBytes k) (sym (mend-clean (take wordBytes k) l (sym e))),
       )
 

@@ -16,7 +16,8 @@ use Rattle.packet.specs.Contents.{rawLimit, Packet}
 use Rattle.stream.specs.Reader.{waiting, reads}
 use Rattle.stream.specs.Sender.{Accepted, delivered, openedFrom}
 use Rattle.channel.specs.Sender.{wordBytes, framed, sentWords, sent}
-use Rattle.channel.specs.Channel.{clean, condition, Event, frames, blocks, losses, start, hears, answers, IsWord, carried, FirstMarker}
+use Rattle.channel.specs.Channel.{condition, Event, frames, blocks, losses, start, hears, answers, IsWord, carried, FirstMarker}
+use Rattle.channel.specs.declared.answer.Condition.the-variants.{Clean as clean}
 use Rattle.channel.specs.Called.{Board, board, freshReceiver, hearCall, hearAll, EveryCut, boardOf, inUse}
 use Rattle.channel.proofs.Fine.{fine-fresh}
 use Rattle.channel.proofs.Cutting.{hear-settled}

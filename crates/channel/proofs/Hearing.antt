@@ -37,17 +37,19 @@ use Rattle.stream.proofs.Cutting.{read-agrees}
 use Rattle.channel.specs.declared.hunting.Hunting.{Hunting}
 use Rattle.channel.specs.declared.locked.Locked.{Locked}
 use Rattle.channel.specs.declared.receiver.Receiver.{Receiver}
-use Rattle.channel.specs.declared.receiver.Answer.{Answer}
-use Rattle.channel.specs.declared.receiver.Answer.the-variants.{More, Said, LockLost}
-use Rattle.channel.specs.declared.receiver.Hearing.{Hearing}
-use Rattle.channel.specs.declared.receiver.Phase.{Phase}
+use Rattle.channel.specs.declared.answer.Answer.{Answer}
+use Rattle.channel.specs.declared.answer.Answer.the-variants.{More, Said, Block, LockLost}
+use Rattle.channel.specs.declared.answer.Hearing.{Hearing}
+use Rattle.channel.specs.declared.answer.Phase.{Phase}
 use Rattle.channel.specs.declared.hunting.Found.{Found}
 use Rattle.channel.specs.Channel.{condition, Event, block, shift, isMarker}
-use Rattle.channel.specs.Called.{Board, board, counts, lockedWith, owedBy, owes, asEvent, hearOn, soundLock, sound, roomy, hearBy, hearCall, mendIn, blockAnswer, hearingOf, HearingIs}
+use Rattle.channel.specs.Called.{Board, board, counts, lockedWith, owedBy, owes, asEvent, hearOn, soundLock, sound, roomy, hearBy, hearCall, mendIn, hearingOf, HearingIs}
 use Rattle.channel.specs.Private.{shifts, later, hunted, ended, PhaseBy, HandedIs, SoughtIs, FilledIs}
 use Rattle.channel.proofs.Sending.{lent, back}
 use Rattle.channel.proofs.Words.{mendIn-is}
 use Rattle.channel.proofs.Phases.{onward, hand-run, mark-part, comparedOn, behindFour, mark-four, huntedOn, hunt-run, word-part, word-whole}
+use Rattle.channel.specs.declared.answer.Condition.{Condition}
+use Rattle.channel.specs.Sender.{wordBytes, messageBytes}
 
 -- the lock of a phase's state, as it is counted
 pub lock-as : {t : Phase} {d : Bool} {a : Answer} {n : ℕ} {f : Hunting} {k j : Locked} {r : Frame} → k ≡ j
@@ -108,27 +110,27 @@ sound-frame : (s : Receiver) → sound s ≡ true → soundFrame (s .frame) ≡ 
 sound-frame s e = and-parts (soundFrame (s .frame)) _ e .0
 
 module _ (k : Locked) (e : soundLock k ≡ true) where
-  pub lock-word : k .word ≤ 255
-  lock-word = leb-true _ _ (and-parts (leb (k .word) 255) _ e .0)
+  pub lock-word : k .word ≤ wordBytes
+  lock-word = leb-true _ _ (and-parts (leb (k .word) wordBytes) _ e .0)
 
   pub lock-marker : k .marker ≤ 3
-  lock-marker = leb-true _ _ (and-parts (leb (k .marker) 3) _ (and-parts (leb (k .word) 255) _ e .1) .0)
+  lock-marker = leb-true _ _ (and-parts (leb (k .marker) 3) _ (and-parts (leb (k .word) wordBytes) _ e .1) .0)
 
-  pub lock-handed : k .handed ≤ 223
-  lock-handed = leb-true _ _ (and-parts (leb (k .marker) 3) _ (and-parts (leb (k .word) 255) _ e .1) .1)
+  pub lock-handed : k .handed ≤ messageBytes
+  lock-handed = leb-true _ _ (and-parts (leb (k .marker) 3) _ (and-parts (leb (k .word) wordBytes) _ e .1) .1)
 
-lock-sound : (w h m : ℕ) → w ≤ 255 → m ≤ 3 → h ≤ 223 → soundLock (counts w h m) ≡ true
-lock-sound w h m a b c = rw (le-leb w 255 a, le-leb m 3 b, le-leb h 223 c) refl
+lock-sound : (w h m : ℕ) → w ≤ wordBytes → m ≤ 3 → h ≤ messageBytes → soundLock (counts w h m) ≡ true
+lock-sound w h m a b c = rw (le-leb w wordBytes a, le-leb m 3 b, le-leb h messageBytes c) refl
 
 pub room-recv : (l k : List ℕ) → roomy l k ≡ true → rawLimit ≤ length l
 room-recv l k e = leb-true _ _ (and-parts (leb rawLimit (length l)) _ e .0)
 
-pub room-word : (l k : List ℕ) → roomy l k ≡ true → 255 ≤ length k
+pub room-word : (l k : List ℕ) → roomy l k ≡ true → wordBytes ≤ length k
 room-word l k e = leb-true _ _ (and-parts (leb rawLimit (length l)) _ e .1)
 
 -- ---- the rest of a stored word
-owed-some : (l t : Bool) (h : ℕ) → (owedBy l t h ≡ 0 → ⊥) → (l ≡ true) × (t ≡ true) × (h < 223)
-owed-some true true h e = (refl, refl, let n : 223 - h ≡ 0 → ⊥ = e in omega arith)
+owed-some : (l t : Bool) (h : ℕ) → (owedBy l t h ≡ 0 → ⊥) → (l ≡ true) × (t ≡ true) × (h < messageBytes)
+owed-some true true h e = (refl, refl, let n : messageBytes - h ≡ 0 → ⊥ = e in omega arith)
 owed-some true false h e = absurd (e refl)
 owed-some false t h e = absurd (e refl)
 
@@ -159,32 +161,32 @@ module _ (s : Receiver) (l k : List ℕ) (sd : sound s ≡ true) where
       })
 
   module _ (rm : roomy l k ≡ true) {n : ℕ} (en : n ≡ owes s) (nz : n ≡ 0 → ⊥) where
-    some-owed : (s .locked ≡ true) × (eqb (s .lock .word) 255 ≡ true) × (s .lock .handed < 223)
-    some-owed = owed-some (s .locked) (eqb (s .lock .word) 255) (s .lock .handed) (λ z. nz (en ∙ z))
+    some-owed : (s .locked ≡ true) × (eqb (s .lock .word) wordBytes ≡ true) × (s .lock .handed < messageBytes)
+    some-owed = owed-some (s .locked) (eqb (s .lock .word) wordBytes) (s .lock .handed) (λ z. nz (en ∙ z))
 
-    pub hand-handed : s .lock .handed < 223
+    pub hand-handed : s .lock .handed < messageBytes
     hand-handed = some-owed .2
 
-    whole-word : s .lock .word ≡ 255
+    whole-word : s .lock .word ≡ wordBytes
     whole-word = eqb-true _ _ (some-owed .1)
 
     rest : List ℕ
-    rest = take (223 - s .lock .handed) (drop (s .lock .handed) k)
+    rest = take (messageBytes - s .lock .handed) (drop (s .lock .handed) k)
 
     got : Option Told × ℕ × Held
     got = readOn (held (s .frame) l) rest
 
-    rest-length : length rest ≡ 223 - s .lock .handed
+    rest-length : length rest ≡ messageBytes - s .lock .handed
     unfolding rest
     rest-length =
-        length-take-le (223 - s .lock .handed) (drop (s .lock .handed) k) (omega (arith, length-drop (s .lock .handed) k, room-word l k rm))
+        length-take-le (messageBytes - s .lock .handed) (drop (s .lock .handed) k) (omega (arith, length-drop (s .lock .handed) k, room-word l k rm))
 
     got-fits : FitsBy owesNone handsNone takeByte none-owed (got .0) (got .1) (got .2) rest
     unfolding got
     got-fits = fits owesNone handsNone takeByte none-owed (held (s .frame) l) rest
 
-    module _ {r : Read} {l′ : List ℕ} (e : ReadIs (readCall (held (s .frame) l) (take (223 - s .lock .handed) (drop (s .lock .handed) k))) r l′) where
-      call-is : readCall (held (s .frame) l) (take (223 - s .lock .handed) (drop (s .lock .handed) k)) ≡ got
+    module _ {r : Read} {l′ : List ℕ} (e : ReadIs (readCall (held (s .frame) l) (take (messageBytes - s .lock .handed) (drop (s .lock .handed) k))) r l′) where
+      call-is : readCall (held (s .frame) l) (take (messageBytes - s .lock .handed) (drop (s .lock .handed) k)) ≡ got
       unfolding got rest
       call-is = read-agrees (held (s .frame) l) _ (fine-of (s .frame) l (sound-frame s sd) (room-recv l k rm))
 
@@ -200,13 +202,13 @@ module _ (s : Receiver) (l k : List ℕ) (sd : sound s ≡ true) where
       recv-is : l′ ≡ got .2 .recv
       recv-is = e .1 ∙ ap (λ x. x .2 .recv) call-is
 
-      pub taken-within : s .lock .handed + r .taken ≤ 223
+      pub taken-within : s .lock .handed + r .taken ≤ messageBytes
       taken-within = omega (arith, fits-within (got .0) (got .1) (got .2) rest got-fits, rest-length, taken-is, hand-handed)
 
       abbrev next : Receiver
       next = record { locked = true; hunting = s .hunting; lock = counts (s .lock .word) (s .lock .handed + r .taken) (s .lock .marker); frame = r .frame }
 
-      next-is : board next l′ k ≡ lockedWith (s .hunting) 255 (s .lock .handed + got .1) (s .lock .marker) (got .2) k
+      next-is : board next l′ k ≡ lockedWith (s .hunting) wordBytes (s .lock .handed + got .1) (s .lock .marker) (got .2) k
       next-is = λ i.
           board (record {
             locked = true;
@@ -225,7 +227,7 @@ module _ (s : Receiver) (l k : List ℕ) (sd : sound s ≡ true) where
             lock = counts (whole-word i) (s .lock .handed) (s .lock .marker);
             frame = s .frame;
           }) l k) bs)
-          ∙ hand-run (s .hunting) (s .lock .marker) k bs (223 - s .lock .handed) (s .lock .handed) (held (s .frame) l)
+          ∙ hand-run (s .hunting) (s .lock .marker) k bs (messageBytes - s .lock .handed) (s .lock .handed) (held (s .frame) l)
           (omega (arith, hand-handed)) (omega (arith, room-word l k rm))
 
       next-lock : soundLock (next .lock) ≡ true
@@ -235,17 +237,17 @@ module _ (s : Receiver) (l k : List ℕ) (sd : sound s ≡ true) where
       hand-more m p =
           let o : got .0 ≡ none = is-none (got .0) (sym heard-is ∙ m) in
           let w : got .1 ≡ length rest = fits-none (got .0) (got .1) (got .2) rest got-fits (sym heard-is ∙ m) in
-          let z : 223 - (s .lock .handed + r .taken) ≡ 0 = omega (arith, w, rest-length, taken-is, hand-handed) in
+          let z : messageBytes - (s .lock .handed + r .taken) ≡ 0 = omega (arith, w, rest-length, taken-is, hand-handed) in
           subst (λ t. HandedIs (board s l k) t l′) (sym p) (record {
             means = λ bs.
                 runs bs
-                ∙ ap (λ x. unless (asEvent x) 0 (lockedWith (s .hunting) 255 (s .lock .handed + got .1) (s .lock .marker) (got .2) k)
-                (hearOn (lockedWith (s .hunting) 255 (s .lock .handed + got .1) (s .lock .marker) (got .2) k) bs)) o
+                ∙ ap (λ x. unless (asEvent x) 0 (lockedWith (s .hunting) wordBytes (s .lock .handed + got .1) (s .lock .marker) (got .2) k)
+                (hearOn (lockedWith (s .hunting) wordBytes (s .lock .handed + got .1) (s .lock .marker) (got .2) k) bs)) o
                 ∙ ap (λ c. hearOn c bs) (sym next-is)
                 ∙ after-none (hearOn (board next l′ k) bs);
             taken = refl;
             lock = next-lock;
-            owed = λ d. (λ i. owedBy true (eqb (whole-word i) 255) (s .lock .handed + r .taken)) ∙ z;
+            owed = λ d. (λ i. owedBy true (eqb (whole-word i) wordBytes) (s .lock .handed + r .taken)) ∙ z;
           })
 
       pub hand-said : (j : Judged) {t : Phase} → r .heard ≡ heard.Said j → t ≡ record { done = true; answer = Said j; taken = 0; receiver = next } → HandedIs (board s l k) t l′
@@ -255,8 +257,8 @@ module _ (s : Receiver) (l k : List ℕ) (sd : sound s ≡ true) where
             means = λ bs.
                 let q : hearOn (board s l k) bs ≡ (asEvent (some (o .0)), 0, board next l′ k) =
                 runs bs
-                ∙ ap (λ x. unless (asEvent x) 0 (lockedWith (s .hunting) 255 (s .lock .handed + got .1) (s .lock .marker) (got .2) k)
-                (hearOn (lockedWith (s .hunting) 255 (s .lock .handed + got .1) (s .lock .marker) (got .2) k) bs)) (o .1)
+                ∙ ap (λ x. unless (asEvent x) 0 (lockedWith (s .hunting) wordBytes (s .lock .handed + got .1) (s .lock .marker) (got .2) k)
+                (hearOn (lockedWith (s .hunting) wordBytes (s .lock .handed + got .1) (s .lock .marker) (got .2) k) bs)) (o .1)
                 ∙ (λ i. (asEvent (some (o .0)), 0, sym next-is i)) in (
                   (λ i. record { answer = Said (o .2 i); taken = 0; receiver = next }) ∙ ap hearingOf (sym q),
                   ap (λ x. x .2 .recv) (sym q),
@@ -268,12 +270,12 @@ module _ (s : Receiver) (l k : List ℕ) (sd : sound s ≡ true) where
           })
 
 -- ---- marker bytes
-module _ (s : Receiver) (bs : List ℕ) (o : s .locked ≡ true) (w : s .lock .word ≡ 255) (m : s .lock .marker ≤ 3) (z : owes s ≡ 0)
+module _ (s : Receiver) (bs : List ℕ) (o : s .locked ≡ true) (w : s .lock .word ≡ wordBytes) (m : s .lock .marker ≤ 3) (z : owes s ≡ 0)
     {n : ℕ} (en : n ≡ min (4 - s .lock .marker) (length bs)) {f : Hunting} (ef : f ≡ shifts (s .hunting) (take n bs)) where
-  none-left : 223 - s .lock .handed ≡ 0
-  none-left = sym (λ i. owedBy (o i) (eqb (w i) 255) (s .lock .handed)) ∙ z
+  none-left : messageBytes - s .lock .handed ≡ 0
+  none-left = sym (λ i. owedBy (o i) (eqb (w i) wordBytes) (s .lock .handed)) ∙ z
 
-  board-is : (l k : List ℕ) → board s l k ≡ lockedWith (s .hunting) 255 (s .lock .handed) (s .lock .marker) (held (s .frame) l) k
+  board-is : (l k : List ℕ) → board s l k ≡ lockedWith (s .hunting) wordBytes (s .lock .handed) (s .lock .marker) (held (s .frame) l) k
   board-is l k i = board (record { locked = o i; hunting = s .hunting; lock = counts (w i) (s .lock .handed) (s .lock .marker); frame = s .frame }) l k
 
   pub compare-more : {t : Phase} → s .lock .marker + n < 4
@@ -307,14 +309,14 @@ module _ (s : Receiver) (bs : List ℕ) (o : s .locked ≡ true) (w : s .lock .w
       → hearOn (board s l k) bs ≡ behindFour (s .lock .handed) (held (s .frame) l) k none-left (drop n bs) n (comparedOn (s .lock .handed) (held (s .frame) l) k none-left t f)
   four l k t e h =
       ap (λ c. hearOn c bs) (board-is l k)
-      ∙ ap (hearOn (lockedWith (s .hunting) 255 (s .lock .handed) (s .lock .marker) (held (s .frame) l) k)) (sym (take-append-drop n bs))
+      ∙ ap (hearOn (lockedWith (s .hunting) wordBytes (s .lock .handed) (s .lock .marker) (held (s .frame) l) k)) (sym (take-append-drop n bs))
       ∙ go (take n bs) refl
     where
       long : length (take n bs) ≡ n
       long = length-take-le n bs (omega (arith, en))
 
       go : (v : List ℕ) → take n bs ≡ v
-          → hearOn (lockedWith (s .hunting) 255 (s .lock .handed) (s .lock .marker) (held (s .frame) l) k) (v ++ drop n bs)
+          → hearOn (lockedWith (s .hunting) wordBytes (s .lock .handed) (s .lock .marker) (held (s .frame) l) k) (v ++ drop n bs)
           ≡ behindFour (s .lock .handed) (held (s .frame) l) k none-left (drop n bs) n (comparedOn (s .lock .handed) (held (s .frame) l) k none-left t f)
       go [] p = absurd (omega (arith, long, ap length p, h, m))
       go (b ∷ v) p =
@@ -387,20 +389,20 @@ module _ (s : Receiver) (bs : List ℕ) (o : s .locked ≡ false) {x : Found} (e
       })
 
 -- ---- nothing to seek: a word's bytes are wanted
-pub sought-none : (s : Receiver) (bs : List ℕ) {t : Phase} → s .locked ≡ true → s .lock .word < 255
+pub sought-none : (s : Receiver) (bs : List ℕ) {t : Phase} → s .locked ≡ true → s .lock .word < wordBytes
     → t ≡ record { done = false; answer = More; taken = 0; receiver = s } → SoughtIs s bs t
 sought-none s bs o h e =
     subst (SoughtIs s bs) (sym e) (record { means = λ l k. after-none (hearOn (board s l k) bs); within = omega arith; ready = λ d. (o, h) })
 
 -- ---- bytes of a word, from `at` on in a piece
-module _ (s : Receiver) (word piece : List ℕ) (at : ℕ) (o : s .locked ≡ true) (w : s .lock .word < 255) (room : 255 ≤ length word) (in-piece : at ≤ length piece)
-    {n : ℕ} (left : n ≡ min (255 - s .lock .word) (length piece - at)) {y : List ℕ}
+module _ (s : Receiver) (word piece : List ℕ) (at : ℕ) (o : s .locked ≡ true) (w : s .lock .word < wordBytes) (room : wordBytes ≤ length word) (in-piece : at ≤ length piece)
+    {n : ℕ} (left : n ≡ min (wordBytes - s .lock .word) (length piece - at)) {y : List ℕ}
     (copy : y ≡ copied (take (at + n - at) (drop at piece)) (take (length word - s .lock .word) (drop (s .lock .word) word))) where
   abbrev bs : List ℕ
   bs = drop at piece
 
-  en : n ≡ min (255 - s .lock .word) (length bs)
-  en = left ∙ ap (min (255 - s .lock .word)) (sym (length-drop at piece))
+  en : n ≡ min (wordBytes - s .lock .word) (length bs)
+  en = left ∙ ap (min (wordBytes - s .lock .word)) (sym (length-drop at piece))
 
   ey : y ≡ copied (take n bs) (take (length word - s .lock .word) (drop (s .lock .word) word))
   ey = copy ∙ ap (λ m. copied (take m bs) (take (length word - s .lock .word) (drop (s .lock .word) word))) (let z : at + n - at ≡ n = omega arith in z)
@@ -431,7 +433,7 @@ module _ (s : Receiver) (word piece : List ℕ) (at : ℕ) (o : s .locked ≡ tr
   board-at : (l : List ℕ) → board s l word ≡ lockedWith (s .hunting) (length before) (s .lock .handed) (s .lock .marker) (held (s .frame) l) (before ++ behind)
   board-at l i = board (record { locked = o i; hunting = s .hunting; lock = counts (sym before-length i) (s .lock .handed) (s .lock .marker); frame = s .frame }) l (parts i)
 
-  fill-part : s .lock .word + n < 255
+  fill-part : s .lock .word + n < wordBytes
       → FilledIs s word bs at (record {
         answer = More;
         taken = at + n;
@@ -456,25 +458,25 @@ module _ (s : Receiver) (word piece : List ℕ) (at : ℕ) (o : s .locked ≡ tr
       )) in
       (ap (λ x. hearingOf (after at x)) (sym q), ap (λ x. x .2 .recv) (sym q), ap (λ x. x .2 .word) (sym q))
 
-  whole-length : 255 ≤ s .lock .word + n → length (before ++ take n bs) ≡ 255
+  whole-length : wordBytes ≤ s .lock .word + n → length (before ++ take n bs) ≡ wordBytes
   whole-length h = omega (arith, length-append before (take n bs), before-length, some-length, en)
 
-  whole-is : 255 ≤ s .lock .word + n → take 255 (putMid (s .lock .word) (length word - s .lock .word) word y) ≡ before ++ take n bs
-  whole-is h = ap (take 255) filled-is ∙ take-at (before ++ take n bs) (drop (length (take n bs)) behind) 255 (whole-length h)
+  whole-is : wordBytes ≤ s .lock .word + n → take wordBytes (putMid (s .lock .word) (length word - s .lock .word) word y) ≡ before ++ take n bs
+  whole-is h = ap (take wordBytes) filled-is ∙ take-at (before ++ take n bs) (drop (length (take n bs)) behind) wordBytes (whole-length h)
 
-  pub fill-room : 255 ≤ s .lock .word + n → 255 ≤ length (putMid (s .lock .word) (length word - s .lock .word) word y)
+  pub fill-room : wordBytes ≤ s .lock .word + n → wordBytes ≤ length (putMid (s .lock .word) (length word - s .lock .word) word y)
   fill-room h =
       omega (arith, ap length filled-is, length-append (before ++ take n bs) (drop (length (take n bs)) behind), whole-length h)
 
   pub fill-within : at + n ≤ length piece
   fill-within = omega (arith, left)
 
-  pub fill-same : 255 ≤ s .lock .word + n → n ≡ 255 → take 255 bs ≡ take 255 (putMid (s .lock .word) (length word - s .lock .word) word y)
+  pub fill-same : wordBytes ≤ s .lock .word + n → n ≡ wordBytes → take wordBytes bs ≡ take wordBytes (putMid (s .lock .word) (length word - s .lock .word) word y)
   fill-same h e =
       let z : s .lock .word ≡ 0 = omega (arith, en) in
       ap (λ i. take i bs) (sym e) ∙ ap (λ i. take i word ++ take n bs) (sym z) ∙ sym (whole-is h)
 
-  pub fill-more : {k : Locked} → s .lock .word + n < 255 → k ≡ counts (s .lock .word + n) (s .lock .handed) (s .lock .marker)
+  pub fill-more : {k : Locked} → s .lock .word + n < wordBytes → k ≡ counts (s .lock .word + n) (s .lock .handed) (s .lock .marker)
       → FilledIs s word bs at (record {
         answer = More;
         taken = at + n;
@@ -487,11 +489,11 @@ module _ (s : Receiver) (word piece : List ℕ) (at : ℕ) (o : s .locked ≡ tr
         receiver = record { locked = true; hunting = s .hunting; lock = j; frame = s .frame };
       }) (putMid (s .lock .word) (length word - s .lock .word) word y)) (sym e) (fill-part h)
 
-  pub fill-whole : {a : Answer} {k : Locked} {z : List ℕ} → 255 ≤ s .lock .word + n
-      → (a ≡ blockAnswer (condition (take 255 (putMid (s .lock .word) (length word - s .lock .word) word y))))
-      × (z ≡ mendIn (putMid (s .lock .word) (length word - s .lock .word) word y)) → k ≡ counts 255 0 0
+  pub fill-whole : {a : Condition} {k : Locked} {z : List ℕ} → wordBytes ≤ s .lock .word + n
+      → (a ≡ condition (take wordBytes (putMid (s .lock .word) (length word - s .lock .word) word y)))
+      × (z ≡ mendIn (putMid (s .lock .word) (length word - s .lock .word) word y)) → k ≡ counts wordBytes 0 0
       → FilledIs s word bs at (record {
-        answer = a;
+        answer = Block a;
         taken = at + n;
         receiver = record { locked = true; hunting = s .hunting; lock = k; frame = s .frame };
       }) z
@@ -508,7 +510,7 @@ module _ (s : Receiver) (word piece : List ℕ) (at : ℕ) (o : s .locked ≡ tr
             (sym (ea .1 ∙ ap mendIn filled-is ∙ mendIn-is (before ++ take n bs) (drop (length (take n bs)) behind) (whole-length h)) i),
       )) in (
         (λ i. record {
-          answer = (ea .0 ∙ ap (λ x. blockAnswer (condition x)) (whole-is h)) i;
+          answer = Block ((ea .0 ∙ ap condition (whole-is h)) i);
           taken = at + n;
           receiver = record { locked = true; hunting = s .hunting; lock = k; frame = s .frame };
         }) ∙ ap (λ x. hearingOf (after at x)) (sym q),

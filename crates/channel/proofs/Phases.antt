@@ -29,6 +29,7 @@ use Rattle.channel.specs.Called.{Board, board, huntingWith, lockedWith, 
 use Rattle.channel.specs.Private.{shifts, later, hunted}
 use Rattle.channel.proofs.Words.{mendIn-is}
 use Rattle.channel.proofs.Cutting.{hand-one}
+use Rattle.channel.specs.Sender.{wordBytes, messageBytes}
 
 -- one new byte, where nothing is owed
 eat-one : (c : Board) (b : ℕ) (bs : List ℕ) → owed c ≡ 0 → hearOn c (b ∷ bs) ≡ unless (eatByte c b .0) 1 (eatByte c b .1) (oneMore (hearOn (eatByte c b .1) bs))
@@ -44,44 +45,44 @@ one-later r = ap oneMore (after-none r) ∙ after-one 0 r
 module _ (f : Hunting) (m : ℕ) (k bs : List ℕ) where
   -- the call behind what the frame reader made of it
   abbrev pub onward : ℕ → Option Told × ℕ × Held → Option Event × ℕ × Board
-  onward h r = unless (asEvent (r .0)) 0 (lockedWith f 255 (h + r .1) m (r .2) k) (hearOn (lockedWith f 255 (h + r .1) m (r .2) k) bs)
+  onward h r = unless (asEvent (r .0)) 0 (lockedWith f wordBytes (h + r .1) m (r .2) k) (hearOn (lockedWith f wordBytes (h + r .1) m (r .2) k) bs)
 
   onward-one : (h : ℕ) (o : Option Told) (g : Held) (r : Option Told × ℕ × Held) {x : Option Event × ℕ × Board} → x ≡ onward (suc h) r
-      → unless (asEvent o) 0 (lockedWith f 255 (suc h) m g k) x ≡ onward h (unless o 1 g (oneMore r))
+      → unless (asEvent o) 0 (lockedWith f wordBytes (suc h) m g k) x ≡ onward h (unless o 1 g (oneMore r))
   onward-one h none g r e =
       let n : suc h + r .1 ≡ h + suc (r .1) = omega arith in
-      e ∙ (λ i. unless (asEvent (r .0)) 0 (lockedWith f 255 (n i) m (r .2) k) (hearOn (lockedWith f 255 (n i) m (r .2) k) bs))
-  onward-one h (some a) g r e = λ i. (asEvent (some a), 0, lockedWith f 255 (sym (add-one h) i) m g k)
+      e ∙ (λ i. unless (asEvent (r .0)) 0 (lockedWith f wordBytes (n i) m (r .2) k) (hearOn (lockedWith f wordBytes (n i) m (r .2) k) bs))
+  onward-one h (some a) g r e = λ i. (asEvent (some a), 0, lockedWith f wordBytes (sym (add-one h) i) m g k)
 
-  pub hand-run : (n h : ℕ) (g : Held) → h + n ≡ 223 → 223 ≤ length k → hearOn (lockedWith f 255 h m g k) bs ≡ onward h (readOn g (take n (drop h k)))
-  hand-run zero h g e l = λ i. hearOn (lockedWith f 255 (sym (add-zero h) i) m g k) bs
+  pub hand-run : (n h : ℕ) (g : Held) → h + n ≡ messageBytes → messageBytes ≤ length k → hearOn (lockedWith f wordBytes h m g k) bs ≡ onward h (readOn g (take n (drop h k)))
+  hand-run zero h g e l = λ i. hearOn (lockedWith f wordBytes (sym (add-zero h) i) m g k) bs
   hand-run (suc n) h g e l =
-      let o : owed (lockedWith f 255 h m g k) ≡ suc n = omega arith in
+      let o : owed (lockedWith f wordBytes h m g k) ≡ suc n = omega arith in
       let t = takeByte g (getD k h 0) in
-      hear-hand owed handOn eatByte hand-one (lockedWith f 255 h m g k) n bs o
+      hear-hand owed handOn eatByte hand-one (lockedWith f wordBytes h m g k) n bs o
       ∙ onward-one h (t .0) (t .1) (readOn (t .1) (take n (drop (suc h) k))) (hand-run n (suc h) (t .1) (omega arith) l)
       ∙ ap (λ v. onward h (readOn g (take (suc n) v))) (sym (drop-cons k h 0 (omega arith)))
 
 -- ---- marker bytes
-module _ (h : ℕ) (g : Held) (k : List ℕ) (none-left : 223 - h ≡ 0) where
+module _ (h : ℕ) (g : Held) (k : List ℕ) (none-left : messageBytes - h ≡ 0) where
   mark-one : (t : Bool) (f : Hunting) (m b : ℕ) (bs : List ℕ) → ltb (suc m) 4 ≡ t
-      → hearOn (lockedWith f 255 h m g k) (b ∷ bs)
-      ≡ unless (markOn t (shift f b) (lockedWith f 255 h m g k) .0) 1 (markOn t (shift f b) (lockedWith f 255 h m g k) .1)
-      (oneMore (hearOn (markOn t (shift f b) (lockedWith f 255 h m g k) .1) bs))
+      → hearOn (lockedWith f wordBytes h m g k) (b ∷ bs)
+      ≡ unless (markOn t (shift f b) (lockedWith f wordBytes h m g k) .0) 1 (markOn t (shift f b) (lockedWith f wordBytes h m g k) .1)
+      (oneMore (hearOn (markOn t (shift f b) (lockedWith f wordBytes h m g k) .1) bs))
   mark-one t f m b bs e =
-      eat-one (lockedWith f 255 h m g k) b bs none-left
+      eat-one (lockedWith f wordBytes h m g k) b bs none-left
       ∙ ap (λ u.
-      unless (markOn u (shift f b) (lockedWith f 255 h m g k) .0) 1 (markOn u (shift f b) (lockedWith f 255 h m g k) .1)
-      (oneMore (hearOn (markOn u (shift f b) (lockedWith f 255 h m g k) .1) bs))) e
+      unless (markOn u (shift f b) (lockedWith f wordBytes h m g k) .0) 1 (markOn u (shift f b) (lockedWith f wordBytes h m g k) .1)
+      (oneMore (hearOn (markOn u (shift f b) (lockedWith f wordBytes h m g k) .1) bs))) e
 
   pub mark-part : (v : List ℕ) (f : Hunting) (m : ℕ) → m + length v < 4
-      → hearOn (lockedWith f 255 h m g k) v ≡ (none, length v, lockedWith (shifts f v) 255 h (m + length v) g k)
-  mark-part [] f m l = no-more (lockedWith f 255 h m g k) none-left ∙ (λ i. (none, 0, lockedWith f 255 h (sym (add-zero m) i) g k))
+      → hearOn (lockedWith f wordBytes h m g k) v ≡ (none, length v, lockedWith (shifts f v) wordBytes h (m + length v) g k)
+  mark-part [] f m l = no-more (lockedWith f wordBytes h m g k) none-left ∙ (λ i. (none, 0, lockedWith f wordBytes h (sym (add-zero m) i) g k))
   mark-part (b ∷ v) f m l =
       let n : suc m + length v ≡ m + suc (length v) = omega arith in
       mark-one true f m b v (lt-ltb (suc m) 4 (omega arith))
       ∙ ap oneMore (mark-part v (shift f b) (suc m) (omega arith))
-      ∙ (λ i. (none, suc (length v), lockedWith (shifts (shift f b) v) 255 h (n i) g k))
+      ∙ (λ i. (none, suc (length v), lockedWith (shifts (shift f b) v) wordBytes h (n i) g k))
 
   abbrev pub comparedOn : Bool → Hunting → Option Event × Board
   comparedOn true f = (none, lockedWith f 0 0 0 g k)
@@ -96,14 +97,14 @@ module _ (h : ℕ) (g : Held) (k : List ℕ) (none-left : 223 - h ≡ 0) where
   later-four bs n (some e, c) = refl
 
   pub mark-four : (b : ℕ) (v : List ℕ) (f : Hunting) (m : ℕ) (bs : List ℕ) → m + suc (length v) ≡ 4
-      → hearOn (lockedWith f 255 h m g k) (b ∷ v ++ bs)
+      → hearOn (lockedWith f wordBytes h m g k) (b ∷ v ++ bs)
       ≡ behindFour bs (suc (length v)) (comparedOn (isMarker (shifts f (b ∷ v))) (shifts f (b ∷ v)))
   mark-four b [] f m bs e =
       mark-one false f m b bs (le-ltb (suc m) 4 (omega arith)) ∙ last (isMarker (shift f b))
     where
       last : (t : Bool)
-          → unless (compareOn t (shift f b) (lockedWith f 255 h m g k) .0) 1 (compareOn t (shift f b) (lockedWith f 255 h m g k) .1)
-          (oneMore (hearOn (compareOn t (shift f b) (lockedWith f 255 h m g k) .1) bs))
+          → unless (compareOn t (shift f b) (lockedWith f wordBytes h m g k) .0) 1 (compareOn t (shift f b) (lockedWith f wordBytes h m g k) .1)
+          (oneMore (hearOn (compareOn t (shift f b) (lockedWith f wordBytes h m g k) .1) bs))
           ≡ behindFour bs 1 (comparedOn t (shift f b))
       last true = one-later (hearOn (lockedWith (shift f b) 0 0 0 g k) bs)
       last false = refl
@@ -145,18 +146,18 @@ abbrev moved : Option Event × Board → List ℕ → Option Event × ℕ × Boa
 moved r bs = unless (r .0) 1 (r .1) (oneMore (hearOn (r .1) bs))
 
 module _ (f : Hunting) (h m : ℕ) (g : Held) where
-  not-owed : (n : ℕ) (k : List ℕ) → n < 255 → owed (lockedWith f n h m g k) ≡ 0
-  not-owed n k l = rw (ne-eqb n 255 (λ q. omega arith)) refl
+  not-owed : (n : ℕ) (k : List ℕ) → n < wordBytes → owed (lockedWith f n h m g k) ≡ 0
+  not-owed n k l = rw (ne-eqb n wordBytes (λ q. omega arith)) refl
 
-  word-one : (t : Bool) (u : List ℕ) (x : ℕ) (k : List ℕ) (b : ℕ) (bs : List ℕ) → length u < 255 → ltb (suc (length u)) 255 ≡ t
+  word-one : (t : Bool) (u : List ℕ) (x : ℕ) (k : List ℕ) (b : ℕ) (bs : List ℕ) → length u < wordBytes → ltb (suc (length u)) wordBytes ≡ t
       → hearOn (lockedWith f (length u) h m g (u ++ x ∷ k)) (b ∷ bs) ≡ moved (wordOn t (lockedWith f (length u) h m g (u ++ x ∷ k)) ((u ++ b ∷ []) ++ k)) bs
   word-one t u x k b bs l e =
       eat-one (lockedWith f (length u) h m g (u ++ x ∷ k)) b bs (not-owed (length u) (u ++ x ∷ k) l)
-      ∙ ap (λ s. moved (eatBy true s (lockedWith f (length u) h m g (u ++ x ∷ k)) b) bs) (lt-ltb (length u) 255 l)
+      ∙ ap (λ s. moved (eatBy true s (lockedWith f (length u) h m g (u ++ x ∷ k)) b) bs) (lt-ltb (length u) wordBytes l)
       ∙ (λ i. moved (wordOn (e i) (lockedWith f (length u) h m g (u ++ x ∷ k)) ((set-append-seam u x k b ∙ sym (append-snoc u b k)) i)) bs)
 
   -- behind the bytes u of a word, the bytes v of a piece: fewer than are wanted ..
-  pub word-part : (v u k : List ℕ) → length u + length v < 255 → length v ≤ length k
+  pub word-part : (v u k : List ℕ) → length u + length v < wordBytes → length v ≤ length k
       → hearOn (lockedWith f (length u) h m g (u ++ k)) v ≡ (none, length v, lockedWith f (length u + length v) h m g (u ++ v ++ drop (length v) k))
   word-part [] u k l r =
       no-more (lockedWith f (length u) h m g (u ++ k)) (not-owed (length u) (u ++ k) (omega arith))
@@ -165,31 +166,31 @@ module _ (f : Hunting) (h m : ℕ) (g : Held) where
   word-part (b ∷ v) u (x ∷ k) l r =
       let n : suc (length u) ≡ length (u ++ b ∷ []) = omega (arith, length-append u (b ∷ [])) in
       let s : length (u ++ b ∷ []) + length v ≡ length u + suc (length v) = omega arith in
-      word-one true u x k b v (omega arith) (lt-ltb (suc (length u)) 255 (omega arith))
+      word-one true u x k b v (omega arith) (lt-ltb (suc (length u)) wordBytes (omega arith))
       ∙ ap (λ q. oneMore (hearOn (lockedWith f q h m g (u ++ b ∷ [] ++ k)) v)) n
       ∙ ap oneMore (word-part v (u ++ b ∷ []) k (omega arith) (omega arith))
       ∙ (λ i. (none, suc (length v), lockedWith f (s i) h m g (append-snoc u b v i ++ drop (length v) k)))
 
   -- .. and all that are wanted
-  pub word-whole : (v u k bs : List ℕ) → length u < 255 → length u + length v ≡ 255 → length v ≤ length k
+  pub word-whole : (v u k bs : List ℕ) → length u < wordBytes → length u + length v ≡ wordBytes → length v ≤ length k
       → hearOn (lockedWith f (length u) h m g (u ++ k)) (v ++ bs)
-      ≡ (some (block (condition (u ++ v))), length v, lockedWith f 255 0 0 g (mend (u ++ v) ++ drop (length v) k))
+      ≡ (some (block (condition (u ++ v))), length v, lockedWith f wordBytes 0 0 g (mend (u ++ v) ++ drop (length v) k))
   word-whole [] u k bs l e r = absurd (omega arith)
   word-whole (b ∷ v) u [] bs l e r = absurd (omega arith)
   word-whole (b ∷ []) u (x ∷ k) bs l e r =
-      word-one false u x k b bs l (le-ltb (suc (length u)) 255 (omega arith))
+      word-one false u x k b bs l (le-ltb (suc (length u)) wordBytes (omega arith))
       ∙ (λ i. (
-        some (block (condition (take-at (u ++ b ∷ []) k 255 (length-append u (b ∷ []) ∙ e) i))),
+        some (block (condition (take-at (u ++ b ∷ []) k wordBytes (length-append u (b ∷ []) ∙ e) i))),
         1,
-        lockedWith f 255 0 0 g (mendIn-is (u ++ b ∷ []) k (length-append u (b ∷ []) ∙ e) i),
+        lockedWith f wordBytes 0 0 g (mendIn-is (u ++ b ∷ []) k (length-append u (b ∷ []) ∙ e) i),
       ))
   word-whole (b ∷ c ∷ v) u (x ∷ k) bs l e r =
       let n : suc (length u) ≡ length (u ++ b ∷ []) = omega (arith, length-append u (b ∷ [])) in
-      word-one true u x k b (c ∷ v ++ bs) l (lt-ltb (suc (length u)) 255 (omega arith))
+      word-one true u x k b (c ∷ v ++ bs) l (lt-ltb (suc (length u)) wordBytes (omega arith))
       ∙ ap (λ q. oneMore (hearOn (lockedWith f q h m g (u ++ b ∷ [] ++ k)) (c ∷ v ++ bs))) n
       ∙ ap oneMore (word-whole (c ∷ v) (u ++ b ∷ []) k bs (omega arith) (omega arith) (omega arith))
       ∙ (λ i. (
         some (block (condition (append-snoc u b (c ∷ v) i))),
         suc (suc (length v)),
-        lockedWith f 255 0 0 g (mend (append-snoc u b (c ∷ v) i) ++ drop (suc (length v)) k),
+        lockedWith f wordBytes 0 0 g (mend (append-snoc u b (c ∷ v) i) ++ drop (suc (length v)) k),
       ))

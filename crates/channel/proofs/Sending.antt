@@ -27,7 +27,7 @@ use Rattle.packet.specs.Escape.{flag}
 use Rattle.parity.specs.Word.{remainder}
 use Rattle.parity.specs.Calls.{made}
 use Rattle.parity.proofs.Division.{length-remainder}
-use Rattle.channel.specs.Sender.{marker, wordOf, framed, fillers, filled, cutUp, marked, marking, sending}
+use Rattle.channel.specs.Sender.{marker, wordOf, framed, fillers, filled, cutUp, marked, marking, sending, blockBytes, wordBytes, messageBytes}
 
 -- ---- the list p ++ rest, whose rest is lent and comes back as y
 module _ (p rest o : List ℕ) (s : ℕ) (e : o ≡ p ++ rest) (l : length p ≡ s) where
@@ -49,22 +49,22 @@ module _ (bs out : List ℕ) (n : ℕ) (l : length bs ≡ n) where
       ∙ sym (write-fits bs out k)
 
 -- ---- one block: the marker, the message and its parity, one behind the other
-block-length : (m : List ℕ) → length m ≡ 223 → length (marker ++ wordOf m) ≡ 259
+block-length : (m : List ℕ) → length m ≡ messageBytes → length (marker ++ wordOf m) ≡ blockBytes
 block-length m h = omega (arith, length-append m (remainder 32 m), length-remainder 32 m)
 
-module _ (m o : List ℕ) (h : length m ≡ 223) (k : 259 ≤ length o) where
+module _ (m o : List ℕ) (h : length m ≡ messageBytes) (k : blockBytes ≤ length o) where
   pub block-put : {o₁ y z : List ℕ} {w : Written} (o₂ : List ℕ) → o₁ ≡ copied marker o → y ≡ copied m (take (length o₁ - 4) (drop 4 o₁))
       → o₂ ≡ putMid 4 (length o₁ - 4) o₁ y → outcome w z ≡ made 32 m (take (length o₂ - 227) (drop 227 o₂))
-      → putMid 227 (length o₂ - 227) o₂ z ≡ (marker ++ wordOf m) ++ drop 259 o
+      → putMid 227 (length o₂ - 227) o₂ z ≡ (marker ++ wordOf m) ++ drop blockBytes o
   block-put {o₁} {y} {z} o₂ e₁ ey e₂ ez =
       back (marker ++ m) rest o₂ 227 split long z
       ∙ ap (λ (t : List ℕ). (marker ++ m) ++ t)
       (ap (λ (x : Outcome). x .output) (ez ∙ ap (made 32 m) (lent (marker ++ m) rest o₂ 227 split long) ∙ makes)
       ∙ copied-fits (remainder 32 m) rest room ∙ ap (λ (t : List ℕ). remainder 32 m ++ t) behind)
-      ∙ sym (append-assoc (marker ++ m) (remainder 32 m) (drop 259 o))
+      ∙ sym (append-assoc (marker ++ m) (remainder 32 m) (drop blockBytes o))
     where
       rest : List ℕ
-      rest = drop 223 (drop 4 o)
+      rest = drop messageBytes (drop 4 o)
 
       first : o₁ ≡ marker ++ drop 4 o
       first = e₁ ∙ copied-fits marker o (omega arith)
@@ -80,27 +80,27 @@ module _ (m o : List ℕ) (h : length m ≡ 223) (k : 259 ≤ length o) where
       long = omega arith
 
       room : length (remainder 32 m) ≤ length rest
-      room = omega (arith, length-remainder 32 m, length-drop 223 (drop 4 o), length-drop 4 o)
+      room = omega (arith, length-remainder 32 m, length-drop messageBytes (drop 4 o), length-drop 4 o)
 
       makes : made 32 m rest ≡ outcome (Wrote (length (remainder 32 m))) (copied (remainder 32 m) rest)
-      makes = simp (eq-eqb (length m) 223 h) (write-fits (remainder 32 m) rest room)
+      makes = simp (eq-eqb (length m) messageBytes h) (write-fits (remainder 32 m) rest room)
 
-      behind : drop (length (remainder 32 m)) rest ≡ drop 259 o
-      behind = ap (λ (n : ℕ). drop n rest) (length-remainder 32 m) ∙ drop-drop 32 223 (drop 4 o) ∙ drop-drop 255 4 o
+      behind : drop (length (remainder 32 m)) rest ≡ drop blockBytes o
+      behind = ap (λ (n : ℕ). drop n rest) (length-remainder 32 m) ∙ drop-drop 32 messageBytes (drop 4 o) ∙ drop-drop wordBytes 4 o
 
-module _ (m out : List ℕ) (h : length m ≡ 223) where
-  pub mark-short : length out < 259 → refused 23 out ≡ marking m out
-  mark-short k = simp (eq-eqb (length m) 223 h) (wrote-short (marker ++ wordOf m) out 259 (block-length m h) k)
+module _ (m out : List ℕ) (h : length m ≡ messageBytes) where
+  pub mark-short : length out < blockBytes → refused 23 out ≡ marking m out
+  mark-short k = simp (eq-eqb (length m) messageBytes h) (wrote-short (marker ++ wordOf m) out blockBytes (block-length m h) k)
 
-  pub mark-fits : {after : List ℕ} → 259 ≤ length out → after ≡ (marker ++ wordOf m) ++ drop 259 out → outcome (Wrote 259) after ≡ marking m out
-  mark-fits k e = simp (eq-eqb (length m) 223 h) (wrote-fits (marker ++ wordOf m) out 259 (block-length m h) k e)
+  pub mark-fits : {after : List ℕ} → blockBytes ≤ length out → after ≡ (marker ++ wordOf m) ++ drop blockBytes out → outcome (Wrote blockBytes) after ≡ marking m out
+  mark-fits k e = simp (eq-eqb (length m) messageBytes h) (wrote-fits (marker ++ wordOf m) out blockBytes (block-length m h) k e)
 
-  pub mark-put : {w : Written} {after : List ℕ} → 259 ≤ length out → outcome w after ≡ marking m out → after ≡ (marker ++ wordOf m) ++ drop 259 out
+  pub mark-put : {w : Written} {after : List ℕ} → blockBytes ≤ length out → outcome w after ≡ marking m out → after ≡ (marker ++ wordOf m) ++ drop blockBytes out
   mark-put k e = ap (λ (o : Outcome). o .output) (e ∙ sym (mark-fits k refl))
 
 -- ---- a message: the next 223 bytes, or those that are left and flags behind them
 abbrev messageOf : List ℕ → List ℕ
-messageOf bs = copied bs (replicate 223 flag)
+messageOf bs = copied bs (replicate messageBytes flag)
 
 -- copying that fills all there is
 copied-over : (bs dst : List ℕ) → length dst ≤ length bs → copied bs dst ≡ take (length dst) bs
@@ -113,14 +113,14 @@ length-copied bs dst =
     (λ h. ap length (copied-fits bs dst h) ∙ length-append bs (drop (length bs) dst) ∙ omega (arith, length-drop (length bs) dst))
     (λ h. let k : length dst ≤ length bs = omega arith in ap length (copied-over bs dst k) ∙ length-take-le (length dst) bs k)
 
-message-length : (bs : List ℕ) → length (messageOf bs) ≡ 223
-message-length bs = length-copied bs (replicate 223 flag) ∙ length-replicate 223 flag
+message-length : (bs : List ℕ) → length (messageOf bs) ≡ messageBytes
+message-length bs = length-copied bs (replicate messageBytes flag) ∙ length-replicate messageBytes flag
 
 -- the block of the next message
-pub next-put : (s out : List ℕ) {m : List ℕ} {w : Written} {after : List ℕ} → m ≡ copied s (replicate 223 flag) → 259 ≤ length out
-    → outcome w after ≡ marking m out → after ≡ (marker ++ wordOf (copied s (replicate 223 flag))) ++ drop 259 out
+pub next-put : (s out : List ℕ) {m : List ℕ} {w : Written} {after : List ℕ} → m ≡ copied s (replicate messageBytes flag) → blockBytes ≤ length out
+    → outcome w after ≡ marking m out → after ≡ (marker ++ wordOf (copied s (replicate messageBytes flag))) ++ drop blockBytes out
 next-put s out e k f =
-    mark-put (copied s (replicate 223 flag)) out (message-length s) k (f ∙ ap (λ (m : List ℕ). marking m out) e)
+    mark-put (copied s (replicate messageBytes flag)) out (message-length s) k (f ∙ ap (λ (m : List ℕ). marking m out) e)
 
 drop-flags : (n k : ℕ) → n ≤ k → drop n (replicate k flag) ≡ replicate (k - n) flag
 drop-flags zero k h = simp sub-zero
@@ -133,62 +133,62 @@ blockOf bs = marker ++ wordOf (messageOf bs)
 
 abbrev pub firstBlocks : List ℕ → ℕ → List ℕ
 firstBlocks bs zero = []
-firstBlocks bs (suc i) = firstBlocks bs i ++ blockOf (drop (223 * i) bs)
+firstBlocks bs (suc i) = firstBlocks bs i ++ blockOf (drop (messageBytes * i) bs)
 
-length-blocks : (bs : List ℕ) (i : ℕ) → length (firstBlocks bs i) ≡ 259 * i
+length-blocks : (bs : List ℕ) (i : ℕ) → length (firstBlocks bs i) ≡ blockBytes * i
 length-blocks bs zero = refl
 length-blocks bs (suc i) =
-    let l : List ℕ = drop (223 * i) bs in
+    let l : List ℕ = drop (messageBytes * i) bs in
     length-append (firstBlocks bs i) (blockOf l) ∙ omega (arith, length-blocks bs i, block-length (messageOf l) (message-length l))
 
-module _ (bs out₀ out : List ℕ) (i : ℕ) (e : out ≡ firstBlocks bs i ++ drop (259 * i) out₀) {y : List ℕ}
-    (ey : y ≡ blockOf (take (length bs - 223 * i) (drop (223 * i) bs)) ++ drop 259 (take (length out - 259 * i) (drop (259 * i) out))) where
-  pub blocks-next : putMid (259 * i) (length out - 259 * i) out y ≡ firstBlocks bs (i + 1) ++ drop (259 * (i + 1)) out₀
+module _ (bs out₀ out : List ℕ) (i : ℕ) (e : out ≡ firstBlocks bs i ++ drop (blockBytes * i) out₀) {y : List ℕ}
+    (ey : y ≡ blockOf (take (length bs - messageBytes * i) (drop (messageBytes * i) bs)) ++ drop blockBytes (take (length out - blockBytes * i) (drop (blockBytes * i) out))) where
+  pub blocks-next : putMid (blockBytes * i) (length out - blockBytes * i) out y ≡ firstBlocks bs (i + 1) ++ drop (blockBytes * (i + 1)) out₀
   blocks-next =
-      let n : 259 * i + 259 ≡ 259 * suc i = omega arith in
-      back (firstBlocks bs i) (drop (259 * i) out₀) out (259 * i) e (length-blocks bs i) y
+      let n : blockBytes * i + blockBytes ≡ blockBytes * suc i = omega arith in
+      back (firstBlocks bs i) (drop (blockBytes * i) out₀) out (blockBytes * i) e (length-blocks bs i) y
       ∙ ap (λ (t : List ℕ). firstBlocks bs i ++ t)
-      (ey ∙ ap₂ (λ (a b : List ℕ). blockOf a ++ drop 259 b) (tail-is (223 * i) bs) (lent (firstBlocks bs i) (drop (259 * i) out₀) out (259 * i) e (length-blocks bs i)))
-      ∙ sym (append-assoc (firstBlocks bs i) (blockOf (drop (223 * i) bs)) (drop 259 (drop (259 * i) out₀)))
-      ∙ ap (λ (t : List ℕ). firstBlocks bs (suc i) ++ t) (drop-drop 259 (259 * i) out₀ ∙ ap (λ (m : ℕ). drop m out₀) n)
-      ∙ ap (λ (j : ℕ). firstBlocks bs j ++ drop (259 * j) out₀) (sym (add-one i))
+      (ey ∙ ap₂ (λ (a b : List ℕ). blockOf a ++ drop blockBytes b) (tail-is (messageBytes * i) bs) (lent (firstBlocks bs i) (drop (blockBytes * i) out₀) out (blockBytes * i) e (length-blocks bs i)))
+      ∙ sym (append-assoc (firstBlocks bs i) (blockOf (drop (messageBytes * i) bs)) (drop blockBytes (drop (blockBytes * i) out₀)))
+      ∙ ap (λ (t : List ℕ). firstBlocks bs (suc i) ++ t) (drop-drop blockBytes (blockBytes * i) out₀ ∙ ap (λ (m : ℕ). drop m out₀) n)
+      ∙ ap (λ (j : ℕ). firstBlocks bs j ++ drop (blockBytes * j) out₀) (sym (add-one i))
 
-  pub blocks-room : 259 * (i + 1) ≤ length out₀ → length (putMid (259 * i) (length out - 259 * i) out y) ≡ length out₀
+  pub blocks-room : blockBytes * (i + 1) ≤ length out₀ → length (putMid (blockBytes * i) (length out - blockBytes * i) out y) ≡ length out₀
   blocks-room h =
-      ap length blocks-next ∙ length-append (firstBlocks bs (i + 1)) (drop (259 * (i + 1)) out₀)
-      ∙ omega (arith, length-blocks bs (i + 1), length-drop (259 * (i + 1)) out₀)
+      ap length blocks-next ∙ length-append (firstBlocks bs (i + 1)) (drop (blockBytes * (i + 1)) out₀)
+      ∙ omega (arith, length-blocks bs (i + 1), length-drop (blockBytes * (i + 1)) out₀)
 
 -- ---- and all blocks are the stream as it is sent
 length-filled : (bs : List ℕ) → length (filled bs) ≡ length bs + fillers (length bs)
 length-filled bs = length-append bs (replicate (fillers (length bs)) flag) ∙ ap (λ (n : ℕ). length bs + n) (length-replicate (fillers (length bs)) flag)
 
-message-is : (bs : List ℕ) (i : ℕ) → 223 * suc i ≤ length (filled bs) → take 223 (drop (223 * i) (filled bs)) ≡ messageOf (drop (223 * i) bs)
+message-is : (bs : List ℕ) (i : ℕ) → messageBytes * suc i ≤ length (filled bs) → take messageBytes (drop (messageBytes * i) (filled bs)) ≡ messageOf (drop (messageBytes * i) bs)
 message-is bs i h =
     let f : ℕ = fillers (length bs) in
-    let l : List ℕ = drop (223 * i) bs in
+    let l : List ℕ = drop (messageBytes * i) bs in
     let nf : length (filled bs) ≡ length bs + f = length-filled bs in
-    let nl : length l ≡ length bs - 223 * i = length-drop (223 * i) bs in
-    let within : 223 * i ≤ length bs = omega arith in
-    ap (take 223) (drop-append-le (223 * i) bs (replicate f flag) within)
-    ∙ by-le 223 (length l)
+    let nl : length l ≡ length bs - messageBytes * i = length-drop (messageBytes * i) bs in
+    let within : messageBytes * i ≤ length bs = omega arith in
+    ap (take messageBytes) (drop-append-le (messageBytes * i) bs (replicate f flag) within)
+    ∙ by-le messageBytes (length l)
     (λ g.
-    take-append-le 223 l (replicate f flag) g
-    ∙ sym (copied-over l (replicate 223 flag) (omega (arith, length-replicate 223 flag)) ∙ ap (λ (n : ℕ). take n l) (length-replicate 223 flag)))
+    take-append-le messageBytes l (replicate f flag) g
+    ∙ sym (copied-over l (replicate messageBytes flag) (omega (arith, length-replicate messageBytes flag)) ∙ ap (λ (n : ℕ). take n l) (length-replicate messageBytes flag)))
     (λ g.
-    let e : f ≡ 223 - length l = omega arith in
-    let a : length (l ++ replicate f flag) ≤ 223 = omega (arith, length-append l (replicate f flag), length-replicate f flag) in
-    take-all 223 (l ++ replicate f flag) a
+    let e : f ≡ messageBytes - length l = omega arith in
+    let a : length (l ++ replicate f flag) ≤ messageBytes = omega (arith, length-append l (replicate f flag), length-replicate f flag) in
+    take-all messageBytes (l ++ replicate f flag) a
     ∙ ap (λ (n : ℕ). l ++ replicate n flag) e
     ∙ sym
-    (copied-fits l (replicate 223 flag) (omega (arith, length-replicate 223 flag)) ∙ ap (λ (t : List ℕ). l ++ t) (drop-flags (length l) 223 (omega arith))))
+    (copied-fits l (replicate messageBytes flag) (omega (arith, length-replicate messageBytes flag)) ∙ ap (λ (t : List ℕ). l ++ t) (drop-flags (length l) messageBytes (omega arith))))
 
-cut-last : (q : ℕ) (bs : List ℕ) → cutUp (suc q) bs ≡ cutUp q bs ++ take 223 (drop (223 * q) bs) ∷ []
+cut-last : (q : ℕ) (bs : List ℕ) → cutUp (suc q) bs ≡ cutUp q bs ++ take messageBytes (drop (messageBytes * q) bs) ∷ []
 cut-last zero bs = refl
 cut-last (suc q) bs =
-    let n : 223 + 223 * q ≡ 223 * suc q = omega arith in
-    ap (λ (l : List (List ℕ)). take 223 bs ∷ l)
-    (cut-last q (drop 223 bs)
-    ∙ ap (λ (x : List ℕ). cutUp q (drop 223 bs) ++ take 223 x ∷ []) (drop-drop (223 * q) 223 bs ∙ ap (λ (m : ℕ). drop m bs) n))
+    let n : messageBytes + messageBytes * q ≡ messageBytes * suc q = omega arith in
+    ap (λ (l : List (List ℕ)). take messageBytes bs ∷ l)
+    (cut-last q (drop messageBytes bs)
+    ∙ ap (λ (x : List ℕ). cutUp q (drop messageBytes bs) ++ take messageBytes x ∷ []) (drop-drop (messageBytes * q) messageBytes bs ∙ ap (λ (m : ℕ). drop m bs) n))
 
 framed-last : (us : List (List ℕ)) (m : List ℕ) → framed (map wordOf (us ++ m ∷ [])) ≡ framed (map wordOf us) ++ (marker ++ wordOf m)
 framed-last [] m = ap (λ (l : List ℕ). marker ++ l) (append-nil (wordOf m))
@@ -196,34 +196,34 @@ framed-last (u ∷ us) m =
     ap (λ (l : List ℕ). marker ++ (wordOf u ++ l)) (framed-last us m)
     ∙ ap (λ (l : List ℕ). marker ++ l) (sym (append-assoc (wordOf u) (framed (map wordOf us)) (marker ++ wordOf m)))
 
-blocks-marked : (bs : List ℕ) (i : ℕ) → 223 * i ≤ length (filled bs) → framed (map wordOf (cutUp i (filled bs))) ≡ firstBlocks bs i
+blocks-marked : (bs : List ℕ) (i : ℕ) → messageBytes * i ≤ length (filled bs) → framed (map wordOf (cutUp i (filled bs))) ≡ firstBlocks bs i
 blocks-marked bs zero h = refl
 blocks-marked bs (suc i) h =
     ap (λ (l : List (List ℕ)). framed (map wordOf l)) (cut-last i (filled bs))
-    ∙ framed-last (cutUp i (filled bs)) (take 223 (drop (223 * i) (filled bs)))
+    ∙ framed-last (cutUp i (filled bs)) (take messageBytes (drop (messageBytes * i) (filled bs)))
     ∙ ap₂ (λ (a m : List ℕ). a ++ (marker ++ wordOf m)) (blocks-marked bs i (omega arith)) (message-is bs i h)
 
-module _ (bs out : List ℕ) (q : ℕ) (e : q ≡ (length bs + fillers (length bs)) / 223) where
+module _ (bs out : List ℕ) (q : ℕ) (e : q ≡ (length bs + fillers (length bs)) / messageBytes) where
   sent-all : firstBlocks bs q ≡ marked bs
   sent-all =
-      let n : q ≡ length (filled bs) / 223 = e ∙ ap (λ (m : ℕ). m / 223) (sym (length-filled bs)) in
+      let n : q ≡ length (filled bs) / messageBytes = e ∙ ap (λ (m : ℕ). m / messageBytes) (sym (length-filled bs)) in
       sym (blocks-marked bs q (omega arith)) ∙ ap (λ (m : ℕ). framed (map wordOf (cutUp m (filled bs)))) n
 
-  sent-length : length (marked bs) ≡ 259 * q
+  sent-length : length (marked bs) ≡ blockBytes * q
   sent-length = ap length (sym sent-all) ∙ length-blocks bs q
 
-  pub send-short : length out < 259 * q → refused 23 out ≡ sending bs out
-  send-short h = wrote-short (marked bs) out (259 * q) sent-length h
+  pub send-short : length out < blockBytes * q → refused 23 out ≡ sending bs out
+  send-short h = wrote-short (marked bs) out (blockBytes * q) sent-length h
 
-  pub send-fits : (i : ℕ) {after : List ℕ} → 259 * q ≤ length out → i ≡ q → after ≡ firstBlocks bs i ++ drop (259 * i) out
-      → outcome (Wrote (259 * q)) after ≡ sending bs out
+  pub send-fits : (i : ℕ) {after : List ℕ} → blockBytes * q ≤ length out → i ≡ q → after ≡ firstBlocks bs i ++ drop (blockBytes * i) out
+      → outcome (Wrote (blockBytes * q)) after ≡ sending bs out
   send-fits i h k p =
-      wrote-fits (marked bs) out (259 * q) sent-length h
-      (p ∙ ap (λ (j : ℕ). firstBlocks bs j ++ drop (259 * j) out) k ∙ ap (λ (l : List ℕ). l ++ drop (259 * q) out) sent-all)
+      wrote-fits (marked bs) out (blockBytes * q) sent-length h
+      (p ∙ ap (λ (j : ℕ). firstBlocks bs j ++ drop (blockBytes * j) out) k ∙ ap (λ (l : List ℕ). l ++ drop (blockBytes * q) out) sent-all)
 
 -- ---- a refused call
 pub marking-keeps : (message out : List ℕ) → Keeps out (marking message out)
-marking-keeps message out = pick-keeps (eqb (length message) 223) out (write-keeps (marker ++ wordOf message) out) (refused-keeps 31 out)
+marking-keeps message out = pick-keeps (eqb (length message) messageBytes) out (write-keeps (marker ++ wordOf message) out) (refused-keeps 31 out)
 
 pub sending-keeps : (bs out : List ℕ) → Keeps out (sending bs out)
 sending-keeps bs out = write-keeps (marked bs) out

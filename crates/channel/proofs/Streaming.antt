@@ -31,9 +31,10 @@ use Rattle.stream.proofs.Streaming.{synchronised, stream-read, from-flag}
 use Rattle.channel.specs.declared.hunting.Hunting.{Hunting}
 use Rattle.channel.specs.Sender.{marker, messageBytes, parityBytes, wordBytes, wordOf, framed}
 use Rattle.channel.specs.Sender.{fillers, filled, cutUp, messagesOf, sentWords, sent}
-use Rattle.channel.specs.Channel.{clean, condition, mend, Event, said, frames, blocks, losses, message, shift, isMarker, zeros}
+use Rattle.channel.specs.Channel.{condition, mend, Event, said, frames, blocks, losses, message, shift, isMarker, zeros}
 use Rattle.channel.specs.Channel.{Chan, hunting, inWord, inMark, start, whole, hunt, grow, step, hears, answers}
 use Rattle.channel.specs.Channel.{IsWord, carried, FirstMarker}
+use Rattle.channel.specs.declared.answer.Condition.the-variants.{Clean as clean}
 use Rattle.channel.proofs.Words.{condition-clean, mend-clean}
 
 -- the last four as bytes, and the marker as the last four
@@ -59,8 +60,9 @@ hears-append s (b ∷ bs) cs =
     let y : List Event × Chan = hears (x .1) cs in
     ap (andThen (step s b)) (λ i t. hears-append t bs cs i) ∙ (λ i. (sym (append-assoc (step s b .0) (x .0) (y .0)) i, y .1))
 
-zero-is-not : {x : ℕ} → _≡_ {A = ℕ} 0 (suc x) → ⊥
-zero-is-not e = omega arith
+-- no byte of a fresh receiver begins a marker
+not-first : {x : ℕ} → x < 0x7D → x ≡ 0x7D → ⊥
+not-first h e = omega arith
 
 word-read : (v w : List ℕ) (f : Hunting) (r : Reading) (cs : List ℕ) → length w < wordBytes → length w + length v ≡ wordBytes
     → hears (inWord f w r) (v ++ cs) ≡ andThen (whole (w ++ v) r .0, inMark f (mend (w ++ v)) 0 (whole (w ++ v) r .1)) (λ t. hears t cs)
@@ -123,7 +125,7 @@ losses-wholes [] r = refl
 losses-wholes (w ∷ ws) r = losses-whole (reads r (message w) .0) (wholes ws (whole w r .1) .0) ∙ losses-wholes ws (whole w r .1)
 
 -- ---- hunting
-is-marker : (f : Hunting) → isMarker f ≡ true → bytesOf f ≡ marker
+pub is-marker : (f : Hunting) → isMarker f ≡ true → bytesOf f ≡ marker
 is-marker f e =
     let p = and-parts _ _ e in
     let q = and-parts _ _ (p .1) in
@@ -148,10 +150,10 @@ from-start : (stray cs : List ℕ) → FirstMarker stray (marker ++ cs) → hear
 from-start stray cs h = hunted stray cs zeros go
   where
     go : (xs ys : List ℕ) → bytesOf zeros ++ (stray ++ (marker ++ cs)) ≡ xs ++ (marker ++ ys) → 4 + length stray ≤ length xs
-    go [] ys e = absurd (zero-is-not (head-eq-of-cons-eq e))
-    go (x ∷ []) ys e = absurd (zero-is-not (head-eq-of-cons-eq (tail-eq-of-cons-eq e)))
-    go (x ∷ y ∷ []) ys e = absurd (zero-is-not (head-eq-of-cons-eq (tail-eq-of-cons-eq (tail-eq-of-cons-eq e))))
-    go (x ∷ y ∷ z ∷ []) ys e = absurd (zero-is-not (head-eq-of-cons-eq (tail-eq-of-cons-eq (tail-eq-of-cons-eq (tail-eq-of-cons-eq e)))))
+    go [] ys e = absurd (not-first (omega arith) (head-eq-of-cons-eq e))
+    go (x ∷ []) ys e = absurd (not-first (omega arith) (head-eq-of-cons-eq (tail-eq-of-cons-eq e)))
+    go (x ∷ y ∷ []) ys e = absurd (not-first (omega arith) (head-eq-of-cons-eq (tail-eq-of-cons-eq (tail-eq-of-cons-eq e))))
+    go (x ∷ y ∷ z ∷ []) ys e = absurd (not-first (omega arith) (head-eq-of-cons-eq (tail-eq-of-cons-eq (tail-eq-of-cons-eq (tail-eq-of-cons-eq e)))))
     go (x ∷ y ∷ z ∷ t ∷ xs) ys e =
         let l = h xs ys (tail-eq-of-cons-eq (tail-eq-of-cons-eq (tail-eq-of-cons-eq (tail-eq-of-cons-eq e)))) in omega arith
 

@@ -22,8 +22,10 @@ use Rattle.repair.proofs.Apart.{checked-is}
 use Rattle.repair.proofs.Promising.{left-length, clean-left, promised-is}
 use Rattle.repair.proofs.Meeting.{repaired-promised}
 use Rattle.channel.specs.Sender.{parityBytes, wordBytes}
-use Rattle.channel.specs.Channel.{Condition, beyond, conditionBy, condition, mend, IsWord}
-use Rattle.channel.specs.Channel.{clean as cleanBlock, repaired as repairedBlock, asMended}
+use Rattle.channel.specs.Channel.{conditionBy, condition, mend, IsWord}
+use Rattle.channel.specs.Channel.{asMended}
+use Rattle.channel.specs.declared.answer.Condition.{Condition}
+use Rattle.channel.specs.declared.answer.Condition.the-variants.{Beyond as beyond, Clean as cleanBlock, Repaired as repairedBlock}
 use Rattle.channel.specs.Called.{mendIn}
 
 pub mend-length : (w : List ℕ) → length (mend w) ≡ length w

@@ -23,11 +23,11 @@ use Rattle.stream.specs.Called.{Held, held, fresh, takeByte, heldOf, sound as s
 use Rattle.channel.specs.declared.hunting.Hunting.{Hunting}
 use Rattle.channel.specs.declared.locked.Locked.{Locked}
 use Rattle.channel.specs.declared.receiver.Receiver.{Receiver}
-use Rattle.channel.specs.declared.receiver.Answer.{Answer}
-use Rattle.channel.specs.declared.receiver.Answer.the-variants.{More, Said, Clean, Repaired, Beyond, LockLost}
-use Rattle.channel.specs.declared.receiver.Hearing.{Hearing}
+use Rattle.channel.specs.declared.answer.Answer.{Answer}
+use Rattle.channel.specs.declared.answer.Answer.the-variants.{More, Said, Block, LockLost}
+use Rattle.channel.specs.declared.answer.Hearing.{Hearing}
 use Rattle.channel.specs.Sender.{messageBytes, wordBytes}
-use Rattle.channel.specs.Channel.{Condition, clean, repaired, beyond, condition, mend}
+use Rattle.channel.specs.Channel.{condition, mend}
 use Rattle.channel.specs.Channel.{Event, said, block, lost, shift, isMarker, zeros, Chan, hunting, inWord, inMark}
 
 -- state, receive buffer and word buffer
@@ -172,17 +172,11 @@ ThereEvent (said a) d = There a (d .recv)
 ThereEvent (block c) d = Unit {0}
 ThereEvent lost d = Unit {0}
 
--- the code's answer to a block
-abbrev pub blockAnswer : Condition → Answer
-blockAnswer clean = Clean
-blockAnswer (repaired n) = Repaired n
-blockAnswer beyond = Beyond
-
 -- the code's answer
 abbrev pub answered : Option Event → Answer
 answered none = More
 answered (some (said t)) = Said (judged t)
-answered (some (block c)) = blockAnswer c
+answered (some (block c)) = Block c
 answered (some lost) = LockLost
 
 -- the code's result of a call

@@ -1,6 +1,6 @@
 -- What a received byte string means on the opportunistic channel (paper 01, "Opportunistic channel"), byte by byte, to a receiver
 -- whose memory has no limit: markers, words, repaired where they are damaged, and the frames in their messages.
--- Condition, condition, mend      a block's answer; that of a word, and the word as it is left: what repair promises (proofs/Words)
+-- condition, mend                 a block's answer, that of a word, and the word as it is left: what repair promises (proofs/Words)
 -- Event, frames, blocks, losses   an answer, and the answers of each kind
 -- Chan, step, hears, answers      the state, one byte, a byte string, all answers of a fresh receiver
 -- wordsGive                       the answers of whole words, in their order
@@ -14,30 +14,26 @@ use lib.Dec.{eqb, ltb}
 use Rattle.base.specs.Calls.{andThen, joined}
 use Rattle.packet.specs.Frame.{Told}
 use Rattle.repair.specs.declared.Mended.{Mended}
-use Rattle.repair.specs.declared.Mended.the-variants.{Clean, Repaired, Beyond, Refused}
+use Rattle.repair.specs.declared.Mended.the-variants as repair
 use Rattle.repair.specs.Way.{repaired as repairedWord}
 use Rattle.stream.specs.Reader.{Reading, waiting, reads}
 use Rattle.channel.specs.Sender.{marker, messageBytes, parityBytes, wordBytes}
 use Rattle.channel.specs.declared.hunting.Hunting.{Hunting}
+use Rattle.channel.specs.declared.answer.Condition.{Condition}
+use Rattle.channel.specs.declared.answer.Condition.the-variants.{Clean, Repaired, Beyond}
 
--- a block's answer: clean; repaired, with the count of changed places; beyond repair
-pub data Condition : Type 0 where
-  clean : Condition
-  repaired : ℕ → Condition
-  beyond : Condition
-
--- by what repair finds: a word of 255 bytes is not refused
+-- a block's answer by what repair finds: a word of 255 bytes is not refused
 abbrev pub conditionBy : Mended → Condition
-conditionBy Clean = clean
-conditionBy (Repaired n) = repaired n
-conditionBy Beyond = beyond
-conditionBy (Refused n) = beyond
+conditionBy repair.Clean = Clean
+conditionBy (repair.Repaired n) = Repaired n
+conditionBy repair.Beyond = Beyond
+conditionBy (repair.Refused n) = Beyond
 
 -- .. and the other way round
 abbrev pub asMended : Condition → Mended
-asMended clean = Clean
-asMended (repaired n) = Repaired n
-asMended beyond = Beyond
+asMended Clean = repair.Clean
+asMended (Repaired n) = repair.Repaired n
+asMended Beyond = repair.Beyond
 
 -- the answer to a word: what repair finds of it, with 32 parity bytes ..
 abbrev pub condition : List ℕ → Condition

@@ -11,8 +11,8 @@ use Rattle.base.specs.Calls.{after}
 use Rattle.base.specs.Choice.{pick}
 use Rattle.channel.specs.declared.hunting.Hunting.{Hunting}
 use Rattle.channel.specs.declared.receiver.Receiver.{Receiver}
-use Rattle.channel.specs.declared.receiver.Hearing.{Hearing}
-use Rattle.channel.specs.declared.receiver.Phase.{Phase}
+use Rattle.channel.specs.declared.answer.Hearing.{Hearing}
+use Rattle.channel.specs.declared.answer.Phase.{Phase}
 use Rattle.channel.specs.declared.hunting.Found.{Found}
 use Rattle.channel.specs.Sender.{wordBytes}
 use Rattle.channel.specs.Channel.{shift, isMarker}

@@ -1,15 +1,18 @@
 //! The opportunistic channel: the sender's marked blocks, and the receiver, at most one answer a call.
+mod answer;
 mod block;
 mod hunting;
 mod locked;
 mod receiver;
 mod sender;
+mod word;
 
+pub use answer::Answer;
+pub use answer::Condition;
+pub use answer::Hearing;
 pub use block::Block;
 pub use hunting::Hunting;
 pub use locked::Locked;
-pub use receiver::Answer;
-pub use receiver::Hearing;
 pub use receiver::Receiver;
 pub use sender::mark;
 pub use sender::send;

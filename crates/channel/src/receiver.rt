@@ -2,10 +2,8 @@
 ghost use mathlib.Core.Path.{_≡_};
 ghost use mathlib.Core.Bool.{true, false};
 ghost use Prim.Native.Nat.{_+_, _≤_, _<_};
-ghost use lib.ListN.{length, take, drop};
-ghost use Rattle.parity.specs.Word.{clean};
-ghost use Rattle.channel.specs.Sender.{messageBytes, parityBytes, wordBytes};
-ghost use Rattle.channel.specs.Channel.{condition, mend};
+ghost use lib.ListN.{length, drop};
+ghost use Rattle.channel.specs.Sender.{messageBytes, wordBytes};
 ghost use Rattle.channel.specs.Called.{
   board,
   counts,
@@ -14,20 +12,20 @@ ghost use Rattle.channel.specs.Called.{
   soundLock,
   sound,
   roomy,
-  mendIn,
-  blockAnswer,
   hearOn,
   hearCall,
   HearingIs,
 };
-ghost use Rattle.channel.specs.Private.{ended, HandedIs, SoughtIs, FilledIs};
+ghost use Rattle.channel.specs.Private.{HandedIs, SoughtIs, FilledIs};
+use crate::answer::Answer;
+use crate::answer::Hearing;
+use crate::answer::Phase;
 use crate::block::Block;
 use crate::hunting::Hunting;
 use crate::locked::Locked;
+use crate::word;
 use base::Refusal;
 use packet::Judged;
-use parity::Checked;
-use repair::Mended;
 use stream::Frame;
 use stream::Heard;
 
@@ -37,129 +35,6 @@ pub struct Receiver {
     pub hunting: Hunting,
     pub lock: Locked,
     pub frame: Frame,
-}
-
-/// What a call answers.
-pub enum Answer {
-    /// More is wanted.
-    More,
-    /// A closed frame, or the call refused.
-    Said(Judged),
-    /// A whole word, clean.
-    Clean,
-    /// A whole word in which so many bytes were put right.
-    Repaired(usize),
-    /// A whole word that is beyond repair.
-    Beyond,
-    LockLost,
-}
-
-/// The result of a call.
-pub struct Hearing {
-    pub answer: Answer,
-    /// Bytes of the piece taken.
-    pub taken: usize,
-    pub receiver: Receiver,
-}
-
-// What a phase of a call gives.
-struct Phase {
-    // It ends the call.
-    done: bool,
-    answer: Answer,
-    taken: usize,
-    receiver: Receiver,
-}
-
-// Whether a word is clean.
-fn is_clean(word: &[u8]) -> bool
-    requires { ⌜ length (now word) ≡ wordBytes ⌝ }
-    ensures { λ r. ⌜ r ≡ clean parityBytes (now (word .entry)) ⌝ }
-{
-    match parity::check(Block::PARITY, word) {
-        Checked::Clean => true,
-        Checked::Damaged => false,
-        Checked::Refused(_) => false,
-    }
-}
-
-// Whether the word is clean whose last n bytes stand in the piece from `at` on: where those are all its bytes, it is checked there.
-fn is_clean_last(word: &[u8], piece: &[u8], at: usize, n: usize) -> bool
-    requires { ⌜ wordBytes ≤ length (now word) ⌝ }
-    requires { ⌜ at + n ≤ length (now piece) ⌝ }
-    requires { ⌜ (n ≡ wordBytes → take wordBytes (drop at (now piece)) ≡ take wordBytes (now word)) ⌝ }
-    ensures { λ r. ⌜ r ≡ clean parityBytes (take wordBytes (now (word .entry))) ⌝ }
-{
-    if n == Block::WORD {
-        let end = at + Block::WORD;
-        return is_clean(&piece[at..end]);
-    }
-    is_clean(&word[0..Block::WORD])
-}
-
-// The answer to a word, which is repaired in its place.
-fn mend(word: &mut [u8]) -> Answer
-    requires { ⌜ length (now word) ≡ wordBytes ⌝ }
-    ensures { λ r. ⌜ (r ≡ blockAnswer (condition (now (word .entry)))) × (now (word .exit) ≡ mend (now (word .entry))) ⌝ }
-{
-    match repair::repair(Block::PARITY, word) {
-        Mended::Clean => Answer::Clean,
-        Mended::Repaired(n) => Answer::Repaired(n),
-        Mended::Beyond => Answer::Beyond,
-        Mended::Refused(_) => Answer::Beyond,
-    }
-}
-
-// The answer to the word at the start of the buffer: a clean one costs the check alone.
-fn settle(word: &mut [u8], piece: &[u8], at: usize, n: usize) -> Answer
-    requires { ⌜ wordBytes ≤ length (now word) ⌝ }
-    requires { ⌜ at + n ≤ length (now piece) ⌝ }
-    requires { ⌜ (n ≡ wordBytes → take wordBytes (drop at (now piece)) ≡ take wordBytes (now word)) ⌝ }
-    ensures { λ r. ⌜ (r ≡ blockAnswer (condition (take wordBytes (now (word .entry))))) × (now (word .exit) ≡ mendIn (now (word .entry))) ⌝ }
-{
-    if is_clean_last(word, piece, at, n) {
-        return Answer::Clean;
-    }
-    mend(&mut word[0..Block::WORD])
-}
-
-impl Phase {
-    // The call goes on with this state, so many bytes later.
-    fn on(taken: usize, receiver: Receiver) -> Self
-        ensures { λ r. ⌜ r ≡ record { done = false; answer = Answer.More; taken = taken; receiver = receiver } ⌝ }
-    {
-        Phase {
-            done: false,
-            answer: Answer::More,
-            taken,
-            receiver,
-        }
-    }
-
-    // The call ends with this answer.
-    fn end(answer: Answer, taken: usize, receiver: Receiver) -> Self
-        ensures { λ r. ⌜ r ≡ record { done = true; answer = answer; taken = taken; receiver = receiver } ⌝ }
-    {
-        Phase {
-            done: true,
-            answer,
-            taken,
-            receiver,
-        }
-    }
-
-    // The call that ends with this phase.
-    fn ended(self) -> Hearing
-        ensures { λ r. ⌜ r ≡ ended self ⌝ }
-    {
-        let answer = self.answer;
-        let receiver = self.receiver;
-        Hearing {
-            answer,
-            taken: self.taken,
-            receiver,
-        }
-    }
 }
 
 impl Receiver {
@@ -360,9 +235,9 @@ impl Receiver {
                 },
             };
         }
-        let answer = settle(word, piece, at, n);
+        let condition = word::settle(word, piece, at, n);
         Hearing {
-            answer,
+            answer: Answer::Block(condition),
             taken,
             receiver: Receiver {
                 locked: true,

@@ -49,7 +49,7 @@ use Rattle.recording.specs.declared.recording.Recording.{Recording}
 use Rattle.recording.specs.declared.recording.Wants.the-variants.{Refused}
 use Rattle.recording.specs.Deck.{Deck}
 use Rattle.recording.specs.Printed.{printed, takes, lastOf, finishing}
-use Rattle.channel.specs.declared.receiver.Answer.{Answer}
+use Rattle.channel.specs.declared.answer.Answer.{Answer}
 use Rattle.listed.specs.Lines.{line, endLine, wrongLine}
 use Rattle.bid.specs.Line.{verdict}
 use Rattle.office.specs.declared.Office.{Office}

@@ -23,7 +23,7 @@ use Rattle.packet.specs.Contents.{payloadLimit}
 use Rattle.packet.specs.Escape.{flag, escape}
 use Rattle.packet.specs.Port.{barred}
 use Rattle.channel.specs.Sender.{marked}
-use Rattle.channel.specs.declared.receiver.Answer.{Answer}
+use Rattle.channel.specs.declared.answer.Answer.{Answer}
 use Rattle.listed.specs.Lines.{line, endLine, wrongLine}
 use Rattle.bid.specs.Line.{feed, lineLimit, noNumber, port, sequence, text, Verdict, noBid, refused, accepted, judged, isBid, verdict}
 use Rattle.office.specs.declared.Office.{Office}

@@ -18,9 +18,10 @@ use Rattle.packet.specs.Frame.{packet, refusal, judgeContents, closedBy, closed
 use Rattle.packet.specs.Port.{class, barred}
 use Rattle.packet.specs.declared.frame.Judged.the-variants.{Packet, Refused}
 use Rattle.channel.specs.Sender.{marker, messageBytes, parityBytes, wordBytes, blockBytes}
-use Rattle.channel.specs.Channel.{Event, said, block, lost, clean, repaired, beyond}
+use Rattle.channel.specs.Channel.{Event, said, block, lost}
+use Rattle.channel.specs.declared.answer.Condition.the-variants.{Clean as clean, Repaired as repaired, Beyond as beyond}
 use Rattle.channel.specs.Called.{freshReceiver}
-use Rattle.channel.specs.declared.receiver.Answer.the-variants.{Said, Clean, Repaired, Beyond, LockLost}
+use Rattle.channel.specs.declared.answer.Answer.the-variants.{Said, Clean, Repaired, Beyond, LockLost}
 use Rattle.listed.specs.Apart as listed
 use Rattle.listed.specs.Lines.{decimal, decimalBy, letter, told, line, lines, count, endLine, wrongLine}
 use Rattle.listed.specs.Listing.{heard as heardAs, totalLine, lastLine, listed as listedAs, listing}

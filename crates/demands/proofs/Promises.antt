@@ -30,8 +30,9 @@ use Rattle.stream.specs.Called as plain
 use Rattle.stream.specs.declared.frame.Heard.the-variants as plain-answer
 use Rattle.channel.specs.Sender.{marking, sending}
 use Rattle.channel.specs.Called.{board, sound, roomy, hearCall, answered}
-use Rattle.channel.specs.Channel.{said, block, lost, clean, repaired, beyond}
-use Rattle.channel.specs.declared.receiver.Answer.the-variants.{More, Said, Clean, Repaired, Beyond, LockLost}
+use Rattle.channel.specs.Channel.{said, block, lost}
+use Rattle.channel.specs.declared.answer.Condition.the-variants.{Clean as clean, Repaired as repaired, Beyond as beyond}
+use Rattle.channel.specs.declared.answer.Answer.the-variants.{More, Said, Clean, Repaired, Beyond, LockLost}
 use Rattle.listed.specs.Lines.{line, endLine, wrongLine}
 use Rattle.listed.specs.declared.Place.the-variants.{Mode}
 use Rattle.recording.specs.Printed as recording

@@ -9,7 +9,9 @@ use lib.ListN.{getD}
 use Rattle.base.specs.Choice.{pick}
 use Rattle.base.specs.Bytes.{Bytes}
 use Rattle.channel.specs.Sender.{parityBytes, wordBytes}
-use Rattle.channel.specs.Channel.{Condition, clean, repaired, IsWord}
+use Rattle.channel.specs.Channel.{IsWord}
+use Rattle.channel.specs.declared.answer.Condition.{Condition}
+use Rattle.channel.specs.declared.answer.Condition.the-variants.{Clean as clean, Repaired as repaired}
 
 -- in how many of n places, from place i on
 unfoldable pub alteredFrom : ℕ → ℕ → List ℕ → List ℕ → ℕ

@@ -13,7 +13,7 @@ use Rattle.base.specs.Private.{Laid}
 use Rattle.base.proofs.Laid.{laid-append, laid-take}
 use Rattle.packet.specs.Port.{class}
 use Rattle.packet.specs.declared.frame.Judged.the-variants.{Packet, Refused}
-use Rattle.channel.specs.declared.receiver.Answer.the-variants.{Repaired}
+use Rattle.channel.specs.declared.answer.Answer.the-variants.{Repaired}
 use Rattle.listed.specs.Lines.{decimal, letter, told, line, endLine, wrongLine, longest}
 use Rattle.lines.proofs.Digits.{wide, last-digit, more-digits, digits-short}
 

@@ -6,7 +6,7 @@ ghost use lib.ListN.{length};
 ghost use Rattle.base.specs.Private.{Laid};
 ghost use Rattle.base.specs.Written.{outcome, write};
 ghost use Rattle.packet.specs.declared.frame.Judged.the-variants.{Packet};
-ghost use Rattle.channel.specs.declared.receiver.Answer.the-variants.{Repaired};
+ghost use Rattle.channel.specs.declared.answer.Answer.the-variants.{Repaired};
 ghost use Rattle.listed.specs.Lines.{decimal, letter, told, line, endLine, wrongLine, longest};
 use base::Refusal;
 use base::Written;

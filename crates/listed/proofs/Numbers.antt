@@ -12,7 +12,7 @@ use Rattle.packet.specs.declared.port.Class.the-variants.{System, Applications,
 use Rattle.packet.specs.declared.frame.Judged.the-variants.{Packet, Refused}
 use Rattle.packet.specs.Escape.{escape, escapeByte, plain, plainScan, right, last, scan}
 use Rattle.packet.specs.Frame.{judgeContents, closedBy, closed, judge}
-use Rattle.channel.specs.declared.receiver.Answer.the-variants.{Said, Clean, Repaired, Beyond, LockLost}
+use Rattle.channel.specs.declared.answer.Answer.the-variants.{Said, Clean, Repaired, Beyond, LockLost}
 use Rattle.listed.specs.declared.Place.the-variants.{Inside, Wrong}
 use Rattle.listed.specs.Apart.{nextAt, inStream, apart}
 use Rattle.listed.specs.Lines.{decimal, decimalBy, letter, told, line, lines, count, endLine, wrongLine}

@@ -10,7 +10,9 @@ use lib.ListN.{length}
 use Rattle.packet.specs.Frame.{Told, packet, refusal}
 use Rattle.stream.specs.Sender.{delivered}
 use Rattle.packet.specs.Contents.{Packet}
-use Rattle.channel.specs.Channel.{Condition, clean, repaired, beyond, Event, said, block, lost, frames, blocks, losses}
+use Rattle.channel.specs.Channel.{Event, said, block, lost, frames, blocks, losses}
+use Rattle.channel.specs.declared.answer.Condition.{Condition}
+use Rattle.channel.specs.declared.answer.Condition.the-variants.{Clean as clean, Repaired as repaired, Beyond as beyond}
 use Rattle.listed.specs.Lines.{isPacket, isRefusal, isDamaged, isLost, count, packetsIn, refusalsIn, damagedIn}
 
 pub packets-counted : (es : List Event) → count isPacket es ≡ packetsIn (frames es)

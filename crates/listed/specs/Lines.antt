@@ -17,10 +17,12 @@ use Rattle.packet.specs.declared.port.Class.the-variants.{System, Applications,
 use Rattle.packet.specs.declared.frame.Judged.{Judged}
 use Rattle.packet.specs.declared.frame.Judged.the-variants.{Packet, Refused}
 use Rattle.packet.specs.Frame.{Told, packet, refusal}
-use Rattle.channel.specs.Channel.{Condition, clean, repaired, beyond, Event}
+use Rattle.channel.specs.Channel.{Event}
+use Rattle.channel.specs.declared.answer.Condition.{Condition}
+use Rattle.channel.specs.declared.answer.Condition.the-variants.{Clean as clean, Repaired as repaired, Beyond as beyond}
 use Rattle.channel.specs.Called.{answered}
-use Rattle.channel.specs.declared.receiver.Answer.{Answer}
-use Rattle.channel.specs.declared.receiver.Answer.the-variants.{More, Said, Clean, Repaired, Beyond, LockLost}
+use Rattle.channel.specs.declared.answer.Answer.{Answer}
+use Rattle.channel.specs.declared.answer.Answer.the-variants.{More, Said, Clean, Repaired, Beyond, LockLost}
 
 -- the digits of n, at most k + 1 of them
 unfoldable pub decimalBy : ℕ → ℕ → List ℕ

@@ -19,7 +19,7 @@ use Rattle.base.proofs.Tests.{by-le}
 use Rattle.base.proofs.Writing.{write-fits, write-short, copied-fits}
 use Rattle.channel.specs.Channel.{Event}
 use Rattle.channel.specs.Called.{sound, roomy}
-use Rattle.channel.specs.declared.receiver.Answer.{Answer}
+use Rattle.channel.specs.declared.answer.Answer.{Answer}
 use Rattle.listed.specs.Lines.{line, longest}
 use Rattle.recording.specs.declared.recording.Totals.{Totals}
 use Rattle.recording.specs.declared.recording.Took.{Took}

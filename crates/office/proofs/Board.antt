@@ -11,7 +11,8 @@ use Rattle.base.proofs.Bytes.{each-append}
 use Rattle.base.proofs.Tests.{by-eq}
 use Rattle.stream.specs.Sender.{Accepted, delivered}
 use Rattle.channel.specs.Sender.{sentWords}
-use Rattle.channel.specs.Channel.{clean, answers, frames, blocks, losses, FirstMarker}
+use Rattle.channel.specs.Channel.{answers, frames, blocks, losses, FirstMarker}
+use Rattle.channel.specs.declared.answer.Condition.the-variants.{Clean as clean}
 use Rattle.channel.proofs.Streaming.{whole-stream}
 use Rattle.bid.specs.Line.{feed, Verdict, noBid, refused, accepted, verdict}
 use Rattle.bid.specs.Input.{linesFrom, linesOf, packets, packetsOf}

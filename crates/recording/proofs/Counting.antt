@@ -12,7 +12,7 @@ use Rattle.base.specs.declared.Written.{Written}
 use Rattle.base.specs.declared.Written.the-variants.{Wrote, Refused}
 use Rattle.base.specs.Written.{Outcome, outcome, write}
 use Rattle.base.proofs.Writing.{room-wrote, room-never}
-use Rattle.channel.specs.declared.receiver.Answer.{Answer}
+use Rattle.channel.specs.declared.answer.Answer.{Answer}
 use Rattle.listed.specs.Apart.{well}
 use Rattle.listed.specs.Lines.{line, one, longest}
 use Rattle.lines.proofs.Short.{line-short}

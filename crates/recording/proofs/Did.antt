@@ -16,7 +16,7 @@ use Rattle.base.specs.Calls.{joined, told, andThen, drain, rest}
 use Rattle.base.proofs.Calls.{law, settled, all-append}
 use Rattle.channel.specs.Channel.{Event}
 use Rattle.channel.specs.Called.{sound, roomy}
-use Rattle.channel.specs.declared.receiver.Answer.{Answer}
+use Rattle.channel.specs.declared.answer.Answer.{Answer}
 use Rattle.listed.specs.Lines.{line, given, lines, longest}
 use Rattle.recording.specs.declared.recording.Totals.{Totals}
 use Rattle.recording.specs.declared.recording.Wants.{Wants}

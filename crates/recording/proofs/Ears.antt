@@ -27,9 +27,9 @@ use Rattle.stream.proofs.Cutting.{read-agrees}
 use Rattle.channel.specs.Channel.{said}
 use Rattle.channel.specs.Called.{Board, board, heldIn, owed, handOn, eatByte, asEvent, hearAll, hearOn, hearCall, HearingIs, sound, roomy, answered}
 use Rattle.channel.specs.declared.receiver.Receiver.{Receiver}
-use Rattle.channel.specs.declared.receiver.Hearing.{Hearing}
-use Rattle.channel.specs.declared.receiver.Answer.{Answer}
-use Rattle.channel.specs.declared.receiver.Answer.the-variants.{More, Said}
+use Rattle.channel.specs.declared.answer.Hearing.{Hearing}
+use Rattle.channel.specs.declared.answer.Answer.{Answer}
+use Rattle.channel.specs.declared.answer.Answer.the-variants.{More, Said}
 use Rattle.channel.proofs.Fine.{fine-of}
 use Rattle.channel.proofs.Cutting.{hand-one, hear-agrees}
 use Rattle.recording.specs.Deck.{Ear, ear, withHeld, owesBy, earOwes, earHand, earEat}

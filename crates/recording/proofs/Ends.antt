@@ -21,7 +21,7 @@ use Rattle.packet.specs.Contents.{rawLimit}
 use Rattle.channel.specs.Sender.{wordBytes}
 use Rattle.channel.specs.Channel.{Event}
 use Rattle.channel.specs.Called.{Board, board, freshReceiver, owedBy}
-use Rattle.channel.specs.declared.receiver.Answer.{Answer}
+use Rattle.channel.specs.declared.answer.Answer.{Answer}
 use Rattle.channel.proofs.Fine.{fine-is, fine-roomy, fine-fresh}
 use Rattle.listed.specs.declared.Place.{Place}
 use Rattle.listed.specs.declared.Place.the-variants.{Mode, Mark, Second, Low, High, Inside, Wrong}

@@ -14,7 +14,7 @@ use lib.ListN.{length, drop}
 use borrow.Author.Tests.{lt-ltb, le-ltb, le-leb, leb-true}
 use Rattle.channel.specs.Channel.{Event}
 use Rattle.channel.specs.Called.{sound, roomy, answered}
-use Rattle.channel.specs.declared.receiver.Answer.{Answer}
+use Rattle.channel.specs.declared.answer.Answer.{Answer}
 use Rattle.base.proofs.Tests.{and-parts}
 use Rattle.listed.specs.declared.Spot.{Spot}
 use Rattle.listed.specs.Lines.{line, given, isPacket, isRefusal, isDamaged, isLost, longest}

@@ -17,10 +17,11 @@ use Rattle.base.specs.Calls.{unless, oneMore, after}
 use Rattle.base.proofs.Calls.{after-none, FitsBy, Fits, fits, inv-hear, hear-eat, hear-end}
 use Rattle.packet.specs.Frame.{packet, refusal}
 use Rattle.stream.proofs.Fine.{fine-take}
-use Rattle.channel.specs.Channel.{clean, repaired, beyond, Event, said, block, lost}
+use Rattle.channel.specs.Channel.{Event, said, block, lost}
+use Rattle.channel.specs.declared.answer.Condition.the-variants.{Clean as clean, Repaired as repaired, Beyond as beyond}
 use Rattle.channel.specs.Called.{Board, board, heldIn, sound, roomy, answered, handOn, Fine}
 use Rattle.channel.specs.declared.receiver.Receiver.{Receiver}
-use Rattle.channel.specs.declared.receiver.Hearing.{Hearing}
+use Rattle.channel.specs.declared.answer.Hearing.{Hearing}
 use Rattle.channel.proofs.Fine.{fine-of, fine-is, fine-roomy, fine-hand, fine-eat}
 use Rattle.listed.specs.declared.Spot.{Spot}
 use Rattle.listed.specs.Apart.{next, inStream}

@@ -14,7 +14,7 @@ use Rattle.base.specs.Choice.{pick}
 use Rattle.base.specs.Written.{Outcome, write}
 use Rattle.channel.specs.Channel.{Event}
 use Rattle.channel.specs.Called.{board, sound, roomy, freshReceiver}
-use Rattle.channel.specs.declared.receiver.Answer.{Answer}
+use Rattle.channel.specs.declared.answer.Answer.{Answer}
 use Rattle.listed.specs.declared.Spot.{Spot}
 use Rattle.listed.specs.Apart.{start, well}
 use Rattle.listed.specs.Lines.{line, given, one, isPacket, isRefusal, isDamaged, isLost, endLine, wrongLine, longest}

@@ -7,7 +7,7 @@ ghost use lib.ListN.{length, drop};
 ghost use Rattle.base.specs.Written.{outcome};
 ghost use Rattle.channel.specs.Called.{sound, roomy};
 ghost use Rattle.listed.specs.Lines.{line, one, isPacket, isRefusal, isDamaged, isLost, longest};
-ghost use Rattle.channel.specs.declared.receiver.Answer.the-variants.{Said};
+ghost use Rattle.channel.specs.declared.answer.Answer.the-variants.{Said};
 ghost use Rattle.recording.specs.declared.recording.Wants.the-variants.{Refused};
 ghost use Rattle.recording.specs.Printed.{noTotals, begins, counted, nearTotals, near, takes, print, TookIs, finishing, deckOf};
 ghost use Rattle.recording.specs.Private.{Below, StepIs};

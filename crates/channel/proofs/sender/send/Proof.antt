@@ -9,9 +9,10 @@ use Rattle.base.proofs.Parts.{tail-is}
 use Rattle.channel.proofs.Sending.{firstBlocks, blocks-next, blocks-room, send-short, send-fits}
 use Rattle.channel.proofs.sender.send.Statement.{statement}
 use Rattle.channel.proofs.sender.send.Tie as tie
+use Rattle.channel.specs.Sender.{blockBytes}
 
 abbrev Inv-loop : tie.InvT-loop
-Inv-loop stream out₀ blocks i₀ out i = (i ≤ blocks) × (length out ≡ length out₀) × (out ≡ firstBlocks stream i ++ drop (259 * i) out₀)
+Inv-loop stream out₀ blocks i₀ out i = (i ≤ blocks) × (length out ≡ length out₀) × (out ≡ firstBlocks stream i ++ drop (blockBytes * i) out₀)
 
 abbrev μ-loop : tie.MeasureT-loop
 μ-loop stream out₀ blocks i₀ out i = blocks - i
@@ -34,7 +35,7 @@ send-spec =
     (omega arith)
     (omega arith)
     (omega arith)
-    (λ c κs. simp tail-is (omega (arith, length-drop (259 * c .before .before .before .loop .i) (c .before .before .before .loop .out))))
+    (λ c κs. simp tail-is (omega (arith, length-drop (blockBytes * c .before .before .before .loop .i) (c .before .before .before .loop .out))))
     (omega arith)
     (omega arith)
     (λ c.

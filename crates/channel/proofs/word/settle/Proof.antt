@@ -1,9 +1,9 @@
--- `channel::receiver::settle` meets its contract.
+-- `channel::word::settle` meets its contract.
 use mathlib.Core.Path.{sym, _∙_}
 use borrow.Author.Needs.{needs}
 use Rattle.channel.proofs.Checks.{settled-clean, settled-mended}
-use Rattle.channel.proofs.receiver.settle.Statement.{statement}
-use Rattle.channel.proofs.receiver.settle.Tie as tie
+use Rattle.channel.proofs.word.settle.Statement.{statement}
+use Rattle.channel.proofs.word.settle.Tie as tie
 
 pub settle-spec : {M : Type 1} → statement M
 settle-spec =

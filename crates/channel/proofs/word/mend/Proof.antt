@@ -1,9 +1,9 @@
--- `channel::receiver::mend` meets its contract: each return by what repair finds.
+-- `channel::word::mend` meets its contract: each return by what repair finds.
 use borrow.Author.Needs.{needs}
 use Rattle.parity.proofs.Values.{bytes-of}
 use Rattle.channel.proofs.Checks.{told-mended}
-use Rattle.channel.proofs.receiver.mend.Statement.{statement}
-use Rattle.channel.proofs.receiver.mend.Tie as tie
+use Rattle.channel.proofs.word.mend.Statement.{statement}
+use Rattle.channel.proofs.word.mend.Tie as tie
 
 pub mend-spec : {M : Type 1} → statement M
 mend-spec =

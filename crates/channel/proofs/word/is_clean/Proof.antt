@@ -1,8 +1,8 @@
--- `channel::receiver::is_clean` meets its contract: a word of 255 bytes is never refused.
+-- `channel::word::is_clean` meets its contract: a word of 255 bytes is never refused.
 use borrow.Author.Needs.{needs}
 use Rattle.channel.proofs.Checks.{told-clean, told-damaged, told-refused}
-use Rattle.channel.proofs.receiver.is_clean.Statement.{statement}
-use Rattle.channel.proofs.receiver.is_clean.Tie as tie
+use Rattle.channel.proofs.word.is_clean.Statement.{statement}
+use Rattle.channel.proofs.word.is_clean.Tie as tie
 
 pub is-clean-spec : {M : Type 1} → statement M
 is-clean-spec =

@@ -1,0 +1,82 @@
+//! What a call on the channel answers.
+ghost use mathlib.Core.Path.{_≡_};
+ghost use mathlib.Core.Bool.{true, false};
+ghost use Rattle.channel.specs.Private.{ended};
+use crate::receiver::Receiver;
+use packet::Judged;
+
+/// How a whole word came in.
+pub enum Condition {
+    Clean,
+    /// So many bytes were put right.
+    Repaired(usize),
+    /// It is beyond repair, and left as it came.
+    Beyond,
+}
+
+/// What a call answers.
+pub enum Answer {
+    /// More is wanted.
+    More,
+    /// A closed frame, or the call refused.
+    Said(Judged),
+    /// A whole word.
+    Block(Condition),
+    LockLost,
+}
+
+/// The result of a call.
+pub struct Hearing {
+    pub answer: Answer,
+    /// Bytes of the piece taken.
+    pub taken: usize,
+    pub receiver: Receiver,
+}
+
+// What a phase of a call gives.
+pub(crate) struct Phase {
+    // It ends the call.
+    pub done: bool,
+    pub answer: Answer,
+    pub taken: usize,
+    pub receiver: Receiver,
+}
+
+impl Phase {
+    // The call goes on with this state, so many bytes later.
+    pub(crate) fn on(taken: usize, receiver: Receiver) -> Self
+        ensures { λ r. ⌜ r ≡ record { done = false; answer = Answer.More; taken = taken; receiver = receiver } ⌝ }
+    {
+        Phase {
+            done: false,
+            answer: Answer::More,
+            taken,
+            receiver,
+        }
+    }
+
+    // The call ends with this answer.
+    pub(crate) fn end(answer: Answer, taken: usize, receiver: Receiver) -> Self
+        ensures { λ r. ⌜ r ≡ record { done = true; answer = answer; taken = taken; receiver = receiver } ⌝ }
+    {
+        Phase {
+            done: true,
+            answer,
+            taken,
+            receiver,
+        }
+    }
+
+    // The call that ends with this phase.
+    pub(crate) fn ended(self) -> Hearing
+        ensures { λ r. ⌜ r ≡ ended self ⌝ }
+    {
+        let answer = self.answer;
+        let receiver = self.receiver;
+        Hearing {
+            answer,
+            taken: self.taken,
+            receiver,
+        }
+    }
+}
