@@ -9,11 +9,11 @@ use lib.ListN.{length, length-append}
 use Rattle.packet.specs.Port.{class}
 use Rattle.packet.specs.declared.frame.Judged.{Judged}
 use Rattle.packet.specs.declared.frame.Judged.the-variants.{Packet, Refused}
-use Rattle.packet.specs.Frame.{packet, refusal}
+use Rattle.packet.specs.Frame.{packet, refusal, delivery}
 use Rattle.channel.specs.Channel.{Event, said, block, lost}
-use Rattle.channel.specs.declared.answer.Condition.the-variants.{Clean as clean, Repaired as repaired, Beyond as beyond}
+use Rattle.channel.specs.declared.answer.Condition.the-variants.{Clean, Repaired, Beyond}
 use Rattle.channel.specs.declared.answer.Answer.{Answer}
-use Rattle.channel.specs.declared.answer.Answer.the-variants.{More, Said, Clean, Repaired, Beyond, LockLost}
+use Rattle.channel.specs.declared.answer.Answer.the-variants.{More, Said, Block, LockLost}
 use Rattle.listed.specs.Lines.{decimal, letter, told, line, given, endLine, wrongLine, longest}
 use Rattle.lines.proofs.Digits.{digits-short}
 
@@ -22,32 +22,33 @@ item-short n k rest h = omega (arith, length-append (decimal n) rest, digits-sho
 
 told-short : (j : Judged) → length (told j) ≤ longest
 unfolding told
-told-short (Packet p s n) =
-    let x = item-short n 3 (32 ∷ letter (class p) ∷ 10 ∷ []) (omega arith) in
-    let y = item-short s 24 (32 ∷ (decimal n ++ 32 ∷ letter (class p) ∷ 10 ∷ [])) (omega arith) in
-    let z = item-short p 45 (32 ∷ (decimal s ++ 32 ∷ (decimal n ++ 32 ∷ letter (class p) ∷ 10 ∷ []))) (omega arith) in
+told-short (Packet d) =
+    let end : List ℕ = 32 ∷ letter (class (d .port)) ∷ 10 ∷ [] in
+    let x = item-short (d .length) 3 end (omega arith) in
+    let y = item-short (d .sequence) 24 (32 ∷ (decimal (d .length) ++ end)) (omega arith) in
+    let z = item-short (d .port) 45 (32 ∷ (decimal (d .sequence) ++ 32 ∷ (decimal (d .length) ++ end))) (omega arith) in
     omega arith
 told-short (Refused n) = let x = item-short n 1 (10 ∷ []) (omega arith) in omega arith
 
 pub line-short : (a : Answer) → length (line a) ≤ longest
 line-short More = omega arith
 line-short (Said j) = told-short j
-line-short Clean = omega arith
-line-short (Repaired n) = let x = item-short n 1 (10 ∷ []) (omega arith) in omega arith
-line-short Beyond = omega arith
+line-short (Block Clean) = omega arith
+line-short (Block (Repaired n)) = let x = item-short n 1 (10 ∷ []) (omega arith) in omega arith
+line-short (Block Beyond) = omega arith
 line-short LockLost = omega arith
 
 told-some : (j : Judged) → 0 < length (told j)
 unfolding told
-told-some (Packet p s n) = omega arith
+told-some (Packet d) = omega arith
 told-some (Refused n) = omega arith
 
 pub line-some : (e : Event) → 0 < length (line (given e))
-line-some (said (packet p s x)) = told-some (Packet p s (length x))
+line-some (said (packet p)) = told-some (Packet (delivery p))
 line-some (said (refusal n)) = told-some (Refused n)
-line-some (block clean) = omega arith
-line-some (block (repaired n)) = omega arith
-line-some (block beyond) = omega arith
+line-some (block Clean) = omega arith
+line-some (block (Repaired n)) = omega arith
+line-some (block Beyond) = omega arith
 line-some lost = omega arith
 
 -- nor has the last line

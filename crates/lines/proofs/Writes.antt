@@ -13,8 +13,8 @@ use Rattle.base.specs.Private.{Laid}
 use Rattle.base.proofs.Laid.{laid-append, laid-take}
 use Rattle.packet.specs.Port.{class}
 use Rattle.packet.specs.declared.frame.Judged.the-variants.{Packet, Refused}
-use Rattle.channel.specs.declared.answer.Answer.the-variants.{Repaired}
-use Rattle.listed.specs.Lines.{decimal, letter, told, line, endLine, wrongLine, longest}
+use Rattle.channel.specs.declared.answer.Condition.the-variants.{Repaired}
+use Rattle.listed.specs.Lines.{decimal, letter, told, endLine, wrongLine, longest, blockLine}
 use Rattle.lines.proofs.Digits.{wide, last-digit, more-digits, digits-short}
 
 laid-one : (l : List ℕ) (at b : ℕ) → Laid l at (b ∷ []) (set l at b) (at + 1)
@@ -54,13 +54,13 @@ pub put-as : {l bs cs after : List ℕ} {end : ℕ} → Put l bs after end → b
 put-as h e = (laid-as (h .0) e, h .1)
 
 packet-parts : (p s n : ℕ)
-    → (80 ∷ 32 ∷ []) ++ (decimal p ++ (32 ∷ [])) ++ (decimal s ++ (32 ∷ [])) ++ (decimal n ++ (32 ∷ [])) ++ (letter (class p) ∷ 10 ∷ []) ≡ told (Packet p s n)
+    → (80 ∷ 32 ∷ []) ++ (decimal p ++ (32 ∷ [])) ++ (decimal s ++ (32 ∷ [])) ++ (decimal n ++ (32 ∷ [])) ++ (letter (class p) ∷ 10 ∷ []) ≡ told (Packet (record { port = p; sequence = s; length = n }))
 unfolding told
 packet-parts p s n = simp append-assoc
 
 pub packet-put : {l l₁ l₂ l₃ l₄ l₅ : List ℕ} {a b c d e : ℕ} (p s n k : ℕ)
     → Laid l 0 (80 ∷ 32 ∷ []) l₁ a → Item l₁ a p 32 l₂ b → Item l₂ b s 32 l₃ c → Item l₃ c n 32 l₄ d
-    → k ≡ letter (class p) → Laid l₄ d (k ∷ 10 ∷ []) l₅ e → Put l (told (Packet p s n)) l₅ e
+    → k ≡ letter (class p) → Laid l₄ d (k ∷ 10 ∷ []) l₅ e → Put l (told (Packet (record { port = p; sequence = s; length = n }))) l₅ e
 packet-put {l₄ = l₄} {l₅ = l₅} {d = d} {e = e} p s n k u v w x h y =
     let z : Laid l₄ d (letter (class p) ∷ 10 ∷ []) l₅ e = subst (λ (m : ℕ). Laid l₄ d (m ∷ 10 ∷ []) l₅ e) h y in (
       laid-as (laid-append (laid-append (laid-append (laid-append u (v .0)) (w .0)) (x .0)) z) (packet-parts p s n),
@@ -74,7 +74,7 @@ refused-put n u v = (laid-append u (v .0), omega (arith, u .ends, v .1))
 pub block-put : {l l₁ l₂ : List ℕ} {a b : ℕ} (k : ℕ) → Laid l 0 (66 ∷ 32 ∷ []) l₁ a → Laid l₁ a (k ∷ 10 ∷ []) l₂ b → Put l (66 ∷ 32 ∷ k ∷ 10 ∷ []) l₂ b
 block-put k u v = (laid-append u v, omega (arith, u .ends, v .ends))
 
-pub repaired-put : {l l₁ l₂ : List ℕ} {a b : ℕ} (n : ℕ) → Laid l 0 (66 ∷ 32 ∷ []) l₁ a → Item l₁ a n 10 l₂ b → Put l (line (Repaired n)) l₂ b
+pub repaired-put : {l l₁ l₂ : List ℕ} {a b : ℕ} (n : ℕ) → Laid l 0 (66 ∷ 32 ∷ []) l₁ a → Item l₁ a n 10 l₂ b → Put l (blockLine (Repaired n)) l₂ b
 repaired-put n u v = (laid-append u (v .0), omega (arith, u .ends, v .1))
 
 end-parts : (n p r d l : ℕ)

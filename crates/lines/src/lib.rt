@@ -6,12 +6,14 @@ ghost use lib.ListN.{length};
 ghost use Rattle.base.specs.Private.{Laid};
 ghost use Rattle.base.specs.Written.{outcome, write};
 ghost use Rattle.packet.specs.declared.frame.Judged.the-variants.{Packet};
-ghost use Rattle.channel.specs.declared.answer.Answer.the-variants.{Repaired};
-ghost use Rattle.listed.specs.Lines.{decimal, letter, told, line, endLine, wrongLine, longest};
+ghost use Rattle.channel.specs.declared.answer.Condition.the-variants.{Repaired};
+ghost use Rattle.listed.specs.Lines.{decimal, letter, told, blockLine, line, endLine, wrongLine, longest};
 use base::Refusal;
 use base::Written;
 use channel::Answer;
+use channel::Condition;
 use packet::Class;
+use packet::Delivery;
 use packet::Judged;
 
 /// Lines.
@@ -72,15 +74,15 @@ fn letter(class: Class) -> u8
 }
 
 // `P port sequence payload-length class`.
-fn put_packet(text: &mut [u8], port: u16, sequence: u16, size: usize) -> usize
+fn put_packet(text: &mut [u8], delivery: Delivery) -> usize
     requires { ⌜ longest ≤ length (now text) ⌝ }
-    ensures { λ r. ⌜ Laid (now (text .entry)) 0 (told (Packet port sequence size)) (now (text .exit)) r × (r ≤ longest) ⌝ }
+    ensures { λ r. ⌜ Laid (now (text .entry)) 0 (told (Packet delivery)) (now (text .exit)) r × (r ≤ longest) ⌝ }
 {
     let a = put_two(text, 0, b'P', b' ');
-    let b = put_item(text, a, port as u64, b' ');
-    let c = put_item(text, b, sequence as u64, b' ');
-    let d = put_item(text, c, size as u64, b' ');
-    put_two(text, d, letter(packet::class_of(port)), b'\n')
+    let b = put_item(text, a, delivery.port as u64, b' ');
+    let c = put_item(text, b, delivery.sequence as u64, b' ');
+    let d = put_item(text, c, delivery.length as u64, b' ');
+    put_two(text, d, letter(packet::class_of(delivery.port)), b'\n')
 }
 
 // That, or `R n`.
@@ -89,11 +91,7 @@ fn put_told(text: &mut [u8], judged: Judged) -> usize
     ensures { λ r. ⌜ Laid (now (text .entry)) 0 (told judged) (now (text .exit)) r × (r ≤ longest) ⌝ }
 {
     match judged {
-        Judged::Packet {
-            port,
-            sequence,
-            length,
-        } => put_packet(text, port, sequence, length),
+        Judged::Packet(delivery) => put_packet(text, delivery),
         Judged::Refused(n) => {
             let a = put_two(text, 0, b'R', b' ');
             put_item(text, a, n as u64, b'\n')
@@ -113,10 +111,22 @@ fn put_block(text: &mut [u8], b: u8) -> usize
 // `B` and the count of changed places.
 fn put_repaired(text: &mut [u8], count: usize) -> usize
     requires { ⌜ longest ≤ length (now text) ⌝ }
-    ensures { λ r. ⌜ Laid (now (text .entry)) 0 (line (Repaired count)) (now (text .exit)) r × (r ≤ longest) ⌝ }
+    ensures { λ r. ⌜ Laid (now (text .entry)) 0 (blockLine (Repaired count)) (now (text .exit)) r × (r ≤ longest) ⌝ }
 {
     let a = put_two(text, 0, b'B', b' ');
     put_item(text, a, count as u64, b'\n')
+}
+
+// A block's line.
+fn put_condition(text: &mut [u8], condition: Condition) -> usize
+    requires { ⌜ longest ≤ length (now text) ⌝ }
+    ensures { λ r. ⌜ Laid (now (text .entry)) 0 (blockLine condition) (now (text .exit)) r × (r ≤ longest) ⌝ }
+{
+    match condition {
+        Condition::Clean => put_block(text, b'0'),
+        Condition::Repaired(count) => put_repaired(text, count),
+        Condition::Beyond => put_block(text, b'X'),
+    }
 }
 
 // An answer's line.
@@ -127,9 +137,7 @@ fn put_line(text: &mut [u8], answer: Answer) -> usize
     match answer {
         Answer::More => 0,
         Answer::Said(judged) => put_told(text, judged),
-        Answer::Clean => put_block(text, b'0'),
-        Answer::Repaired(count) => put_repaired(text, count),
-        Answer::Beyond => put_block(text, b'X'),
+        Answer::Block(condition) => put_condition(text, condition),
         Answer::LockLost => put_two(text, 0, b'L', b'\n'),
     }
 }

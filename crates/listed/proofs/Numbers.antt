@@ -11,8 +11,9 @@ use Rattle.packet.specs.Port.{class}
 use Rattle.packet.specs.declared.port.Class.the-variants.{System, Applications, M, D, Future}
 use Rattle.packet.specs.declared.frame.Judged.the-variants.{Packet, Refused}
 use Rattle.packet.specs.Escape.{escape, escapeByte, plain, plainScan, right, last, scan}
-use Rattle.packet.specs.Frame.{judgeContents, closedBy, closed, judge}
-use Rattle.channel.specs.declared.answer.Answer.the-variants.{Said, Clean, Repaired, Beyond, LockLost}
+use Rattle.packet.specs.Frame.{judgeContents, closedBy, closed, judge, judgeBody}
+use Rattle.channel.specs.declared.answer.Answer.the-variants.{Said, Block, LockLost}
+use Rattle.channel.specs.declared.answer.Condition.the-variants.{Clean, Repaired, Beyond}
 use Rattle.listed.specs.declared.Place.the-variants.{Inside, Wrong}
 use Rattle.listed.specs.Apart.{nextAt, inStream, apart}
 use Rattle.listed.specs.Lines.{decimal, decimalBy, letter, told, line, lines, count, endLine, wrongLine}
@@ -114,12 +115,12 @@ rows =
     []
 
 pub table : map (λ (r : List ℕ × List ℕ). listing (r .0)) rows ≡ map (λ (r : List ℕ × List ℕ). r .1) rows
-unfolding listing listed lastLine heard wrongLine endLine count lines told decimal decimalBy apart inStream nextAt judge closed closedBy judgeContents scan last plainScan right plain escape escapeByte class fcs register entered
+unfolding listing listed lastLine heard wrongLine endLine count lines told decimal decimalBy apart inStream nextAt judge closed closedBy judgeContents judgeBody scan last plainScan right plain escape escapeByte class fcs register entered
 table = refl
 
 -- P, R, B 0, B n, B X, L, E with five different numbers, X; and the five letters
 pub letters : _≡_ {A = List (List ℕ)}
-    (line (Said (Packet (record { port = 20736; sequence = 258; length = 3 }))) ∷ line (Said (Refused 4)) ∷ line Clean ∷ line (Repaired 16) ∷ line Beyond ∷ line LockLost
+    (line (Said (Packet (record { port = 20736; sequence = 258; length = 3 }))) ∷ line (Said (Refused 4)) ∷ line (Block Clean) ∷ line (Block (Repaired 16)) ∷ line (Block Beyond) ∷ line LockLost
     ∷ endLine 5 1 2 3 4 ∷ wrongLine 7 ∷ map letter (System ∷ Applications ∷ M ∷ D ∷ Future ∷ []) ∷ [])
     ((80 ∷ 32 ∷ 50 ∷ 48 ∷ 55 ∷ 51 ∷ 54 ∷ 32 ∷ 50 ∷ 53 ∷ 56 ∷ 32 ∷ 51 ∷ 32 ∷ 77 ∷ 10 ∷ []) ∷ (82 ∷ 32 ∷ 52 ∷ 10 ∷ []) ∷ (66 ∷ 32 ∷ 48 ∷ 10 ∷ []) ∷ (66 ∷ 32 ∷ 49 ∷ 54 ∷ 10 ∷ []) ∷ (66 ∷ 32 ∷ 88 ∷ 10 ∷ []) ∷ (76 ∷ 10 ∷ [])
     ∷ (69 ∷ 32 ∷ 53 ∷ 32 ∷ 49 ∷ 32 ∷ 50 ∷ 32 ∷ 51 ∷ 32 ∷ 52 ∷ 10 ∷ []) ∷ (88 ∷ 32 ∷ 55 ∷ 10 ∷ []) ∷ (83 ∷ 65 ∷ 77 ∷ 68 ∷ 70 ∷ []) ∷ [])

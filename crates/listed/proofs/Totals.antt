@@ -38,7 +38,8 @@ refusals-counted (lost ∷ es) = omega (arith, refusals-counted es)
 pub damaged-counted : (es : List Event) → count isDamaged es ≡ damagedIn (blocks es)
 unfolding count
 damaged-counted [] = refl
-damaged-counted (said t ∷ es) = omega (arith, damaged-counted es)
+damaged-counted (said (packet p) ∷ es) = omega (arith, damaged-counted es)
+damaged-counted (said (refusal n) ∷ es) = omega (arith, damaged-counted es)
 damaged-counted (block clean ∷ es) = omega (arith, damaged-counted es)
 damaged-counted (block (repaired n) ∷ es) = omega (arith, damaged-counted es)
 damaged-counted (block beyond ∷ es) = omega (arith, damaged-counted es)
@@ -47,7 +48,8 @@ damaged-counted (lost ∷ es) = omega (arith, damaged-counted es)
 pub lost-counted : (es : List Event) → count isLost es ≡ losses es
 unfolding count
 lost-counted [] = refl
-lost-counted (said t ∷ es) = omega (arith, lost-counted es)
+lost-counted (said (packet p) ∷ es) = omega (arith, lost-counted es)
+lost-counted (said (refusal n) ∷ es) = omega (arith, lost-counted es)
 lost-counted (block clean ∷ es) = omega (arith, lost-counted es)
 lost-counted (block (repaired n) ∷ es) = omega (arith, lost-counted es)
 lost-counted (block beyond ∷ es) = omega (arith, lost-counted es)

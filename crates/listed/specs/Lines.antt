@@ -1,7 +1,7 @@
 -- The lines of a listing (paper 01, "The listing program"), as ASCII.
 -- decimal              a number without leading zeros
 -- line, lines          an answer's line, and line after line
--- count                how many answers are such
+-- totalOf, count       the total that an answer counts in, and how many answers are such
 -- packetsIn, ..        the same told of the frame answers, and of the block answers
 -- endLine, wrongLine   the last line
 -- longest              no line is longer
@@ -18,11 +18,13 @@ use Rattle.packet.specs.declared.frame.Judged.{Judged}
 use Rattle.packet.specs.declared.frame.Judged.the-variants.{Packet, Refused}
 use Rattle.packet.specs.Frame.{Told, packet, refusal}
 use Rattle.channel.specs.Channel.{Event}
+use Rattle.listed.specs.declared.Total.{Total}
+use Rattle.listed.specs.declared.Total.the-variants.{Packets, Refusals, Damaged, Lost, Nothing}
 use Rattle.channel.specs.declared.answer.Condition.{Condition}
-use Rattle.channel.specs.declared.answer.Condition.the-variants.{Clean as clean, Repaired as repaired, Beyond as beyond}
+use Rattle.channel.specs.declared.answer.Condition.the-variants.{Clean, Repaired, Beyond}
 use Rattle.channel.specs.Called.{answered}
 use Rattle.channel.specs.declared.answer.Answer.{Answer}
-use Rattle.channel.specs.declared.answer.Answer.the-variants.{More, Said, Clean, Repaired, Beyond, LockLost}
+use Rattle.channel.specs.declared.answer.Answer.the-variants.{More, Said, Block, LockLost}
 
 -- the digits of n, at most k + 1 of them
 unfoldable pub decimalBy : ℕ → ℕ → List ℕ
@@ -48,13 +50,17 @@ told (Packet d) =
     80 ∷ 32 ∷ (decimal (d .port) ++ 32 ∷ (decimal (d .sequence) ++ 32 ∷ (decimal (d .length) ++ 32 ∷ letter (class (d .port)) ∷ 10 ∷ [])))
 told (Refused n) = 82 ∷ 32 ∷ (decimal n ++ 10 ∷ [])
 
--- that; `B 0` clean, `B count` repaired, `B X` beyond repair; `L` lock lost; "more wanted" has no line
+-- `B 0` clean, `B count` repaired, `B X` beyond repair
+abbrev pub blockLine : Condition → List ℕ
+blockLine Clean = 66 ∷ 32 ∷ 48 ∷ 10 ∷ []
+blockLine (Repaired n) = 66 ∷ 32 ∷ (decimal n ++ 10 ∷ [])
+blockLine Beyond = 66 ∷ 32 ∷ 88 ∷ 10 ∷ []
+
+-- an answer's line: these; `L` lock lost; "more wanted" has none
 abbrev pub line : Answer → List ℕ
 line More = []
 line (Said j) = told j
-line Clean = 66 ∷ 32 ∷ 48 ∷ 10 ∷ []
-line (Repaired n) = 66 ∷ 32 ∷ (decimal n ++ 10 ∷ [])
-line Beyond = 66 ∷ 32 ∷ 88 ∷ 10 ∷ []
+line (Block c) = blockLine c
 line LockLost = 76 ∷ 10 ∷ []
 
 -- the answer that a call gives of an event
@@ -70,43 +76,60 @@ unfoldable pub lines : List Event → List ℕ
 lines [] = []
 lines (e ∷ es) = line (given e) ++ lines es
 
--- a delivered packet
+-- the total that an answer counts in
+abbrev pub totalOf : Answer → Total
+totalOf More = Nothing
+totalOf (Said (Packet d)) = Packets
+totalOf (Said (Refused n)) = Refusals
+totalOf (Block Clean) = Nothing
+totalOf (Block (Repaired n)) = Nothing
+totalOf (Block Beyond) = Damaged
+totalOf LockLost = Lost
+
+-- a delivered packet ..
+abbrev pub inPackets : Total → Bool
+inPackets Packets = true
+inPackets Refusals = false
+inPackets Damaged = false
+inPackets Lost = false
+inPackets Nothing = false
+
+-- .. a frame refusal ..
+abbrev pub inRefusals : Total → Bool
+inRefusals Packets = false
+inRefusals Refusals = true
+inRefusals Damaged = false
+inRefusals Lost = false
+inRefusals Nothing = false
+
+-- .. a damaged block, one beyond repair ..
+abbrev pub inDamaged : Total → Bool
+inDamaged Packets = false
+inDamaged Refusals = false
+inDamaged Damaged = true
+inDamaged Lost = false
+inDamaged Nothing = false
+
+-- .. or a lost lock
+abbrev pub inLost : Total → Bool
+inLost Packets = false
+inLost Refusals = false
+inLost Damaged = false
+inLost Lost = true
+inLost Nothing = false
+
+-- a delivered packet, a frame refusal, a damaged block, a lost lock, by its total
 abbrev pub isPacket : Answer → Bool
-isPacket More = false
-isPacket (Said (Packet d)) = true
-isPacket (Said (Refused n)) = false
-isPacket Clean = false
-isPacket (Repaired n) = false
-isPacket Beyond = false
-isPacket LockLost = false
+isPacket a = inPackets (totalOf a)
 
--- a frame refusal
 abbrev pub isRefusal : Answer → Bool
-isRefusal More = false
-isRefusal (Said (Packet d)) = false
-isRefusal (Said (Refused n)) = true
-isRefusal Clean = false
-isRefusal (Repaired n) = false
-isRefusal Beyond = false
-isRefusal LockLost = false
+isRefusal a = inRefusals (totalOf a)
 
--- a damaged block: one beyond repair
 abbrev pub isDamaged : Answer → Bool
-isDamaged More = false
-isDamaged (Said j) = false
-isDamaged Clean = false
-isDamaged (Repaired n) = false
-isDamaged Beyond = true
-isDamaged LockLost = false
+isDamaged a = inDamaged (totalOf a)
 
--- a lost lock
 abbrev pub isLost : Answer → Bool
-isLost More = false
-isLost (Said j) = false
-isLost Clean = false
-isLost (Repaired n) = false
-isLost Beyond = false
-isLost LockLost = true
+isLost a = inLost (totalOf a)
 
 -- one where the test holds
 abbrev pub one : Bool → ℕ
@@ -132,9 +155,9 @@ refusalsIn (refusal n ∷ ts) = suc (refusalsIn ts)
 -- of the block answers: how many are beyond repair
 abbrev pub damagedIn : List Condition → ℕ
 damagedIn [] = 0
-damagedIn (clean ∷ cs) = damagedIn cs
-damagedIn (repaired n ∷ cs) = damagedIn cs
-damagedIn (beyond ∷ cs) = suc (damagedIn cs)
+damagedIn (Clean ∷ cs) = damagedIn cs
+damagedIn (Repaired n ∷ cs) = damagedIn cs
+damagedIn (Beyond ∷ cs) = suc (damagedIn cs)
 
 -- `E stream-bytes packets frame-refusals damaged-blocks lost-locks`
 unfoldable pub endLine : ℕ → ℕ → ℕ → ℕ → ℕ → List ℕ

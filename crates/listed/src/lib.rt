@@ -1,4 +1,4 @@
-//! A recording taken apart: where it stands. What a listing prints is defined in specs/.
+//! A recording taken apart: where it stands, and what is counted of it. What a listing prints is defined in specs/.
 
 /// What the next byte of a recording is.
 pub enum Place {
@@ -24,4 +24,15 @@ pub struct Spot {
     pub offset: u64,
     /// Stream bytes among them.
     pub count: u64,
+}
+
+/// The total that an answer counts in.
+pub enum Total {
+    Packets,
+    Refusals,
+    /// Blocks beyond repair.
+    Damaged,
+    Lost,
+    /// None.
+    Nothing,
 }

@@ -18,7 +18,6 @@ use Rattle.base.proofs.Calls.{after-none, FitsBy, Fits, fits, inv-hear, hear-ea
 use Rattle.packet.specs.Frame.{packet, refusal}
 use Rattle.stream.proofs.Fine.{fine-take}
 use Rattle.channel.specs.Channel.{Event, said, block, lost}
-use Rattle.channel.specs.declared.answer.Condition.the-variants.{Clean as clean, Repaired as repaired, Beyond as beyond}
 use Rattle.channel.specs.Called.{Board, board, heldIn, sound, roomy, answered, handOn, Fine}
 use Rattle.channel.specs.declared.receiver.Receiver.{Receiver}
 use Rattle.channel.specs.declared.answer.Hearing.{Hearing}
@@ -67,11 +66,8 @@ one-after r = let e : suc (r .1) ≡ 1 + r .1 = omega arith in λ i. (r .0, e i,
 -- "more wanted" is told exactly where there is no answer
 pub more-none : (o : Option Event) → isMore (answered o) ≡ true → o ≡ none
 more-none none e = refl
-more-none (some (said (packet p s x))) e = absurd (true≢false (sym e))
-more-none (some (said (refusal n))) e = absurd (true≢false (sym e))
-more-none (some (block clean)) e = absurd (true≢false (sym e))
-more-none (some (block (repaired n))) e = absurd (true≢false (sym e))
-more-none (some (block beyond)) e = absurd (true≢false (sym e))
+more-none (some (said t)) e = absurd (true≢false (sym e))
+more-none (some (block c)) e = absurd (true≢false (sym e))
 more-none (some lost) e = absurd (true≢false (sym e))
 
 pub more-some : (o : Option Event) → isMore (answered o) ≡ false → (e : Event) × (o ≡ some e)

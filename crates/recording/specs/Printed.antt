@@ -16,8 +16,9 @@ use Rattle.channel.specs.Channel.{Event}
 use Rattle.channel.specs.Called.{board, sound, roomy, freshReceiver}
 use Rattle.channel.specs.declared.answer.Answer.{Answer}
 use Rattle.listed.specs.declared.Spot.{Spot}
+use Rattle.listed.specs.declared.Total.{Total}
 use Rattle.listed.specs.Apart.{start, well}
-use Rattle.listed.specs.Lines.{line, given, one, isPacket, isRefusal, isDamaged, isLost, endLine, wrongLine, longest}
+use Rattle.listed.specs.Lines.{line, given, one, totalOf, inPackets, inRefusals, inDamaged, inLost, endLine, wrongLine, longest}
 use Rattle.recording.specs.declared.tape.Tape.{Tape}
 use Rattle.recording.specs.declared.recording.Totals.{Totals}
 use Rattle.recording.specs.declared.recording.Recording.{Recording}
@@ -38,14 +39,18 @@ startTape = record { spot = start; channel = false; receiver = freshReceiver }
 abbrev pub begins : Recording
 begins = record { tape = startTape; totals = noTotals }
 
+-- one more in a total
+abbrev pub countedIn : Totals → Total → Totals
+countedIn t x = record {
+  packets = t .packets + one (inPackets x);
+  refused = t .refused + one (inRefusals x);
+  damaged = t .damaged + one (inDamaged x);
+  lost = t .lost + one (inLost x);
+}
+
 -- an answer is counted
 abbrev pub counted : Totals → Answer → Totals
-counted t a = record {
-  packets = t .packets + one (isPacket a);
-  refused = t .refused + one (isRefusal a);
-  damaged = t .damaged + one (isDamaged a);
-  lost = t .lost + one (isLost a);
-}
+counted t a = countedIn t (totalOf a)
 
 -- what is wanted next, the bytes taken, the bytes printed, and how the deck and the totals stand then
 pub record Printed : Type 0 where

@@ -16,7 +16,7 @@ use Rattle.channel.specs.Channel.{Event}
 use Rattle.channel.specs.Called.{board, sound, roomy, answered}
 use Rattle.channel.specs.declared.receiver.Receiver.{Receiver}
 use Rattle.channel.specs.declared.answer.Answer.{Answer}
-use Rattle.channel.specs.declared.answer.Answer.the-variants.{More, Said, Clean, Repaired, Beyond, LockLost}
+use Rattle.channel.specs.declared.answer.Answer.the-variants.{More, Said, Block, LockLost}
 use Rattle.channel.specs.declared.answer.Hearing.{Hearing}
 use Rattle.listed.specs.declared.Place.{Place}
 use Rattle.listed.specs.declared.Place.the-variants.{Mode, Mark, Second, Low, High, Inside, Wrong}
@@ -68,9 +68,7 @@ PlainIs s l bs r l′ = (k : List ℕ) → EarIs false (earHear (ear false (boar
 abbrev pub isMore : Answer → Bool
 isMore More = true
 isMore (Said j) = false
-isMore Clean = false
-isMore (Repaired n) = false
-isMore Beyond = false
+isMore (Block c) = false
 isMore LockLost = false
 
 -- behind a byte that is no stream byte

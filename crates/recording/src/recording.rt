@@ -6,8 +6,8 @@ ghost use Prim.Native.Nat.{_≤_, _<_};
 ghost use lib.ListN.{length, drop};
 ghost use Rattle.base.specs.Written.{outcome};
 ghost use Rattle.channel.specs.Called.{sound, roomy};
-ghost use Rattle.listed.specs.Lines.{line, one, isPacket, isRefusal, isDamaged, isLost, longest};
-ghost use Rattle.channel.specs.declared.answer.Answer.the-variants.{Said};
+ghost use Rattle.listed.specs.Lines.{line, totalOf, longest};
+ghost use Rattle.channel.specs.declared.answer.Answer.the-variants.{Said, Block};
 ghost use Rattle.recording.specs.declared.recording.Wants.the-variants.{Refused};
 ghost use Rattle.recording.specs.Printed.{noTotals, begins, counted, nearTotals, near, takes, print, TookIs, finishing, deckOf};
 ghost use Rattle.recording.specs.Private.{Below, StepIs};
@@ -17,8 +17,10 @@ use crate::tape::Tape;
 use base::Refusal;
 use base::Written;
 use channel::Answer;
+use channel::Condition;
 use channel::Receiver;
 use lines::Line;
+use listed::Total;
 use packet::Judged;
 
 /// What is counted of a recording's answers.
@@ -65,95 +67,37 @@ struct Step {
     next: Recording,
 }
 
-// Whether a frame's answer is a packet.
-fn says_packet(judged: Judged) -> bool
-    ensures { λ r. ⌜ r ≡ isPacket (Said judged) ⌝ }
+// The total that a frame's answer counts in ..
+fn total_of_frame(judged: Judged) -> Total
+    ensures { λ r. ⌜ r ≡ totalOf (Said judged) ⌝ }
 {
     match judged {
-        Judged::Packet {
-            port: _,
-            sequence: _,
-            length: _,
-        } => true,
-        Judged::Refused(_) => false,
+        Judged::Packet(_) => Total::Packets,
+        Judged::Refused(_) => Total::Refusals,
     }
 }
 
-// Whether it is a refusal.
-fn says_refusal(judged: Judged) -> bool
-    ensures { λ r. ⌜ r ≡ isRefusal (Said judged) ⌝ }
+// .. a block's ..
+fn total_of_block(condition: Condition) -> Total
+    ensures { λ r. ⌜ r ≡ totalOf (Block condition) ⌝ }
 {
-    match judged {
-        Judged::Packet {
-            port: _,
-            sequence: _,
-            length: _,
-        } => false,
-        Judged::Refused(_) => true,
+    match condition {
+        Condition::Clean => Total::Nothing,
+        Condition::Repaired(_) => Total::Nothing,
+        Condition::Beyond => Total::Damaged,
     }
 }
 
-// A delivered packet.
-fn is_packet(answer: Answer) -> bool
-    ensures { λ r. ⌜ r ≡ isPacket answer ⌝ }
+// .. and any.
+fn total_of(answer: Answer) -> Total
+    ensures { λ r. ⌜ r ≡ totalOf answer ⌝ }
 {
     match answer {
-        Answer::More => false,
-        Answer::Said(judged) => says_packet(judged),
-        Answer::Clean => false,
-        Answer::Repaired(_) => false,
-        Answer::Beyond => false,
-        Answer::LockLost => false,
+        Answer::More => Total::Nothing,
+        Answer::Said(judged) => total_of_frame(judged),
+        Answer::Block(condition) => total_of_block(condition),
+        Answer::LockLost => Total::Lost,
     }
-}
-
-// A frame refusal.
-fn is_refusal(answer: Answer) -> bool
-    ensures { λ r. ⌜ r ≡ isRefusal answer ⌝ }
-{
-    match answer {
-        Answer::More => false,
-        Answer::Said(judged) => says_refusal(judged),
-        Answer::Clean => false,
-        Answer::Repaired(_) => false,
-        Answer::Beyond => false,
-        Answer::LockLost => false,
-    }
-}
-
-// A damaged block: one beyond repair.
-fn is_damaged(answer: Answer) -> bool
-    ensures { λ r. ⌜ r ≡ isDamaged answer ⌝ }
-{
-    match answer {
-        Answer::More => false,
-        Answer::Said(_) => false,
-        Answer::Clean => false,
-        Answer::Repaired(_) => false,
-        Answer::Beyond => true,
-        Answer::LockLost => false,
-    }
-}
-
-// A lost lock.
-fn is_lost(answer: Answer) -> bool
-    ensures { λ r. ⌜ r ≡ isLost answer ⌝ }
-{
-    match answer {
-        Answer::More => false,
-        Answer::Said(_) => false,
-        Answer::Clean => false,
-        Answer::Repaired(_) => false,
-        Answer::Beyond => false,
-        Answer::LockLost => true,
-    }
-}
-
-// One where the test holds.
-fn one(t: bool) -> u64
-    ensures { λ r. ⌜ r ≡ one t ⌝ }
-{
-    if t { 1 } else { 0 }
 }
 
 // An answer's line, where there is room for any.
@@ -185,11 +129,32 @@ impl Totals {
         requires { ⌜ Below self ⌝ }
         ensures { λ r. ⌜ r ≡ counted self answer ⌝ }
     {
-        Totals {
-            packets: self.packets + one(is_packet(answer)),
-            refused: self.refused + one(is_refusal(answer)),
-            damaged: self.damaged + one(is_damaged(answer)),
-            lost: self.lost + one(is_lost(answer)),
+        match total_of(answer) {
+            Total::Packets => Totals {
+                packets: self.packets + 1,
+                refused: self.refused,
+                damaged: self.damaged,
+                lost: self.lost,
+            },
+            Total::Refusals => Totals {
+                packets: self.packets,
+                refused: self.refused + 1,
+                damaged: self.damaged,
+                lost: self.lost,
+            },
+            Total::Damaged => Totals {
+                packets: self.packets,
+                refused: self.refused,
+                damaged: self.damaged + 1,
+                lost: self.lost,
+            },
+            Total::Lost => Totals {
+                packets: self.packets,
+                refused: self.refused,
+                damaged: self.damaged,
+                lost: self.lost + 1,
+            },
+            Total::Nothing => self,
         }
     }
 

@@ -47,9 +47,7 @@ pub(crate) fn is_more(answer: Answer) -> bool
     match answer {
         Answer::More => true,
         Answer::Said(_) => false,
-        Answer::Clean => false,
-        Answer::Repaired(_) => false,
-        Answer::Beyond => false,
+        Answer::Block(_) => false,
         Answer::LockLost => false,
     }
 }
