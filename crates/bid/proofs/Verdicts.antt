@@ -33,21 +33,21 @@ use Rattle.bid.proofs.Reading.{bid-no-port, bid-no-sequence, bid-both}
 module _ (p : Packet) where
   pub judged-empty : length (p .payload) ≡ 0 → judged p ≡ refused 20
   unfolding judged
-  judged-empty = refusing-empty (p .port) (p .payload) refused (accepted p)
+  judged-empty = refusing-empty p refused (accepted p)
 
   module _ (some : length (p .payload) ≡ 0 → ⊥) where
     pub judged-long : payloadLimit < length (escape (p .payload)) → judged p ≡ refused 21
     unfolding judged
-    judged-long = refusing-long (p .port) (p .payload) refused (accepted p) some
+    judged-long = refusing-long p refused (accepted p) some
 
     module _ (short : length (escape (p .payload)) ≤ payloadLimit) where
       pub judged-barred : barred (p .port) ≡ true → judged p ≡ refused 22
       unfolding judged
-      judged-barred = refusing-barred (p .port) (p .payload) refused (accepted p) some short
+      judged-barred = refusing-barred p refused (accepted p) some short
 
       pub judged-free : barred (p .port) ≡ false → judged p ≡ accepted p
       unfolding judged
-      judged-free = refusing-free (p .port) (p .payload) refused (accepted p) some short
+      judged-free = refusing-free p refused (accepted p) some short
 
 -- the packet of a line
 abbrev pub bidOf : List ℕ → Packet

@@ -13,7 +13,7 @@ use lib.ListN.{length, drop}
 use Rattle.base.specs.Choice.{pick}
 use Rattle.base.specs.UpTo.{upTo}
 use Rattle.packet.specs.Sender.{refusing}
-use Rattle.packet.specs.Contents.{Packet}
+use Rattle.packet.specs.Contents.{Packet, payloadLimit}
 use Rattle.bid.specs.declared.Found.{Found}
 use Rattle.bid.specs.declared.Found.the-variants.{Bid, NoBid}
 
@@ -51,9 +51,13 @@ noNumber = 65536
 unfoldable pub numberFrom : ℕ → List ℕ → ℕ
 numberFrom n w = pick (digits w && ltb (value n w) noNumber) (value n w) noNumber
 
+-- digits of a number, at most
+abbrev pub most : ℕ
+most = 5
+
 -- one to five digits, at most 65,535
 unfoldable pub number : List ℕ → ℕ
-number w = pick (leb 1 (length w) && leb (length w) 5) (numberFrom 0 w) noNumber
+number w = pick (leb 1 (length w) && leb (length w) most) (numberFrom 0 w) noNumber
 
 -- up to the first space
 abbrev pub port : List ℕ → ℕ
@@ -75,7 +79,7 @@ pub data Verdict : Type 0 where
 
 -- what it says of a packet: 20, 21 and 22 as where one is written
 unfoldable pub judged : Packet → Verdict
-judged p = refusing (p .port) (p .payload) refused (accepted p)
+judged p = refusing p refused (accepted p)
 
 -- both numbers are there
 abbrev pub isBid : List ℕ → Bool
@@ -87,7 +91,7 @@ verdict l = pick (isBid l) (judged (record { port = port l; sequence = sequence 
 
 -- so many first bytes of a line decide what it is: two numbers with their spaces, and a text too long by one byte
 abbrev pub lineLimit : ℕ
-lineLimit = 8205
+lineLimit = 2 * (most + 1) + (payloadLimit + 1)
 
 -- where the text begins
 abbrev pub textAt : List ℕ → ℕ

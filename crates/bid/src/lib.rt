@@ -1,6 +1,7 @@
 //! A line of the office's input, `PORT SEQUENCE TEXT`, read.
 ghost use mathlib.Core.Path.{_≡_};
 ghost use Rattle.bid.specs.Line.{number, numberFrom, reading};
+use packet::Packet;
 
 /// What a line is read as.
 pub enum Found {
@@ -31,7 +32,7 @@ impl Line {
     pub const NO_NUMBER: u32 = 65536;
 
     /// So many first bytes of a line tell what the sender says of it.
-    pub const LONGEST: usize = 8205;
+    pub const LONGEST: usize = 2 * (Self::DIGITS + 1) + Packet::PAYLOAD + 1;
 }
 
 // The value of digits.

@@ -28,7 +28,7 @@ use Rattle.repair.specs.Promise.{Promised}
 use Rattle.interleaver.specs.Matrix.{whole, turned, turning}
 use Rattle.interleaver.proofs.Round.{length-turned}
 use Rattle.interleaver.proofs.Turning.{turning-keeps}
-use Rattle.packet.specs.Contents.{payloadLimit, rawLimit}
+use Rattle.packet.specs.Contents.{Packet, payloadLimit, rawLimit}
 use Rattle.packet.specs.Escape.{flag, escape, plain}
 use Rattle.packet.specs.Port.{barred}
 use Rattle.packet.specs.Frame.{refusal, closed, judging, judge}
@@ -127,26 +127,26 @@ pub finish-refusals : (r : Recording) (out : List ℕ) → Exact ByCall (finishi
 finish-refusals r out = wrote (lastOf r) out _ refl
 
 -- a packet written
-pub write-refusals : (port sequence : ℕ) (payload out : List ℕ) → Exact ByCall (writing port sequence payload out)
-    ((20, length payload ≡ 0) ∷  -- payload empty
-    (21, payloadLimit < length (escape payload)) ∷  -- payload above 8,192 bytes as escaped
-    (22, Unusable port) ∷  -- port 7D00-7EFF
-    (23, length out < length (sent port sequence payload)) ∷  -- output shorter than the result
+pub write-refusals : (p : Packet) (out : List ℕ) → Exact ByCall (writing p out)
+    ((20, length (p .payload) ≡ 0) ∷  -- payload empty
+    (21, payloadLimit < length (escape (p .payload))) ∷  -- payload above 8,192 bytes as escaped
+    (22, Unusable (p .port)) ∷  -- port 7D00-7EFF
+    (23, length out < length (sent p)) ∷  -- output shorter than the result
     [])
 unfolding writing
-write-refusals port sequence payload out =
-    row ByCall (eqb (length payload) 0) (refuses 20 out) (eqb-true _ _) (eqb-false _ _)
-    (row ByCall (ltb payloadLimit (length (escape payload))) (refuses 21 out) (ltb-true _ _) (not-less _ _)
-    (row ByCall (barred port) (refuses 22 out) (barred-is port) (free-is port) (wrote (sent port sequence payload) out _ refl)))
+write-refusals p out =
+    row ByCall (eqb (length (p .payload)) 0) (refuses 20 out) (eqb-true _ _) (eqb-false _ _)
+    (row ByCall (ltb payloadLimit (length (escape (p .payload)))) (refuses 21 out) (ltb-true _ _) (not-less _ _)
+    (row ByCall (barred (p .port)) (refuses 22 out) (barred-is (p .port)) (free-is (p .port)) (wrote (sent p) out _ refl)))
 
 -- a stream begun, and a packet appended to one
 pub begin-refusals : (out : List ℕ) → Exact ByCall (write (flag ∷ []) out) ((23, length out < 1) ∷ [])
 begin-refusals out = wrote (flag ∷ []) out 1 refl
 
-pub append-refusals : (at port sequence : ℕ) (payload out : List ℕ) → Exact ByCall (appending at port sequence payload out)
-    ((20, length payload ≡ 0) ∷ (21, payloadLimit < length (escape payload)) ∷ (22, Unusable port)
-    ∷ (23, length (drop at out) < length (sent port sequence payload)) ∷ [])
-append-refusals at port sequence payload out = record { says = write-refusals port sequence payload (drop at out) .says }
+pub append-refusals : (at : ℕ) (p : Packet) (out : List ℕ) → Exact ByCall (appending at p out)
+    ((20, length (p .payload) ≡ 0) ∷ (21, payloadLimit < length (escape (p .payload))) ∷ (22, Unusable (p .port))
+    ∷ (23, length (drop at out) < length (sent p)) ∷ [])
+append-refusals at p out = record { says = write-refusals p (drop at out) .says }
 
 -- parity made, and a word checked
 pub make-refusals : (r : ℕ) (message out : List ℕ) → Exact ByCall (made r message out)
@@ -237,13 +237,13 @@ pub line-refusals : (l : List ℕ) → Exact ByLine (verdict l) (lineRows l)
 line-refusals = line-exact
 
 -- ---- "A refused call changes no lent memory": a call that writes leaves the output as it was ..
-pub write-keeps-out : (port sequence : ℕ) (payload out : List ℕ) → Keeps out (writing port sequence payload out)
+pub write-keeps-out : (p : Packet) (out : List ℕ) → Keeps out (writing p out)
 write-keeps-out = writing-keeps
 
 pub begin-keeps-out : (out : List ℕ) → Keeps out (write (flag ∷ []) out)
 begin-keeps-out out = write-keeps (flag ∷ []) out
 
-pub append-keeps-out : (at port sequence : ℕ) (payload out : List ℕ) → Keeps out (appending at port sequence payload out)
+pub append-keeps-out : (at : ℕ) (p : Packet) (out : List ℕ) → Keeps out (appending at p out)
 append-keeps-out = appending-keeps
 
 pub make-keeps-out : (r : ℕ) (message out : List ℕ) → Keeps out (made r message out)

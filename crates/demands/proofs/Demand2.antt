@@ -42,7 +42,7 @@ use Rattle.interleaver.proofs.Round.{passed, output-at, restored-interleaved, i
 use Rattle.packet.specs.Escape.{flag}
 use Rattle.packet.specs.Port.{class}
 use Rattle.packet.proofs.Classes.{from-0000, from-0401, from-5100, from-5101, from-5201, from-5208, from-5300, from-7F00, from-FF00}
-use Rattle.packet.specs.Frame.{judged, closed, part}
+use Rattle.packet.specs.Frame.{delivery, judged, closed, part}
 use Rattle.packet.specs.Sender.{writing}
 use Rattle.packet.specs.declared.frame.Judged.the-variants.{Packet as Delivered}
 use Rattle.stream.specs.Reader.{waiting, inside, reads}
@@ -77,7 +77,7 @@ round-trip = packet-back
 -- .. and in the code's answer: a frame of its raw bytes, wherever they came from, is judged to have its port, its sequence and its length,
 -- and the part of the receive buffer that is handed out is its payload
 pub round-answer : (p : Packet) → Accepted p → (recv : List ℕ) → take (length (rawOf p)) recv ≡ rawOf p
-    → (judged (closed recv (length (rawOf p)) .told) ≡ Delivered (p .port) (p .sequence) (length (p .payload)))
+    → (judged (closed recv (length (rawOf p)) .told) ≡ Delivered (delivery p))
     × (part (closed recv (length (rawOf p)) .recv) (length (p .payload)) ≡ p .payload)
 round-answer = judged-back
 

@@ -7,22 +7,23 @@ use Prim.Native.Nat.{ℕ, suc, _-_, _≤_, _<_}
 use native.Mathlib.Omega.{arith}
 use mathlib.Core.Path.{_≡_, refl, sym, ap, subst, _∙_}
 use mathlib.Core.Bool.{Bool, true, false}
-use mathlib.Core.Logic.{_↔_}
-use mathlib.Core.List.{List, _∷_, _++_}
+use mathlib.Core.Logic.{_↔_, _≢_}
+use mathlib.Core.List.{List, [], _∷_, _++_}
 use lib.Dec.{eqb, ltb, leb}
 use lib.ListN.{length, take, drop, getD}
-use lib.Seq.{take-all}
-use borrow.Author.Tests.{eqb-true, eqb-false, ltb-true, leb-true, leb-false}
+use lib.Seq.{take-all, getD-take}
+use borrow.Author.Tests.{eqb-true, eqb-false, ltb-true, ltb-false, leb-true, leb-false}
 use Rattle.base.specs.Choice.{pick}
 use Rattle.fcs.specs.Fcs.{fcs}
 use Rattle.packet.specs.Port.{barred}
-use Rattle.packet.specs.Contents.{format, payloadLimit, rawLimit, wordAt, payloadOf}
+use Rattle.packet.specs.Contents.{format, payloadLimit, rawLimit, word, wordAt, body, payloadOf}
 use Rattle.packet.specs.Escape.{escape, plain, scan}
-use Rattle.packet.specs.Frame.{Told, packet, refusal, kept, judgeContents, closedBy, closed, judging, judge}
+use Rattle.packet.specs.Frame.{Told, packet, refusal, kept, judgeBody, judgeContents, closedBy, closed, judging, judge}
 use Rattle.packet.specs.declared.escape.Escapes.{Escapes}
 use Rattle.packet.specs.declared.escape.Escapes.the-variants.{Right, Unfinished, Wrong}
+use Rattle.packet.proofs.Judging.{payload-body}
 use Rattle.packet.proofs.Faults.{Scanned, scan-says}
-use Rattle.demands.specs.Table.{Exact}
+use Rattle.demands.specs.Table.{Row, Exact}
 use Rattle.demands.specs.Refusals.{Unusable, contentsRows, frameRows, ByFrame}
 use Rattle.demands.proofs.Rows.{applies, over, row, row-not, passed, not-less, not-same, first-each}
 
@@ -43,15 +44,42 @@ free-is port = go (leb 0x7D00 port) refl
 is : (m n : ℕ) → ByFrame (refusal m) n ↔ n ≡ m
 is m n = (λ e. let k : m ≡ n = cc in sym k, λ e i. refusal (sym e i))
 
+-- of format byte to last payload byte
+bodyRows : List ℕ → List Row
+bodyRows bs =
+    (6, getD bs 0 0 ≢ format) ∷ (7, Unusable (wordAt bs 1)) ∷ (8, payloadLimit < length (escape (drop 5 bs))) ∷ []
+
+body-exact : (bs : List ℕ) → Exact ByFrame (judgeBody bs) (bodyRows bs)
+unfolding judgeBody bodyRows
+body-exact bs =
+    row-not ByFrame (eqb (getD bs 0 0) format) (is 6) (eqb-false _ _) (λ e. not-same (eqb-true _ _ e))
+    (row ByFrame (barred (wordAt bs 1)) (is 7) (barred-is _) (free-is _)
+    (row ByFrame (ltb payloadLimit (length (escape (drop 5 bs)))) (is 8) (ltb-true _ _) (not-less _ _)
+    (passed ByFrame λ n e. let z : _≡_ {A = ℕ} 0 1 = cc in omega arith)))
+
+-- the same bytes, seen from the contents
+body-at : (cs : List ℕ) (i : ℕ) → i < length cs - 2 → getD (body cs) i 0 ≡ getD cs i 0
+body-at cs i h = getD-take (length cs - 2) cs i 0 h
+
+body-rows : (cs : List ℕ) → 8 ≤ length cs
+    → bodyRows (body cs) ≡ (6, getD cs 0 0 ≢ format) ∷ (7, Unusable (wordAt cs 1)) ∷ (8, payloadLimit < length (escape (payloadOf cs))) ∷ []
+unfolding bodyRows
+body-rows cs h =
+    λ i. (6, body-at cs 0 (omega arith) i ≢ format)
+    ∷ (7, Unusable (word (body-at cs 1 (omega arith) i) (body-at cs 2 (omega arith) i)))
+    ∷ (8, payloadLimit < length (escape (payload-body cs i))) ∷ []
+
 contents-exact : (cs : List ℕ) → Exact ByFrame (judgeContents cs) (contentsRows cs)
 unfolding judgeContents
-contents-exact cs =
-    row ByFrame (ltb (length cs) 8) (is 4) (ltb-true _ _) (not-less _ _)
-    (row-not ByFrame (eqb (fcs (take (length cs - 2) cs)) (wordAt cs (length cs - 2))) (is 5) (eqb-false _ _) (λ e. not-same (eqb-true _ _ e))
-    (row-not ByFrame (eqb (getD cs 0 0) format) (is 6) (eqb-false _ _) (λ e. not-same (eqb-true _ _ e))
-    (row ByFrame (barred (wordAt cs 1)) (is 7) (barred-is _) (free-is _)
-    (row ByFrame (ltb payloadLimit (length (escape (payloadOf cs)))) (is 8) (ltb-true _ _) (not-less _ _)
-    (passed ByFrame λ n e. let z : _≡_ {A = ℕ} 0 1 = cc in omega arith)))))
+contents-exact cs = go (ltb (length cs) 8) refl
+  where
+    go : (t : Bool) → ltb (length cs) 8 ≡ t
+        → Exact ByFrame (pick t (refusal 4) (pick (eqb (fcs (body cs)) (wordAt cs (length cs - 2))) (judgeBody (body cs)) (refusal 5))) (contentsRows cs)
+    go true e = applies ByFrame _ (is 4) (ltb-true _ _ e)
+    go false e =
+        over ByFrame (not-less _ _ e)
+        (row-not ByFrame (eqb (fcs (body cs)) (wordAt cs (length cs - 2))) (is 5) (eqb-false _ _) (λ f. not-same (eqb-true _ _ f))
+        (subst (Exact ByFrame (judgeBody (body cs))) (body-rows cs (ltb-false _ _ e)) (body-exact (body cs))))
 
 by-exact : (e : Escapes) (raw recv : List ℕ) → Scanned e raw → Exact ByFrame (closedBy e raw recv .told) (frameRows raw)
 unfolding closedBy
@@ -96,11 +124,11 @@ judge-exact raw =
 
 -- ---- numbers of frames are 1 to 8
 abbrev pub Small : Told → Type 0
-Small (packet port sequence payload) = Unit {0}
+Small (packet p) = Unit {0}
 Small (refusal n) = (1 ≤ n) × (n ≤ 8)
 
 small-by : (t : Told) → ((n : ℕ) → t ≡ refusal n → (1 ≤ n) × (n ≤ 8)) → Small t
-small-by (packet port sequence payload) h = tt
+small-by (packet p) h = tt
 small-by (refusal n) h = h n refl
 
 pub small : (recv : List ℕ) (m : ℕ) → Small (closed recv m .told)

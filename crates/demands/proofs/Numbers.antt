@@ -17,7 +17,7 @@ use Rattle.parity.specs.Word.{scale, onto, timesRoot, generator, divide, remain
 use Rattle.interleaver.specs.Places.{cell}
 use Rattle.packet.specs.Contents.{checked, contents}
 use Rattle.packet.specs.Escape.{escape, escapeByte, plain, plainScan, right, last, scan}
-use Rattle.packet.specs.Frame.{Told, packet, refusal, judgeContents, closedBy, closed, judge}
+use Rattle.packet.specs.Frame.{Told, packet, refusal, judgeContents, closedBy, closed, judge, judgeBody}
 use Rattle.stream.specs.Reader.{waiting, reads}
 
 -- a letter, what the definitions give, what the paper says
@@ -26,7 +26,7 @@ Line = ℕ × List ℕ × List ℕ
 
 -- an answer in numbers: the number of a refusal; 0, port, sequence and payload of a packet
 abbrev inNumbers : Told → List ℕ
-inNumbers (packet port sequence payload) = 0 ∷ port ∷ sequence ∷ payload
+inNumbers (packet p) = 0 ∷ p .port ∷ p .sequence ∷ p .payload
 inNumbers (refusal n) = n ∷ []
 
 -- the answers of a stream from its start
@@ -42,7 +42,7 @@ table =
     (0x61, fcs [] ∷ [], 0x0000 ∷ []) ∷  -- (a) FCS of no bytes 0x0000
     (0x62, fcs (0x00 ∷ []) ∷ [], 0xF078 ∷ []) ∷  -- (b) of 00, 0xF078
     (0x63, fcs (0xFF ∷ []) ∷ [], 0xFF00 ∷ []) ∷  -- (c) of FF, 0xFF00
-    (0x64, contents 0x5100 0 (0x41 ∷ []), 0x21 ∷ 0x00 ∷ 0x51 ∷ 0x00 ∷ 0x00 ∷ 0x41 ∷ 0xE4 ∷ 0xEC ∷ []) ∷  -- (d) port 5100, sequence 0, payload 41
+    (0x64, contents (record { port = 0x5100; sequence = 0; payload = 0x41 ∷ [] }), 0x21 ∷ 0x00 ∷ 0x51 ∷ 0x00 ∷ 0x00 ∷ 0x41 ∷ 0xE4 ∷ 0xEC ∷ []) ∷  -- (d) port 5100, sequence 0, payload 41
     (0x65, heard (0x7E ∷ 0x7E ∷ []), []) ∷  -- (e) 7E 7E, no answer
     (0x66, heard (0x7E ∷ 0x00 ∷ 0x7E ∷ []), 4 ∷ []) ∷  -- (f) 7E 00 7E, refusal 4
     (0x67, heard (0x7E ∷ 0x21 ∷ 0x7D ∷ 0x7E ∷ []), 2 ∷ []) ∷  -- (g) 7E 21 7D 7E, 2
@@ -67,5 +67,5 @@ wrong [] = []
 wrong (r ∷ rows) = pick (same (r .1) (r .2)) (wrong rows) (r .0 ∷ wrong rows)
 
 pub numbers : wrong table ≡ []
-unfolding fcs register entered contents checked judge closed closedBy judgeContents scan last plainScan right plain escape escapeByte mul shiftAdd double add pow remainder divide generator timesRoot onto scale
+unfolding fcs register entered contents checked judge closed closedBy judgeContents judgeBody scan last plainScan right plain escape escapeByte mul shiftAdd double add pow remainder divide generator timesRoot onto scale
 numbers = refl

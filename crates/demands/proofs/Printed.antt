@@ -12,16 +12,16 @@ use Rattle.base.specs.Choice.{pick}
 use Rattle.fcs.specs.Fcs as check
 use Rattle.field.specs.Field as field
 use Rattle.parity.specs.Calls as parity
-use Rattle.packet.specs.Contents.{format, payloadLimit, rawLimit, checked, contents}
+use Rattle.packet.specs.Contents.{format, payloadLimit, plainLimit, rawLimit, checked, contents}
 use Rattle.packet.specs.Escape.{flag, escape, escapeByte, plain, plainScan, right, last, scan}
-use Rattle.packet.specs.Frame.{packet, refusal, judgeContents, closedBy, closed, judge}
+use Rattle.packet.specs.Frame.{packet, refusal, judgeContents, judgeBody, closedBy, closed, judge}
 use Rattle.packet.specs.Port.{class, barred}
 use Rattle.packet.specs.declared.frame.Judged.the-variants.{Packet, Refused}
 use Rattle.channel.specs.Sender.{marker, messageBytes, parityBytes, wordBytes, blockBytes}
 use Rattle.channel.specs.Channel.{Event, said, block, lost}
-use Rattle.channel.specs.declared.answer.Condition.the-variants.{Clean as clean, Repaired as repaired, Beyond as beyond}
+use Rattle.channel.specs.declared.answer.Condition.the-variants.{Clean, Repaired, Beyond}
 use Rattle.channel.specs.Called.{freshReceiver}
-use Rattle.channel.specs.declared.answer.Answer.the-variants.{Said, Clean, Repaired, Beyond, LockLost}
+use Rattle.channel.specs.declared.answer.Answer.the-variants.{Said, Block, LockLost}
 use Rattle.listed.specs.Apart as listed
 use Rattle.listed.specs.Lines.{decimal, decimalBy, letter, told, line, lines, count, endLine, wrongLine}
 use Rattle.listed.specs.Listing.{heard as heardAs, totalLine, lastLine, listed as listedAs, listing}
@@ -33,8 +33,8 @@ use Rattle.demands.proofs.Numbers.{Line, heard, wrong}
 -- so many packets, refusals, blocks beyond repair and lost locks among the answers, and a clean and a repaired block besides
 abbrev answersOf : ℕ → ℕ → ℕ → ℕ → List Event
 answersOf packets refusals damaged locks =
-    block clean ∷ block (repaired 1)
-    ∷ replicate packets (said (packet 0x5100 0 (0x41 ∷ []))) ++ (replicate refusals (said (refusal 4)) ++ (replicate damaged (block beyond) ++ replicate locks lost))
+    block Clean ∷ block (Repaired 1)
+    ∷ replicate packets (said (packet (record { port = 0x5100; sequence = 0; payload = 0x41 ∷ [] }))) ++ (replicate refusals (said (refusal 4)) ++ (replicate damaged (block Beyond) ++ replicate locks lost))
 
 -- a recording that may end here, with so many stream bytes and these totals
 abbrev endsWith : ℕ → ℕ → ℕ → ℕ → ℕ → Recording
@@ -55,20 +55,20 @@ unusable port = pick (barred port) 1 0
 abbrev pub printed : List Line
 printed =
     (1, flag ∷ format ∷ [], 0x7E ∷ 0x21 ∷ []) ∷  -- flag 0x7E, format byte 0x21
-    (2, payloadLimit ∷ rawLimit ∷ listed.most ∷ [], 8192 ∷ 8205 ∷ 4294967295 ∷ []) ∷  -- a payload of 8,192 bytes as escaped, 8,205 raw bytes, a stream of 4,294,967,295 bytes, at most
+    (2, payloadLimit ∷ plainLimit ∷ rawLimit ∷ listed.most ∷ [], 8192 ∷ 8205 ∷ 8205 ∷ 4294967295 ∷ []) ∷  -- a payload of 8,192 bytes as escaped, 8,205 raw bytes of a packet and of any frame, a stream of 4,294,967,295 bytes, at most
     (3, parity.whole ∷ parity.most ∷ [], 255 ∷ 64 ∷ []) ∷  -- a word is 255 bytes, R from 0 to 64
     (4, messageBytes ∷ parityBytes ∷ wordBytes ∷ blockBytes ∷ [], 223 ∷ 32 ∷ 255 ∷ 259 ∷ []) ∷  -- each 223 bytes become a word with R = 32, of 255 bytes; a block is 259
     (5, marker, 0x7D ∷ 0x3A ∷ 0xE2 ∷ 0x42 ∷ []) ∷  -- the marker 7D 3A E2 42
     (6, check.ones ∷ check.polynomial ∷ [], 0xFFFF ∷ 0x8408 ∷ []) ∷  -- register starts at 0xFFFF, reversed polynomial 0x8408
     (7, field.polynomial ∷ field.alpha ∷ [], 0x11D ∷ 2 ∷ []) ∷  -- x^8+x^4+x^3+x^2+1; alpha is 2
     (8, escape (0x7E ∷ 0x7D ∷ 0x5E ∷ 0x5D ∷ 0x21 ∷ []), 0x7D ∷ 0x5E ∷ 0x7D ∷ 0x5D ∷ 0x5E ∷ 0x5D ∷ 0x21 ∷ []) ∷  -- 0x7E becomes 7D 5E, 0x7D becomes 7D 5D; no other byte is escaped
-    (9, contents 0x1234 0x0102 (0x41 ∷ []), 0x21 ∷ 0x34 ∷ 0x12 ∷ 0x02 ∷ 0x01 ∷ 0x41 ∷ 0x3F ∷ 0x8A ∷ []) ∷  -- port and sequence each two bytes, low first: port 1234, sequence 0102
+    (9, contents (record { port = 0x1234; sequence = 0x0102; payload = 0x41 ∷ [] }), 0x21 ∷ 0x34 ∷ 0x12 ∷ 0x02 ∷ 0x01 ∷ 0x41 ∷ 0x3F ∷ 0x8A ∷ []) ∷  -- port and sequence each two bytes, low first: port 1234, sequence 0102
     (10, heard (0x7E ∷ 0x21 ∷ 0x34 ∷ 0x12 ∷ 0x02 ∷ 0x01 ∷ 0x41 ∷ 0x3F ∷ 0x8A ∷ 0x7E ∷ []), 0 ∷ 0x1234 ∷ 0x0102 ∷ 0x41 ∷ []) ∷  -- .. and taken apart
-    (11, line (Said (Packet 0x5100 0x0102 3)), 80 ∷ 32 ∷ 50 ∷ 48 ∷ 55 ∷ 51 ∷ 54 ∷ 32 ∷ 50 ∷ 53 ∷ 56 ∷ 32 ∷ 51 ∷ 32 ∷ 77 ∷ 10 ∷ []) ∷  -- `P port sequence payload-length class`: P 20736 258 3 M
+    (11, line (Said (Packet (record { port = 0x5100; sequence = 0x0102; length = 3 }))), 80 ∷ 32 ∷ 50 ∷ 48 ∷ 55 ∷ 51 ∷ 54 ∷ 32 ∷ 50 ∷ 53 ∷ 56 ∷ 32 ∷ 51 ∷ 32 ∷ 77 ∷ 10 ∷ []) ∷  -- `P port sequence payload-length class`: P 20736 258 3 M
     (12, line (Said (Refused 4)), 82 ∷ 32 ∷ 52 ∷ 10 ∷ []) ∷  -- `R n`: R 4
-    (13, line Clean, 66 ∷ 32 ∷ 48 ∷ 10 ∷ []) ∷  -- `B 0` clean
-    (14, line (Repaired 16), 66 ∷ 32 ∷ 49 ∷ 54 ∷ 10 ∷ []) ∷  -- `B count` repaired: B 16
-    (15, line Beyond, 66 ∷ 32 ∷ 88 ∷ 10 ∷ []) ∷  -- `B X` beyond repair
+    (13, line (Block Clean), 66 ∷ 32 ∷ 48 ∷ 10 ∷ []) ∷  -- `B 0` clean
+    (14, line (Block (Repaired 16)), 66 ∷ 32 ∷ 49 ∷ 54 ∷ 10 ∷ []) ∷  -- `B count` repaired: B 16
+    (15, line (Block Beyond), 66 ∷ 32 ∷ 88 ∷ 10 ∷ []) ∷  -- `B X` beyond repair
     (16, line LockLost, 76 ∷ 10 ∷ []) ∷  -- `L` lock lost
     (17, totalLine 50 (answersOf 1 2 3 4), 69 ∷ 32 ∷ 53 ∷ 48 ∷ 32 ∷ 49 ∷ 32 ∷ 50 ∷ 32 ∷ 51 ∷ 32 ∷ 52 ∷ 10 ∷ []) ∷  -- `E` with stream bytes, packets, frame refusals, damaged blocks, lost locks: 50 bytes, 1, 2, 3 and 4 of them
     (18, lastOf (endsWith 50 1 2 3 4), 69 ∷ 32 ∷ 53 ∷ 48 ∷ 32 ∷ 49 ∷ 32 ∷ 50 ∷ 32 ∷ 51 ∷ 32 ∷ 52 ∷ 10 ∷ []) ∷  -- .. and as the finishing call prints it
@@ -82,5 +82,5 @@ printed =
     []
 
 pub as-printed : wrong printed ≡ []
-unfolding check.fcs check.register check.entered contents checked escape escapeByte judge closed closedBy judgeContents scan last plainScan right plain class told lines count endLine wrongLine decimal decimalBy heardAs lastLine listedAs listing listed.apart listed.inStream listed.nextAt
+unfolding check.fcs check.register check.entered contents checked escape escapeByte judge closed closedBy judgeContents judgeBody scan last plainScan right plain class told lines count endLine wrongLine decimal decimalBy heardAs lastLine listedAs listing listed.apart listed.inStream listed.nextAt
 as-printed = refl

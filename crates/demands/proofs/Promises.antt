@@ -22,7 +22,8 @@ use Rattle.repair.specs.Promise.{Promised}
 use Rattle.interleaver.specs.Matrix.{turning}
 use Rattle.packet.specs.Escape.{flag}
 use Rattle.packet.specs.Frame.{Told, packet, refusal, judged, judging, part}
-use Rattle.packet.specs.declared.frame.Judged.the-variants.{Packet, Refused}
+use Rattle.packet.specs.Contents.{Packet}
+use Rattle.packet.specs.declared.frame.Judged.the-variants.{Packet as Delivered, Refused}
 use Rattle.packet.specs.Port.{class}
 use Rattle.packet.specs.Sender.{writing}
 use Rattle.stream.specs.Sender.{appending}
@@ -31,8 +32,8 @@ use Rattle.stream.specs.declared.frame.Heard.the-variants as plain-answer
 use Rattle.channel.specs.Sender.{marking, sending}
 use Rattle.channel.specs.Called.{board, sound, roomy, hearCall, answered}
 use Rattle.channel.specs.Channel.{said, block, lost}
-use Rattle.channel.specs.declared.answer.Condition.the-variants.{Clean as clean, Repaired as repaired, Beyond as beyond}
-use Rattle.channel.specs.declared.answer.Answer.the-variants.{More, Said, Clean, Repaired, Beyond, LockLost}
+use Rattle.channel.specs.declared.answer.Condition.{Condition}
+use Rattle.channel.specs.declared.answer.Answer.the-variants.{More, Said, Block, LockLost}
 use Rattle.listed.specs.Lines.{line, endLine, wrongLine}
 use Rattle.listed.specs.declared.Place.the-variants.{Mode}
 use Rattle.recording.specs.Printed as recording
@@ -91,7 +92,7 @@ use Rattle.base.proofs.copy as base-copy
 
 -- ---- the sender: a packet, a plain stream of packets, a block of the channel, a whole marked stream
 pub packet-write-means : Means packet-write.Statement.statement packet-write.Kinds.ps packet-write.Kinds.r packet-write.Reads.Asked packet-write.Reads.Learnt
-    λ κs port sequence payload out w. outcome w (now (out .exit)) ≡ writing port sequence (now payload) (now (out .entry))
+    λ κs port sequence payload out w. outcome w (now (out .exit)) ≡ writing (record { port = port; sequence = sequence; payload = now payload }) (now (out .entry))
 packet-write-means = (λ M. packet-write.Met.met, λ κs a. tt, λ κs a z ws. (λ p. p, λ p. p))
 
 pub stream-begin-means : Means stream-begin.Statement.statement stream-begin.Kinds.ps stream-begin.Kinds.r stream-begin.Reads.Asked stream-begin.Reads.Learnt
@@ -99,7 +100,7 @@ pub stream-begin-means : Means stream-begin.Statement.statement stream-begin.Kin
 stream-begin-means = (λ M. stream-begin.Met.met, λ κs a. tt, λ κs a z ws. (λ p. p, λ p. p))
 
 pub stream-append-means : Means stream-append.Statement.statement stream-append.Kinds.ps stream-append.Kinds.r stream-append.Reads.Asked stream-append.Reads.Learnt
-    λ κs out at port sequence payload w. outcome w (now (out .exit)) ≡ appending at port sequence (now payload) (now (out .entry))
+    λ κs out at port sequence payload w. outcome w (now (out .exit)) ≡ appending at (record { port = port; sequence = sequence; payload = now payload }) (now (out .entry))
 stream-append-means = (λ M. stream-append.Met.met, λ κs a. tt, λ κs a z ws. (λ p. p, λ p. p))
 
 pub channel-mark-means : Means channel-mark.Statement.statement channel-mark.Kinds.ps channel-mark.Kinds.r channel-mark.Reads.Asked channel-mark.Reads.Learnt
@@ -134,14 +135,13 @@ pub channel-has-room-means : Means channel-has-room.Statement.statement channel-
 channel-has-room-means = (λ M. channel-has-room.Met.met, λ κs a. tt, λ κs a z ws. (λ p. p, λ p. p))
 
 -- what a frame is told to be, and what a call answers, in the code's words
-pub judged-is : (port sequence : ℕ) (payload : List ℕ) (n : ℕ)
-    → (judged (packet port sequence payload) ≡ Packet port sequence (length payload)) × (judged (refusal n) ≡ Refused n)
-judged-is port sequence payload n = (refl, refl)
+pub judged-is : (p : Packet) (n : ℕ)
+    → (judged (packet p) ≡ Delivered (record { port = p .port; sequence = p .sequence; length = length (p .payload) })) × (judged (refusal n) ≡ Refused n)
+judged-is p n = (refl, refl)
 
-pub answered-is : (t : Told) (n : ℕ)
-    → (answered none ≡ More) × (answered (some (said t)) ≡ Said (judged t)) × (answered (some (block clean)) ≡ Clean)
-    × (answered (some (block (repaired n))) ≡ Repaired n) × (answered (some (block beyond)) ≡ Beyond) × (answered (some lost) ≡ LockLost)
-answered-is t n = (refl, refl, refl, refl, refl, refl)
+pub answered-is : (t : Told) (c : Condition)
+    → (answered none ≡ More) × (answered (some (said t)) ≡ Said (judged t)) × (answered (some (block c)) ≡ Block c) × (answered (some lost) ≡ LockLost)
+answered-is t c = (refl, refl, refl, refl)
 
 -- ---- .. and of the plain stream
 pub stream-fresh-means : Means stream-fresh.Statement.statement stream-fresh.Kinds.ps stream-fresh.Kinds.r stream-fresh.Reads.Asked stream-fresh.Reads.Learnt
@@ -161,7 +161,7 @@ pub stream-sound-means : Means stream-sound.Statement.statement stream-sound.Kin
 stream-sound-means = (λ M. stream-sound.Met.met, λ κs a. tt, λ κs a z ws. (λ p. p, λ p. p))
 
 pub stream-payload-means : Means stream-payload.Statement.statement stream-payload.Kinds.ps stream-payload.Kinds.r stream-payload.Reads.Asked stream-payload.Reads.Learnt
-    λ κs recv size r. now r ≡ part (now recv) size
+    λ κs recv delivery r. now r ≡ part (now recv) (delivery .length)
 stream-payload-means = (λ M. stream-payload.Met.met, λ κs a. tt, λ κs a z ws. (λ p. p, λ p. p))
 
 pub packet-judge-means : Means packet-judge.Statement.statement packet-judge.Kinds.ps packet-judge.Kinds.r packet-judge.Reads.Asked packet-judge.Reads.Learnt

@@ -14,7 +14,7 @@ use Rattle.base.specs.Bytes.{Bytes}
 use Rattle.base.specs.Calls.{joined}
 use Rattle.base.specs.declared.Written.the-variants.{Wrote}
 use Rattle.packet.specs.Escape.{flag}
-use Rattle.packet.specs.Frame.{Told, judged, closed, judge, part, There}
+use Rattle.packet.specs.Frame.{Told, delivery, judged, closed, judge, part, There}
 use Rattle.packet.specs.Sender.{sent, framed, writing}
 use Rattle.packet.specs.declared.frame.Judged.the-variants.{Packet as Delivered}
 use Rattle.packet.proofs.Judging.{judge-is, payload-there}
@@ -51,7 +51,7 @@ module _ (p : Packet) (a : Accepted p) (recv : List ℕ) (there : take (length (
       judge-is recv (length (rawOf p)) (raw-fits p (a .some) (a .short) (a .free)) l
       ∙ ap judge there ∙ judged-is p a
 
-  pub judged-back : (judged (closed recv (length (rawOf p)) .told) ≡ Delivered (p .port) (p .sequence) (length (p .payload)))
+  pub judged-back : (judged (closed recv (length (rawOf p)) .told) ≡ Delivered (delivery p))
       × (part (closed recv (length (rawOf p)) .recv) (length (p .payload)) ≡ p .payload)
   judged-back = (
     ap judged told-back,

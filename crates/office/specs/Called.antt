@@ -5,7 +5,7 @@
 -- finishing                the last block
 -- Fine                     desks that pass 10 and 11
 -- first, lastOf            from where, and to what end, an input is sent
-use Prim.Native.Nat.{ℕ, _≤_}
+use Prim.Native.Nat.{ℕ, _+_, _-_, _*_, _/_, _≤_}
 use mathlib.Core.Path.{_≡_}
 use mathlib.Core.Bool.{Bool, true, false, _&&_}
 use mathlib.Core.List.{List, [], _∷_, _++_}
@@ -16,7 +16,8 @@ use Rattle.base.specs.Choice.{pick}
 use Rattle.base.specs.Calls.{owesNone, handsNone, hear}
 use Rattle.base.specs.Written.{Outcome, refused}
 use Rattle.packet.specs.Escape.{flag}
-use Rattle.channel.specs.Sender.{sending}
+use Rattle.packet.specs.Contents.{plainLimit}
+use Rattle.channel.specs.Sender.{messageBytes, blockBytes, sending}
 use Rattle.bid.specs.Line.{feed, lineLimit}
 use Rattle.office.specs.declared.Office.{Office}
 use Rattle.office.specs.declared.Started.{Started}
@@ -28,15 +29,15 @@ use Rattle.office.specs.Desk.{Spoken, blocks, unread, refusal, Said, Des
 
 -- bytes held between lines, at most
 abbrev pub heldLimit : ℕ
-heldLimit = 222
+heldLimit = messageBytes - 1
 
 -- those and a packet's
 abbrev pub holdLimit : ℕ
-holdLimit = 8428
+holdLimit = heldLimit + (plainLimit + 1)
 
 -- the marked blocks of so many
 abbrev pub outLimit : ℕ
-outLimit = 9583
+outLimit = holdLimit / messageBytes * blockBytes
 
 -- before the first byte one flag is held
 abbrev pub begins : Office

@@ -70,7 +70,7 @@ fn put_out(hold: &mut [u8], n: usize, out: &mut [u8]) -> usize
 {
     let whole = n / Block::MESSAGE * Block::MESSAGE;
     let sent = channel::send(&hold[0..whole], out);
-    let mut rest = [0u8; 223];
+    let mut rest = [0u8; Block::MESSAGE];
     base::copy(&hold[whole..n], &mut rest);
     let left = n - whole;
     base::copy(&rest[0..left], hold);
@@ -166,7 +166,7 @@ impl Office {
     pub const HELD: usize = Block::MESSAGE - 1;
 
     /// The buffer that holds them, and a packet behind them, has at least so many bytes.
-    pub const HOLD: usize = Self::HELD + Packet::RAW + 1;
+    pub const HOLD: usize = Self::HELD + Packet::PLAIN + 1;
 
     /// The output has at least so many bytes.
     pub const OUTPUT: usize = Self::HOLD / Block::MESSAGE * Block::LENGTH;
