@@ -5,6 +5,7 @@
 //! places), a delivered payload behind it; at the end the state's numbers, the hunted bytes and the word buffer.
 use crate::reading;
 use channel::Answer;
+use channel::Condition;
 use channel::Hunting;
 use channel::Locked;
 use channel::Receiver;
@@ -137,9 +138,7 @@ fn call(p: Place, bytes: &[u8], recv: &mut [u8], word: &mut [u8]) -> Place {
     match answer {
         Answer::More => more(r, seed, next, end, bytes.len()),
         Answer::Said(j) => onward(r, seed, next, end, reading::deliver(j, recv)),
-        Answer::Clean => onward(r, seed, next, end, true),
-        Answer::Repaired(_) => onward(r, seed, next, end, true),
-        Answer::Beyond => onward(r, seed, next, end, true),
+        Answer::Block(_) => onward(r, seed, next, end, true),
         Answer::LockLost => onward(r, seed, next, end, true),
     }
 }
@@ -147,11 +146,17 @@ fn call(p: Place, bytes: &[u8], recv: &mut [u8], word: &mut [u8]) -> Place {
 fn code(answer: Answer) -> u64 {
     match answer {
         Answer::More => 0,
-        Answer::Clean => 1,
-        Answer::Repaired(n) => repaired(n),
-        Answer::Beyond => 2,
-        Answer::LockLost => 3,
         Answer::Said(j) => crate::judged(j),
+        Answer::Block(condition) => block(condition),
+        Answer::LockLost => 3,
+    }
+}
+
+fn block(condition: Condition) -> u64 {
+    match condition {
+        Condition::Clean => 1,
+        Condition::Repaired(n) => repaired(n),
+        Condition::Beyond => 2,
     }
 }
 

@@ -14,7 +14,7 @@ use recording::Totals;
 use recording::Wants;
 
 // The receive buffer's least length, and the longest one that is lent.
-const RECV: usize = 8205;
+const RECV: usize = Receiver::RAW;
 
 // Where the listing stands: the piece that is handed in is bytes[at..end].
 struct Place {
@@ -27,8 +27,8 @@ struct Place {
 }
 
 pub fn list(number: u64, bytes: &[u8], out: &mut [u8]) {
-    let mut recv = [0u8; 8205];
-    let mut word = [0u8; 255];
+    let mut recv = [0u8; Receiver::RAW];
+    let mut word = [0u8; Receiver::WORD];
     let n = (number / 0x1000000000000 % 16384) as usize;
     if RECV < n {
         return;

@@ -127,11 +127,7 @@ fn stop(frame: Frame) -> Place {
 // Writes a delivered payload; false where the call was refused.
 pub fn deliver(j: Judged, recv: &[u8]) -> bool {
     match j {
-        Judged::Packet {
-            port: _,
-            sequence: _,
-            length,
-        } => io::write_all(1, stream::payload(recv, length)),
+        Judged::Packet(delivery) => io::write_all(1, stream::payload(recv, delivery)),
         Judged::Refused(n) => n < 10,
     }
 }
