@@ -177,7 +177,11 @@ fn mended(m: Mended) -> u64 {
 // A packet: port, sequence, length, and 1 above them.
 fn judged(j: Judged) -> u64 {
     match j {
-        Judged::Packet(d) => sum(d.port as u64, d.sequence as u64, d.length as u64 % 0x1000000),
+        Judged::Packet(d) => sum(
+            d.port as u64,
+            d.sequence as u64,
+            d.length as u64 % 0x1000000,
+        ),
         Judged::Refused(n) => refused(n),
     }
 }

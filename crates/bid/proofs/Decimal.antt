@@ -12,7 +12,7 @@ use borrow.Author.Tests.{lt-ltb, le-ltb, le-leb, lt-leb}
 use Rattle.base.specs.Choice.{pick}
 use Rattle.base.proofs.Lists.{next, over}
 use Rattle.base.proofs.Tests.{by-le, and-false}
-use Rattle.bid.specs.Line.{digits, value, noNumber, numberFrom, number}
+use Rattle.bid.specs.Line.{digits, value, noNumber, numberFrom, number, digitLimit}
 
 value-most : (n : ℕ) (w : List ℕ) → n ≤ value n w
 unfolding value
@@ -47,10 +47,10 @@ module _ (w : List ℕ) where
   unfolding number
   number-none e = let k : length w < 1 = omega arith in simp (lt-leb _ _ k)
 
-  pub number-long : 5 < length w → number w ≡ noNumber
+  pub number-long : digitLimit < length w → number w ≡ noNumber
   unfolding number
   number-long h = let k : 1 ≤ length w = omega arith in simp (lt-leb _ _ h, le-leb _ _ k)
 
-  pub number-is : (length w ≡ 0 → ⊥) → length w ≤ 5 → number w ≡ numberFrom 0 w
+  pub number-is : (length w ≡ 0 → ⊥) → length w ≤ digitLimit → number w ≡ numberFrom 0 w
   unfolding number
   number-is e h = let k : 1 ≤ length w = by-le 1 (length w) (λ g. g) (λ g. absurd (e (omega arith))) in simp (le-leb _ _ h, le-leb _ _ k)

@@ -52,12 +52,12 @@ unfoldable pub numberFrom : ℕ → List ℕ → ℕ
 numberFrom n w = pick (digits w && ltb (value n w) noNumber) (value n w) noNumber
 
 -- digits of a number, at most
-abbrev pub most : ℕ
-most = 5
+abbrev pub digitLimit : ℕ
+digitLimit = 5
 
 -- one to five digits, at most 65,535
 unfoldable pub number : List ℕ → ℕ
-number w = pick (leb 1 (length w) && leb (length w) most) (numberFrom 0 w) noNumber
+number w = pick (leb 1 (length w) && leb (length w) digitLimit) (numberFrom 0 w) noNumber
 
 -- up to the first space
 abbrev pub port : List ℕ → ℕ
@@ -91,7 +91,7 @@ verdict l = pick (isBid l) (judged (record { port = port l; sequence = sequence 
 
 -- so many first bytes of a line decide what it is: two numbers with their spaces, and a text too long by one byte
 abbrev pub lineLimit : ℕ
-lineLimit = 2 * (most + 1) + (payloadLimit + 1)
+lineLimit = 2 * (digitLimit + 1) + (payloadLimit + 1)
 
 -- where the text begins
 abbrev pub textAt : List ℕ → ℕ

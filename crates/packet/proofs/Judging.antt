@@ -22,7 +22,7 @@ use Rattle.base.proofs.Lists.{drop-take}
 use Rattle.base.proofs.Tests.{by-le}
 use Rattle.fcs.specs.Fcs.{fcs}
 use Rattle.packet.specs.Port.{barred}
-use Rattle.packet.specs.Contents.{format, payloadLimit, rawLimit, wordAt, body, payloadOf}
+use Rattle.packet.specs.Contents.{format, payloadLimit, rawLimit, wordAt, unpacked, body, payloadOf}
 use Rattle.packet.specs.Escape.{escape, scan, plain}
 use Rattle.packet.specs.Frame.{Told, packet, refusal, judged, Closed, kept, judgeBody, judgeContents, closedBy, closed, judging, judge, part, There}
 use Rattle.packet.specs.declared.escape.Escapes.{Escapes}
@@ -45,13 +45,13 @@ module _ (bs : List ℕ) where
       unfolding judgeBody
       body-payload h = simp (eq-eqb _ _ same, free, lt-ltb _ _ h)
 
-      pub body-packet : length (escape (drop 5 bs)) ≤ payloadLimit → judgeBody bs ≡ packet (record { port = wordAt bs 1; sequence = wordAt bs 3; payload = drop 5 bs })
+      pub body-packet : length (escape (drop 5 bs)) ≤ payloadLimit → judgeBody bs ≡ packet (unpacked bs)
       unfolding judgeBody
       body-packet h = simp (eq-eqb _ _ same, free, le-ltb _ _ h)
 
 -- the answer of a packet: of the payload the length
 pub body-told : (bs : List ℕ) {p s n : ℕ} → p ≡ wordAt bs 1 → s ≡ wordAt bs 3 → n ≡ length bs - 5
-    → Delivered (record { port = p; sequence = s; length = n }) ≡ judged (packet (record { port = wordAt bs 1; sequence = wordAt bs 3; payload = drop 5 bs }))
+    → Delivered (record { port = p; sequence = s; length = n }) ≡ judged (packet (unpacked bs))
 body-told bs p s n i = Delivered (record { port = p i; sequence = s i; length = (n ∙ sym (length-drop 5 bs)) i })
 
 -- the bytes behind the opening, as a part of those lent
@@ -173,7 +173,7 @@ unfolding judgeBody
 there-body bs recv h = go (eqb (getD bs 0 0) format) (barred (wordAt bs 1)) (ltb payloadLimit (length (escape (drop 5 bs))))
   where
     go : (kind bar long : Bool)
-        → There (pick kind (pick bar (refusal 7) (pick long (refusal 8) (packet (record { port = wordAt bs 1; sequence = wordAt bs 3; payload = drop 5 bs })))) (refusal 6)) recv
+        → There (pick kind (pick bar (refusal 7) (pick long (refusal 8) (packet (unpacked bs)))) (refusal 6)) recv
     go false b l = tt
     go true true l = tt
     go true false true = tt
@@ -207,7 +207,7 @@ unfolding judgeBody
 kept-body bs after before = go (eqb (getD bs 0 0) format) (barred (wordAt bs 1)) (ltb payloadLimit (length (escape (drop 5 bs))))
   where
     go : (kind bar long : Bool)
-        → KeptBy (pick kind (pick bar (refusal 7) (pick long (refusal 8) (packet (record { port = wordAt bs 1; sequence = wordAt bs 3; payload = drop 5 bs })))) (refusal 6)) after before
+        → KeptBy (pick kind (pick bar (refusal 7) (pick long (refusal 8) (packet (unpacked bs)))) (refusal 6)) after before
     go false b l = λ h. absurd (omega arith)
     go true true l = λ h. absurd (omega arith)
     go true false true = λ h. absurd (omega arith)

@@ -1,7 +1,7 @@
 -- The contents of a frame (paper 01, "Packet and frame"), before escaping.
 -- Packet                    a packet: port, sequence, payload
 -- packed, contents          format byte to last payload byte, and the check behind it
--- body, wordAt, payloadOf   the same taken apart
+-- unpacked, body, payloadOf   the same taken apart
 -- format, ..Limit           the paper's numbers
 use Prim.Native.Nat.{ℕ, _+_, _*_, _-_, _/_, _%_}
 use mathlib.Core.List.{List, [], _∷_, _++_}
@@ -49,6 +49,10 @@ opening p = format ∷ p .port % 256 ∷ p .port / 256 ∷ p .sequence % 256 ∷
 -- format byte to last payload byte
 abbrev pub packed : Packet → List ℕ
 packed p = opening p ++ p .payload
+
+-- .. and taken apart
+abbrev pub unpacked : List ℕ → Packet
+unpacked bs = record { port = wordAt bs 1; sequence = wordAt bs 3; payload = drop 5 bs }
 
 -- bytes, and their check behind them
 unfoldable pub checked : List ℕ → List ℕ

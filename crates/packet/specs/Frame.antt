@@ -13,7 +13,7 @@ use lib.ListN.{length, getD, take, drop}
 use Rattle.base.specs.Choice.{pick}
 use Rattle.fcs.specs.Fcs.{fcs}
 use Rattle.packet.specs.Port.{barred}
-use Rattle.packet.specs.Contents.{Packet, format, payloadLimit, rawLimit, wordAt, body}
+use Rattle.packet.specs.Contents.{Packet, format, payloadLimit, rawLimit, wordAt, unpacked, body}
 use Rattle.packet.specs.Escape.{escape, plain, scan}
 use Rattle.packet.specs.declared.escape.Escapes.{Escapes}
 use Rattle.packet.specs.declared.escape.Escapes.the-variants.{Right, Unfinished, Wrong}
@@ -46,7 +46,7 @@ judgeBody bs =
     pick (eqb (getD bs 0 0) format)
     (pick (barred (wordAt bs 1)) (refusal 7)
     (pick (ltb payloadLimit (length (escape (drop 5 bs)))) (refusal 8)
-    (packet (record { port = wordAt bs 1; sequence = wordAt bs 3; payload = drop 5 bs }))))
+    (packet (unpacked bs))))
     (refusal 6)
 
 -- contents: 4 fewer than 8 bytes, 5 check differs, then as above
