@@ -1,7 +1,8 @@
 //! Cases for the comparison: how they are written, which are asked, and what the second program answers.
 //! crates/answers/src/main.rt has the form of a case and of an answer.
 
-use crate::packet::Delivery;
+use crate::packet::{Delivery, RAW_LIMIT};
+use crate::parity::WORD;
 use crate::repair::altered;
 use crate::stream::Reader;
 use crate::{channel, channel_cases, fcs, interleaver, listing_cases, packet, parity, repair, stream};
@@ -229,13 +230,13 @@ fn messages(random: &mut Random, n: usize) -> Vec<Vec<u8>> {
 
 fn parities(random: &mut Random, cases: &mut Vec<Case>) {
     for r in roots() {
-        let right = 255usize.saturating_sub(r.min(255) as usize);
+        let right = WORD - r.min(WORD as u64) as usize;
         for bytes in messages(random, right) {
             for space in [r.min(300), r.min(300) + 1, 300, r.min(300).saturating_sub(1), 0] {
                 cases.push(Case { asked: b'P', number: r, space: space as u16, bytes: bytes.clone() });
             }
         }
-        for n in [0, 1, right.saturating_sub(1), right + 1, 254, 255, 256] {
+        for n in [0, 1, right.saturating_sub(1), right + 1, WORD - 1, WORD, WORD + 1] {
             cases.push(Case { asked: b'P', number: r, space: 70, bytes: random.bytes(n) });
         }
     }
@@ -247,10 +248,10 @@ fn words(random: &mut Random, cases: &mut Vec<Case>) {
         for altered in 0..=5 {
             for _ in 0..4 {
                 let parity = r.min(64) as usize;
-                let mut bytes = random.bytes(255 - parity);
+                let mut bytes = random.bytes(WORD - parity);
                 bytes.extend(parity::make(parity as u64, &bytes, 64).unwrap());
                 for _ in 0..altered {
-                    let at = random.below(255);
+                    let at = random.below(WORD);
                     bytes[at] ^= 1 + random.below(255) as u8;
                 }
                 cases.push(Case { asked: b'W', number: r, space: 0, bytes });
@@ -259,8 +260,8 @@ fn words(random: &mut Random, cases: &mut Vec<Case>) {
         for n in [0, 1, 254, 256, 300] {
             cases.push(Case { asked: b'W', number: r, space: 0, bytes: vec![0; n] });
         }
-        cases.push(Case { asked: b'W', number: r, space: 0, bytes: vec![0; 255] });
-        cases.push(Case { asked: b'W', number: r, space: 0, bytes: random.bytes(255) });
+        cases.push(Case { asked: b'W', number: r, space: 0, bytes: vec![0; WORD] });
+        cases.push(Case { asked: b'W', number: r, space: 0, bytes: random.bytes(WORD) });
     }
 }
 
@@ -270,7 +271,7 @@ fn repairs(random: &mut Random, cases: &mut Vec<Case>) {
         for places in 0..=r / 2 + 3 {
             for _ in 0..2 {
                 let (_, bytes) = altered(random, r, places);
-                cases.push(Case { asked: b'Y', number: r as u64, space: 255, bytes });
+                cases.push(Case { asked: b'Y', number: r as u64, space: WORD as u16, bytes });
             }
         }
     }
@@ -278,8 +279,8 @@ fn repairs(random: &mut Random, cases: &mut Vec<Case>) {
         for n in [0, 1, 254, 256, 300] {
             cases.push(Case { asked: b'Y', number: r, space: n, bytes: random.bytes(n as usize) });
         }
-        for bytes in [vec![0; 255], vec![0xFF; 255], random.bytes(255)] {
-            cases.push(Case { asked: b'Y', number: r, space: 255, bytes });
+        for bytes in [vec![0; WORD], vec![0xFF; WORD], random.bytes(WORD)] {
+            cases.push(Case { asked: b'Y', number: r, space: WORD as u16, bytes });
         }
     }
 }
@@ -287,14 +288,14 @@ fn repairs(random: &mut Random, cases: &mut Vec<Case>) {
 /// Words for bench/repair.
 pub fn altered_words(r: usize, places: usize, n: usize) -> Vec<Case> {
     let mut random = Random::new(1);
-    (0..n).map(|_| Case { asked: b'Y', number: r as u64, space: 255, bytes: altered(&mut random, r, places).1 }).collect()
+    (0..n).map(|_| Case { asked: b'Y', number: r as u64, space: WORD as u16, bytes: altered(&mut random, r, places).1 }).collect()
 }
 
 /// Depths as they should be and not, whole matrices and others, outputs too short by one, exact and longer.
 fn matrices(random: &mut Random, cases: &mut Vec<Case>) {
     for depth in (0..=65).chain([255, 256, 1 << 32, u64::MAX / 255 + 1, u64::MAX - 1, u64::MAX]) {
-        let whole = 255 * depth.min(65) as usize;
-        for n in [whole, whole.saturating_sub(1), whole + 1, 0, 1, 255, 510] {
+        let whole = WORD * depth.min(65) as usize;
+        for n in [whole, whole.saturating_sub(1), whole + 1, 0, 1, WORD, 2 * WORD] {
             let bytes = random.bytes(n);
             for space in [n, n.saturating_sub(1), n + 1, n + 20] {
                 for asked in [b'I', b'J'] {
@@ -370,7 +371,7 @@ pub fn raws(random: &mut Random) -> Vec<Vec<u8>> {
             all.push(raw);
         }
     }
-    for n in [1, 7, 8, 8204, 8205, 8206, 9000] {
+    for n in [1, 7, 8, RAW_LIMIT - 1, RAW_LIMIT, RAW_LIMIT + 1, 9000] {
         all.push(vec![0x21; n]);
         all.push(vec![0x7D; n]);
         all.push([vec![0x7D, 0x21], vec![0x41; n], vec![0x7D]].concat());
@@ -383,8 +384,8 @@ pub fn raws(random: &mut Random) -> Vec<Vec<u8>> {
 fn frames(random: &mut Random, cases: &mut Vec<Case>) {
     for bytes in raws(random) {
         let n = bytes.len();
-        let long = n.max(8205);
-        for (raw, space) in [(n, long), (n + 1, long + 7), (n - n.min(1), long), (n, n.min(8204)), (8206, long), (8207, n)] {
+        let long = n.max(RAW_LIMIT);
+        for (raw, space) in [(n, long), (n + 1, long + 7), (n - n.min(1), long), (n, n.min(RAW_LIMIT - 1)), (RAW_LIMIT + 1, long), (RAW_LIMIT + 2, n)] {
             cases.push(Case { asked: b'Q', number: raw as u64, space: space as u16, bytes: bytes.clone() });
         }
     }
@@ -412,10 +413,10 @@ fn streams(random: &mut Random, cases: &mut Vec<Case>) {
         }
         bytes.truncate(60000);
         let seed = if random.below(3) == 0 { 0 } else { 1 + random.next() % 0x7FFFFFFE };
-        let raw = [0, 0, 0, 1, 7, 8204, 8205, 8206, 8207, random.below(8300)][random.below(10)];
-        let stored = if random.below(12) == 0 { random.below(8300) } else { raw.min(8205) };
+        let raw = [0, 0, 0, 1, 7, RAW_LIMIT - 1, RAW_LIMIT, RAW_LIMIT + 1, RAW_LIMIT + 2, random.below(RAW_LIMIT + 95)][random.below(10)];
+        let stored = if random.below(12) == 0 { random.below(RAW_LIMIT + 95) } else { raw.min(RAW_LIMIT) };
         let flagged = random.below(2);
-        let space = if i % 40 == 0 { 8204 } else { 8205 + random.below(3) * 50 };
+        let space = if i % 40 == 0 { RAW_LIMIT - 1 } else { RAW_LIMIT + random.below(3) * 50 };
         let number = if i % 2 == 0 { seed } else { seed | (flagged as u64) << 31 | (raw as u64) << 32 | (stored as u64) << 48 };
         cases.push(Case { asked: b'S', number, space: space as u16, bytes });
     }

@@ -110,14 +110,14 @@ pub fn all(random: &mut Random, cases: &mut Vec<Case>) {
 
 /// Messages and outputs as they should be, and one off.
 fn senders(random: &mut Random, cases: &mut Vec<Case>) {
-    for n in [0, 222, 223, 224, 255] {
+    for n in [0, MESSAGE - 1, MESSAGE, MESSAGE + 1, WORD] {
         for bytes in [vec![0; n], vec![0xFF; n], vec![FLAG; n], random.bytes(n), random.bytes(n)] {
-            for space in [0, 258, 259, 260, 300] {
-                cases.push(Case { asked: b'M', number: 0, space, bytes: bytes.clone() });
+            for space in [0, BLOCK - 1, BLOCK, BLOCK + 1, 300] {
+                cases.push(Case { asked: b'M', number: 0, space: space as u16, bytes: bytes.clone() });
             }
         }
     }
-    for n in [0usize, 1, 2, 222, 223, 224, 445, 446, 447, 669, 700] {
+    for n in [0, 1, 2, MESSAGE - 1, MESSAGE, MESSAGE + 1, 2 * MESSAGE - 1, 2 * MESSAGE, 2 * MESSAGE + 1, 3 * MESSAGE, 700] {
         let result = n.div_ceil(MESSAGE) * BLOCK;
         for bytes in [random.bytes(n), vec![FLAG; n], packets(random, n)] {
             for space in [result, result.saturating_sub(1), result + 1, result + 40, 0] {
@@ -343,7 +343,7 @@ fn count(random: &mut Random, within: &[usize], beyond: &[usize]) -> usize {
 
 /// A receiver in any state: counts at and beyond their limits, also such as no run reaches.
 fn any(random: &mut Random) -> Receiver {
-    let raw = [0, 0, 1, 7, 8204, 8205, 8206, 8207, random.below(8300)][random.below(9)];
+    let raw = [0, 0, 1, 7, RAW_LIMIT - 1, RAW_LIMIT, RAW_LIMIT + 1, RAW_LIMIT + 2, random.below(RAW_LIMIT + 95)][random.below(9)];
     let stored = if random.below(15) == 0 { random.below(8300) } else { raw.min(RAW_LIMIT) };
     let (part, few) = (random.below(WORD), random.below(MESSAGE));
     let marker_bytes = count(random, &[0, 1, 2, 3], &[4, 5, 65535]);
@@ -352,8 +352,8 @@ fn any(random: &mut Random) -> Receiver {
     Receiver {
         locked: random.below(4) > 0,
         hunted,
-        word_bytes: count(random, &[0, 1, 253, 254, 255, 255, 255, 255, part], &[256, 259, 65535]),
-        message_bytes: count(random, &[0, 1, 221, 222, 223, 223, few], &[224, 255, 65535]),
+        word_bytes: count(random, &[0, 1, WORD - 2, WORD - 1, WORD, WORD, WORD, WORD, part], &[WORD + 1, BLOCK, 65535]),
+        message_bytes: count(random, &[0, 1, MESSAGE - 2, MESSAGE - 1, MESSAGE, MESSAGE, few], &[MESSAGE + 1, WORD, 65535]),
         marker_bytes,
         reader: Reader { waits: random.below(2) == 0, raw, stored },
     }
@@ -387,7 +387,7 @@ fn word_in_two(random: &mut Random, runs: &mut Vec<Run>) {
         if i % 4 < 2 {
             damage(random, &mut word);
         }
-        let there = if i < 20 { [0, 1, 222, 223, 224, 253, 254][i % 7] } else { random.below(WORD) };
+        let there = if i < 20 { [0, 1, MESSAGE - 1, MESSAGE, MESSAGE + 1, WORD - 2, WORD - 1][i % 7] } else { random.below(WORD) };
         let mut bytes = word.split_off(there);
         bytes.extend(sent(random, 1));
         word.resize(WORD + i % 3, 0x33);
@@ -400,8 +400,8 @@ fn word_in_two(random: &mut Random, runs: &mut Vec<Run>) {
 
 /// Buffers too short, exact and longer, with states that are refused and such as are not.
 fn buffers(random: &mut Random, runs: &mut Vec<Run>) {
-    for space in [0, 8204, 8205, 8206, 8300] {
-        for length in [0, 1, 223, 254, 255, 256, 300] {
+    for space in [0, RAW_LIMIT - 1, RAW_LIMIT, RAW_LIMIT + 1, 8300] {
+        for length in [0, 1, MESSAGE, WORD - 1, WORD, WORD + 1, 300] {
             for i in 0..6 {
                 let receiver = if i < 2 { Receiver::new() } else { any(random) };
                 let mut block = sent(random, 1);
@@ -421,7 +421,7 @@ fn longest(random: &mut Random, runs: &mut Vec<Run>) {
     let escaped = packet::escape(&packet::contents(0x5100, 0x7E7D, &[0x7E; 4096]));
     let plain = packet::escape(&packet::contents(0x5101, 2, &[0x41; 8192]));
     let beyond = packet::escape(&packet::contents(0x5102, 3, &[0x41; 8193]));
-    for frame in [escaped, plain, beyond, vec![0x41; 8205], vec![0x41; 8206], vec![0x7D; 9000]] {
+    for frame in [escaped, plain, beyond, vec![0x41; RAW_LIMIT], vec![0x41; RAW_LIMIT + 1], vec![0x7D; 9000]] {
         let bytes = [&[FLAG][..], &frame, &[FLAG], &packet(random)].concat();
         for places in [0, 1, 16, 17] {
             let mut bytes = channel::in_blocks(&bytes, usize::MAX).unwrap();
