@@ -13,7 +13,7 @@ pub enum Written {
     Refused(u8),
 }
 
-/// The paper's refusals, by number; 9 is not used.
+/// The refusals of the paper and of its requests, by number; 9 is not used.
 pub struct Refusal;
 
 impl Refusal {
@@ -37,6 +37,8 @@ impl Refusal {
     pub const STATE: u8 = 10;
     /// A lent buffer is too short.
     pub const BUFFER: u8 = 11;
+    /// A frame's key does not fit its format.
+    pub const KEY: u8 = 12;
     /// A payload to be sent is empty.
     pub const EMPTY: u8 = 20;
     /// A payload to be sent is above 8,192 bytes as escaped.
@@ -45,6 +47,8 @@ impl Refusal {
     pub const BARRED: u8 = 22;
     /// The output is shorter than the result.
     pub const OUTPUT: u8 = 23;
+    /// A key to be sent does not fit its format.
+    pub const SENT_KEY: u8 = 24;
     /// R is above 64.
     pub const ROOTS: u8 = 30;
     /// A message is not 255 - R bytes, or a word is not 255.
@@ -53,6 +57,32 @@ impl Refusal {
     pub const DEPTH: u8 = 32;
     /// The input is not 255 times the depth.
     pub const MATRIX: u8 = 33;
+    /// A new port finds no free place.
+    pub const FULL: u8 = 40;
+    /// A port to be forgotten is not held.
+    pub const UNHELD: u8 = 41;
+    /// A sub-channel is not one of those configured.
+    pub const SUB_CHANNEL: u8 = 42;
+    /// A table of ports has more than 16 places, or holds a port twice.
+    pub const TABLE: u8 = 43;
+    /// A number of the sheet would pass 64 bits.
+    pub const WIDE: u8 = 44;
+    /// A unit is too long, or too few bytes of it are lent.
+    pub const UNIT: u8 = 50;
+    /// A mix of content has no header sequence.
+    pub const MIX: u8 = 51;
+    /// The header matches no sequence.
+    pub const SEQUENCE: u8 = 52;
+    /// The parts do not fit the unit.
+    pub const PARTS: u8 = 53;
+    /// The delimiter would be found elsewhere, or is not found.
+    pub const DELIMITER: u8 = 54;
+    /// A capture does not begin as one.
+    pub const CAPTURE: u8 = 60;
+    /// A record of a capture is cut short, or its lengths are unequal.
+    pub const RECORD: u8 = 61;
+    /// A record of a capture is no packet that the sender would accept.
+    pub const NO_PACKET: u8 = 62;
 }
 
 /// The smaller of two numbers.

@@ -1,4 +1,5 @@
 pub mod Sending
+pub mod Marking
 pub mod Words
 pub mod Fine
 pub mod Cutting

@@ -27,7 +27,7 @@ use Rattle.packet.specs.Escape.{flag}
 use Rattle.parity.specs.Word.{remainder}
 use Rattle.parity.specs.Calls.{made}
 use Rattle.parity.proofs.Division.{length-remainder}
-use Rattle.channel.specs.Sender.{marker, wordOf, framed, fillers, filled, cutUp, marked, marking, sending, blockBytes, wordBytes, messageBytes}
+use Rattle.channel.specs.Sender.{marker, wordOf, framed, fillers, filled, cutUp, marked, marking, sending, blockBytes, wordBytes, messageBytes, parityBytes}
 
 -- ---- the list p ++ rest, whose rest is lent and comes back as y
 module _ (p rest o : List ℕ) (s : ℕ) (e : o ≡ p ++ rest) (l : length p ≡ s) where
@@ -50,18 +50,18 @@ module _ (bs out : List ℕ) (n : ℕ) (l : length bs ≡ n) where
 
 -- ---- one block: the marker, the message and its parity, one behind the other
 block-length : (m : List ℕ) → length m ≡ messageBytes → length (marker ++ wordOf m) ≡ blockBytes
-block-length m h = omega (arith, length-append m (remainder 32 m), length-remainder 32 m)
+block-length m h = omega (arith, length-append m (remainder parityBytes m), length-remainder parityBytes m)
 
 module _ (m o : List ℕ) (h : length m ≡ messageBytes) (k : blockBytes ≤ length o) where
   pub block-put : {o₁ y z : List ℕ} {w : Written} (o₂ : List ℕ) → o₁ ≡ copied marker o → y ≡ copied m (take (length o₁ - 4) (drop 4 o₁))
-      → o₂ ≡ putMid 4 (length o₁ - 4) o₁ y → outcome w z ≡ made 32 m (take (length o₂ - 227) (drop 227 o₂))
-      → putMid 227 (length o₂ - 227) o₂ z ≡ (marker ++ wordOf m) ++ drop blockBytes o
+      → o₂ ≡ putMid 4 (length o₁ - 4) o₁ y → outcome w z ≡ made parityBytes m (take (length o₂ - (4 + messageBytes)) (drop (4 + messageBytes) o₂))
+      → putMid (4 + messageBytes) (length o₂ - (4 + messageBytes)) o₂ z ≡ (marker ++ wordOf m) ++ drop blockBytes o
   block-put {o₁} {y} {z} o₂ e₁ ey e₂ ez =
-      back (marker ++ m) rest o₂ 227 split long z
+      back (marker ++ m) rest o₂ (4 + messageBytes) split long z
       ∙ ap (λ (t : List ℕ). (marker ++ m) ++ t)
-      (ap (λ (x : Outcome). x .output) (ez ∙ ap (made 32 m) (lent (marker ++ m) rest o₂ 227 split long) ∙ makes)
-      ∙ copied-fits (remainder 32 m) rest room ∙ ap (λ (t : List ℕ). remainder 32 m ++ t) behind)
-      ∙ sym (append-assoc (marker ++ m) (remainder 32 m) (drop blockBytes o))
+      (ap (λ (x : Outcome). x .output) (ez ∙ ap (made parityBytes m) (lent (marker ++ m) rest o₂ (4 + messageBytes) split long) ∙ makes)
+      ∙ copied-fits (remainder parityBytes m) rest room ∙ ap (λ (t : List ℕ). remainder parityBytes m ++ t) behind)
+      ∙ sym (append-assoc (marker ++ m) (remainder parityBytes m) (drop blockBytes o))
     where
       rest : List ℕ
       rest = drop messageBytes (drop 4 o)
@@ -76,17 +76,17 @@ module _ (m o : List ℕ) (h : length m ≡ messageBytes) (k : blockBytes ≤ le
           (ey ∙ ap (copied m) (lent marker (drop 4 o) o₁ 4 first refl) ∙ copied-fits m (drop 4 o) (omega (arith, length-drop 4 o))
           ∙ ap (λ (n : ℕ). m ++ drop n (drop 4 o)) h)
 
-      long : length (marker ++ m) ≡ 227
+      long : length (marker ++ m) ≡ (4 + messageBytes)
       long = omega arith
 
-      room : length (remainder 32 m) ≤ length rest
-      room = omega (arith, length-remainder 32 m, length-drop messageBytes (drop 4 o), length-drop 4 o)
+      room : length (remainder parityBytes m) ≤ length rest
+      room = omega (arith, length-remainder parityBytes m, length-drop messageBytes (drop 4 o), length-drop 4 o)
 
-      makes : made 32 m rest ≡ outcome (Wrote (length (remainder 32 m))) (copied (remainder 32 m) rest)
-      makes = simp (eq-eqb (length m) messageBytes h) (write-fits (remainder 32 m) rest room)
+      makes : made parityBytes m rest ≡ outcome (Wrote (length (remainder parityBytes m))) (copied (remainder parityBytes m) rest)
+      makes = simp (eq-eqb (length m) messageBytes h) (write-fits (remainder parityBytes m) rest room)
 
-      behind : drop (length (remainder 32 m)) rest ≡ drop blockBytes o
-      behind = ap (λ (n : ℕ). drop n rest) (length-remainder 32 m) ∙ drop-drop 32 messageBytes (drop 4 o) ∙ drop-drop wordBytes 4 o
+      behind : drop (length (remainder parityBytes m)) rest ≡ drop blockBytes o
+      behind = ap (λ (n : ℕ). drop n rest) (length-remainder parityBytes m) ∙ drop-drop parityBytes messageBytes (drop 4 o) ∙ drop-drop wordBytes 4 o
 
 module _ (m out : List ℕ) (h : length m ≡ messageBytes) where
   pub mark-short : length out < blockBytes → refused 23 out ≡ marking m out

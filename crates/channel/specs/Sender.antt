@@ -3,8 +3,9 @@
 -- marker, wordOf, framed    the marker, a word, words each with the marker before it
 -- filled, messagesOf        the stream filled with flags, and cut into messages
 -- marked                    a stream as it is sent
+-- wholes, restOf            the whole messages among stream bytes, and the bytes behind them
 -- marking, sending          what the two calls answer and leave
-use Prim.Native.Nat.{ℕ, zero, suc, _+_, _-_, _/_, _%_}
+use Prim.Native.Nat.{ℕ, zero, suc, _+_, _-_, _*_, _/_, _%_}
 use mathlib.Core.List.{List, [], _∷_, _++_, map}
 use lib.Dec.{eqb}
 use lib.ListN.{length, take, drop, replicate}
@@ -65,6 +66,18 @@ messagesOf bs = cutUp (length (filled bs) / messageBytes) (filled bs)
 -- .. and the stream as it is sent
 abbrev pub marked : List ℕ → List ℕ
 marked bs = framed (map wordOf (messagesOf bs))
+
+-- bytes of the whole messages among n
+abbrev pub wholeBytes : ℕ → ℕ
+wholeBytes n = n / messageBytes * messageBytes
+
+-- the whole messages ..
+abbrev pub wholes : List ℕ → List ℕ
+wholes bs = take (wholeBytes (length bs)) bs
+
+-- .. and the bytes behind them
+abbrev pub restOf : List ℕ → List ℕ
+restOf bs = drop (wholeBytes (length bs)) bs
 
 -- one block. 31: the message is not 223 bytes. Then 23 as for every call that writes
 abbrev pub marking : List ℕ → List ℕ → Outcome

@@ -1,4 +1,3 @@
-pub mod Marking
 pub mod Putting
 pub mod Hearing
 pub mod Sent

@@ -31,14 +31,15 @@ use Rattle.bid.proofs.Reading.{text-is, bid-found, bid-missed}
 use Rattle.bid.proofs.Verdicts.{judged-empty, judged-long, judged-barred, judged-free, bidOf, verdict-none, verdict-bid}
 use Rattle.office.specs.declared.Answer.the-variants.{Sent, NoBid as Unread, Refused}
 use Rattle.office.specs.declared.Ended.{Ended}
-use Rattle.office.specs.Desk.{wholeBytes, wholes, restOf, endingBy}
+use Rattle.office.specs.Desk.{endingBy}
+use Rattle.channel.specs.Sender.{wholeBytes, wholes, restOf, messageBytes}
 use Rattle.office.specs.Called.{heldLimit, holdLimit, outLimit}
 use Rattle.office.specs.Private.{EndedIs, PutIs}
-use Rattle.office.proofs.Marking.{marked-length, wholes-length, rest-short}
+use Rattle.channel.proofs.Marking.{marked-length, wholes-length, rest-short}
 
 -- a local's zeros
 abbrev zeros : List ℕ
-zeros = replicate 223 0
+zeros = replicate messageBytes 0
 
 -- ---- whole messages put out
 module _ (hold out : List ℕ) (n : ℕ) (h : n ≤ length hold) (m : n ≤ holdLimit) (room : outLimit ≤ length out) where
@@ -46,7 +47,7 @@ module _ (hold out : List ℕ) (n : ℕ) (h : n ≤ length hold) (m : n ≤ hold
   bs = take n hold
 
   abbrev whole : ℕ
-  whole = n / 223 * 223
+  whole = n / messageBytes * messageBytes
 
   bs-length : length bs ≡ n
   bs-length = length-take-le n hold h
@@ -59,7 +60,7 @@ module _ (hold out : List ℕ) (n : ℕ) (h : n ≤ length hold) (m : n ≤ hold
   rest-is = sym (drop-take whole n hold) ∙ ap (λ (k : ℕ). drop (wholeBytes k) bs) (sym bs-length)
 
   fits : length (marked (wholes bs)) ≤ length out
-  fits = omega (arith, marked-length (length bs / 223) (wholes bs) (wholes-length bs), bs-length)
+  fits = omega (arith, marked-length (length bs / messageBytes) (wholes bs) (wholes-length bs), bs-length)
 
   module _ {w : Written} {out′ rest hold′ : List ℕ} (es : outcome w out′ ≡ sending (take (whole - 0) hold) out)
       (er : rest ≡ copied (take (n - whole) (drop whole hold)) zeros) (eh : hold′ ≡ copied (take (n - whole - 0) rest) hold) where
@@ -70,7 +71,7 @@ module _ (hold out : List ℕ) (n : ℕ) (h : n ≤ length hold) (m : n ≤ hold
     moved =
         let r : List ℕ = restOf bs in
         let k : length r ≡ n - whole = length-drop (wholeBytes (length bs)) bs ∙ omega (arith, bs-length) in
-        let z : length r ≤ length zeros = omega (arith, length-replicate {A = ℕ} 223 0, rest-short bs) in
+        let z : length r ≤ length zeros = omega (arith, length-replicate {A = ℕ} messageBytes 0, rest-short bs) in
         let e : take (n - whole - 0) rest ≡ r =
         ap (take (n - whole - 0)) (er ∙ ap (λ (x : List ℕ). copied x zeros) rest-is ∙ copied-fits r zeros z)
         ∙ take-at r (drop (length r) zeros) (n - whole - 0) (omega arith) in
@@ -137,13 +138,13 @@ module _ (p : Packet) (at : ℕ) (hold : List ℕ) (small : at ≤ heldLimit) (r
       first-all = ap (take (at + n)) held-is ∙ take-at all (drop (length all) hold) (at + n) (omega (arith, all-length, long))
 
       pub send-is : (out : List ℕ) {r : ℕ} {hold₂ out₂ : List ℕ} → PutIs (take (at + n) hold′) hold′ out r hold₂ out₂
-          → EndedIs (endingBy (judged p) at hold) out (record { answer = Sent r; held = (at + n) % 223 }) hold₂ out₂
+          → EndedIs (endingBy (judged p) at hold) out (record { answer = Sent r; held = (at + n) % messageBytes }) hold₂ out₂
       send-is out {r} {hold₂} {out₂} x =
           let q : PutIs all (all ++ drop (length all) hold) out r hold₂ out₂ =
           subst (λ (x : List ℕ). PutIs x (all ++ drop (length all) hold) out r hold₂ out₂) first-all
           (subst (λ (x : List ℕ). PutIs (take (at + n) hold′) x out r hold₂ out₂) held-is x) in
-          let k : (at + n) % 223 ≡ length (restOf all) = sym (length-drop (wholeBytes (length all)) all ∙ omega (arith, all-length, long)) in
-          subst (λ (v : Verdict). EndedIs (endingBy v at hold) out (record { answer = Sent r; held = (at + n) % 223 }) hold₂ out₂) (sym is-accepted)
+          let k : (at + n) % messageBytes ≡ length (restOf all) = sym (length-drop (wholeBytes (length all)) all ∙ omega (arith, all-length, long)) in
+          subst (λ (v : Verdict). EndedIs (endingBy v at hold) out (record { answer = Sent r; held = (at + n) % messageBytes }) hold₂ out₂) (sym is-accepted)
           ((λ i. record { answer = Sent (q .0 i); held = k i }), q .1, q .2)
 
     -- refused

@@ -22,9 +22,10 @@ use Rattle.channel.specs.Sender.{marked}
 use Rattle.bid.specs.Line.{feed, lineLimit, Verdict, noBid, refused, accepted, verdict}
 use Rattle.bid.specs.Input.{linesFrom, packets, numbered, complaintsFrom}
 use Rattle.bid.proofs.Verdicts.{verdict-first}
-use Rattle.office.specs.Desk.{wholes, restOf, Spoken, blocks, unread, refusal, Said, putOut, endingBy, Desk, soFar, waiting, kept, endingOf, ended, eat, deskAll, sentBy, complaintsBy}
+use Rattle.office.specs.Desk.{Spoken, blocks, unread, refusal, Said, putOut, endingBy, Desk, soFar, waiting, kept, endingOf, ended, eat, deskAll, sentBy, complaintsBy}
+use Rattle.channel.specs.Sender.{wholes, restOf, messageBytes}
 use Rattle.office.specs.Called.{heldLimit, holdLimit, sound, roomy, hearOn, endBytes, Fine, lastOf}
-use Rattle.office.proofs.Marking.{rest-short, marked-rest}
+use Rattle.channel.proofs.Marking.{rest-short, marked-rest}
 use Rattle.office.proofs.Hearing.{eat-feed, eat-other, none-begun, one-begun}
 
 -- ---- a line
@@ -71,7 +72,7 @@ held-is : (bs hold : List ℕ) → take (putOut bs hold .held) (putOut bs hold .
 held-is bs hold =
     let r : List ℕ = restOf bs in
     let x : List ℕ = bs ++ drop (length bs) hold in
-    let h : length r ≤ length x = omega (arith, length-drop (length bs / 223 * 223) bs, length-append bs (drop (length bs) hold)) in
+    let h : length r ≤ length x = omega (arith, length-drop (length bs / messageBytes * messageBytes) bs, length-append bs (drop (length bs) hold)) in
     ap (take (length r)) (copied-fits r x h) ∙ take-at r (drop (length r) x) (length r) refl
 
 pub line-sent : (v : Verdict) (at : ℕ) (hold more : List ℕ)
@@ -114,7 +115,7 @@ hold-fits (accepted p) at hold h k =
     let r : List ℕ = restOf bs in
     let x : List ℕ = bs ++ drop (length bs) hold in
     let l : length x ≡ length bs + (length hold - length bs) = length-append bs (drop (length bs) hold) ∙ ap (λ (n : ℕ). length bs + n) (length-drop (length bs) hold) in
-    let s : length r ≤ length x = omega (arith, length-drop (length bs / 223 * 223) bs) in
+    let s : length r ≤ length x = omega (arith, length-drop (length bs / messageBytes * messageBytes) bs) in
     (rest-short bs, omega (arith, ap length (copied-fits r x s), length-append r (drop (length r) x), length-drop (length r) x))
 
 fine-ended : (d : Desk) → Fine d → Fine (ended d .1)

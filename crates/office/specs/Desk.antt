@@ -1,5 +1,4 @@
 -- The office's desk: lines of bids in, marked blocks out, byte by byte.
--- wholes, restOf       the whole messages among stream bytes, and the bytes behind them
 -- Spoken, Said         what the sender says of a line, and the line's number
 -- Ending, endingBy     a line ended: what is said, and what is held then
 -- Desk, eat            the desk, and one byte
@@ -16,7 +15,7 @@ use Rattle.base.specs.Calls.{owesNone, handsNone, all}
 use Rattle.base.specs.Written.{copied}
 use Rattle.packet.specs.Escape.{flag}
 use Rattle.stream.specs.Sender.{rawOf}
-use Rattle.channel.specs.Sender.{messageBytes, marked, sent}
+use Rattle.channel.specs.Sender.{messageBytes, marked, sent, wholes, restOf}
 use Rattle.bid.specs.Line.{feed, lineLimit, Verdict, noBid, refused, accepted, verdict}
 use Rattle.bid.specs.Input.{numbered, packetsOf}
 use Rattle.office.specs.declared.Office.{Office}
@@ -24,18 +23,6 @@ use Rattle.office.specs.declared.Office.{Office}
 -- the bytes of an input's bids as they are sent
 abbrev pub sentFor : List ℕ → List ℕ
 sentFor input = sent (packetsOf input)
-
--- bytes of the whole messages among n
-abbrev pub wholeBytes : ℕ → ℕ
-wholeBytes n = n / messageBytes * messageBytes
-
--- the whole messages ..
-abbrev pub wholes : List ℕ → List ℕ
-wholes bs = take (wholeBytes (length bs)) bs
-
--- .. and the bytes behind them
-abbrev pub restOf : List ℕ → List ℕ
-restOf bs = drop (wholeBytes (length bs)) bs
 
 -- the marked blocks that an accepted line fills, or why it is not sent
 pub data Spoken : Type 0 where

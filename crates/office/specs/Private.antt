@@ -8,7 +8,8 @@ use lib.ListN.{length, drop}
 use Rattle.base.specs.Written.{copied}
 use Rattle.channel.specs.Sender.{marked}
 use Rattle.office.specs.declared.Ended.{Ended}
-use Rattle.office.specs.Desk.{wholes, restOf, Ending}
+use Rattle.office.specs.Desk.{Ending}
+use Rattle.channel.specs.Sender.{wholes, restOf}
 use Rattle.office.specs.Called.{spoken, spokenOut}
 
 -- a line ended
