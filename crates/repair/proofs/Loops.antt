@@ -3,7 +3,7 @@ use mathlib.Core.Path.{_≡_, refl, sym, ap, ap₂, _∙_, subst}
 use mathlib.Core.List.{List, [], _∷_, _++_, append-assoc, append-nil, map}
 use Prim.Native.Nat.{ℕ, zero, suc, _+_, _-_, _≤_, _<_}
 use native.Mathlib.Nat.{le-refl, le-antisymm, suc-inj, pos-of-ne-zero}
-use native.Mathlib.Nat.{add-zero as plus-zero, add-suc as plus-suc, suc-add as suc-plus, add-comm as nat-add-comm, add-assoc as nat-add-assoc, zero-add as nat-zero-add}
+use native.Mathlib.Nat.{add-zero as plus-zero, add-assoc as nat-add-assoc, zero-add as nat-zero-add}
 use native.Mathlib.Numerals.{add-one}
 use native.Mathlib.Omega.{arith}
 use lib.Dec.{eqb}
