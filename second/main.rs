@@ -18,6 +18,7 @@
 //!   second samples DIR       the recordings of samples/ with their listings
 //!   second cases [SEED]      cases for the proved code, to standard output
 //!   second words R PLACES N  N cases for repair: words altered in so many places
+//!   second time N M          times of N words made and checked, and of M words of each kind repaired (time.rs)
 //!   second compare CASES ANSWERS
 //!                            holds its own answers to those of the proved code
 
@@ -36,6 +37,7 @@ mod repair;
 mod samples;
 mod selftest;
 mod stream;
+mod time;
 
 use std::io::Write;
 
@@ -61,12 +63,13 @@ fn main() {
         ["cases"] => Some(write_cases(1)),
         ["cases", seed] => number(seed).map(write_cases),
         ["words", r, places, n] => three(r, places, n).map(|(r, places, n)| write(cases::altered_words(r, places, n))),
+        ["time", n, m] => number(n).zip(number(m)).map(|(n, m)| time::run(n as usize, m as usize)),
         ["compare", asked, told] => std::process::exit(compare(asked, told)),
         _ => None,
     };
     if done.is_none() {
         eprintln!("usage: second fcs HEX | parity R HEX | word R HEX | repair R HEX | interleave DEPTH HEX | restore DEPTH HEX | list | kinds FILE..");
-        eprintln!("  | recordings DIR [SEED] | steady plain|marked MIB | samples DIR | cases [SEED] | compare CASES ANSWERS | test [SEED] | words R PLACES N");
+        eprintln!("  | recordings DIR [SEED] | steady plain|marked MIB | samples DIR | cases [SEED] | compare CASES ANSWERS | test [SEED] | words R PLACES N | time N M");
         std::process::exit(2);
     }
 }

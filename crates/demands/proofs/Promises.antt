@@ -15,9 +15,9 @@ use Rattle.base.specs.Choice.{pick}
 use Rattle.base.specs.UpTo.{upTo}
 use Rattle.base.specs.Written.{outcome, write, copied}
 use Rattle.fcs.specs.Fcs as check
-use Rattle.field.specs.Field.{add, mul, pow, alpha, inverse, valueAt}
-use Rattle.parity.specs.Word.{eval, onto, scale}
-use Rattle.parity.specs.Calls.{made, checked}
+use Rattle.field.specs.Field.{add, mul, pow, alpha, inverse}
+use Rattle.parity.specs.Word.{onto, scale}
+use Rattle.parity.specs.Calls.{atRoots, made, checked}
 use Rattle.repair.specs.Promise.{Promised}
 use Rattle.interleaver.specs.Matrix.{turning}
 use Rattle.packet.specs.Escape.{flag}
@@ -83,8 +83,7 @@ use Rattle.field.proofs.plus as field-plus
 use Rattle.field.proofs.times as field-times
 use Rattle.field.proofs.power as field-power
 use Rattle.field.proofs.inverse as field-inverse
-use Rattle.field.proofs.value as field-value
-use Rattle.parity.proofs.value as parity-value
+use Rattle.parity.proofs.at_roots as parity-at-roots
 use Rattle.parity.proofs.subtract as parity-subtract
 use Rattle.base.proofs.least as base-least
 use Rattle.base.proofs.up_to as base-up-to
@@ -309,13 +308,9 @@ pub field-inverse-means : Means field-inverse.Statement.statement field-inverse.
     λ κs a r. r ≡ inverse a
 field-inverse-means = (λ M. field-inverse.Met.met, λ κs a. tt, λ κs a z ws. (λ p. p, λ p. p))
 
-pub field-value-means : Means field-value.Statement.statement field-value.Kinds.ps field-value.Kinds.r field-value.Reads.Asked field-value.Reads.Learnt
-    λ κs j p r. r ≡ valueAt (pow alpha j) (now p)
-field-value-means = (λ M. field-value.Met.met, λ κs a. tt, λ κs a z ws. (λ p. p, λ p. p))
-
-pub parity-value-means : Means parity-value.Statement.statement parity-value.Kinds.ps parity-value.Kinds.r parity-value.Reads.Asked parity-value.Reads.Learnt
-    λ κs j p r. r ≡ eval (now p) (pow alpha j)
-parity-value-means = (λ M. parity-value.Met.met, λ κs a. tt, λ κs a z ws. (λ p. p, λ p. p))
+pub parity-at-roots-means : Means parity-at-roots.Statement.statement parity-at-roots.Kinds.ps parity-at-roots.Kinds.r parity-at-roots.Reads.Asked parity-at-roots.Reads.Learnt
+    λ κs word v. v ≡ atRoots (now word)
+parity-at-roots-means = (λ M. parity-at-roots.Met.met, λ κs a. tt, λ κs a z ws. (λ p. p, λ p. p))
 
 pub parity-subtract-means : Means parity-subtract.Statement.statement parity-subtract.Kinds.ps parity-subtract.Kinds.r parity-subtract.Reads.Asked parity-subtract.Reads.Learnt
     λ κs c g p _. now (p .exit) ≡ onto (scale c (now g)) (now (p .entry))

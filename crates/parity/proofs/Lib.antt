@@ -1,5 +1,6 @@
 pub mod Sums
 pub mod Values
+pub mod Roots
 pub mod Generator
 pub mod Division
 pub mod Clean

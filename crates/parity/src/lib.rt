@@ -1,12 +1,13 @@
-//! Parity words of 255 bytes: parity made, and a word checked.
+//! Parity words of 255 bytes: parity made, a word's values at its roots, and a word checked.
 ghost use mathlib.Core.Path.{_≡_};
 ghost use mathlib.Core.List.{_∷_, _++_};
 ghost use Prim.Native.Nat.{_+_, _-_, _≤_};
 ghost use lib.ListN.{length, drop, replicate};
 ghost use Rattle.base.specs.Written.{copied, outcome};
-ghost use Rattle.field.specs.Field.{alpha, pow};
-ghost use Rattle.parity.specs.Word.{eval, clean, scale, onto, generator, divide, remainder};
-ghost use Rattle.parity.specs.Calls.{checked, made};
+ghost use Rattle.field.specs.Field.{alpha};
+ghost use Rattle.parity.specs.Word.{clean, scale, onto, generator, divide, remainder};
+ghost use Rattle.parity.specs.Calls.{atRoots, checked, made};
+ghost use Rattle.parity.specs.Private.{points, stepped};
 use base::Refusal;
 use base::Written;
 
@@ -28,20 +29,58 @@ impl Word {
     pub const MOST: usize = 64;
 }
 
-/// The value of a polynomial at alpha to the power j.
-pub fn value(j: usize, p: &[u8]) -> u8
-    ensures { λ r. ⌜ r ≡ eval (now (p .entry)) (pow alpha j) ⌝ }
+// The points alpha, alpha^2, .. alpha^64.
+fn points() -> [u8; 64]
+    ensures { λ p. ⌜ p ≡ points alpha 64 ⌝ }
 {
-    field::value(j, p)
+    let mut p = [0u8; 64];
+    let mut x = field::ALPHA;
+    let mut j: usize = 0;
+    while j < 64 {
+        p[j] = x;
+        x = field::times(x, field::ALPHA);
+        j += 1;
+    }
+    p
+}
+
+// One step of Horner's rule at 64 points, side by side: c comes behind the coefficients whose values are v.
+fn step(c: u8, p: [u8; 64], v: [u8; 64]) -> [u8; 64]
+    ensures { λ n. ⌜ n ≡ stepped c p v ⌝ }
+{
+    let mut next = v;
+    let mut j: usize = 0;
+    while j < 64 {
+        next[j] = field::plus(field::times(p[j], next[j]), c);
+        j += 1;
+    }
+    next
+}
+
+/// The values of a word at alpha, alpha^2, .. alpha^64: at all roots that it may have.
+pub fn at_roots(word: &[u8]) -> [u8; 64]
+    ensures { λ v. ⌜ v ≡ atRoots (now (word .entry)) ⌝ }
+{
+    let p = points();
+    let mut v = [0u8; 64];
+    let mut i: usize = 0;
+    while i < word.len() {
+        let next = step(word[i], p, v);
+        v = next;
+        i += 1;
+    }
+    v
 }
 
 // Whether a word is zero at the roots 1 to r.
 fn zero_at(r: usize, word: &[u8]) -> bool
+    requires { ⌜ r ≤ 64 ⌝ }
     ensures { λ b. ⌜ b ≡ clean r (now (word .entry)) ⌝ }
 {
+    let v = at_roots(word);
     let mut j: usize = 0;
     while j < r {
-        if value(j + 1, word) != 0 {
+        if v[j] != 0 {
             return false;
         }
         j += 1;

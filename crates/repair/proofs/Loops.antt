@@ -3,7 +3,7 @@ use mathlib.Core.Path.{_≡_, refl, sym, ap, ap₂, _∙_, subst}
 use mathlib.Core.List.{List, [], _∷_, _++_, append-assoc, append-nil, map}
 use Prim.Native.Nat.{ℕ, zero, suc, _+_, _-_, _≤_, _<_}
 use native.Mathlib.Nat.{le-refl, le-antisymm, suc-inj, pos-of-ne-zero}
-use native.Mathlib.Nat.{add-zero as plus-zero, add-suc as plus-suc, suc-add as suc-plus, add-comm as nat-add-comm, add-assoc as nat-add-assoc, zero-add as nat-zero-add}
+use native.Mathlib.Nat.{add-zero as plus-zero, add-assoc as nat-add-assoc, zero-add as nat-zero-add}
 use native.Mathlib.Numerals.{add-one}
 use native.Mathlib.Omega.{arith}
 use lib.Dec.{eqb}
@@ -16,19 +16,21 @@ use Rattle.base.specs.Written.{copied}
 use Rattle.base.proofs.Writing.{copied-fits}
 use Rattle.field.specs.Field.{alpha, add, mul, pow, inverse}
 use Rattle.field.proofs.Sum.{add-zero, zero-add, add-assoc}
-use Rattle.field.proofs.Product.{mul-zero, zero-mul}
-use Rattle.field.proofs.Powers.{pow-add}
-use Rattle.parity.specs.Word.{eval, scale, onto}
-use Rattle.parity.specs.Calls.{checked}
+use Rattle.field.proofs.Product.{mul-zero, zero-mul, mul-comm}
+use Rattle.field.proofs.Powers.{pow-suc}
+use Rattle.parity.specs.Word.{valuesFrom, scale, onto}
+use Rattle.parity.specs.Calls.{atRoots, checked}
 use Rattle.parity.specs.declared.Checked.{Checked}
 use Rattle.parity.specs.declared.Checked.the-variants as check
 use Rattle.parity.proofs.Sums.{length-onto}
+use Rattle.parity.proofs.Roots.{length-values, values-front}
+use Rattle.parity.proofs.Loops.{drop-replicate}
 use Rattle.repair.specs.declared.Mended.{Mended}
 use Rattle.repair.specs.declared.Mended.the-variants.{Repaired, Beyond}
 use Rattle.repair.specs.Promise.{distance, half, Promised}
-use Rattle.repair.specs.Way.{low, tails, dot, sumsFrom, sums, windows, head, shift, pivot, normal, reduced, behind, solve, errorAt, errors, locator, amended, settled, mended}
+use Rattle.repair.specs.Way.{low, tails, dot, sums, windows, head, shift, pivot, normal, reduced, behind, solve, errorAt, errors, locator, amended, settled, mended}
 use Rattle.repair.proofs.Locate.{length-tails}
-use Rattle.repair.proofs.Meeting.{length-sums-from, mended-promised}
+use Rattle.repair.proofs.Meeting.{mended-promised}
 
 -- ---- distance
 module _ (n i : ℕ) (a b : List ℕ) {t : ℕ} (inv : n + distance (drop i a) (drop i b) ≡ t) where
@@ -48,27 +50,15 @@ module _ (n i : ℕ) (a b : List ℕ) {t : ℕ} (inv : n + distance (drop i a) (
   distance-done h = sym (plus-zero n) ∙ rw (drop-of-length-le a h) at inv
 
 -- ---- sums
-sums-more : (w : List ℕ) (n j : ℕ) → sumsFrom w j (suc n) ≡ sumsFrom w j n ++ eval w (pow alpha (j + n)) ∷ []
-unfolding sumsFrom
-sums-more w zero j = ap (λ (t : ℕ). eval w (pow alpha t) ∷ []) (sym (plus-zero j))
-sums-more w (suc n) j =
-    ap (λ (t : List ℕ). eval w (pow alpha j) ∷ t) (sums-more w n (suc j) ∙ ap (λ (t : ℕ). sumsFrom w (suc j) n ++ eval w (pow alpha t) ∷ []) (suc-plus j n ∙ sym (plus-suc j n)))
-
-module _ (w : List ℕ) (j : ℕ) (s : List ℕ) (inv : s ≡ sumsFrom w 1 j ++ replicate (64 - j) 0) where
-  pub sums-next : {v : ℕ} → j < 64 → v ≡ eval w (pow alpha (j + 1)) → set s j v ≡ sumsFrom w 1 (j + 1) ++ replicate (64 - (j + 1)) 0
-  sums-next {v} h ev =
-      ap (λ (t : List ℕ). set t j v) (inv ∙ ap (λ (n : ℕ). sumsFrom w 1 j ++ replicate n 0) more)
-      ∙ set-at (sumsFrom w 1 j) 0 (replicate (64 - (j + 1)) 0) v j (length-sums-from w j 1)
-      ∙ sym (append-assoc (sumsFrom w 1 j) (v ∷ []) (replicate (64 - (j + 1)) 0))
-      ∙ ap (λ (t : List ℕ). t ++ replicate (64 - (j + 1)) 0)
-      (ap (λ (t : ℕ). sumsFrom w 1 j ++ t ∷ []) (ev ∙ ap (λ (k : ℕ). eval w (pow alpha k)) (nat-add-comm j 1)) ∙ sym (sums-more w j 1) ∙ ap (sumsFrom w 1) (sym (add-one j)))
-    where
-      more : 64 - j ≡ suc (64 - (j + 1))
-      more = omega arith
-
-  pub sums-done : (r : ℕ) → j ≤ r → r ≤ j → s ≡ sums r w
-  unfolding sums
-  sums-done r h k = inv ∙ ap (λ (n : ℕ). sumsFrom w 1 n ++ replicate (64 - n) 0) (le-antisymm h k)
+pub sums-are : (r : ℕ) (w : List ℕ) {v s : List ℕ} → r ≤ 64 → v ≡ atRoots w → s ≡ copied (take r v) (replicate 64 0) → s ≡ sums r w
+unfolding sums
+sums-are r w {v} h ev es =
+    es ∙ ap (λ (t : List ℕ). copied t (replicate 64 0)) front
+    ∙ copied-fits (valuesFrom w 1 r) (replicate 64 0) (omega (arith, length-values w 1 r, length-replicate {A = ℕ} 64 0))
+    ∙ ap (λ (t : List ℕ). valuesFrom w 1 r ++ t) (ap (λ (n : ℕ). drop n (replicate 64 0)) (length-values w 1 r) ∙ drop-replicate r 64)
+  where
+    front : take r v ≡ valuesFrom w 1 r
+    front = ap (take r) ev ∙ values-front w 1 64 r h
 
 -- ---- dot
 module _ (a i : ℕ) (u row : List ℕ) {d : ℕ} (inv : add a (dot (drop i u) (drop i row)) ≡ d) where
@@ -228,9 +218,9 @@ module _ (x : ℕ) (v : List ℕ) where
     front : drop (i - 1) v ≡ getD v (i - 1) 0 ∷ drop i v
     front = let same : suc (i - 1) ≡ i = omega arith in drop-cons v (i - 1) 0 (omega arith) ∙ ap (λ (n : ℕ). getD v (i - 1) 0 ∷ drop n v) same
 
-    pub low-next : {a t b : ℕ} → a ≡ low (drop i v) x → t ≡ mul x a → b ≡ add (getD v (i - 1) 0) t → b ≡ low (drop (i - 1) v) x
+    pub low-next : {a t b : ℕ} → a ≡ low (drop i v) x → t ≡ mul a x → b ≡ add (getD v (i - 1) 0) t → b ≡ low (drop (i - 1) v) x
     unfolding low
-    low-next ea et eb = eb ∙ ap (add (getD v (i - 1) 0)) (et ∙ ap (mul x) ea) ∙ sym (ap (λ (t : List ℕ). low t x) front)
+    low-next {a} ea et eb = eb ∙ ap (add (getD v (i - 1) 0)) (et ∙ mul-comm a x ∙ ap (mul x) ea) ∙ sym (ap (λ (t : List ℕ). low t x) front)
 
   pub low-done : (i : ℕ) {a : ℕ} → i ≤ 0 → a ≡ low (drop i v) x → a ≡ low v x
   low-done zero h p = p
@@ -291,10 +281,10 @@ module _ (v s w₀ : List ℕ) where
         (eb ∙ ap₂ add (ee ∙ ap (errorAt v s) (ex ∙ ap (pow alpha) (sym (length-drop i w₀)))) (back-read (λ t. onto (errors v s (length t)) t) w₀ i h k w inv))
         ∙ ap (λ (t : List ℕ). onto (errors v s (length t)) t) (sym (front 0 w₀ i h k)))
 
-    pub point-next : {a x y : ℕ} → a ≡ pow alpha 1 → x ≡ pow alpha (length w₀ - i) → y ≡ mul a x → y ≡ pow alpha (length w₀ - (i - 1))
-    point-next ea ex ey =
-        let more : 1 + (length w₀ - i) ≡ length w₀ - (i - 1) = omega arith in
-        ey ∙ ap₂ mul ea ex ∙ sym (pow-add alpha 1 (length w₀ - i)) ∙ ap (pow alpha) more
+    pub point-next : {x y : ℕ} → x ≡ pow alpha (length w₀ - i) → y ≡ mul x alpha → y ≡ pow alpha (length w₀ - (i - 1))
+    point-next {x} ex ey =
+        let more : suc (length w₀ - i) ≡ length w₀ - (i - 1) = omega arith in
+        ey ∙ mul-comm x alpha ∙ ap (mul alpha) ex ∙ sym (pow-suc alpha (length w₀ - i)) ∙ ap (pow alpha) more
 
 -- ---- error_at
 pub error-none : (v s : List ℕ) (x : ℕ) {l : ℕ} → l ≡ low v x → (l ≡ 0 → ⊥) → 0 ≡ errorAt v s x

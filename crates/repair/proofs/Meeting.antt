@@ -17,16 +17,17 @@ use Rattle.base.proofs.Bytes.{each-append, each-take, each-drop, each-replicate
 use Rattle.field.specs.Field.{alpha, add, mul, pow, inverse}
 use Rattle.field.proofs.Sum.{add-zero}
 use Rattle.field.proofs.Product.{mul-lt}
-use Rattle.parity.specs.Word.{onto, eval, clean}
+use Rattle.parity.specs.Word.{eval, valuesFrom, onto, clean}
 use Rattle.parity.specs.Calls.{checked}
 use Rattle.parity.specs.declared.Checked.{Checked}
 use Rattle.parity.specs.declared.Checked.the-variants as check
 use Rattle.parity.proofs.Sums.{length-onto, bytes-onto, onto-comm, onto-twice}
-use Rattle.parity.proofs.Values.{eval-lt, eval-add}
+use Rattle.parity.proofs.Values.{eval-add}
+use Rattle.parity.proofs.Roots.{length-values, bytes-values}
 use Rattle.parity.proofs.Clean.{clean-roots}
 use Rattle.repair.specs.declared.Mended.the-variants.{Clean, Beyond, Refused}
 use Rattle.repair.specs.Promise.{distance, half, Near, Promised}
-use Rattle.repair.specs.Way.{low, tails, dot, sumsFrom, sums, windows, errorAt, errors, locator, amended, settled, mended, repairedBy, repaired}
+use Rattle.repair.specs.Way.{low, tails, dot, sums, windows, errorAt, errors, locator, amended, settled, mended, repairedBy, repaired}
 use Rattle.repair.proofs.Few.{weight}
 use Rattle.repair.proofs.Apart.{distance-zero, distance-weight, checked-clean, checked-damaged}
 use Rattle.repair.proofs.Eliminate.{Row, Answers, solved}
@@ -34,23 +35,13 @@ use Rattle.repair.proofs.Exists.{not-none}
 use Rattle.repair.proofs.Values.{found-errors}
 
 -- ---- the equations are rows of 33 bytes
-bytes-sums-from : (w : List ℕ) → Bytes w → (n j : ℕ) → Bytes (sumsFrom w j n)
-unfolding sumsFrom
-bytes-sums-from w b zero j = tt
-bytes-sums-from w b (suc n) j = (eval-lt (pow alpha j) w b, bytes-sums-from w b n (suc j))
-
-pub length-sums-from : (w : List ℕ) (n j : ℕ) → length (sumsFrom w j n) ≡ n
-unfolding sumsFrom
-length-sums-from w zero j = refl
-length-sums-from w (suc n) j = ap suc (length-sums-from w n (suc j))
-
 bytes-sums : (r : ℕ) (w : List ℕ) → Bytes w → Bytes (sums r w)
 unfolding sums
-bytes-sums r w b = each-append IsByte (sumsFrom w 1 r) (replicate (64 - r) 0) (bytes-sums-from w b r 1) (each-replicate IsByte (64 - r) 0 (omega arith))
+bytes-sums r w b = each-append IsByte (valuesFrom w 1 r) (replicate (64 - r) 0) (bytes-values w b 1 r) (each-replicate IsByte (64 - r) 0 (omega arith))
 
 length-sums : (r : ℕ) (w : List ℕ) → r ≤ 64 → length (sums r w) ≡ 64
 unfolding sums
-length-sums r w h = length-append (sumsFrom w 1 r) _ ∙ omega (arith, length-sums-from w r 1, length-replicate {A = ℕ} (64 - r) 0)
+length-sums r w h = length-append (valuesFrom w 1 r) _ ∙ omega (arith, length-values w 1 r, length-replicate {A = ℕ} (64 - r) 0)
 
 rows-windows : (s : List ℕ) → length s ≡ 64 → Bytes s → (m i : ℕ) → i + m ≤ 32 → Each Row (windows i m s)
 unfolding windows
@@ -75,10 +66,10 @@ bytes-errors v s zero = tt
 bytes-errors v s (suc n) = (error-lt v s (pow alpha n), bytes-errors v s n)
 
 -- ---- the sums of a word are those of what was altered in it
-same-sums-from : (w e : List ℕ) (n j : ℕ) → ((k : ℕ) → j ≤ k → k < j + n → eval w (pow alpha k) ≡ eval e (pow alpha k)) → sumsFrom w j n ≡ sumsFrom e j n
-unfolding sumsFrom
-same-sums-from w e zero j h = refl
-same-sums-from w e (suc n) j h = ap₂ _∷_ (h j (omega arith) (omega arith)) (same-sums-from w e n (suc j) (λ k p q. h k (omega arith) (omega arith)))
+same-values : (w e : List ℕ) (n j : ℕ) → ((k : ℕ) → j ≤ k → k < j + n → eval w (pow alpha k) ≡ eval e (pow alpha k)) → valuesFrom w j n ≡ valuesFrom e j n
+unfolding valuesFrom
+same-values w e zero j h = refl
+same-values w e (suc n) j h = ap₂ _∷_ (h j (omega arith) (omega arith)) (same-values w e n (suc j) (λ k p q. h k (omega arith) (omega arith)))
 
 module _ (r : ℕ) (w : List ℕ) (b : Bytes w) (l : length w ≡ 255) (v : List ℕ) (near : Near r w v) where
   fine : (r ≤ 64) × (length v ≡ 255) × (clean r v ≡ true)
@@ -106,7 +97,7 @@ module _ (r : ℕ) (w : List ℕ) (b : Bytes w) (l : length w ≡ 255) (v : List
   unfolding sums e
   same-sums =
       ap (λ (s : List ℕ). s ++ replicate (64 - r) 0)
-      (same-sums-from w (onto w v) r 1
+      (same-values w (onto w v) r 1
       (λ k p q. sym (eval-add (pow alpha k) w v same-length ∙ ap (add (eval w (pow alpha k))) (clean-roots r v (fine .2) k p (omega arith)) ∙ add-zero _)))
 
   onto-back : onto e w ≡ v

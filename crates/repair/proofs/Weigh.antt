@@ -15,9 +15,9 @@ use Rattle.field.specs.Field.{alpha, add, mul, pow}
 use Rattle.field.proofs.Sum.{add-self}
 use Rattle.field.proofs.Product.{ring, mul-zero}
 use Rattle.field.proofs.Powers.{pow-suc, pow-mul}
-use Rattle.parity.specs.Word.{horner, eval}
+use Rattle.parity.specs.Word.{horner, eval, valuesFrom}
 use Rattle.parity.proofs.Values.{eval-cons}
-use Rattle.repair.specs.Way.{low, dot, sumsFrom}
+use Rattle.repair.specs.Way.{low, dot}
 
 unfoldable pub weigh : (ℕ → ℕ) → List ℕ → ℕ
 weigh f [] = 0
@@ -70,8 +70,8 @@ low-step : (p c x l : ℕ) → add (mul c p) (mul (mul x p) l) ≡ mul p (add c 
 low-step p c x l = simp ring
 
 module _ (w z : List ℕ) (b : Bytes w) where
-  front-weigh : (u : List ℕ) (j n : ℕ) → length u ≤ n → dot u (sumsFrom w j n ++ z) ≡ weigh (λ x. mul (pow x j) (low u x)) w
-  unfolding dot low sumsFrom
+  front-weigh : (u : List ℕ) (j n : ℕ) → length u ≤ n → dot u (valuesFrom w j n ++ z) ≡ weigh (λ x. mul (pow x j) (low u x)) w
+  unfolding dot low valuesFrom
   front-weigh [] j n h = sym (weigh-same (λ x. mul (pow x j) 0) (λ x. mul 0 0) w (λ x. mul-zero _ ∙ sym (mul-zero 0)) ∙ weigh-mul 0 (λ x. 0) w ∙ simp ring)
   front-weigh (c ∷ cs) j zero h = absurd (omega arith)
   front-weigh (c ∷ cs) j (suc n) h =
@@ -80,8 +80,8 @@ module _ (w z : List ℕ) (b : Bytes w) where
       ∙ weigh-same (λ x. add (mul c (pow x j)) (mul (pow x (suc j)) (low cs x))) (λ x. mul (pow x j) (add c (mul x (low cs x)))) w
       (λ x. ap (λ (t : ℕ). add (mul c (pow x j)) (mul t (low cs x))) (pow-suc x j) ∙ low-step (pow x j) c x (low cs x))
 
-  pub row-weigh : (u : List ℕ) (i j n : ℕ) → length u + i ≤ n → dot u (drop i (sumsFrom w j n ++ z)) ≡ weigh (λ x. mul (pow x (j + i)) (low u x)) w
-  unfolding sumsFrom
+  pub row-weigh : (u : List ℕ) (i j n : ℕ) → length u + i ≤ n → dot u (drop i (valuesFrom w j n ++ z)) ≡ weigh (λ x. mul (pow x (j + i)) (low u x)) w
+  unfolding valuesFrom
   row-weigh u zero j n h = front-weigh u j n (omega arith) ∙ ap (λ (k : ℕ). weigh (λ x. mul (pow x k) (low u x)) w) (sym (plus-zero j))
   row-weigh u (suc i) j zero h = absurd (omega arith)
   row-weigh u (suc i) j (suc n) h =

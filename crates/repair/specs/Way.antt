@@ -14,7 +14,7 @@ use lib.Dec.{eqb, ltb}
 use lib.ListN.{length, take, drop, getD, replicate}
 use Rattle.base.specs.Choice.{pick}
 use Rattle.field.specs.Field.{alpha, add, mul, pow, inverse}
-use Rattle.parity.specs.Word.{eval, scale, onto}
+use Rattle.parity.specs.Word.{valuesFrom, scale, onto}
 use Rattle.parity.specs.Calls.{checked}
 use Rattle.parity.specs.declared.Checked.{Checked}
 use Rattle.parity.specs.declared.Checked.the-variants as check
@@ -38,14 +38,9 @@ dot [] ys = 0
 dot (x ∷ xs) [] = 0
 dot (x ∷ xs) (y ∷ ys) = add (mul x y) (dot xs ys)
 
--- n of the sums, from S_j on
-unfoldable pub sumsFrom : List ℕ → ℕ → ℕ → List ℕ
-sumsFrom w j zero = []
-sumsFrom w j (suc n) = eval w (pow alpha j) ∷ sumsFrom w (suc j) n
-
 -- S_1 to S_r, and zeros up to 64
 unfoldable pub sums : ℕ → List ℕ → List ℕ
-sums r w = sumsFrom w 1 r ++ replicate (64 - r) 0
+sums r w = valuesFrom w 1 r ++ replicate (64 - r) 0
 
 -- m equations, from the one that begins at place i of the sums on
 unfoldable pub windows : ℕ → ℕ → List ℕ → List (List ℕ)

@@ -41,12 +41,9 @@ fn sums(r: usize, word: &[u8]) -> [u8; 64]
     requires { ⌜ r ≤ 64 ⌝ }
     ensures { λ s. ⌜ s ≡ sums r (now (word .entry)) ⌝ }
 {
+    let v = parity::at_roots(word);
     let mut s = [0u8; 64];
-    let mut j: usize = 0;
-    while j < r {
-        s[j] = parity::value(j + 1, word);
-        j += 1;
-    }
+    base::copy(&v[..r], &mut s);
     s
 }
 

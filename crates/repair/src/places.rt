@@ -14,7 +14,7 @@ fn low(v: &[u8], x: u8) -> u8
     let mut i: usize = v.len();
     while 0 < i {
         i -= 1;
-        a = field::plus(v[i], field::times(x, a));
+        a = field::plus(v[i], field::times(a, x));
     }
     a
 }
@@ -27,7 +27,7 @@ fn divide(v: &mut [u8], x: u8)
     let mut i: usize = v.len();
     while 0 < i {
         i -= 1;
-        a = field::plus(v[i], field::times(x, a));
+        a = field::plus(v[i], field::times(a, x));
         v[i] = a;
     }
 }
@@ -55,12 +55,11 @@ pub fn add(v: &[u8], s: &[u8], word: &mut [u8])
     requires { ⌜ (0 < length (now v)) × (length (now v) ≤ 33) × (length (now v) ≤ length (now s)) ⌝ }
     ensures { λ _. ⌜ now (word .exit) ≡ onto (errors (now (v .entry)) (now (s .entry)) (length (now (word .entry)))) (now (word .entry)) ⌝ }
 {
-    let alpha = field::power(1);
     let mut x: u8 = 1;
     let mut i: usize = word.len();
     while 0 < i {
         i -= 1;
         word[i] = field::plus(error_at(v, s, x), word[i]);
-        x = field::times(alpha, x);
+        x = field::times(x, field::ALPHA);
     }
 }

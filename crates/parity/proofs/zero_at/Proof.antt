@@ -10,23 +10,23 @@ use Rattle.parity.proofs.zero_at.Statement.{statement}
 use Rattle.parity.proofs.zero_at.Tie as tie
 
 abbrev Inv-loop : tie.InvT-loop
-Inv-loop r word j₀ j = (j ≤ r) × (clean j word ≡ true)
+Inv-loop r word v j₀ j = (j ≤ r) × (clean j word ≡ true)
 
 abbrev μ-loop : tie.MeasureT-loop
-μ-loop r word j₀ j = r - j
+μ-loop r word v j₀ j = r - j
 
 pub zero-at-spec : {M : Type 1} → statement M
 zero-at-spec =
     tie.close
     (tie.spec Inv-loop μ-loop
+    (search needs)
     (λ c. unfold clean in (omega arith, refl))
     (omega arith)
-    (search needs)
-    (λ c. clean-fails _ _ (c .before .value .ensures) _ (omega arith) (c .if1 .taken))
+    (λ c. clean-fails _ _ (c .before .before .before .at-roots .ensures) (omega arith) _ (omega arith) (c .if1 .taken))
     (omega arith)
     (omega arith)
     (λ c. (
       omega arith,
-      clean-next _ _ (c .before .value .ensures) (c .if1 .left) (c .before .before .before .loop .inv .1),
+      clean-next _ _ (c .before .before .before .at-roots .ensures) (omega arith) (c .if1 .left) (c .before .before .loop .inv .1),
     ))
     (λ c. clean-done _ _ _ (c .before .loop .inv .0) (omega arith) (c .before .loop .inv .1)))

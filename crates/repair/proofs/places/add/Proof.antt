@@ -15,23 +15,22 @@ use Rattle.repair.proofs.places.add.Statement.{statement}
 use Rattle.repair.proofs.places.add.Tie as tie
 
 abbrev Inv-loop : tie.InvT-loop
-Inv-loop v s word₀ a x₀ i₀ word x i =
+Inv-loop v s word₀ x₀ i₀ word x i =
     (i ≤ length word₀) × (length word ≡ length word₀) × (x ≡ pow alpha (length word₀ - i))
     × (word ≡ take i word₀ ++ onto (errors v s (length (drop i word₀))) (drop i word₀))
 
 abbrev μ-loop : tie.MeasureT-loop
-μ-loop v s word₀ a x₀ i₀ word x i = i
+μ-loop v s word₀ x₀ i₀ word x i = i
 
 pub add-spec : {M : Type 1} → statement M
 add-spec =
     tie.close
     (tie.spec Inv-loop μ-loop
-    (search needs)
     (λ c.
-    let args = c .before .before .before .before .args in
+    let args = c .before .before .before .args in
     (omega arith, search needs, sym (ap (pow alpha) (sub-self _) ∙ pow-zero alpha), add-start (args .v .now) (args .s .now) (args .word .now)))
     (search needs)
-    (λ c κs. c .before .before .before .before .before .before .pre)
+    (λ c κs. c .before .before .before .before .before .pre)
     (search needs)
     (search needs)
     (search needs)
@@ -39,15 +38,15 @@ add-spec =
     (search needs)
     (λ c.
     let loop = c .before .before .before .before .before .loop in
-    let args = c .before .before .before .before .before .before .before .before .before .before .args in
+    let args = c .before .before .before .before .before .before .before .before .before .args in
     let h : 0 < loop .i = omega arith in
     let k : loop .i ≤ length (args .word .now) = omega arith in (
       omega arith,
       simp length-set (omega arith),
-      point-next (args .v .now) (args .s .now) (args .word .now) (loop .i) h k (c .before .before .before .before .before .before .power .ensures) (loop .inv .2) (c .times .ensures),
+      point-next (args .v .now) (args .s .now) (args .word .now) (loop .i) h k (loop .inv .2) (c .times .ensures),
       add-next (args .v .now) (args .s .now) (args .word .now) (loop .i) h k (loop .word) (loop .inv .3) (loop .inv .2) (c .before .before .before .error-at .ensures) (c .before .plus .ensures),
     ))
     (search needs)
     (λ c.
-    let args = c .before .before .before .before .before .before .args in
+    let args = c .before .before .before .before .before .args in
     back-done (λ t. onto (errors (args .v .now) (args .s .now) (length t)) t) (args .word .now) (c .before .loop .i) (c .before .loop .word) (c .loop-test .left) (c .before .loop .inv .3)))

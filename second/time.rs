@@ -1,0 +1,154 @@
+//! Times of words with 32 parity bytes: made, checked and repaired. bench/words builds the second program once more with the proved code
+//! (--cfg proved) and libfec (--cfg fec) linked to it; all then take the same words in turns, and have to answer alike.
+#![allow(unexpected_cfgs)]
+
+use crate::cases::Random;
+use crate::{parity, repair};
+
+const R: usize = 32;
+const WORD: usize = parity::WORD;
+/// So many words before the next program has its turn.
+const TURN: usize = 1000;
+
+type Word = [u8; WORD];
+/// The number of places changed, where the word is not beyond repair, and the word that is left.
+type Mended = (Option<usize>, Word);
+
+/// A program's name, and its three functions.
+struct Way {
+    name: &'static str,
+    make: fn(&[u8]) -> [u8; R],
+    check: fn(&Word) -> bool,
+    repair: fn(&Word) -> Mended,
+}
+
+const SECOND: Way = Way {
+    name: "second",
+    make: |message| parity::make(R as u64, message, R).unwrap().try_into().unwrap(),
+    check: |word| parity::check(R as u64, word).unwrap(),
+    repair: |word| {
+        let mut left = *word;
+        (repair::repair(R as u64, &mut left).unwrap(), left)
+    },
+};
+
+#[cfg(proved)]
+mod proved {
+    use super::{Mended, Way, Word, R, WORD};
+
+    // A slice is a pointer and a length.
+    extern "C" {
+        fn timed_make(r: usize, message: *const u8, length: usize, out: *mut u8, room: usize) -> usize;
+        fn timed_check(r: usize, word: *const u8, length: usize) -> usize;
+        fn timed_repair(r: usize, word: *mut u8, length: usize) -> usize;
+    }
+
+    fn mended(word: &Word) -> Mended {
+        let mut left = *word;
+        let n = unsafe { timed_repair(R, left.as_mut_ptr(), WORD) };
+        ((n < 100).then_some(n), left)
+    }
+
+    pub const WAY: Way = Way {
+        name: "proved",
+        make: |message| {
+            let mut out = [0; R];
+            assert_eq!(unsafe { timed_make(R, message.as_ptr(), message.len(), out.as_mut_ptr(), R) }, 0);
+            out
+        },
+        check: |word| unsafe { timed_check(R, word.as_ptr(), WORD) == 0 },
+        repair: mended,
+    };
+}
+
+#[cfg(fec)]
+mod fec {
+    use super::{Mended, Way, Word, R};
+    use std::ffi::c_void;
+    use std::sync::OnceLock;
+
+    extern "C" {
+        fn init_rs_char(bits: i32, polynomial: i32, first: i32, step: i32, roots: i32, pad: i32) -> *mut c_void;
+        fn encode_rs_char(code: *mut c_void, message: *const u8, out: *mut u8);
+        fn decode_rs_char(code: *mut c_void, word: *mut u8, erased: *mut i32, count: i32) -> i32;
+    }
+
+    /// Its tables, made once.
+    fn code() -> *mut c_void {
+        static CODE: OnceLock<usize> = OnceLock::new();
+        *CODE.get_or_init(|| unsafe { init_rs_char(8, 0x11D, 1, 1, R as i32, 0) } as usize) as *mut c_void
+    }
+
+    fn mended(word: &Word) -> Mended {
+        let mut left = *word;
+        let n = unsafe { decode_rs_char(code(), left.as_mut_ptr(), std::ptr::null_mut(), 0) };
+        (usize::try_from(n).ok(), left)
+    }
+
+    /// It has no check of its own: a clean word is one in which nothing is to be repaired.
+    pub const WAY: Way = Way {
+        name: "libfec",
+        make: |message| {
+            let mut out = [0; R];
+            unsafe { encode_rs_char(code(), message.as_ptr(), out.as_mut_ptr()) };
+            out
+        },
+        check: |word| mended(word).0 == Some(0),
+        repair: mended,
+    };
+}
+
+fn ways() -> Vec<Way> {
+    vec![
+        #[cfg(proved)]
+        proved::WAY,
+        SECOND,
+        #[cfg(fec)]
+        fec::WAY,
+    ]
+}
+
+/// The processor's time of this thread, in seconds.
+fn clock() -> f64 {
+    extern "C" {
+        fn clock_gettime(clock: i32, time: *mut [i64; 2]) -> i32;
+    }
+    const THREAD: i32 = 3;
+    let mut time = [0; 2];
+    assert_eq!(unsafe { clock_gettime(THREAD, &mut time) }, 0);
+    time[0] as f64 + time[1] as f64 / 1e9
+}
+
+fn race<A: PartialEq>(job: &str, words: &[Word], run: impl Fn(&Way, &Word) -> A) {
+    let ways = ways();
+    let mut took = vec![0.0; ways.len()];
+    for turn in words.chunks(TURN) {
+        let mut first = None;
+        for (way, took) in ways.iter().zip(&mut took) {
+            let began = clock();
+            let answers: Vec<A> = turn.iter().map(|word| run(way, word)).collect();
+            *took += clock() - began;
+            match &first {
+                None => first = Some(answers),
+                Some(first) => assert!(answers == *first, "{job}: {} answers otherwise", way.name),
+            }
+        }
+    }
+    let each: Vec<String> = ways.iter().zip(&took).map(|(way, t)| format!("{} {:.2} ({t:.2} s)", way.name, t * 1e6 / words.len() as f64)).collect();
+    println!("{job}, {} words, microseconds a word (seconds in all): {}", words.len(), each.join(", "));
+}
+
+fn words(n: usize, places: usize) -> Vec<Word> {
+    let mut random = Random::new(places as u64 + 1);
+    (0..n).map(|_| repair::altered(&mut random, R, places).1.try_into().unwrap()).collect()
+}
+
+/// Of so many words to be made and checked, and so many of each kind to be repaired.
+pub fn run(many: usize, each: usize) {
+    let clean = words(many, 0);
+    race("making", &clean, |way, word| (way.make)(&word[..WORD - R]));
+    race("checking", &clean, |way, word| (way.check)(word));
+    for places in [0, 1, 2, 8, 16, 17, 60] {
+        race(&format!("repair, {places} places altered"), &words(each, places), |way, word| (way.repair)(word));
+    }
+}
