@@ -5,7 +5,7 @@ use mathlib.Core.Path.{_≡_, refl}
 use mathlib.Core.List.{List, [], _∷_, map}
 use Rattle.fcs.specs.Fcs.{fcs, register, entered}
 use Rattle.packet.specs.Escape.{escape, escapeByte}
-use Rattle.packet.specs.Contents.{contents, checked}
+use Rattle.packet.specs.Contents.{contents, withCheck}
 use Rattle.stream.specs.Sender.{stream}
 use Rattle.base.specs.UpTo.{upTo}
 use Rattle.bid.specs.Line.{digits, value, numberFrom, number, judged, verdict}
@@ -122,5 +122,5 @@ abbrev gives : List (List ℕ × List ℕ × List (ℕ × ℕ))
 gives = map (λ r. (r .0, stream (packetsOf (r .0)), complaints (r .0))) rows
 
 pub table : gives ≡ rows
-unfolding fcs register entered escape escapeByte contents checked upTo digits value numberFrom number judged verdict linesFrom packets complaintsFrom
+unfolding fcs register entered escape escapeByte contents withCheck upTo digits value numberFrom number judged verdict linesFrom packets complaintsFrom
 table = refl

@@ -24,7 +24,7 @@ use Rattle.parity.specs.Word.{remainder}
 use Rattle.parity.proofs.Division.{length-remainder}
 use Rattle.parity.proofs.Clean.{parity-clean}
 use Rattle.stream.specs.Reader.{Reading, waiting, read, reads}
-use Rattle.stream.specs.Sender.{Accepted, rawOf, behind, stream, delivered, openedFrom}
+use Rattle.stream.specs.Sender.{Accepted, rawOf, framesOf, stream, delivered, openedFrom}
 use Rattle.packet.specs.Contents.{Packet}
 use Rattle.stream.proofs.Accepting.{raw-bytes}
 use Rattle.stream.proofs.Streaming.{synchronised, stream-read, from-flag}
@@ -254,9 +254,9 @@ one-altered : (us : List (List ℕ)) (w v : List ℕ) (ws : List (List ℕ)) →
 one-altered [] w v ws h = ap (λ l. condition v ∷ l) (all-clean ws (h .1))
 one-altered (u ∷ us) w v ws h = λ i. h .0 i ∷ one-altered us w v ws (h .1) i
 
-behind-bytes : (ps : List Packet) → Each Accepted ps → Each IsByte (behind ps)
+behind-bytes : (ps : List Packet) → Each Accepted ps → Each IsByte (framesOf ps)
 behind-bytes [] a = tt
-behind-bytes (p ∷ ps) a = each-append IsByte (rawOf p) (flag ∷ behind ps) (raw-bytes p (a .0)) (lit< tt, behind-bytes ps (a .1))
+behind-bytes (p ∷ ps) a = each-append IsByte (rawOf p) (flag ∷ framesOf ps) (raw-bytes p (a .0)) (lit< tt, behind-bytes ps (a .1))
 
 -- ---- what is sent of packets that the sender takes
 module _ (ps : List Packet) (a : Each Accepted ps) where

@@ -13,7 +13,7 @@ use Rattle.base.specs.Choice.{pick}
 use Rattle.base.specs.Written.{Outcome, refused, write}
 use Rattle.packet.specs.Escape.{flag}
 use Rattle.parity.specs.Word.{remainder}
-use Rattle.parity.specs.Calls.{whole}
+use Rattle.parity.specs.Calls as parity
 use Rattle.stream.specs.Sender.{stream}
 use Rattle.packet.specs.Contents.{Packet}
 
@@ -31,7 +31,7 @@ parityBytes = 32
 
 -- bytes of a word
 abbrev pub wordBytes : ℕ
-wordBytes = whole
+wordBytes = parity.wordBytes
 
 -- bytes of a block: the marker, and a word behind it
 abbrev pub blockBytes : ℕ

@@ -25,14 +25,14 @@ use Rattle.parity.proofs.Refusing.{made-keeps}
 use Rattle.repair.specs.declared.Mended.{Mended}
 use Rattle.repair.specs.declared.Mended.the-variants.{Refused as RepairRefused}
 use Rattle.repair.specs.Promise.{Promised}
-use Rattle.interleaver.specs.Matrix.{whole, turned, turning}
+use Rattle.interleaver.specs.Matrix.{isMatrix, turned, turning}
 use Rattle.interleaver.proofs.Round.{length-turned}
 use Rattle.interleaver.proofs.Turning.{turning-keeps}
 use Rattle.packet.specs.Contents.{Packet, payloadLimit, rawLimit}
 use Rattle.packet.specs.Escape.{flag, escape, plain}
 use Rattle.packet.specs.Port.{barred}
 use Rattle.packet.specs.Frame.{refusal, closed, judging, judge}
-use Rattle.packet.specs.Sender.{sent, writing}
+use Rattle.packet.specs.Sender.{frameOf, writing}
 use Rattle.packet.proofs.Judging.{closed-keeps}
 use Rattle.packet.proofs.Sending.{writing-keeps}
 use Rattle.stream.specs.Called.{Held, begun, takeBy, takeByte, shut, readAll, readCall, Fine as FineFrame}
@@ -131,13 +131,13 @@ pub write-refusals : (p : Packet) (out : List ℕ) → Exact ByCall (writing p o
     ((20, length (p .payload) ≡ 0) ∷  -- payload empty
     (21, payloadLimit < length (escape (p .payload))) ∷  -- payload above 8,192 bytes as escaped
     (22, Unusable (p .port)) ∷  -- port 7D00-7EFF
-    (23, length out < length (sent p)) ∷  -- output shorter than the result
+    (23, length out < length (frameOf p)) ∷  -- output shorter than the result
     [])
 unfolding writing
 write-refusals p out =
     row ByCall (eqb (length (p .payload)) 0) (refuses 20 out) (eqb-true _ _) (eqb-false _ _)
     (row ByCall (ltb payloadLimit (length (escape (p .payload)))) (refuses 21 out) (ltb-true _ _) (not-less _ _)
-    (row ByCall (barred (p .port)) (refuses 22 out) (barred-is (p .port)) (free-is (p .port)) (wrote (sent p) out _ refl)))
+    (row ByCall (barred (p .port)) (refuses 22 out) (barred-is (p .port)) (free-is (p .port)) (wrote (frameOf p) out _ refl)))
 
 -- a stream begun, and a packet appended to one
 pub begin-refusals : (out : List ℕ) → Exact ByCall (write (flag ∷ []) out) ((23, length out < 1) ∷ [])
@@ -145,7 +145,7 @@ begin-refusals out = wrote (flag ∷ []) out 1 refl
 
 pub append-refusals : (at : ℕ) (p : Packet) (out : List ℕ) → Exact ByCall (appending at p out)
     ((20, length (p .payload) ≡ 0) ∷ (21, payloadLimit < length (escape (p .payload))) ∷ (22, Unusable (p .port))
-    ∷ (23, length (drop at out) < length (sent p)) ∷ [])
+    ∷ (23, length (drop at out) < length (frameOf p)) ∷ [])
 append-refusals at p out = record { says = write-refusals p (drop at out) .says }
 
 -- parity made, and a word checked
@@ -188,7 +188,7 @@ pub turn-refusals : (back : Bool) (d : ℕ) (bytes out : List ℕ) → Exact ByC
     [])
 turn-refusals back d bytes out =
     row ByCall (ltb 64 d) (refuses 32 out) (ltb-true _ _) (not-less _ _)
-    (row-not ByCall (whole d (length bytes)) (refuses 33 out) (not-whole d _) (is-whole d _)
+    (row-not ByCall (isMatrix d (length bytes)) (refuses 33 out) (not-whole d _) (is-whole d _)
     (wrote (turned back d bytes) out (length bytes) (length-turned back d bytes)))
 
 -- a block marked, and a whole stream sent

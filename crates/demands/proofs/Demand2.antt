@@ -37,7 +37,7 @@ use Rattle.parity.specs.Word.{clean, remainder, Zero}
 use Rattle.repair.specs.declared.Mended.{Mended}
 use Rattle.repair.specs.Promise.{Promised}
 use Rattle.parity.proofs.Clean.{clean-roots, roots-clean, parity-clean, clean-is}
-use Rattle.interleaver.specs.Matrix.{whole, interleaved, restored, turned}
+use Rattle.interleaver.specs.Matrix.{isMatrix, interleaved, restored, turned}
 use Rattle.interleaver.proofs.Round.{passed, output-at, restored-interleaved, interleaved-restored}
 use Rattle.packet.specs.Escape.{flag}
 use Rattle.packet.specs.Port.{class}
@@ -149,10 +149,10 @@ pub depth-passes : (back : Bool) (d : ℕ) (bytes : List ℕ) → d < 2 → turn
 depth-passes = passed
 
 -- the reverse operation restores a whole matrix, and the other way round
-pub there-and-back : (d : ℕ) (bytes : List ℕ) → whole d (length bytes) ≡ true → restored d (interleaved d bytes) ≡ bytes
+pub there-and-back : (d : ℕ) (bytes : List ℕ) → isMatrix d (length bytes) ≡ true → restored d (interleaved d bytes) ≡ bytes
 there-and-back = restored-interleaved
 
-pub back-and-there : (d : ℕ) (bytes : List ℕ) → whole d (length bytes) ≡ true → interleaved d (restored d bytes) ≡ bytes
+pub back-and-there : (d : ℕ) (bytes : List ℕ) → isMatrix d (length bytes) ≡ true → interleaved d (restored d bytes) ≡ bytes
 back-and-there = interleaved-restored
 
 -- ---- "block answers": the block's answer and the word that is read then are what repair promises of a word of 255 bytes: clean, and left; repaired, the left

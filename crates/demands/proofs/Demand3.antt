@@ -29,7 +29,7 @@ use Rattle.packet.specs.Contents.{rawLimit, Packet}
 use Rattle.packet.specs.Escape.{flag, NoFlag}
 use Rattle.packet.specs.Frame.{Told}
 use Rattle.stream.specs.Reader.{waiting, reads}
-use Rattle.stream.specs.Sender.{Accepted, rawOf, behind, stream, delivered, openedFrom}
+use Rattle.stream.specs.Sender.{Accepted, rawOf, framesOf, stream, delivered, openedFrom}
 use Rattle.stream.specs.Called.{Held, readCall, heldOf, inUse as plainInUse, ThereHeld, EveryCut as EveryPlainCut}
 use Rattle.stream.proofs.Accepting.{clear}
 use Rattle.stream.proofs.Cutting.{every-cut-reads}
@@ -137,7 +137,7 @@ module _ (stray : List ℕ) (ps : List Packet) (accepted : Each Accepted ps) (fi
   other-blocks = channel.other-blocks stray ps accepted first earlier later w v one any
 
 -- "opened from that flag on": what stands in the stream behind the flag at place n is the frames of `openedFrom ps n`, and nothing else
-pub opened : (ps : List Packet) → Each Accepted ps → (xs ys : List ℕ) → stream ps ≡ xs ++ flag ∷ ys → ys ≡ behind (openedFrom ps (length xs))
+pub opened : (ps : List Packet) → Each Accepted ps → (xs ys : List ℕ) → stream ps ≡ xs ++ flag ∷ ys → ys ≡ framesOf (openedFrom ps (length xs))
 opened ps a xs ys e = opened-behind ps (all-clear ps a) xs ys e
   where
     all-clear : (ps : List Packet) → Each Accepted ps → Each (λ (p : Packet). NoFlag (rawOf p)) ps

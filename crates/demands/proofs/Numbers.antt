@@ -15,7 +15,7 @@ use Rattle.fcs.specs.Fcs.{fcs, register, entered}
 use Rattle.field.specs.Field.{add, double, shiftAdd, mul, pow}
 use Rattle.parity.specs.Word.{scale, onto, timesRoot, generator, divide, remainder}
 use Rattle.interleaver.specs.Places.{cell}
-use Rattle.packet.specs.Contents.{checked, contents}
+use Rattle.packet.specs.Contents.{withCheck, contents}
 use Rattle.packet.specs.Escape.{escape, escapeByte, plain, plainScan, right, last, scan}
 use Rattle.packet.specs.Frame.{Told, packet, refusal, judgeContents, closedBy, closed, judge, judgeBody}
 use Rattle.stream.specs.Reader.{waiting, reads}
@@ -67,5 +67,5 @@ wrong [] = []
 wrong (r ∷ rows) = pick (same (r .1) (r .2)) (wrong rows) (r .0 ∷ wrong rows)
 
 pub numbers : wrong table ≡ []
-unfolding fcs register entered contents checked judge closed closedBy judgeContents judgeBody scan last plainScan right plain escape escapeByte mul shiftAdd double add pow remainder divide generator timesRoot onto scale
+unfolding fcs register entered contents withCheck judge closed closedBy judgeContents judgeBody scan last plainScan right plain escape escapeByte mul shiftAdd double add pow remainder divide generator timesRoot onto scale
 numbers = refl

@@ -12,7 +12,7 @@ use Rattle.base.specs.Choice.{pick}
 use Rattle.fcs.specs.Fcs as check
 use Rattle.field.specs.Field as field
 use Rattle.parity.specs.Calls as parity
-use Rattle.packet.specs.Contents.{format, payloadLimit, plainLimit, rawLimit, checked, contents}
+use Rattle.packet.specs.Contents.{format, payloadLimit, plainLimit, rawLimit, withCheck, contents}
 use Rattle.packet.specs.Escape.{flag, escape, escapeByte, plain, plainScan, right, last, scan}
 use Rattle.packet.specs.Frame.{packet, refusal, judgeContents, judgeBody, closedBy, closed, judge}
 use Rattle.packet.specs.Port.{class, barred}
@@ -56,7 +56,7 @@ abbrev pub printed : List Line
 printed =
     (1, flag ∷ format ∷ [], 0x7E ∷ 0x21 ∷ []) ∷  -- flag 0x7E, format byte 0x21
     (2, payloadLimit ∷ plainLimit ∷ rawLimit ∷ listed.most ∷ [], 8192 ∷ 8205 ∷ 8205 ∷ 4294967295 ∷ []) ∷  -- a payload of 8,192 bytes as escaped, 8,205 raw bytes of a packet and of any frame, a stream of 4,294,967,295 bytes, at most
-    (3, parity.whole ∷ parity.most ∷ [], 255 ∷ 64 ∷ []) ∷  -- a word is 255 bytes, R from 0 to 64
+    (3, parity.wordBytes ∷ parity.rootLimit ∷ [], 255 ∷ 64 ∷ []) ∷  -- a word is 255 bytes, R from 0 to 64
     (4, messageBytes ∷ parityBytes ∷ wordBytes ∷ blockBytes ∷ [], 223 ∷ 32 ∷ 255 ∷ 259 ∷ []) ∷  -- each 223 bytes become a word with R = 32, of 255 bytes; a block is 259
     (5, marker, 0x7D ∷ 0x3A ∷ 0xE2 ∷ 0x42 ∷ []) ∷  -- the marker 7D 3A E2 42
     (6, check.ones ∷ check.polynomial ∷ [], 0xFFFF ∷ 0x8408 ∷ []) ∷  -- register starts at 0xFFFF, reversed polynomial 0x8408
@@ -82,5 +82,5 @@ printed =
     []
 
 pub as-printed : wrong printed ≡ []
-unfolding check.fcs check.register check.entered contents checked escape escapeByte judge closed closedBy judgeContents judgeBody scan last plainScan right plain class told lines count endLine wrongLine decimal decimalBy heardAs lastLine listedAs listing listed.apart listed.inStream listed.nextAt
+unfolding check.fcs check.register check.entered contents withCheck escape escapeByte judge closed closedBy judgeContents judgeBody scan last plainScan right plain class told lines count endLine wrongLine decimal decimalBy heardAs lastLine listedAs listing listed.apart listed.inStream listed.nextAt
 as-printed = refl

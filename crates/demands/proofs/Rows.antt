@@ -23,7 +23,7 @@ use Rattle.parity.specs.Calls.{checked}
 use Rattle.repair.specs.declared.Mended.{Mended}
 use Rattle.repair.specs.declared.Mended.the-variants as repair
 use Rattle.repair.specs.Promise.{Promised}
-use Rattle.interleaver.specs.Matrix.{whole}
+use Rattle.interleaver.specs.Matrix.{isMatrix}
 use Rattle.demands.specs.Table.{Row, First, Exact}
 use Rattle.demands.specs.Refusals.{ByCall, ByCheck, ByRepair}
 
@@ -92,14 +92,14 @@ repair-as-check r w (repair.Refused m) o p n =
     same e = cc
 
 -- ---- the interleaver's matrix
-pub not-whole : (d n : ℕ) → whole d n ≡ false → (2 ≤ d) × (n ≢ 255 * d)
+pub not-whole : (d n : ℕ) → isMatrix d n ≡ false → (2 ≤ d) × (n ≢ 255 * d)
 not-whole d n = go (ltb d 2) refl
   where
     go : (t : Bool) → ltb d 2 ≡ t → pick t true (eqb n (255 * d)) ≡ false → (2 ≤ d) × (n ≢ 255 * d)
     go true e h = let z : _≡_ {A = ℕ} 0 1 = cc in absurd (omega arith)
     go false e h = (ltb-false _ _ e, eqb-false _ _ h)
 
-pub is-whole : (d n : ℕ) → whole d n ≡ true → (2 ≤ d) × (n ≢ 255 * d) → ⊥
+pub is-whole : (d n : ℕ) → isMatrix d n ≡ true → (2 ≤ d) × (n ≢ 255 * d) → ⊥
 is-whole d n = go (ltb d 2) refl
   where
     go : (t : Bool) → ltb d 2 ≡ t → pick t true (eqb n (255 * d)) ≡ true → (2 ≤ d) × (n ≢ 255 * d) → ⊥

@@ -15,7 +15,7 @@ use Rattle.base.specs.Calls.{joined}
 use Rattle.base.specs.declared.Written.the-variants.{Wrote}
 use Rattle.packet.specs.Escape.{flag}
 use Rattle.packet.specs.Frame.{Told, delivery, judged, closed, judge, part, There}
-use Rattle.packet.specs.Sender.{sent, framed, writing}
+use Rattle.packet.specs.Sender.{frameOf, flagged, writing}
 use Rattle.packet.specs.declared.frame.Judged.the-variants.{Packet as Delivered}
 use Rattle.packet.proofs.Judging.{judge-is, payload-there}
 use Rattle.packet.proofs.Round.{raw-fits}
@@ -38,7 +38,7 @@ module _ (p : Packet) (port-fits : p .port < 65536) (sequence-fits : p .sequence
       record { some = w .some; short = w .short; free = w .free; port-fits = port-fits; sequence-fits = sequence-fits; bytes = bytes }
 
   pub packet-back : reads (inside []) (take n (writing p out .output)) ≡ (delivered p ∷ [], inside [])
-  unfolding sent framed
+  unfolding frameOf flagged
   packet-back =
       let w = wrote-is p out n wrote in
       let bs : List ℕ = rawOf p ++ flag ∷ [] in

@@ -14,7 +14,7 @@ use lib.Seq.{take-all}
 use borrow.Author.Tests.{lt-ltb, le-ltb, eqb-true}
 use Rattle.base.specs.Choice.{pick}
 use Rattle.interleaver.specs.Places.{cell, origin}
-use Rattle.interleaver.specs.Matrix.{tab, interleaved, restored, whole, turned}
+use Rattle.interleaver.specs.Matrix.{tab, interleaved, restored, isMatrix, turned}
 use Rattle.interleaver.proofs.Places.{cell-origin, origin-cell, cell-below, origin-below}
 use Rattle.interleaver.proofs.Tab.{length-tab, tab-same, tab-at, tab-list}
 
@@ -57,7 +57,7 @@ module _ (f g : ℕ → ℕ) (n : ℕ) (below : (i : ℕ) → i < n → f i < n)
       other : List ℕ
       other = tab (λ j. getD bytes (g j) 0) (length bytes)
 
-module _ (d : ℕ) (bytes : List ℕ) (w : whole d (length bytes) ≡ true) where
+module _ (d : ℕ) (bytes : List ℕ) (w : isMatrix d (length bytes) ≡ true) where
   long : ltb d 2 ≡ false → length bytes ≡ 255 * d
   long e = eqb-true _ _ (rw e at w)
 

@@ -14,7 +14,7 @@ use Rattle.base.specs.Written.{outcome, refused, write, copied, Keeps}
 use Rattle.base.specs.declared.Written.the-variants.{Wrote}
 use Rattle.base.proofs.Writing.{copied-fits, write-fits, write-short, refused-keeps, write-keeps, pick-keeps}
 use Rattle.interleaver.specs.Places.{cell, origin}
-use Rattle.interleaver.specs.Matrix.{tab, interleaved, restored, whole, turned, turning}
+use Rattle.interleaver.specs.Matrix.{tab, interleaved, restored, isMatrix, turned, turning}
 use Rattle.interleaver.proofs.Places.{cell-below, origin-below, cell-origin}
 use Rattle.interleaver.proofs.Tab.{tab-same, tab-list}
 use Rattle.interleaver.proofs.Round.{passed, length-turned}
@@ -84,4 +84,4 @@ module _ (back : Bool) (d : ℕ) (bytes out : List ℕ) where
 
   pub turning-keeps : Keeps out (turning back d bytes out)
   turning-keeps =
-      pick-keeps (ltb 64 d) out (refused-keeps 32 out) (pick-keeps (whole d (length bytes)) out (write-keeps (turned back d bytes) out) (refused-keeps 33 out))
+      pick-keeps (ltb 64 d) out (refused-keeps 32 out) (pick-keeps (isMatrix d (length bytes)) out (write-keeps (turned back d bytes) out) (refused-keeps 33 out))

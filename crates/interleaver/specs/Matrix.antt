@@ -25,8 +25,8 @@ unfoldable pub restored : ℕ → List ℕ → List ℕ
 restored d bytes = pick (ltb d 2) bytes (tab (λ k. getD bytes (origin d k) 0) (length bytes))
 
 -- a whole matrix: any length at depth 0 and 1, else 255 times the depth
-abbrev pub whole : ℕ → ℕ → Bool
-whole d n = pick (ltb d 2) true (eqb n (255 * d))
+abbrev pub isMatrix : ℕ → ℕ → Bool
+isMatrix d n = pick (ltb d 2) true (eqb n (255 * d))
 
 -- the operation: back or there
 abbrev pub turned : Bool → ℕ → List ℕ → List ℕ
@@ -36,4 +36,4 @@ turned false = interleaved
 -- 32: depth above 64. 33: the input is no whole matrix. Then 23 as for every call that writes
 abbrev pub turning : Bool → ℕ → List ℕ → List ℕ → Outcome
 turning back d bytes out =
-    pick (ltb 64 d) (refused 32 out) (pick (whole d (length bytes)) (write (turned back d bytes) out) (refused 33 out))
+    pick (ltb 64 d) (refused 32 out) (pick (isMatrix d (length bytes)) (write (turned back d bytes) out) (refused 33 out))

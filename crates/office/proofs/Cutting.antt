@@ -16,7 +16,7 @@ use borrow.Author.Tests.{le-leb}
 use Rattle.base.specs.Calls.{joined, tell, owesNone, handsNone, Yields}
 use Rattle.base.proofs.Calls.{none-owed, yields-all, yields-so}
 use Rattle.packet.specs.Escape.{flag}
-use Rattle.stream.specs.Sender.{behind}
+use Rattle.stream.specs.Sender.{framesOf}
 use Rattle.channel.specs.Sender.{marked, sending}
 use Rattle.bid.specs.Line.{lineLimit}
 use Rattle.bid.specs.Input.{packetsOf, complaints}
@@ -79,7 +79,7 @@ module _ (line hold : List ℕ) (l : lineLimit ≤ length line) (h : holdLimit �
             ∙ ap (λ (r : Option Said × ℕ × Desk). sentBy xs ++ (sentBy (lastOf (r .0)) ++ marked (waiting (r .2)))) last-is
             ∙ ap (λ (r : List Said × Desk). sentBy (r .0) ++ (sentBy (lastOf (closed (r .1) .0)) ++ marked (waiting (closed (r .1) .2)))) whole
             ∙ says (joined ps) (first line hold) [] fine-first refl
-            ∙ ap (λ (x : List ℕ). marked (take 1 x ++ behind (packetsOf (joined ps)))) one-flag
+            ∙ ap (λ (x : List ℕ). marked (take 1 x ++ framesOf (packetsOf (joined ps)))) one-flag
 
         named-is : complaintsBy (xs ++ lastOf (closeCall last t .0)) ≡ complaints (joined ps)
         named-is =

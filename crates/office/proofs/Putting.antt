@@ -19,7 +19,7 @@ use Rattle.base.proofs.Writing.{copied-fits, room-wrote, room-never}
 use Rattle.packet.specs.Port.{barred}
 use Rattle.packet.specs.Contents.{payloadLimit, Packet}
 use Rattle.packet.specs.Escape.{flag, escape}
-use Rattle.packet.specs.Sender.{framed, sent, writing}
+use Rattle.packet.specs.Sender.{flagged, frameOf, writing}
 use Rattle.packet.proofs.Sending.{Wrote-is, wrote-is, write-empty, write-long, write-barred, write-free}
 use Rattle.packet.proofs.Round.{raw-fits}
 use Rattle.stream.specs.Sender.{rawOf, appending}
@@ -113,7 +113,7 @@ module _ (p : Packet) (at : ℕ) (hold : List ℕ) (small : at ≤ heldLimit) (r
       is-accepted = judged-free p (shows .some) (shows .short) (shows .free)
 
       long : n ≡ length frame
-      unfolding sent framed
+      unfolding frameOf flagged
       long = shows .long
 
       frame-short : length frame ≤ 8206
@@ -121,7 +121,7 @@ module _ (p : Packet) (at : ℕ) (hold : List ℕ) (small : at ≤ heldLimit) (r
           omega (arith, length-append (rawOf p) (flag ∷ []), raw-fits p (shows .some) (shows .short) (shows .free))
 
       held-is : hold′ ≡ all ++ drop (length all) hold
-      unfolding sent framed
+      unfolding frameOf flagged
       held-is =
           ap (λ (o : Outcome). o .output) e ∙ ap (λ (x : List ℕ). take at hold ++ x) (shows .holds)
           ∙ ap (λ (x : List ℕ). take at hold ++ (frame ++ x)) (drop-drop (length frame) at hold ∙ ap (λ (k : ℕ). drop k hold) (sym all-length))
@@ -158,11 +158,11 @@ module _ (p : Packet) (at : ℕ) (hold : List ℕ) (small : at ≤ heldLimit) (r
           let y : k ≡ n = cc in
           j ∙ ap refused y
 
-      no-room : length (sent p) ≤ length (drop at hold) → told ≡ write (sent p) (drop at hold) → ⊥
-      no-room h g = room-never (sent p) (drop at hold) h g answer-is
+      no-room : length (frameOf p) ≤ length (drop at hold) → told ≡ write (frameOf p) (drop at hold) → ⊥
+      no-room h g = room-never (frameOf p) (drop at hold) h g answer-is
 
       is-refused : judged p ≡ refused n
-      unfolding sent framed
+      unfolding frameOf flagged
       is-refused =
           by-eq (length (p .payload)) 0 (λ z. by-number 20 (write-empty p (drop at hold) z) (judged-empty p z))
           (λ z.

@@ -17,7 +17,7 @@ use Rattle.base.specs.Calls.{tell}
 use Rattle.base.proofs.Tests.{by-eq, by-le}
 use Rattle.base.proofs.Writing.{copied-fits}
 use Rattle.packet.specs.Escape.{flag}
-use Rattle.stream.specs.Sender.{rawOf, behind}
+use Rattle.stream.specs.Sender.{rawOf, framesOf}
 use Rattle.channel.specs.Sender.{marked}
 use Rattle.bid.specs.Line.{feed, lineLimit, Verdict, noBid, refused, accepted, verdict}
 use Rattle.bid.specs.Input.{linesFrom, packets, numbered, complaintsFrom}
@@ -35,11 +35,11 @@ bytesOf noBid = []
 bytesOf (refused n) = []
 bytesOf (accepted p) = rawOf p ++ flag ∷ []
 
-behind-line : (v : Verdict) (vs : List Verdict) → behind (packets (v ∷ vs)) ≡ bytesOf v ++ behind (packets vs)
+behind-line : (v : Verdict) (vs : List Verdict) → framesOf (packets (v ∷ vs)) ≡ bytesOf v ++ framesOf (packets vs)
 unfolding packets
 behind-line noBid vs = refl
 behind-line (refused n) vs = refl
-behind-line (accepted p) vs = sym (append-assoc (rawOf p) (flag ∷ []) (behind (packets vs)))
+behind-line (accepted p) vs = sym (append-assoc (rawOf p) (flag ∷ []) (framesOf (packets vs)))
 
 -- the blocks that are put out
 abbrev blocksOf : Spoken → List ℕ
@@ -185,7 +185,7 @@ unfolding linesFrom
 lines-one l n = ap (λ (t : Bool). pick t [] (l ∷ [])) (ne-eqb _ _ n)
 
 abbrev streamFrom : List (List ℕ) → List ℕ
-streamFrom ls = behind (packets (map verdict ls))
+streamFrom ls = framesOf (packets (map verdict ls))
 
 -- the end of the input: a line that is begun ends
 abbrev pub closed : Desk → Option Said × ℕ × Desk

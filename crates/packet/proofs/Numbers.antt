@@ -5,13 +5,13 @@ use mathlib.Core.List.{List, [], _∷_}
 use Prim.Native.Nat.{ℕ}
 use lib.ListN.{replicate}
 use Rattle.fcs.specs.Fcs.{fcs, register, entered}
-use Rattle.packet.specs.Contents.{checked, contents}
+use Rattle.packet.specs.Contents.{withCheck, contents}
 use Rattle.packet.specs.Escape.{escapeByte, escape, last, scan}
 use Rattle.packet.specs.Frame.{Told, refusal, closedBy, closed, judge}
 use Rattle.packet.specs.Sender.{refusing}
 
 pub numbers : contents (record { port = 0x5100; sequence = 0; payload = 0x41 ∷ [] }) ≡ 0x21 ∷ 0x00 ∷ 0x51 ∷ 0x00 ∷ 0x00 ∷ 0x41 ∷ 0xE4 ∷ 0xEC ∷ []
-unfolding contents checked fcs register entered escape escapeByte
+unfolding contents withCheck fcs register entered escape escapeByte
 numbers = refl
 
 -- the number by which a payload for port 5100 is refused; 0 where it passes

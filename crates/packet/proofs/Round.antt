@@ -15,7 +15,7 @@ use Rattle.base.specs.Bytes.{Each}
 use Rattle.base.proofs.Bytes.{each-append}
 use Rattle.fcs.specs.Fcs.{fcs}
 use Rattle.packet.specs.Escape.{escape, escapeByte, plain, plainScan, scan, last, right, NoFlag}
-use Rattle.packet.specs.Contents.{Packet, format, payloadLimit, plainLimit, contents, checked, packed, two, wordAt, body}
+use Rattle.packet.specs.Contents.{Packet, format, payloadLimit, plainLimit, contents, withCheck, packed, two, wordAt, body}
 use Rattle.packet.specs.Port.{barred}
 use Rattle.packet.specs.Frame.{Closed, packet, judge, judgeBody, judgeContents, closedBy}
 use Rattle.packet.specs.declared.escape.Escapes.the-variants.{Right}
@@ -100,11 +100,11 @@ module _ (bs : List ℕ) (n : ℕ) where
 -- ---- the contents of a packet, taken apart
 module _ (p : Packet) where
   length-contents : length (contents p) ≡ length (p .payload) + 7
-  unfolding contents checked
+  unfolding contents withCheck
   length-contents = simp length-append (omega arith)
 
   body-contents : body (contents p) ≡ packed p
-  unfolding contents checked
+  unfolding contents withCheck
   body-contents = take-behind (packed p) (fcs (packed p))
 
   module _ (some : length (p .payload) ≡ 0 → ⊥) (short : length (escape (p .payload)) ≤ payloadLimit) (free : barred (p .port) ≡ false) where
@@ -115,13 +115,13 @@ module _ (p : Packet) where
         body-packet (packed p) refl (rw q free) short ∙ (λ i. packet (record { port = q i; sequence = s i; payload = p .payload }))
 
     pub judge-contents : judgeContents (contents p) ≡ packet p
-    unfolding contents checked
+    unfolding contents withCheck
     judge-contents =
         judge-body (contents p) (omega (arith, length-contents)) (ap fcs body-contents ∙ sym (word-behind (packed p) (fcs (packed p))))
         ∙ ap judgeBody body-contents ∙ judge-packed
 
     pub raw-fits : length (escape (contents p)) ≤ plainLimit
-    unfolding contents checked escape
+    unfolding contents withCheck escape
     raw-fits =
         simp (length-append, escape-append)
         (omega (

@@ -21,9 +21,9 @@ use Rattle.base.proofs.Laid.{laid-append, laid-start}
 use Rattle.base.proofs.Writing.{refused-keeps, write-keeps, pick-keeps}
 use Rattle.fcs.specs.Fcs.{fcs}
 use Rattle.packet.specs.Port.{barred}
-use Rattle.packet.specs.Contents.{Packet, payloadLimit, contents, checked, opening, two}
+use Rattle.packet.specs.Contents.{Packet, payloadLimit, contents, withCheck, opening, two}
 use Rattle.packet.specs.Escape.{flag, escape}
-use Rattle.packet.specs.Sender.{framed, sent, refusing, writing}
+use Rattle.packet.specs.Sender.{flagged, frameOf, refusing, writing}
 use Rattle.packet.proofs.Escaping.{escape-append}
 
 module _ {A : Type 0} (p : Packet) (refuse : ℕ → A) (send : A) where
@@ -56,7 +56,7 @@ module _ (p : Packet) (out : List ℕ) where
       unfolding writing
       write-barred = refusing-barred p (λ n. refused n out) _ some short
 
-      pub write-free : barred (p .port) ≡ false → writing p out ≡ write (sent p) out
+      pub write-free : barred (p .port) ≡ false → writing p out ≡ write (frameOf p) out
       unfolding writing
       write-free = refusing-free p (λ n. refused n out) _ some short
 
@@ -65,19 +65,19 @@ module _ (p : Packet) (out : List ℕ) where
   writing-keeps =
       pick-keeps (eqb (length (p .payload)) 0) out (refused-keeps 20 out)
       (pick-keeps (ltb payloadLimit (length (escape (p .payload)))) out (refused-keeps 21 out)
-      (pick-keeps (barred (p .port)) out (refused-keeps 22 out) (write-keeps (sent p) out)))
+      (pick-keeps (barred (p .port)) out (refused-keeps 22 out) (write-keeps (frameOf p) out)))
 
 module _ (a b c : List ℕ) where
-  pub framed-parts : framed (a ++ b ++ c) ≡ escape a ++ escape b ++ escape c ++ (flag ∷ [])
-  unfolding framed
+  pub framed-parts : flagged (a ++ b ++ c) ≡ escape a ++ escape b ++ escape c ++ (flag ∷ [])
+  unfolding flagged
   framed-parts = rw (escape-append (a ++ b) c, escape-append a b)
 
-  pub framed-length : length (framed (a ++ b ++ c)) ≡ length (escape a) + length (escape b) + length (escape c) + 1
+  pub framed-length : length (flagged (a ++ b ++ c)) ≡ length (escape a) + length (escape b) + length (escape c) + 1
   framed-length = rw framed-parts (simp length-append)
 
   pub laid-frame : {l m₁ m₂ m₃ : List ℕ} {e₁ e₂ e₃ : ℕ}
       → Laid l 0 (escape a) m₁ e₁ → Laid m₁ e₁ (escape b) m₂ e₂ → Laid m₂ e₂ (escape c) m₃ e₃
-      → Laid l 0 (framed (a ++ b ++ c)) (set m₃ e₃ flag) (e₃ + 1)
+      → Laid l 0 (flagged (a ++ b ++ c)) (set m₃ e₃ flag) (e₃ + 1)
   laid-frame {m₃ = m} {e₃ = e} h₁ h₂ h₃ =
       let one : Laid m e (flag ∷ []) (set m e flag) (e + 1) = record { ends = refl; holds = refl } in
       rw framed-parts (laid-append (laid-append (laid-append h₁ h₂) h₃) one)
@@ -90,8 +90,8 @@ frame-fits {l} {bs} h k =
 
 -- the parts that the sender stores are the packet's frame
 pub sent-parts : (p : Packet) (k : ℕ) (head tail : List ℕ)
-    → head ≡ opening p → tail ≡ two k → k ≡ fcs (head ++ p .payload) → framed (head ++ p .payload ++ tail) ≡ sent p
-unfolding sent contents checked
+    → head ≡ opening p → tail ≡ two k → k ≡ fcs (head ++ p .payload) → flagged (head ++ p .payload ++ tail) ≡ frameOf p
+unfolding frameOf contents withCheck
 sent-parts p k head tail h t e = rw (t, e, h)
 
 -- ---- what a packet that was written shows: that the sender takes it, and where it stands
@@ -99,8 +99,8 @@ pub record Wrote-is (p : Packet) (out : List ℕ) (n : ℕ) (out′ : List ℕ) 
   pub some : length (p .payload) ≡ 0 → ⊥
   pub short : length (escape (p .payload)) ≤ payloadLimit
   pub free : barred (p .port) ≡ false
-  pub long : n ≡ length (sent p)
-  pub holds : out′ ≡ sent p ++ drop (length (sent p)) out
+  pub long : n ≡ length (frameOf p)
+  pub holds : out′ ≡ frameOf p ++ drop (length (frameOf p)) out
 
 pub wrote-is : (p : Packet) (out : List ℕ) (n : ℕ) → writing p out .answer ≡ Wrote n
     → Wrote-is p out n (writing p out .output)
@@ -109,7 +109,7 @@ wrote-is p out n =
     go (eqb (length (p .payload)) 0) (ltb payloadLimit (length (escape (p .payload)))) (barred (p .port)) (ltb (length out) (length bs)) refl refl refl
   where
     bs : List ℕ
-    bs = sent p
+    bs = frameOf p
 
     wrong : {m : ℕ} → Refused m ≡ Wrote n → ⊥
     wrong e = let z : _≡_ {A = ℕ} 0 1 = cc in omega arith

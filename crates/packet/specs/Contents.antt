@@ -55,12 +55,12 @@ abbrev pub unpacked : List ℕ → Packet
 unpacked bs = record { port = wordAt bs 1; sequence = wordAt bs 3; payload = drop 5 bs }
 
 -- bytes, and their check behind them
-unfoldable pub checked : List ℕ → List ℕ
-checked bs = bs ++ two (fcs bs)
+unfoldable pub withCheck : List ℕ → List ℕ
+withCheck bs = bs ++ two (fcs bs)
 
 -- format byte, port, sequence, payload, check
 unfoldable pub contents : Packet → List ℕ
-contents p = checked (packed p)
+contents p = withCheck (packed p)
 
 -- before the two bytes of the check
 abbrev pub body : List ℕ → List ℕ

@@ -1,5 +1,5 @@
 -- One packet written (paper 01, "Packet and frame", "Numbered refusals").
--- sent       its escaped contents, and one flag behind them
+-- frameOf       its escaped contents, and one flag behind them
 -- refusing   what the sender says of it
 -- writing    what the call answers and leaves
 use Prim.Native.Nat.{ℕ}
@@ -13,12 +13,12 @@ use Rattle.packet.specs.Contents.{Packet, payloadLimit, contents}
 use Rattle.packet.specs.Escape.{flag, escape}
 
 -- escaped, and a flag behind
-unfoldable pub framed : List ℕ → List ℕ
-framed cs = escape cs ++ flag ∷ []
+unfoldable pub flagged : List ℕ → List ℕ
+flagged cs = escape cs ++ flag ∷ []
 
 -- a packet in the sender's stream
-unfoldable pub sent : Packet → List ℕ
-sent p = framed (contents p)
+unfoldable pub frameOf : Packet → List ℕ
+frameOf p = flagged (contents p)
 
 -- 20 payload empty, 21 payload too long as escaped, 22 port barred: `refuse` by the first that applies, or else `send`
 abbrev pub refusing : {A : Type 0} → Packet → (ℕ → A) → A → A
@@ -30,4 +30,4 @@ refusing p refuse send =
 
 -- one packet; then 23 as for every call that writes
 unfoldable pub writing : Packet → List ℕ → Outcome
-writing p out = refusing p (λ n. refused n out) (write (sent p) out)
+writing p out = refusing p (λ n. refused n out) (write (frameOf p) out)

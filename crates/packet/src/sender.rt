@@ -7,7 +7,7 @@ ghost use Rattle.base.specs.Written.{outcome, write};
 ghost use Rattle.fcs.specs.Fcs.{fcs};
 ghost use Rattle.packet.specs.Contents.{payloadLimit, opening, two};
 ghost use Rattle.packet.specs.Escape.{escape};
-ghost use Rattle.packet.specs.Sender.{framed, writing};
+ghost use Rattle.packet.specs.Sender.{flagged, writing};
 use crate::escape;
 use crate::frame::Packet;
 use crate::port;
@@ -45,7 +45,7 @@ fn check_of(head: &[u8; 5], payload: &[u8]) -> u16
 // Stores a frame of three parts and its flag, where there is room.
 fn put_frame(head: &[u8; 5], payload: &[u8], tail: &[u8; 2], out: &mut [u8]) -> Written
     requires { ⌜ length (escape (now payload)) ≤ payloadLimit ⌝ }
-    ensures { λ w. ⌜ outcome w (now (out .exit)) ≡ write (framed (now (head .entry) ++ now (payload .entry) ++ now (tail .entry))) (now (out .entry)) ⌝ }
+    ensures { λ w. ⌜ outcome w (now (out .exit)) ≡ write (flagged (now (head .entry) ++ now (payload .entry) ++ now (tail .entry))) (now (out .entry)) ⌝ }
 {
     let n = escape::escaped_len(head) + escape::escaped_len(payload) + escape::escaped_len(tail);
     if out.len() <= n {

@@ -20,7 +20,7 @@ use Rattle.field.proofs.Product.{ring, mul-zero, mul-lt, one-mul}
 use Rattle.field.proofs.Powers.{mul-inverse}
 use Rattle.parity.specs.Word.{scale, onto}
 use Rattle.parity.proofs.Sums.{length-scale, length-onto, bytes-scale, bytes-onto}
-use Rattle.repair.specs.Way.{dot, head, shift, pivot, normal, reduced, behind, solve}
+use Rattle.repair.specs.Way.{dot, head, shift, pivot, normal, reduced, extended, solve}
 use Rattle.repair.proofs.Weigh.{add-step}
 use Rattle.repair.proofs.Locate.{Kills, AllZero}
 
@@ -160,8 +160,8 @@ module _ (p : List ℕ) (l : length p ≡ 33) where
         smallest [] i b k = tt
         smallest (x ∷ u) i b k = smaller x u b k (s .least u (omega arith) (b .1))
 
-    behind-step : (n : ℕ) (v : List ℕ) → Answers n (map (reduced p) rows) v → Answers (suc n) rows (behind p v)
-    unfolding behind
+    behind-step : (n : ℕ) (v : List ℕ) → Answers n (map (reduced p) rows) v → Answers (suc n) rows (extended p v)
+    unfolding extended
     behind-step n [] a = none-step n a
     behind-step n (x ∷ v) a = (omega (arith, a .0), least-step (x ∷ v) (a .1))
 
@@ -220,7 +220,7 @@ pivot-fixes row h n x u l e =
 
 -- ---- the recursion
 solved-by : (t : Bool) (n : ℕ) (rows : List (List ℕ)) (v : List ℕ) → Each Row rows → eqb (head (pivot rows)) 0 ≡ t
-    → Answers n (map (reduced (normal (pivot rows))) rows) v → Answers (suc n) rows (pick t (1 ∷ []) (behind (normal (pivot rows)) v))
+    → Answers n (map (reduced (normal (pivot rows))) rows) v → Answers (suc n) rows (pick t (1 ∷ []) (extended (normal (pivot rows)) v))
 solved-by true n rows v h q a = (omega arith, least-free rows (pivot-is rows h .1 (eqb-true _ _ q)))
 solved-by false n rows v h q a =
     let p = pivot-is rows h in

@@ -28,7 +28,7 @@ use Rattle.parity.proofs.Loops.{drop-replicate}
 use Rattle.repair.specs.declared.Mended.{Mended}
 use Rattle.repair.specs.declared.Mended.the-variants.{Repaired, Beyond}
 use Rattle.repair.specs.Promise.{distance, half, Promised}
-use Rattle.repair.specs.Way.{low, tails, dot, sums, windows, head, shift, pivot, normal, reduced, behind, solve, errorAt, errors, locator, amended, settled, mended}
+use Rattle.repair.specs.Way.{low, tails, dot, sums, windows, head, shift, pivot, normal, reduced, extended, solve, errorAt, errors, locator, amended, settled, mended}
 use Rattle.repair.proofs.Locate.{length-tails}
 use Rattle.repair.proofs.Meeting.{mended-promised}
 
@@ -152,14 +152,14 @@ module _ (row : List ℕ) (l : length row ≡ 33) where
   pub reduced-is : (p : List ℕ) {s o : List ℕ} → s ≡ copied (take 32 (drop 1 row)) (replicate 33 0) → o ≡ onto (scale (getD row 0 0) p) s → o ≡ reduced p row
   unfolding reduced
   reduced-is p es eo =
-      let behind : length (drop 1 row) ≡ 32 = omega (arith, length-drop 1 row) in
+      let extended : length (drop 1 row) ≡ 32 = omega (arith, length-drop 1 row) in
       eo ∙ ap (onto (scale (getD row 0 0) p))
       (es ∙ ap (λ (t : List ℕ). copied t (replicate 33 0)) tail
       ∙ copied-fits (drop 1 row) (replicate 33 0) (omega (arith, length-drop 1 row, length-replicate {A = ℕ} 33 0))
-      ∙ ap (λ (n : ℕ). drop 1 row ++ drop n (replicate 33 0)) behind)
+      ∙ ap (λ (n : ℕ). drop 1 row ++ drop n (replicate 33 0)) extended)
 
-behind-is : (p u : List ℕ) → (length u ≡ 0 → ⊥) → behind p u ≡ dot u p ∷ u
-unfolding behind
+behind-is : (p u : List ℕ) → (length u ≡ 0 → ⊥) → extended p u ≡ dot u p ∷ u
+unfolding extended
 behind-is p [] n = absurd (n refl)
 behind-is p (x ∷ u) n = refl
 
@@ -167,7 +167,7 @@ module _ (p v : List ℕ) (k : ℕ) (l : length v ≡ 33) (n : k ≡ 0 → ⊥) 
   pub found-short : length (take k v) ≡ k
   found-short = length-take-le k v (omega arith)
 
-  pub behind-some : {x : ℕ} {o : List ℕ} → x ≡ dot (take k v) p → o ≡ copied (take 32 v) (replicate 32 0) → take (k + 1) (x ∷ (o ++ [])) ≡ behind p (take k v)
+  pub behind-some : {x : ℕ} {o : List ℕ} → x ≡ dot (take k v) p → o ≡ copied (take 32 v) (replicate 32 0) → take (k + 1) (x ∷ (o ++ [])) ≡ extended p (take k v)
   behind-some {x} {o} ex eo =
       ap (λ (j : ℕ). take j (x ∷ (o ++ []))) (add-one k)
       ∙ ap₂ (λ (y : ℕ) (t : List ℕ). y ∷ take k t) ex (append-nil o ∙ eo ∙ rest)
@@ -182,8 +182,8 @@ module _ (p v : List ℕ) (k : ℕ) (l : length v ≡ 33) (n : k ≡ 0 → ⊥) 
           copied-fits (take 32 v) (replicate 32 0) (omega (arith, long, length-replicate {A = ℕ} 32 0))
           ∙ ap (λ (j : ℕ). take 32 v ++ drop j (replicate 32 0)) long ∙ append-nil (take 32 v)
 
-pub behind-none : (p v : List ℕ) (k : ℕ) → k ≡ 0 → take k v ≡ behind p (take k v)
-unfolding behind
+pub behind-none : (p v : List ℕ) (k : ℕ) → k ≡ 0 → take k v ≡ extended p (take k v)
+unfolding extended
 behind-none p v k e = rw e
 
 -- ---- solve, locator
@@ -197,14 +197,14 @@ module _ (n : ℕ) (rows : List (List ℕ)) where
   solve-zero e = rw e
 
   module _ (z : n ≡ 0 → ⊥) {row : List ℕ} (er : row ≡ pivot rows) where
-    opened-solve : solve n rows ≡ pick (eqb (head row) 0) (1 ∷ []) (behind (normal row) (solve (n - 1) (map (reduced (normal row)) rows)))
+    opened-solve : solve n rows ≡ pick (eqb (head row) 0) (1 ∷ []) (extended (normal row) (solve (n - 1) (map (reduced (normal row)) rows)))
     unfolding solve
     opened-solve = let more : n ≡ suc (n - 1) = let h : 0 < n = pos-of-ne-zero z in omega arith in rw er (ap (λ (m : ℕ). solve m rows) more)
 
     pub solve-free : head row ≡ 0 → 1 ∷ [] ≡ solve n rows
     solve-free e = sym (rw (eq-eqb (head row) 0 e) at opened-solve)
 
-    pub solve-some : (head row ≡ 0 → ⊥) → {p : List ℕ} {reds : List (List ℕ)} {u o : List ℕ} → p ≡ normal row → reds ≡ map (reduced p) rows → u ≡ solve (n - 1) reds → o ≡ behind p u
+    pub solve-some : (head row ≡ 0 → ⊥) → {p : List ℕ} {reds : List (List ℕ)} {u o : List ℕ} → p ≡ normal row → reds ≡ map (reduced p) rows → u ≡ solve (n - 1) reds → o ≡ extended p u
         → o ≡ solve n rows
     solve-some n0 ep ered eu eo = rw (eo, eu, ered, ep) (sym (rw (ne-eqb (head row) 0 n0) at opened-solve))
 

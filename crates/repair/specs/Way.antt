@@ -69,15 +69,15 @@ unfoldable pub reduced : List ℕ → List ℕ → List ℕ
 reduced p row = onto (scale (head row) p) (shift row)
 
 -- the first unknown from the others by the pivot, and before them; none where they are none
-unfoldable pub behind : List ℕ → List ℕ → List ℕ
-behind p [] = []
-behind p (x ∷ v) = dot (x ∷ v) p ∷ x ∷ v
+unfoldable pub extended : List ℕ → List ℕ → List ℕ
+extended p [] = []
+extended p (x ∷ v) = dot (x ∷ v) p ∷ x ∷ v
 
 -- a least solution of at most n numbers, or none: [] stands for none
 unfoldable pub solve : ℕ → List (List ℕ) → List ℕ
 solve zero rows = []
 solve (suc n) rows =
-    pick (eqb (head (pivot rows)) 0) (1 ∷ []) (behind (normal (pivot rows)) (solve n (map (reduced (normal (pivot rows))) rows)))
+    pick (eqb (head (pivot rows)) 0) (1 ∷ []) (extended (normal (pivot rows)) (solve n (map (reduced (normal (pivot rows))) rows)))
 
 -- the byte to be added at the place of the point x, by the locator v and the sums s
 unfoldable pub errorAt : List ℕ → List ℕ → ℕ → ℕ

@@ -3,7 +3,7 @@ ghost use mathlib.Core.Path.{_≡_};
 ghost use mathlib.Core.List.{map};
 ghost use Prim.Native.Nat.{_+_, _≤_};
 ghost use lib.ListN.{length, take};
-ghost use Rattle.repair.specs.Way.{dot, windows, pivot, normal, reduced, behind, solve, locator};
+ghost use Rattle.repair.specs.Way.{dot, windows, pivot, normal, reduced, extended, solve, locator};
 
 // A solution: the first n numbers of v. There is none where n is 0.
 pub struct Found {
@@ -92,9 +92,9 @@ fn reduce(p: [u8; 33], rows: &mut [[u8; 33]])
 }
 
 // The first unknown from the others by the pivot, and before them.
-fn behind(p: [u8; 33], rest: Found) -> Found
+fn extended(p: [u8; 33], rest: Found) -> Found
     requires { ⌜ (rest .n ≤ 32) × (length (rest .v) ≡ 33) ⌝ }
-    ensures { λ f. ⌜ (f .n ≤ rest .n + 1) × (length (f .v) ≡ 33) × (take (f .n) (f .v) ≡ behind p (take (rest .n) (rest .v))) ⌝ }
+    ensures { λ f. ⌜ (f .n ≤ rest .n + 1) × (length (f .v) ≡ 33) × (take (f .n) (f .v) ≡ extended p (take (rest .n) (rest .v))) ⌝ }
 {
     let k = rest.n;
     if k == 0 {
@@ -123,7 +123,7 @@ fn solve(n: usize, rows: &mut [[u8; 33]]) -> Found
     }
     let p = normal(row);
     reduce(p, rows);
-    behind(p, solve(n - 1, rows))
+    extended(p, solve(n - 1, rows))
 }
 
 // The locator of a word with r parity bytes and the sums s.

@@ -13,7 +13,7 @@ use Rattle.base.specs.Bytes.{IsByte, Bytes}
 use Rattle.base.proofs.Bytes.{each-append}
 use Rattle.fcs.specs.Fcs.{fcs}
 use Rattle.fcs.proofs.Laws.{fcs-lt}
-use Rattle.packet.specs.Contents.{contents, checked, packed, two}
+use Rattle.packet.specs.Contents.{contents, withCheck, packed, two}
 use Rattle.packet.specs.Escape.{escape, escapeByte, NoFlag}
 use Rattle.packet.specs.Frame.{judge}
 use Rattle.packet.proofs.Escaping.{Kind, kind, escape-other}
@@ -44,7 +44,7 @@ module _ (p : Packet) (a : Accepted p) where
   clear = no-flag (contents p)
 
   pub some-raw : rawOf p ≢ []
-  unfolding contents checked escape
+  unfolding contents withCheck escape
   some-raw e =
       let n : length (rawOf p) ≡ 0 = ap length e in
       omega (arith, some-byte (kind 0x21), length-append (escapeByte 0x21) (escape (p .port % 256 ∷ p .port / 256 ∷ p .sequence % 256 ∷ p .sequence / 256 ∷ (p .payload ++ two (fcs (packed p))))))
@@ -56,7 +56,7 @@ module _ (p : Packet) (a : Accepted p) where
   bytes-two n h = (omega arith, (omega arith, tt))
 
   pub raw-bytes : Bytes (rawOf p)
-  unfolding contents checked
+  unfolding contents withCheck
   raw-bytes =
       let front : Bytes (packed p) = (omega arith, (omega arith, (omega (arith, a .port-fits), (omega arith, (omega (arith, a .sequence-fits), a .bytes))))) in
       bytes-escape (contents p)

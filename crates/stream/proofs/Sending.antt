@@ -19,9 +19,9 @@ use Rattle.base.proofs.Parts.{tail-is, tail-put}
 use Rattle.base.proofs.Tests.{by-le}
 use Rattle.base.proofs.Writing.{write-fits, copied-fits, write-is}
 use Rattle.packet.specs.Escape.{flag}
-use Rattle.packet.specs.Sender.{sent, framed}
+use Rattle.packet.specs.Sender.{frameOf, flagged}
 use Rattle.packet.proofs.Sending.{writing-keeps, wrote-is}
-use Rattle.stream.specs.Sender.{rawOf, behind, stream, appending}
+use Rattle.stream.specs.Sender.{rawOf, framesOf, stream, appending}
 use Rattle.packet.specs.Contents.{Packet}
 
 set-first : (l : List ℕ) (b : ℕ) → 0 < length l → set l 0 b ≡ b ∷ drop 1 l
@@ -57,9 +57,9 @@ appending-keeps at p out n e =
     ap (λ (x : List ℕ). take at out ++ x) (writing-keeps p (drop at out) n e) ∙ take-append-drop at out
 
 -- ---- the stream
-behind-append : (ps : List Packet) (p : Packet) → behind (ps ++ p ∷ []) ≡ behind ps ++ (rawOf p ++ flag ∷ [])
+behind-append : (ps : List Packet) (p : Packet) → framesOf (ps ++ p ∷ []) ≡ framesOf ps ++ (rawOf p ++ flag ∷ [])
 behind-append [] p = refl
-behind-append (q ∷ ps) p = ap (λ (l : List ℕ). rawOf q ++ flag ∷ l) (behind-append ps p) ∙ sym (append-assoc (rawOf q) (flag ∷ behind ps) (rawOf p ++ flag ∷ []))
+behind-append (q ∷ ps) p = ap (λ (l : List ℕ). rawOf q ++ flag ∷ l) (behind-append ps p) ∙ sym (append-assoc (rawOf q) (flag ∷ framesOf ps) (rawOf p ++ flag ∷ []))
 
 pub begin-stream : (out : List ℕ) (n : ℕ) → write (flag ∷ []) out .answer ≡ Wrote n → take n (write (flag ∷ []) out .output) ≡ stream []
 begin-stream out n e = write-is (flag ∷ []) out n e
@@ -67,7 +67,7 @@ begin-stream out n e = write-is (flag ∷ []) out n e
 pub append-stream : (ps : List Packet) (p : Packet) (out : List ℕ) (at n : ℕ) → at ≤ length out → take at out ≡ stream ps
     → appending at p out .answer ≡ Wrote n
     → take (at + n) (appending at p out .output) ≡ stream (ps ++ p ∷ [])
-unfolding sent framed
+unfolding frameOf flagged
 append-stream ps p out at n h e a =
     let w = wrote-is p (drop at out) n a in
     let bs : List ℕ = rawOf p ++ flag ∷ [] in

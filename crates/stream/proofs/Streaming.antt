@@ -19,7 +19,7 @@ use Rattle.base.proofs.Calls.{run-append}
 use Rattle.packet.specs.Escape.{flag, NoFlag}
 use Rattle.packet.specs.Frame.{judge}
 use Rattle.stream.specs.Reader.{Reading, waiting, inside, closing, read, reads}
-use Rattle.stream.specs.Sender.{Accepted, rawOf, behind, stream, delivered, openedFrom}
+use Rattle.stream.specs.Sender.{Accepted, rawOf, framesOf, stream, delivered, openedFrom}
 use Rattle.packet.specs.Contents.{Packet}
 use Rattle.stream.proofs.Accepting.{clear, some-raw, judged-is}
 
@@ -39,16 +39,16 @@ opened-last (p ∷ ps) zero = ([], refl)
 opened-last (p ∷ ps) (suc n) = let r = opened-last ps (n - length (rawOf p)) in (p ∷ r .0, ap (λ l. p ∷ l) (r .1))
 
 -- .. and what stands behind the flag at place n is their frames, and nothing else
-pub opened-behind : (ps : List Packet) → Each (λ p. NoFlag (rawOf p)) ps → (xs ys : List ℕ) → stream ps ≡ xs ++ flag ∷ ys → ys ≡ behind (openedFrom ps (length xs))
+pub opened-behind : (ps : List Packet) → Each (λ p. NoFlag (rawOf p)) ps → (xs ys : List ℕ) → stream ps ≡ xs ++ flag ∷ ys → ys ≡ framesOf (openedFrom ps (length xs))
 opened-behind [] h [] ys e = sym (tail-eq-of-cons-eq e)
 opened-behind [] h (x ∷ []) ys e = absurd (nil≢cons (tail-eq-of-cons-eq e))
 opened-behind [] h (x ∷ y ∷ xs) ys e = absurd (nil≢cons (tail-eq-of-cons-eq e))
 opened-behind (p ∷ ps) h [] ys e = sym (tail-eq-of-cons-eq e)
 opened-behind (p ∷ ps) h (x ∷ xs) ys e =
-    let s : (zs : List ℕ) × (xs ≡ rawOf p ++ zs) × (flag ∷ behind ps ≡ zs ++ flag ∷ ys) =
-    past (rawOf p) (h .0) (behind ps) xs ys (tail-eq-of-cons-eq e) in
+    let s : (zs : List ℕ) × (xs ≡ rawOf p ++ zs) × (flag ∷ framesOf ps ≡ zs ++ flag ∷ ys) =
+    past (rawOf p) (h .0) (framesOf ps) xs ys (tail-eq-of-cons-eq e) in
     let n : length xs - length (rawOf p) ≡ length (s .0) = omega (arith, ap length (s .1) ∙ length-append (rawOf p) (s .0)) in
-    opened-behind ps (h .1) (s .0) ys (s .2) ∙ ap (λ m. behind (openedFrom ps m)) (sym n)
+    opened-behind ps (h .1) (s .0) ys (s .2) ∙ ap (λ m. framesOf (openedFrom ps m)) (sym n)
 
 pub synchronised : (s : Reading) (bs : List ℕ) → reads s (bs ++ flag ∷ []) .1 ≡ inside []
 synchronised s bs = ap (λ r. r .1) (run-append read s bs (flag ∷ [])) ∙ go (reads s bs .1)
@@ -82,11 +82,11 @@ one-frame p a cs =
     kept (rawOf p) (clear p a) [] (flag ∷ cs)
     ∙ ap (λ o. tell o (reads (inside []) cs)) (closing-some (rawOf p) (some-raw p a) ∙ ap some (judged-is p a))
 
-pub behind-read : (ps : List Packet) → Each Accepted ps → (k : ℕ) → reads (inside []) (behind ps ++ replicate k flag) ≡ (map delivered ps, inside [])
+pub behind-read : (ps : List Packet) → Each Accepted ps → (k : ℕ) → reads (inside []) (framesOf ps ++ replicate k flag) ≡ (map delivered ps, inside [])
 behind-read [] h k = flags k
 behind-read (p ∷ ps) h k =
-    ap (reads (inside [])) (append-assoc (rawOf p) (flag ∷ behind ps) (replicate k flag))
-    ∙ one-frame p (h .0) (behind ps ++ replicate k flag)
+    ap (reads (inside [])) (append-assoc (rawOf p) (flag ∷ framesOf ps) (replicate k flag))
+    ∙ one-frame p (h .0) (framesOf ps ++ replicate k flag)
     ∙ ap (tell (some (delivered p))) (behind-read ps (h .1) k)
 
 -- a whole stream, filled with flags, gives the packets, once each, in order, and nothing else
@@ -106,8 +106,8 @@ from-flag [] h k [] ys e = ap (reads (inside [])) (sym (tail-eq-of-cons-eq e)) �
 from-flag [] h k (x ∷ xs) ys e = fill-tail k xs ys (tail-eq-of-cons-eq e)
 from-flag (p ∷ ps) h k [] ys e = ap (reads (inside [])) (sym (tail-eq-of-cons-eq e)) ∙ behind-read (p ∷ ps) h k
 from-flag (p ∷ ps) h k (x ∷ xs) ys e =
-    let s : (zs : List ℕ) × (xs ≡ rawOf p ++ zs) × (flag ∷ (behind ps ++ replicate k flag) ≡ zs ++ flag ∷ ys) =
-    past (rawOf p) (clear p (h .0)) (behind ps ++ replicate k flag) xs ys
-    (sym (append-assoc (rawOf p) (flag ∷ behind ps) (replicate k flag)) ∙ tail-eq-of-cons-eq e) in
+    let s : (zs : List ℕ) × (xs ≡ rawOf p ++ zs) × (flag ∷ (framesOf ps ++ replicate k flag) ≡ zs ++ flag ∷ ys) =
+    past (rawOf p) (clear p (h .0)) (framesOf ps ++ replicate k flag) xs ys
+    (sym (append-assoc (rawOf p) (flag ∷ framesOf ps) (replicate k flag)) ∙ tail-eq-of-cons-eq e) in
     let n : length xs - length (rawOf p) ≡ length (s .0) = omega (arith, ap length (s .1) ∙ length-append (rawOf p) (s .0)) in
     from-flag ps (h .1) k (s .0) ys (s .2) ∙ ap (λ m. (map delivered (openedFrom ps m), inside [])) (sym n)

@@ -30,13 +30,13 @@ abbrev pub rawOf : Packet → List ℕ
 rawOf p = escape (contents p)
 
 -- each packet's raw bytes with one flag behind them ..
-abbrev pub behind : List Packet → List ℕ
-behind [] = []
-behind (p ∷ ps) = rawOf p ++ flag ∷ behind ps
+abbrev pub framesOf : List Packet → List ℕ
+framesOf [] = []
+framesOf (p ∷ ps) = rawOf p ++ flag ∷ framesOf ps
 
 -- .. behind one flag
 abbrev pub stream : List Packet → List ℕ
-stream ps = flag ∷ behind ps
+stream ps = flag ∷ framesOf ps
 
 -- a packet as it is delivered
 abbrev pub delivered : Packet → Told

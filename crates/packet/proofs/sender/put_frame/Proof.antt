@@ -5,7 +5,7 @@ use mathlib.Core.List.{_++_}
 use lib.ListN.{length-set}
 use borrow.Author.Needs.{needs}
 use Rattle.base.proofs.Writing.{write-short}
-use Rattle.packet.specs.Sender.{framed}
+use Rattle.packet.specs.Sender.{flagged}
 use Rattle.packet.proofs.Escaping.{escape-most}
 use Rattle.packet.proofs.Sending.{framed-length, laid-frame, frame-fits}
 use Rattle.packet.proofs.sender.put_frame.Statement.{statement}
@@ -22,7 +22,7 @@ put-frame-spec =
     (λ c. let a = c .before .before .before .before .before .before .before .args in omega (arith, escape-most (a .head .now), escape-most (a .tail .now)))
     (λ c.
     let a = c .before .before .before .before .before .before .before .before .args in
-    sym (write-short (framed (a .head .now ++ a .payload .now ++ a .tail .now)) (a .out .now) (omega (arith, framed-length (a .head .now) (a .payload .now) (a .tail .now)))))
+    sym (write-short (flagged (a .head .now ++ a .payload .now ++ a .tail .now)) (a .out .now) (omega (arith, framed-length (a .head .now) (a .payload .now) (a .tail .now)))))
     (search needs)
     (search needs)
     (search needs)

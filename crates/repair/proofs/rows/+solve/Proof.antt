@@ -9,7 +9,7 @@ use Rattle.repair.proofs.Loops.{solve-zero, solve-free, solve-some}
 use Rattle.repair.proofs.rows.solve.Reads as solve
 use Rattle.repair.proofs.rows.solve.Kinds as solve-kinds
 use Rattle.repair.proofs.rows.+solve.Lts-solve as solve-lts
-use Rattle.repair.proofs.rows.behind.Reads as behind-reads
+use Rattle.repair.proofs.rows.extended.Reads as behind-reads
 use Rattle.repair.proofs.rows.normal.Reads as normal-reads
 use Rattle.repair.proofs.rows.pivot.Reads as pivot-reads
 use Rattle.repair.proofs.rows.reduce.Reads as reduce-reads
@@ -52,7 +52,7 @@ pub +solve-spec : {M : Type 1} → statement M
     (λ c κs. (omega (arith, c .before .solve .ensures .0), c .before .solve .ensures .1))
     (search needs)
     (λ c. (
-      omega (arith, c .behind .ensures .0, c .before .before .solve .ensures .0),
-      c .behind .ensures .1,
-      solve-some (c .before .before .before .before .before .before .before .before .before .before .before .before .args .n) (c .before .before .before .before .before .before .before .before .before .before .before .before .args .rows .now) (c .before .before .before .before .before .before .before .before .before .before .before .if1 .left) (c .before .before .before .before .before .before .before .before .before .pivot .ensures) (c .before .before .before .before .before .before .before .before .if2 .left) (c .before .before .before .before .before .before .before .normal .ensures) (c .before .before .before .before .before .reduce .ensures) (c .before .before .solve .ensures .2) (c .behind .ensures .2),
+      omega (arith, c .extended .ensures .0, c .before .before .solve .ensures .0),
+      c .extended .ensures .1,
+      solve-some (c .before .before .before .before .before .before .before .before .before .before .before .before .args .n) (c .before .before .before .before .before .before .before .before .before .before .before .before .args .rows .now) (c .before .before .before .before .before .before .before .before .before .before .before .if1 .left) (c .before .before .before .before .before .before .before .before .before .pivot .ensures) (c .before .before .before .before .before .before .before .before .if2 .left) (c .before .before .before .before .before .before .before .normal .ensures) (c .before .before .before .before .before .reduce .ensures) (c .before .before .solve .ensures .2) (c .extended .ensures .2),
     ))

@@ -1,4 +1,4 @@
--- `repair::rows::behind` meets its contract.
+-- `repair::rows::extended` meets its contract.
 use mathlib.Core.Path.{sym}
 use mathlib.Core.List.{[]}
 use native.Mathlib.Omega.{arith}
@@ -6,11 +6,11 @@ use lib.ListN.{length-append}
 use lib.Seq.{length-take-le}
 use borrow.Author.Needs.{needs}
 use Rattle.repair.proofs.Loops.{behind-none, behind-some}
-use Rattle.repair.proofs.rows.behind.Statement.{statement}
-use Rattle.repair.proofs.rows.behind.Tie as tie
+use Rattle.repair.proofs.rows.extended.Statement.{statement}
+use Rattle.repair.proofs.rows.extended.Tie as tie
 
-pub behind-spec : {M : Type 1} → statement M
-behind-spec =
+pub extended-spec : {M : Type 1} → statement M
+extended-spec =
     tie.close
     (tie.spec
     (λ c. (omega arith, c .before .pre .1, behind-none (c .before .args .t1) (c .before .args .rest .v) (c .before .args .rest .n) (c .if1 .taken)))
