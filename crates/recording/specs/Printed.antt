@@ -21,6 +21,7 @@ use Rattle.listed.specs.Apart.{well}
 use Rattle.listed.specs.Lines.{line, given, one, totalOf, inPackets, inRefusals, inDamaged, inLost, endLine, wrongLine, longest}
 use Rattle.tape.specs.Deck.{Deck, deckHear}
 use Rattle.tape.specs.Called.{startTape, far, nearSpot, tapeOf}
+pub use Rattle.tape.specs.Called.{deckOf}
 use Rattle.recording.specs.declared.recording.Totals.{Totals}
 use Rattle.recording.specs.declared.recording.Recording.{Recording}
 use Rattle.recording.specs.declared.recording.Wants.{Wants}

@@ -1,9 +1,9 @@
 -- What the paper demands of a recording taken by calls, however it is cut and whatever the lent buffers held. The law says two things together
 -- (`EveryCut`): the calls come to their end, and what they yield.
 -- taken-apart   the answers of the recording's stream bytes, and where it ends
-use Prim.Native.Nat.{ℕ, _+_, _≤_}
+use Prim.Native.Nat.{ℕ, _≤_}
 use native.Mathlib.Omega.{arith}
-use mathlib.Core.Path.{_≡_, sym, _∙_, ap, subst}
+use mathlib.Core.Path.{_≡_, _∙_, ap}
 use mathlib.Core.Bool.{false}
 use mathlib.Core.List.{List}
 use lib.ListN.{length}

@@ -5,7 +5,7 @@
 -- next-heard                                      .. and what it then keeps
 use Prim.Native.Nat.{ℕ, _+_, _-_, _≤_}
 use native.Mathlib.Omega.{arith}
-use mathlib.Core.Path.{_≡_, refl, sym, _∙_, ap, subst}
+use mathlib.Core.Path.{_≡_, refl, sym, ap, subst}
 use mathlib.Core.Bool.{Bool, true, false}
 use mathlib.Core.List.{List}
 use mathlib.Core.Option.{Option}
@@ -20,7 +20,7 @@ use Rattle.tape.specs.declared.tape.Tape.{Tape}
 use Rattle.tape.specs.declared.tape.Heard.{Heard}
 use Rattle.tape.specs.Deck.{Deck, deckHear}
 use Rattle.tape.specs.Called.{far, deckOf, tapeOf, nearSpot, tapeBy, tapeCall, NextIs}
-use Rattle.tape.specs.Private.{Stays, HeardIs}
+use Rattle.tape.specs.Private.{HeardIs}
 use Rattle.tape.proofs.Kept.{Kept, hear-kept}
 
 module _ (t : Tape) (l k bs : List ℕ) where

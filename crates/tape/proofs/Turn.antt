@@ -15,7 +15,6 @@ use lib.ListN.{length, take, drop, getD, take-append-drop, drop-of-length-le}
 use lib.Seq.{length-take-le, drop-append-le, drop-cons}
 use Rattle.base.specs.Calls.{unless, oneMore, after}
 use Rattle.base.proofs.Calls.{after-none, FitsBy, Fits, fits, inv-hear, hear-eat, hear-end}
-use Rattle.packet.specs.Frame.{packet, refusal}
 use Rattle.stream.proofs.Fine.{fine-take}
 use Rattle.channel.specs.Channel.{Event, said, block, lost}
 use Rattle.channel.specs.Called.{Board, board, heldIn, sound, roomy, answered, handOn, Fine}
