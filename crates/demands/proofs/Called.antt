@@ -2,6 +2,7 @@
 -- beyond, within, short, long   10 and 11 as facts
 -- read-exact, hear-exact   row by row
 -- read-same, hear-same     with no byte taken, and state and buffers as they were
+-- SmallEvent, small-..     a frame's numbers are none of these
 -- Given, read-given, hear-given   the numbers that are given
 use Prim.Native.Nat.{ℕ, suc, _≤_, _<_, min}
 use native.Mathlib.Omega.{arith}
@@ -95,7 +96,7 @@ small-take true false h b = tt
 small-take false true h b = tt
 small-take true true h b = small-shut (eqb (h .st .raw) 0) h
 
-small-byte : (h : Held) (b : ℕ) → With SmallHeld (takeByte h b .0) (takeByte h b .1)
+pub small-byte : (h : Held) (b : ℕ) → With SmallHeld (takeByte h b .0) (takeByte h b .1)
 small-byte h b = small-take (eqb b flag) (h .st .opened) h b
 
 frame-only : (o : Option Told) (h : Held) (n : ℕ) → With SmallHeld o h → 10 ≤ n → o ≡ some (refusal n) → ⊥
@@ -127,14 +128,14 @@ read-same h bs n = go (soundFrame (h .st)) (leb rawLimit (length (h .recv)))
         (with-hear owesNone handsNone takeByte none-owed SmallHeld (λ g. tt) small-byte h bs) (b .0) (b .1))
 
 -- ---- the channel
-abbrev SmallEvent : Event → Board → Type 0
-SmallEvent (said t) c = Small t
-SmallEvent (block t) c = Unit {0}
-SmallEvent lost c = Unit {0}
+abbrev pub SmallEvent : {S : Type 0} → Event → S → Type 0
+SmallEvent (said t) s = Small t
+SmallEvent (block t) s = Unit {0}
+SmallEvent lost s = Unit {0}
 
-small-as : (o : Option Told) (h : Held) (c : Board) → With SmallHeld o h → With SmallEvent (asEvent o) c
-small-as none h c w = tt
-small-as (some t) h c w = w
+pub small-as : {S : Type 0} (o : Option Told) (h : Held) (s : S) → With SmallHeld o h → With SmallEvent (asEvent o) s
+small-as none h s w = tt
+small-as (some t) h s w = w
 
 small-word : (t : Bool) (c : Board) (k : List ℕ) → With SmallEvent (wordOn t c k .0) (wordOn t c k .1)
 small-word true c k = tt
@@ -148,19 +149,24 @@ small-mark : (t : Bool) (f : Hunting) (c : Board) → With SmallEvent (markOn t 
 small-mark true f c = tt
 small-mark false f c = small-compare (isMarker f) f c
 
-small-eat : (l t : Bool) (c : Board) (b : ℕ) → With SmallEvent (eatBy l t c b .0) (eatBy l t c b .1)
+pub small-eat : (l t : Bool) (c : Board) (b : ℕ) → With SmallEvent (eatBy l t c b .0) (eatBy l t c b .1)
 small-eat false t c b = tt
 small-eat true true c b = small-word (ltb (suc (c .st .lock .word)) wordBytes) c (set (c .word) (c .st .lock .word) b)
 small-eat true false c b = small-mark (ltb (suc (c .st .lock .marker)) 4) (shift (c .st .hunting) b) c
 
+pub small-hand : (c : Board) → With SmallEvent (handOn c .0) (handOn c .1)
+small-hand c =
+    let b : ℕ = getD (c .word) (c .st .lock .handed) 0 in
+    let r = takeByte (heldIn c) b in
+    small-as (r .0) (r .1) (handOn c .1) (small-byte (heldIn c) b)
+
 small-hear : (c : Board) (bs : List ℕ) → With SmallEvent (hearOn c bs .0) (hearOn c bs .2)
 small-hear c bs =
-    with-hear owed handOn eatByte hand-one SmallEvent
-    (λ d. let r = takeByte (heldIn d) (getD (d .word) (d .st .lock .handed) 0) in small-as (r .0) (r .1) (handOn d .1) (small-byte (heldIn d) (getD (d .word) (d .st .lock .handed) 0)))
+    with-hear owed handOn eatByte hand-one SmallEvent small-hand
     (λ d b. small-eat (d .st .locked) (ltb (d .st .lock .word) wordBytes) d b) c bs
 
-event-only : (o : Option Event) (c : Board) (n : ℕ) → With SmallEvent o c → 10 ≤ n → o ≡ some (said (refusal n)) → ⊥
-event-only o c n w k e = let s : (1 ≤ n) × (n ≤ 8) = subst (λ (o : Option Event). With SmallEvent o c) e w in omega (arith, s .1)
+pub event-only : {S : Type 0} (o : Option Event) (s : S) (n : ℕ) → With SmallEvent o s → 10 ≤ n → o ≡ some (said (refusal n)) → ⊥
+event-only o s n w k e = let h : (1 ≤ n) × (n ≤ 8) = subst (λ (o : Option Event). With SmallEvent o s) e w in omega (arith, h .1)
 
 is-hear : (c : Board) (m n : ℕ) → 10 ≤ m → ByHear (some (said (refusal m)), 0, c) n ↔ n ≡ m
 is-hear c m n k = (λ e. let z : m ≡ n = cc in sym z, λ e. (subst (λ (x : ℕ). 10 ≤ x) (sym e) k, λ i. some (said (refusal (sym e i)))))

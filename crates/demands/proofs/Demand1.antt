@@ -44,10 +44,11 @@ use Rattle.channel.specs.Called.{Board, hearAll, hearCall, Fine}
 use Rattle.channel.specs.Sender.{marker, messageBytes, wordBytes, wordOf, marked, marking, sending}
 use Rattle.channel.proofs.Cutting.{hear-yields}
 use Rattle.channel.proofs.Sending.{marking-keeps, sending-keeps}
+use Rattle.tape.specs.Deck.{Deck}
+use Rattle.tape.specs.Called.{tapeCall}
 use Rattle.recording.specs.declared.recording.Totals.{Totals}
 use Rattle.recording.specs.declared.recording.Recording.{Recording}
 use Rattle.recording.specs.declared.recording.Wants.the-variants.{Refused}
-use Rattle.recording.specs.Deck.{Deck}
 use Rattle.recording.specs.Printed.{printed, takes, lastOf, finishing}
 use Rattle.channel.specs.declared.answer.Answer.{Answer}
 use Rattle.listed.specs.Lines.{line, endLine, wrongLine}
@@ -58,11 +59,11 @@ use Rattle.office.specs.Desk.{Desk}
 use Rattle.office.specs.Called.{holdLimit, outLimit, starting, denied, hearCall as desk-hear, closeCall, answeredOut, finishing as desk-finish}
 use Rattle.demands.specs.Table.{Exact}
 use Rattle.demands.specs.Desks.{DeskBeyond, DeskShort, lineRows, ByDesk, ByStart, ByLine}
-use Rattle.demands.specs.Refusals.{Unusable, frameRows, FrameBeyond, Beyond, TapeBeyond, Short, ByFrame, ByCall, ByCheck, ByRepair, ByRead, ByHear, ByTake}
+use Rattle.demands.specs.Refusals.{Unusable, frameRows, FrameBeyond, Beyond, NextBeyond, TapeBeyond, Short, ByFrame, ByCall, ByCheck, ByRepair, ByRead, ByHear, ByNext, ByTake}
 use Rattle.demands.proofs.Rows.{row, row-not, not-less, not-same, refuses, wrote, refuses-word, found, repair-as-check, not-whole, is-whole}
 use Rattle.demands.proofs.Frames.{barred-is, free-is, closed-exact, judging-exact, judging-same, judge-exact, undone}
 use Rattle.demands.proofs.Called.{read-given, hear-given, read-exact, read-same, hear-exact, hear-same}
-use Rattle.demands.proofs.Taken.{take-exact, take-same}
+use Rattle.demands.proofs.Taken.{next-exact, next-same, next-given, take-exact, take-same}
 use Rattle.demands.proofs.Desk.{line-exact, office-start-exact, office-start-same, office-hear-exact, office-hear-same, office-close-exact, office-close-same, office-finish-exact, office-finish-same}
 use Rattle.demands.proofs.Desk.{lines-print-exact, lines-print-same, lines-print-end-exact, lines-print-wrong-exact}
 
@@ -102,6 +103,9 @@ read-numbers = read-given
 pub hear-numbers : (c : Board) (bs : List ℕ) (n : ℕ) → hearCall c bs .0 ≡ some (said (refusal n)) → ((1 ≤ n) × (n ≤ 8)) ⊎ ((n ≡ 10) ⊎ (n ≡ 11))
 hear-numbers = hear-given
 
+pub next-numbers : (m : Deck) (bs : List ℕ) (n : ℕ) → tapeCall m bs .0 ≡ some (said (refusal n)) → ((1 ≤ n) × (n ≤ 8)) ⊎ ((n ≡ 10) ⊎ (n ≡ 11))
+next-numbers = next-given
+
 -- a receiving call on the plain stream
 pub read-refusals : (h : Held) (bs : List ℕ) → Exact ByRead (readCall h bs)
     ((10, FrameBeyond (h .st)) ∷  -- a count of the state is beyond its limit
@@ -116,7 +120,14 @@ pub hear-refusals : (c : Board) (bs : List ℕ) → Exact ByHear (hearCall c bs)
     [])
 hear-refusals = hear-exact
 
--- a call on a recording, and the call that ends it
+-- a call on a recording's bytes: both buffers are measured, of a plain stream too
+pub next-refusals : (m : Deck) (bs : List ℕ) → Exact ByNext (tapeCall m bs)
+    ((10, NextBeyond (m .ear .board .st) (m .spot) (length bs)) ∷  -- a count of the state is beyond its limit
+    (11, Short (m .ear .board .recv) (m .ear .board .word)) ∷  -- receive buffer under 8,205 bytes, word buffer under 255
+    [])
+next-refusals = next-exact
+
+-- a call on a recording that is listed, and the call that ends it
 pub take-refusals : (m : Deck) (t : Totals) (room : ℕ) (bs : List ℕ) → Exact ByTake (takes m t room bs)
     ((10, TapeBeyond (m .ear .board .st) (m .spot) t (length bs) room) ∷  -- a count of the state is beyond its limit
     (11, Short (m .ear .board .recv) (m .ear .board .word)) ∷  -- receive buffer under 8,205 bytes, word buffer under 255
@@ -290,7 +301,10 @@ read-keeps-all = read-same
 pub hear-keeps-all : (c : Board) (bs : List ℕ) (n : ℕ) → ByHear (hearCall c bs) n → hearCall c bs ≡ (some (said (refusal n)), 0, c)
 hear-keeps-all = hear-same
 
--- .. and so does a call on a recording: no byte is taken, and no line printed
+pub next-keeps-all : (m : Deck) (bs : List ℕ) (n : ℕ) → ByNext (tapeCall m bs) n → tapeCall m bs ≡ (some (said (refusal n)), 0, m)
+next-keeps-all = next-same
+
+-- .. and so does a call on a recording that is listed: no byte is taken, and no line printed
 pub take-keeps-all : (m : Deck) (t : Totals) (room : ℕ) (bs : List ℕ) (n : ℕ) → ByTake (takes m t room bs) n → takes m t room bs ≡ printed (Refused n) m t
 take-keeps-all = take-same
 

@@ -9,7 +9,7 @@
 --   interleaving    `interleaved`, `restored` (crates/interleaver/specs/Matrix.antt)
 --   markers         `marked` (crates/channel/specs/Sender.antt), and `answers` (crates/channel/specs/Channel.antt)
 --   block answers   `condition`, `mend` (crates/channel/specs/Channel.antt), by repair's promise: `Promised` (crates/repair/specs/Promise.antt)
---   the listing     `listing` (crates/listed/specs/Listing.antt)
+--   the listing     `listing` (crates/listed/specs/Listing.antt), of recordings taken apart: `apart` (crates/listed/specs/Apart.antt)
 -- Here: that they hold together. The paper's numbers are in Numbers.
 -- round-trip, round-answer           a packet written and read back
 -- part-short, part-long              the part of the receive buffer that is handed out
@@ -19,6 +19,7 @@
 -- output-is, depth-passes, there-and-back, back-and-there   interleaving
 -- block-answer, block-only           a block's answer and the word that is read are what repair promises
 -- plain-listing, channel-listing, totals, sent-totals   the listing's lines and totals
+-- recorded-by-calls                                     a recording's answers by calls, and where it ends
 -- listed-by-calls, listed-at-last, finished-at-last     the listing by calls
 use Prim.Native.Nat.{ℕ, _+_, _-_, _*_, _/_, _%_, _≤_, _<_}
 use native.Mathlib.Omega.{arith}
@@ -52,16 +53,18 @@ use Rattle.stream.proofs.Sending.{begin-stream, append-stream}
 use Rattle.channel.specs.Sender.{parityBytes, wordOf, fillers, filled, sending, sent}
 use Rattle.channel.specs.Channel.{conditionBy, condition, mend, IsWord, Event, frames, blocks, losses, asMended}
 use Rattle.channel.proofs.Words.{block-promised, block-determined}
-use Rattle.listed.specs.Apart.{most, records}
+use Rattle.listed.specs.Apart.{most, start, apart, onChannel, records}
 use Rattle.listed.specs.Lines.{letter, lines, isPacket, isRefusal, isDamaged, isLost, count, packetsIn, refusalsIn, damagedIn, longest}
 use Rattle.listed.specs.Listing.{heard, totalLine, listing}
 use Rattle.listed.proofs.Totals.{packets-counted, refusals-counted, damaged-counted, lost-counted, sent-counted}
 use Rattle.packet.specs.Contents.{rawLimit, Packet}
 use Rattle.channel.specs.Sender.{wordBytes}
+use Rattle.tape.specs.Deck.{Deck, fresh}
+use Rattle.tape.specs.Called.{far, EveryCut}
+use Rattle.tape.proofs.Demands.{taken-apart}
 use Rattle.recording.specs.declared.recording.Totals.{Totals}
 use Rattle.recording.specs.declared.recording.Recording.{Recording}
-use Rattle.recording.specs.Deck.{Deck, fresh}
-use Rattle.recording.specs.Printed.{noTotals, far, lastOf, recorded, finishing}
+use Rattle.recording.specs.Printed.{noTotals, lastOf, recorded, finishing}
 use Rattle.recording.specs.Runs.{ListsAll, Run, Fair}
 use Rattle.recording.proofs.Listing.{listing-printed}
 use Rattle.recording.proofs.Ends.{listing-ends, finish-ends}
@@ -184,6 +187,12 @@ totals es = (packets-counted es, refusals-counted es, damaged-counted es, lost-c
 -- of a sender's packets all are packets, and none is a refusal
 pub sent-totals : (ps : List Packet) (es : List Event) → frames es ≡ map delivered ps → (count isPacket es ≡ length ps) × (count isRefusal es ≡ 0)
 sent-totals ps es e = (packets-counted es ∙ ap packetsIn e ∙ sent-counted ps .0, refusals-counted es ∙ ap refusalsIn e ∙ sent-counted ps .1)
+
+-- ---- a recording by calls, one answer each: however it is cut, and whatever the lent buffers held, the calls come to their end, their answers are
+-- those of its stream bytes, and behind them it stands where taking it apart ends (a recording below 2^64 bytes)
+pub recorded-by-calls : (file : List ℕ) → length file ≤ far
+    → EveryCut file λ es m. (es ≡ heard (onChannel file) (apart start file .0)) × (m .spot ≡ apart start file .1)
+recorded-by-calls = taken-apart
 
 -- ---- the listing by calls: a recording cut in any way, each piece handed in until more is wanted, by calls with any room each, and then the
 -- finishing call: the bytes printed in all are its listing, whatever the lent buffers held ..

@@ -23,6 +23,7 @@ use Rattle.interleaver.specs.Matrix.{turning}
 use Rattle.packet.specs.Escape.{flag}
 use Rattle.packet.specs.Frame.{Told, packet, refusal, judged, judging, part}
 use Rattle.packet.specs.Contents.{Packet}
+use Rattle.packet.specs.declared.frame.Judged.{Judged}
 use Rattle.packet.specs.declared.frame.Judged.the-variants.{Packet as Delivered, Refused}
 use Rattle.packet.specs.Port.{class}
 use Rattle.packet.specs.Sender.{writing}
@@ -35,7 +36,9 @@ use Rattle.channel.specs.Channel.{said, block, lost}
 use Rattle.channel.specs.declared.answer.Condition.{Condition}
 use Rattle.channel.specs.declared.answer.Answer.the-variants.{More, Said, Block, LockLost}
 use Rattle.listed.specs.Lines.{line, endLine, wrongLine}
+use Rattle.listed.specs.Apart.{well}
 use Rattle.listed.specs.declared.Place.the-variants.{Mode}
+use Rattle.tape.specs.Called.{deckOf, isMore, tapeCall}
 use Rattle.recording.specs.Printed as recording
 use Rattle.bid.specs.Line.{reading}
 use Rattle.office.specs.Desk.{desk, blocks, unread, refusal as denied}
@@ -64,6 +67,10 @@ use Rattle.parity.proofs.check as parity-check
 use Rattle.repair.proofs.repair as repair-repair
 use Rattle.interleaver.proofs.interleave as interleaver-interleave
 use Rattle.interleaver.proofs.restore as interleaver-restore
+use Rattle.tape.proofs.tape.Tape.start as tape-start
+use Rattle.tape.proofs.tape.Tape.next as tape-next
+use Rattle.tape.proofs.tape.Tape.may_end as tape-may-end
+use Rattle.tape.proofs.tape.Heard.is_more as tape-is-more
 use Rattle.recording.proofs.recording.Recording.start as recording-start
 use Rattle.recording.proofs.recording.Recording.take as recording-take
 use Rattle.recording.proofs.recording.Recording.finish as recording-finish
@@ -192,7 +199,39 @@ pub interleaver-restore-means : Means interleaver-restore.Statement.statement in
     λ κs depth bytes out w. outcome w (now (out .exit)) ≡ turning true depth (now bytes) (now (out .entry))
 interleaver-restore-means = (λ M. interleaver-restore.Met.met, λ κs a. tt, λ κs a z ws. (λ p. p, λ p. p))
 
--- ---- a recording. Before its first byte: at the byte that says which stream it is, with a fresh receiver and nothing counted
+-- ---- a recording's bytes. Before the first one: at the byte that says which stream it is, with a fresh receiver
+pub tape-start-means : Means tape-start.Statement.statement tape-start.Kinds.ps tape-start.Kinds.r tape-start.Reads.Asked tape-start.Reads.Learnt
+    λ κs r. r ≡ record {
+      spot = record { place = Mode; offset = 0; count = 0 };
+      channel = false;
+      receiver = record {
+        locked = false;
+        hunting = record { a = 0; b = 0; c = 0; d = 0 };
+        lock = record { word = 0; handed = 0; marker = 0 };
+        frame = record { opened = false; raw = 0; stored = 0 };
+      };
+    }
+tape-start-means = (λ M. tape-start.Met.met, λ κs a. tt, λ κs a z ws. (λ p. p, λ p. p))
+
+pub tape-next-means : Means tape-next.Statement.statement tape-next.Kinds.ps tape-next.Kinds.r tape-next.Reads.Asked tape-next.Reads.Learnt
+    λ κs self recv word piece r. let x = tapeCall (deckOf self (now (recv .entry)) (now (word .entry))) (now piece) in
+    (r ≡ record { answer = answered (x .0); taken = x .1; tape = record { spot = x .2 .spot; channel = x .2 .ear .channel; receiver = x .2 .ear .board .st } })
+    × (now (recv .exit) ≡ x .2 .ear .board .recv) × (now (word .exit) ≡ x .2 .ear .board .word)
+tape-next-means = (λ M. tape-next.Met.met, λ κs a. tt, λ κs a z ws. (λ p. p, λ p. p))
+
+pub tape-may-end-means : Means tape-may-end.Statement.statement tape-may-end.Kinds.ps tape-may-end.Kinds.r tape-may-end.Reads.Asked tape-may-end.Reads.Learnt
+    λ κs self r. r ≡ well (self .spot .place)
+tape-may-end-means = (λ M. tape-may-end.Met.met, λ κs a. tt, λ κs a z ws. (λ p. p, λ p. p))
+
+pub tape-is-more-means : Means tape-is-more.Statement.statement tape-is-more.Kinds.ps tape-is-more.Kinds.r tape-is-more.Reads.Asked tape-is-more.Reads.Learnt
+    λ κs self r. r ≡ isMore (self .answer)
+tape-is-more-means = (λ M. tape-is-more.Met.met, λ κs a. tt, λ κs a z ws. (λ p. p, λ p. p))
+
+pub more-is : (j : Judged) (c : Condition)
+    → (isMore More ≡ true) × (isMore (Said j) ≡ false) × (isMore (Block c) ≡ false) × (isMore LockLost ≡ false)
+more-is j c = (refl, refl, refl, refl)
+
+-- ---- a recording that is listed. Before its first byte: at the byte that says which stream it is, with a fresh receiver and nothing counted
 pub recording-start-means : Means recording-start.Statement.statement recording-start.Kinds.ps recording-start.Kinds.r recording-start.Reads.Asked recording-start.Reads.Learnt
     λ κs r. r ≡ record {
       tape = record {

@@ -1,27 +1,39 @@
--- The refusals of a call on a recording, 10 and 11.
--- take-exact   row by row
--- take-same    with nothing taken or printed, and state and buffers as they were
-use Prim.Native.Nat.{ℕ, _-_, _<_}
-use mathlib.Core.Path.{_≡_, refl, sym}
+-- The refusals of a call on a recording, 10 and 11: on its bytes, and where it is listed.
+-- next-exact, take-exact   row by row
+-- next-same, take-same     with nothing taken or printed, and state and buffers as they were
+-- next-given               the numbers that are given
+use Prim.Native.Nat.{ℕ, _-_, _≤_, _<_}
+use native.Mathlib.Omega.{arith}
+use mathlib.Core.Path.{_≡_, refl, sym, subst}
 use mathlib.Core.Bool.{Bool, true, false, _&&_}
 use mathlib.Core.Logic.{_⊎_, _↔_, ⊎-elim}
 use mathlib.Core.Logic._⊎_.{inl, inr}
 use mathlib.Core.List.{List, [], _∷_}
-use lib.Dec.{leb}
+use mathlib.Core.Option.{Option, some, none}
+use lib.Dec.{ltb, leb}
 use lib.ListN.{length}
 use borrow.Author.Tests.{leb-false}
+use Rattle.base.specs.Calls.{With}
+use Rattle.base.proofs.Calls.{with-hear}
 use Rattle.base.proofs.Tests.{and-parts}
-use Rattle.channel.specs.Called.{sound, roomy}
+use Rattle.packet.specs.Frame.{refusal}
+use Rattle.stream.specs.Called.{takeByte}
+use Rattle.channel.specs.Channel.{Event, said, block, lost}
+use Rattle.channel.specs.Called.{Board, heldIn, handOn, eatByte, sound, roomy}
+use Rattle.channel.specs.Sender.{wordBytes}
 use Rattle.listed.specs.declared.Spot.{Spot}
+use Rattle.listed.specs.Apart.{inStream}
+use Rattle.tape.specs.Deck.{eatBy, earHand, earEat, Deck, deckOwes, deckHand, byteBy, deckEat, deckHear}
+use Rattle.tape.specs.Called.{far, nearSpot, tapeBy, tapeCall}
+use Rattle.tape.proofs.Turn.{deck-hand-one}
 use Rattle.recording.specs.declared.recording.Totals.{Totals}
 use Rattle.recording.specs.declared.recording.Wants.the-variants.{Refused}
-use Rattle.recording.specs.Deck.{Deck}
-use Rattle.recording.specs.Printed.{printed, far, nearTotals, near, takesBy, takes}
+use Rattle.recording.specs.Printed.{printed, nearTotals, near, takesBy, takes}
 use Rattle.recording.proofs.Ends.{print-not}
 use Rattle.demands.specs.Table.{Exact}
-use Rattle.demands.specs.Refusals.{TapeBeyond, Short, ByTake}
+use Rattle.demands.specs.Refusals.{NextBeyond, TapeBeyond, Short, ByNext, ByTake}
 use Rattle.demands.proofs.Rows.{applies, over, passed}
-use Rattle.demands.proofs.Called.{not-both, not-most, beyond, within, short, long}
+use Rattle.demands.proofs.Called.{not-both, not-most, beyond, within, short, long, SmallEvent, small-byte, small-as, small-eat, small-hand, event-only, Given}
 
 -- ---- numbers near their width
 module _ (t : Totals) (room : ℕ) where
@@ -55,7 +67,80 @@ module _ (p : Spot) (t : Totals) (n room : ℕ) where
       let a = and-parts (leb (p .offset) (far - n)) (nearTotals t room) e in
       ⊎-elim (not-most _ _ (a .0)) (totals-near t room (a .1))
 
--- ---- the call
+-- ---- the call on its bytes: a frame's numbers are no call's
+small-in : {S T : Type 0} (o : Option Event) (s : S) (t : T) → With SmallEvent o s → With SmallEvent o t
+small-in none s t w = tt
+small-in (some (said x)) s t w = w
+small-in (some (block x)) s t w = tt
+small-in (some lost) s t w = tt
+
+small-stream : (t : Bool) (c : Board) (b : ℕ) → With SmallEvent (eatBy t c b .0) (eatBy t c b .1)
+small-stream true c b = small-in (eatByte c b .0) (eatByte c b .1) (eatBy true c b .1) (small-eat (c .st .locked) (ltb (c .st .lock .word) wordBytes) c b)
+small-stream false c b = let r = takeByte (heldIn c) b in small-as (r .0) (r .1) (eatBy false c b .1) (small-byte (heldIn c) b)
+
+small-deck : (m : Deck) → With SmallEvent (deckHand m .0) (deckHand m .1)
+unfolding earHand
+small-deck m = small-in (handOn (m .ear .board) .0) (handOn (m .ear .board) .1) (deckHand m .1) (small-hand (m .ear .board))
+
+small-record : (t : Bool) (m : Deck) (b : ℕ) → With SmallEvent (byteBy t m b .0) (byteBy t m b .1)
+unfolding earEat
+small-record true m b =
+    small-in (earEat (m .ear) b .0) (earEat (m .ear) b .1) (byteBy true m b .1) (small-stream (m .ear .channel) (m .ear .board) b)
+small-record false m b = tt
+
+small-heard : (m : Deck) (bs : List ℕ) → With SmallEvent (deckHear m bs .0) (deckHear m bs .2)
+small-heard m bs =
+    with-hear deckOwes deckHand deckEat deck-hand-one SmallEvent small-deck (λ k b. small-record (inStream (k .spot .place) (k .spot .count)) k b) m bs
+
+is-next : (m : Deck) (k n : ℕ) → 10 ≤ k → ByNext (some (said (refusal k)), 0, m) n ↔ n ≡ k
+is-next m k n h = (λ e. let z : k ≡ n = cc in sym z, λ e. (subst (λ (x : ℕ). 10 ≤ x) (sym e) h, λ i. some (said (refusal (sym e i)))))
+
+module _ (m : Deck) (bs : List ℕ) where
+  abbrev soundly : Bool
+  soundly = sound (m .ear .board .st)
+
+  abbrev nearly : Bool
+  nearly = nearSpot (m .spot) (length bs)
+
+  abbrev roomily : Bool
+  roomily = roomy (m .ear .board .recv) (m .ear .board .word)
+
+  pub next-exact : Exact ByNext (tapeCall m bs)
+      ((10, NextBeyond (m .ear .board .st) (m .spot) (length bs)) ∷ (11, Short (m .ear .board .recv) (m .ear .board .word)) ∷ [])
+  next-exact = go soundly nearly roomily refl refl refl
+    where
+      go : (s n r : Bool) → soundly ≡ s → nearly ≡ n → roomily ≡ r
+          → Exact ByNext (tapeBy s n r m bs)
+          ((10, NextBeyond (m .ear .board .st) (m .spot) (length bs)) ∷ (11, Short (m .ear .board .recv) (m .ear .board .word)) ∷ [])
+      go false n r e f g = applies ByNext _ (λ k. is-next m 10 k (omega arith)) (inl (beyond (m .ear .board .st) e))
+      go true false r e f g = applies ByNext _ (λ k. is-next m 10 k (omega arith)) (inr (leb-false _ _ f))
+      go true true false e f g =
+          over ByNext (⊎-elim (within (m .ear .board .st) e) (not-most _ _ f))
+          (applies ByNext _ (λ k. is-next m 11 k (omega arith)) (short (m .ear .board .recv) (m .ear .board .word) g))
+      go true true true e f g =
+          over ByNext (⊎-elim (within (m .ear .board .st) e) (not-most _ _ f))
+          (over ByNext (long (m .ear .board .recv) (m .ear .board .word) g)
+          (passed ByNext λ n b. event-only (deckHear m bs .0) (deckHear m bs .2) n (small-heard m bs) (b .0) (b .1)))
+
+  pub next-same : (n : ℕ) → ByNext (tapeCall m bs) n → tapeCall m bs ≡ (some (said (refusal n)), 0, m)
+  next-same n = go soundly nearly roomily
+    where
+      go : (s k r : Bool) → ByNext (tapeBy s k r m bs) n → tapeBy s k r m bs ≡ (some (said (refusal n)), 0, m)
+      go false k r b = λ i. (b .1 i, 0, m)
+      go true false r b = λ i. (b .1 i, 0, m)
+      go true true false b = λ i. (b .1 i, 0, m)
+      go true true true b = absurd (event-only (deckHear m bs .0) (deckHear m bs .2) n (small-heard m bs) (b .0) (b .1))
+
+  pub next-given : (n : ℕ) → tapeCall m bs .0 ≡ some (said (refusal n)) → Given n
+  next-given n = go soundly nearly roomily
+    where
+      go : (s k r : Bool) → tapeBy s k r m bs .0 ≡ some (said (refusal n)) → Given n
+      go false k r e = let z : 10 ≡ n = cc in inr (inl (sym z))
+      go true false r e = let z : 10 ≡ n = cc in inr (inl (sym z))
+      go true true false e = let z : 11 ≡ n = cc in inr (inr (sym z))
+      go true true true e = inl (subst (λ (o : Option Event). With SmallEvent o (deckHear m bs .2)) e (small-heard m bs))
+
+-- ---- the call where it is listed
 is-take : (m : Deck) (t : Totals) (k n : ℕ) → ByTake (printed (Refused k) m t) n ↔ n ≡ k
 is-take m t k n = (λ e. let z : k ≡ n = cc in sym z, λ e i. Refused (sym e i))
 

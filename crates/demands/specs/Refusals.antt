@@ -1,6 +1,7 @@
 -- Rows of the paper's tables ("Numbered refusals") that several calls share, or that take more than a line.
 -- frameRows             2 to 8, of the raw bytes of a frame
 -- FrameBeyond, Beyond   10: a count of the state is beyond its limit
+-- NextBeyond            .. of a call on a recording's bytes
 -- TapeBeyond            .. and of a listing
 -- Short                 11: a lent buffer is too short
 -- ByFrame, By..         that an answer refuses by a number
@@ -27,7 +28,9 @@ use Rattle.channel.specs.Called.{Board}
 use Rattle.channel.specs.Sender.{messageBytes, wordBytes}
 use Rattle.channel.specs.declared.receiver.Receiver.{Receiver}
 use Rattle.listed.specs.declared.Spot.{Spot}
-use Rattle.recording.specs.Printed.{Printed, far}
+use Rattle.tape.specs.Deck.{Deck}
+use Rattle.tape.specs.Called.{far}
+use Rattle.recording.specs.Printed.{Printed}
 use Rattle.recording.specs.declared.recording.Totals.{Totals}
 use Rattle.recording.specs.declared.recording.Wants.the-variants.{Refused as TakeRefused}
 use Rattle.demands.specs.Table.{Row}
@@ -65,6 +68,10 @@ Beyond s = FrameBeyond (s .frame) ⊎ (wordBytes < s .lock .word) ⊎ (3 < s .lo
 abbrev pub Short : List ℕ → List ℕ → Type 0
 Short recv word = (length recv < rawLimit) ⊎ (length word < wordBytes)
 
+-- 10 of a call on a recording's bytes: that of its receiver; on n bytes lent the offset could pass 64 bits
+abbrev pub NextBeyond : Receiver → Spot → ℕ → Type 0
+NextBeyond s p n = Beyond s ⊎ (far - n < p .offset)
+
 -- 10 of a listing: that of its receiver; on n bytes lent the offset could pass 64 bits, or a total in the room lent
 abbrev pub TapeBeyond : Receiver → Spot → Totals → ℕ → ℕ → Type 0
 TapeBeyond s p t n room =
@@ -94,6 +101,10 @@ ByRead r n = (10 ≤ n) × (r .0 ≡ some (refusal n))
 abbrev pub ByHear : Option Event × ℕ × Board → ℕ → Type 0
 ByHear r n = (10 ≤ n) × (r .0 ≡ some (said (refusal n)))
 
--- a call on a recording is
+-- a call on a recording's bytes is
+abbrev pub ByNext : Option Event × ℕ × Deck → ℕ → Type 0
+ByNext r n = (10 ≤ n) × (r .0 ≡ some (said (refusal n)))
+
+-- a call on a recording that is listed is
 abbrev pub ByTake : Printed → ℕ → Type 0
 ByTake x n = x .wants ≡ TakeRefused n

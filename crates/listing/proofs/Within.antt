@@ -21,11 +21,11 @@ use Rattle.channel.specs.Channel.{Event}
 use Rattle.channel.specs.Called.{sound, roomy}
 use Rattle.channel.specs.declared.answer.Answer.{Answer}
 use Rattle.listed.specs.Lines.{line, longest}
+use Rattle.tape.specs.Deck.{Deck, deckOwes, deckHand, deckEat, deckHear}
+use Rattle.tape.proofs.Turn.{deck-hand-one}
 use Rattle.recording.specs.declared.recording.Totals.{Totals}
 use Rattle.recording.specs.declared.recording.Took.{Took}
-use Rattle.recording.specs.Deck.{Deck, deckOwes, deckHand, deckEat, deckHear}
 use Rattle.recording.specs.Printed.{Printed, print, counted, onAnswer, near, takesBy, takes, TookIs}
-use Rattle.recording.proofs.Turn.{deck-hand-one}
 
 by-answer : (o : Option Event) (n : ℕ) (m : Deck) (bs : List ℕ) → FitsBy deckOwes deckHand deckEat deck-hand-one o n m bs → n ≤ length bs
 by-answer none n m bs h = omega (arith, h .0)

@@ -18,16 +18,16 @@ use Rattle.channel.specs.Channel.{Event}
 use Rattle.channel.specs.Called.{sound, roomy}
 use Rattle.channel.specs.declared.answer.Answer.{Answer}
 use Rattle.listed.specs.Lines.{line, given, lines, longest}
+use Rattle.tape.specs.Deck.{Deck, deckOwes, deckHand, deckEat, deckAll, deckHear}
+use Rattle.tape.proofs.Turn.{deck-hand-one}
 use Rattle.recording.specs.declared.recording.Totals.{Totals}
 use Rattle.recording.specs.declared.recording.Wants.{Wants}
 use Rattle.recording.specs.declared.recording.Wants.the-variants.{More, Room, Refused}
-use Rattle.recording.specs.Deck.{Deck, deckOwes, deckHand, deckEat, deckAll, deckHear}
 use Rattle.recording.specs.Printed.{counted, Printed, printed, behind, onAnswer, print, near, takesBy, takes}
 use Rattle.recording.specs.Runs.{Lists, ListsAll}
 use Rattle.recording.specs.Runs.Lists.{more, room}
 use Rattle.recording.specs.Runs.ListsAll.{done, piece}
 use Rattle.recording.proofs.Tags.{wantsTag}
-use Rattle.recording.proofs.Turn.{deck-hand-one}
 
 -- answers counted one by one
 abbrev pub countAll : Totals → List Event → Totals

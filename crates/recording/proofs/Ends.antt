@@ -13,9 +13,9 @@ use lib.Dec.{eqb, ltb}
 use lib.ListN.{length, drop, length-append, length-drop}
 use borrow.Author.Tests.{le-ltb, ltb-true}
 use Rattle.base.specs.Choice.{pick}
-use Rattle.base.specs.Calls.{joined, tell, unless, oneMore, drain, rest, first, wait}
+use Rattle.base.specs.Calls.{joined, tell, drain, rest}
 use Rattle.base.specs.declared.Written.the-variants.{Wrote}
-use Rattle.base.proofs.Calls.{FitsBy, fits, inv-hear, all-append}
+use Rattle.base.proofs.Calls.{all-append}
 use Rattle.base.proofs.Writing.{write-fits}
 use Rattle.packet.specs.Contents.{rawLimit}
 use Rattle.channel.specs.Sender.{wordBytes}
@@ -29,23 +29,24 @@ use Rattle.listed.specs.declared.Spot.{Spot}
 use Rattle.listed.specs.Apart.{most, start, on, wrong, through, nextAt, next, inStream, apart, well, keep}
 use Rattle.listed.specs.Lines.{given, line, lines, isPacket, isRefusal, isDamaged, isLost, longest}
 use Rattle.lines.proofs.Short.{line-some, end-short, wrong-short}
+use Rattle.tape.specs.Deck.{Ear, ear, owesBy, earOwes, earHand, earEat, Deck, deck, fresh, deckOwes, deckHand, deckEat, deckAll, deckHear}
+use Rattle.tape.specs.Called.{far}
+use Rattle.tape.proofs.Turn.{deck-hand-one}
+use Rattle.tape.proofs.Kept.{FineDeck, Kept, hear-kept}
+use Rattle.tape.proofs.Means.{earAll, means-start, fresh-owes}
 use Rattle.recording.specs.declared.recording.Totals.{Totals}
 use Rattle.recording.specs.declared.recording.Recording.{Recording}
 use Rattle.recording.specs.declared.recording.Wants.{Wants}
 use Rattle.recording.specs.declared.recording.Wants.the-variants.{More, Room, Refused}
-use Rattle.recording.specs.Deck.{Ear, ear, owesBy, earOwes, earHand, earEat, Deck, deck, fresh, deckOwes, deckHand, byteBy, deckEat, deckAll, deckHear}
-use Rattle.recording.specs.Printed.{noTotals, counted, Printed, printed, behind, onAnswer, print, far, near, takesBy, takes, lastBy, lastOf, finishing}
+use Rattle.recording.specs.Printed.{noTotals, counted, Printed, printed, behind, onAnswer, print, near, takesBy, takes, lastBy, lastOf, finishing}
 use Rattle.recording.specs.Runs.{Lists, Run, Fair}
 use Rattle.recording.specs.Runs.Lists.{more, room}
 use Rattle.recording.specs.Runs.ListsAll.{done, piece}
 use Rattle.recording.proofs.Tags.{wantsTag}
-use Rattle.recording.proofs.Spots.{next-near}
-use Rattle.recording.proofs.Turn.{deck-hand-one, FineEar, fine-ear-hand, fine-ear-eat}
 use Rattle.recording.proofs.Counting.{one-most}
 use Rattle.recording.proofs.Printing.{Near, near-is}
-use Rattle.recording.proofs.Means.{earAll, means-start}
 use Rattle.recording.proofs.Did.{countAll, before, left-room, left-more, Did, takes-did, lists-prints}
-use Rattle.recording.proofs.Listing.{apart-count, fresh-owes}
+use Rattle.recording.proofs.Listing.{apart-count}
 
 -- ---- how many answers there are
 owes-by : (l t : Bool) (h : ℕ) → owedBy l t h ≤ 223
@@ -128,57 +129,6 @@ module _ (recv word : List ℕ) (recv-room : rawLimit ≤ length recv) (word-roo
       omega (arith, e, all-few (q .0) d, fresh-owes recv word recv-room word-room (eqb b 0x4F), s)
 
 -- ---- what a call keeps
-abbrev FineDeck : Deck → Type 0
-FineDeck m = FineEar (m .ear)
-
-byte-fine : (t : Bool) (m : Deck) (b : ℕ) → deckOwes m ≡ 0 → FineDeck m → FineDeck (byteBy t m b .1)
-byte-fine true m b e i = fine-ear-eat (m .ear) b e i
-byte-fine false m b e i = i
-
-pub record Kept (m : Deck) (bs : List ℕ) (n : ℕ) (m′ : Deck) : Type 0 where
-  pub fine : FineDeck m′
-  pub within : n ≤ length bs
-  pub near : m′ .spot .offset ≤ m .spot .offset + n
-
-byte-near : (t : Bool) (m : Deck) (b : ℕ) → byteBy t m b .1 .spot .offset ≤ m .spot .offset + 1
-byte-near true m b = next-near (m .spot) b
-byte-near false m b = next-near (m .spot) b
-
-abbrev NearBy : Deck → Option Event × ℕ × Deck → Type 0
-NearBy m r = r .2 .spot .offset ≤ m .spot .offset + r .1
-
-unless-near : (o : Option Event) (n : ℕ) (k m : Deck) (r : Option Event × ℕ × Deck) → k .spot .offset ≤ m .spot .offset + n → NearBy m r → NearBy m (unless o n k r)
-unless-near none n k m r h j = j
-unless-near (some a) n k m r h j = h
-
-first-near : (bs : List ℕ) → ((m : Deck) → NearBy m (wait deckOwes deckHand deckEat bs m))
-    → (n : ℕ) (m : Deck) → NearBy m (first deckOwes deckHand deckEat n m (wait deckOwes deckHand deckEat bs))
-first-near bs k zero m = k m
-first-near bs k (suc n) m =
-    unless-near (deckHand m .0) 0 (deckHand m .1) m (first deckOwes deckHand deckEat n (deckHand m .1) (wait deckOwes deckHand deckEat bs)) (omega arith)
-    (first-near bs k n (deckHand m .1))
-
-wait-near : (bs : List ℕ) (m : Deck) → NearBy m (wait deckOwes deckHand deckEat bs m)
-wait-near [] m = omega arith
-wait-near (b ∷ bs) m =
-    let t : Deck = deckEat m b .1 in
-    let h : t .spot .offset ≤ m .spot .offset + 1 = byte-near (inStream (m .spot .place) (m .spot .count)) m b in
-    let g = first-near bs (wait-near bs) (deckOwes t) t in
-    unless-near (deckEat m b .0) 1 t m (oneMore (deckHear t bs)) h (omega arith)
-
-hear-kept : (m : Deck) (bs : List ℕ) → FineDeck m → Kept m bs (deckHear m bs .1) (deckHear m bs .2)
-hear-kept m bs i = record {
-  fine =
-      inv-hear deckOwes deckHand deckEat deck-hand-one FineDeck (λ k n e j. fine-ear-hand (k .ear) n e j)
-      (λ k b e j. byte-fine (inStream (k .spot .place) (k .spot .count)) k b e j) m bs i;
-  within = most-fits (deckHear m bs .0) (fits deckOwes deckHand deckEat deck-hand-one m bs);
-  near = first-near bs (wait-near bs) (deckOwes m) m;
-}
-  where
-    most-fits : (o : Option Event) → FitsBy deckOwes deckHand deckEat deck-hand-one o (deckHear m bs .1) (deckHear m bs .2) bs → deckHear m bs .1 ≤ length bs
-    most-fits none h = omega (arith, h .0)
-    most-fits (some a) h = h
-
 behind-kept : (m k : Deck) (bs ws : List ℕ) (n : ℕ) (r : Printed) → Kept m bs n k → Kept k (drop n bs) (r .taken) (r .deck) → Kept m bs (behind n ws r .taken) (behind n ws r .deck)
 behind-kept m k bs ws n r h j = record { fine = j .fine; within = omega (arith, h .within, j .within, length-drop n bs); near = omega (arith, h .near, j .near) }
 

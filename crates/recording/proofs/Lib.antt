@@ -1,14 +1,8 @@
 pub mod Tags
-pub mod Ears
-pub mod Spots
-pub mod Run
-pub mod Turn
-pub mod Heard
 pub mod Counting
 pub mod Printing
 pub mod Output
 pub mod Taking
-pub mod Means
 pub mod Did
 pub mod Listing
 pub mod Ends

@@ -26,11 +26,11 @@ use Rattle.listed.specs.declared.Spot.{Spot}
 use Rattle.listed.specs.Apart.{most, start, on, wrong, through, nextAt, next, inStream, keep, apart, well}
 use Rattle.listed.specs.Lines.{given, lines, count, one, isPacket, isRefusal, isDamaged, isLost, endLine, wrongLine}
 use Rattle.listed.specs.Listing.{totalLine, heard, lastLine, listed, listing}
+use Rattle.tape.specs.Deck.{Ear, ear, Deck, deck, fresh, deckOwes, deckAll}
+use Rattle.tape.proofs.Means.{earAll, means-start, heard-all, fresh-owes}
 use Rattle.recording.specs.declared.recording.Totals.{Totals}
-use Rattle.recording.specs.Deck.{Ear, ear, earOwes, Deck, deck, fresh, deckOwes, deckAll}
 use Rattle.recording.specs.Printed.{noTotals, counted, recorded, lastBy, lastOf, finishing}
 use Rattle.recording.specs.Runs.{ListsAll}
-use Rattle.recording.proofs.Means.{earAll, means-start, heard-all}
 use Rattle.recording.proofs.Did.{countAll, Prints, all-prints}
 
 -- ---- totals are counts of the answers
@@ -125,15 +125,10 @@ abbrev shown : List Event × Deck → List ℕ
 shown r = lines (r .0) ++ lastOf (recorded (r .1) (countAll noTotals (r .0)))
 
 module _ (recv word : List ℕ) (recv-room : rawLimit ≤ length recv) (word-room : wordBytes ≤ length word) where
-  pub fresh-owes : (t : Bool) → earOwes (ear t (board freshReceiver recv word)) ≡ 0
-  unfolding earOwes
-  fresh-owes true = refl
-  fresh-owes false = refl
-
   -- the lines of all answers, and the last line
   pub listing-shown : (file : List ℕ) → shown (deckAll (fresh recv word) file) ≡ listing file
   unfolding listing listed apart inStream heard lines
-  listing-shown [] = ap shown (none-heard (fresh-owes false)) ∙ last-same (fresh recv word) 0 [] refl
+  listing-shown [] = ap shown (none-heard (fresh-owes recv word recv-room word-room false)) ∙ last-same (fresh recv word) 0 [] refl
     where
       none-heard : deckOwes (fresh recv word) ≡ 0 → deckAll (fresh recv word) [] ≡ ([], fresh recv word)
       none-heard e = rw e refl
@@ -142,7 +137,7 @@ module _ (recv word : List ℕ) (recv-room : rawLimit ≤ length recv) (word-roo
       let x : List Event × Ear = earAll (ear (eqb b 0x4F) (board freshReceiver recv word)) (q .0) in
       let h : x .0 ≡ heard (eqb b 0x4F) (q .0) = heard-all (eqb b 0x4F) recv word (q .0) recv-room word-room in
       let c : q .1 .count ≡ length (q .0) = omega (arith, apart-count bs (next start b), count-at Mode start b) in
-      ap shown (means-start b bs (ear false (board freshReceiver recv word)) (fresh-owes false))
+      ap shown (means-start b bs (ear false (board freshReceiver recv word)) (fresh-owes recv word recv-room word-room false))
       ∙ ap (λ (l : List ℕ). lines (x .0) ++ l) (last-same (deck (q .1) (x .1)) (length (q .0)) (x .0) c)
       ∙ ap (λ (es : List Event). lines es ++ lastLine (q .1) (length (q .0)) es) h
 
@@ -153,7 +148,7 @@ module _ (recv word : List ℕ) (recv-room : rawLimit ≤ length recv) (word-roo
     pub listing-printed : (out : List ℕ) (n : ℕ) → finishing (recorded m t) out .answer ≡ Wrote n
         → text ++ take n (finishing (recorded m t) out .output) ≡ listing (joined pieces)
     listing-printed out n e =
-        let p : Prints (fresh recv word) noTotals (joined pieces) text m t = all-prints rooms (fresh-owes false) run in
+        let p : Prints (fresh recv word) noTotals (joined pieces) text m t = all-prints rooms (fresh-owes recv word recv-room word-room false) run in
         ap (λ (l : List ℕ). text ++ l) (write-is (lastOf (recorded m t)) out n e)
         ∙ (λ i. p .says i ++ lastOf (recorded m (p .counts i)))
         ∙ ap shown (sym (p .are)) ∙ listing-shown (joined pieces)
@@ -161,5 +156,5 @@ module _ (recv word : List ℕ) (recv-room : rawLimit ≤ length recv) (word-roo
     -- the totals kept are those counted from the answers of all bytes
     pub totals-counted : (es : List Event) × (deckAll (fresh recv word) (joined pieces) ≡ (es, m)) × (t ≡ countsOf es)
     totals-counted =
-        let p : Prints (fresh recv word) noTotals (joined pieces) text m t = all-prints rooms (fresh-owes false) run in
+        let p : Prints (fresh recv word) noTotals (joined pieces) text m t = all-prints rooms (fresh-owes recv word recv-room word-room false) run in
         (p .events, p .are, p .counts ∙ counts-are (p .events))

@@ -12,9 +12,10 @@ use lib.Seq.{drop-drop, drop-at, take-at, length-take-le}
 use borrow.Rule.Slice.PartMut.{putMid}
 use Rattle.base.proofs.Parts.{tail-is, tail-put}
 use Rattle.channel.specs.Called.{sound, roomy}
+use Rattle.tape.specs.Called.{deckOf}
 use Rattle.recording.specs.declared.recording.Recording.{Recording}
 use Rattle.recording.specs.declared.recording.Step.{Step}
-use Rattle.recording.specs.Printed.{Printed, printed, behind, print, near, TookIs, deckOf}
+use Rattle.recording.specs.Printed.{Printed, printed, behind, print, near, TookIs}
 use Rattle.recording.specs.Private.{StepBy, StepIs}
 
 -- behind i bytes taken and w written the call goes on with what is left

@@ -1,7 +1,7 @@
 -- A call with an output, line by line.
 -- step-room, step-more, step-line    the three ways out of a step
 -- Near, near-of, near-is             no number is near its width
--- step-asks, count-asks              what the calls of a step ask
+-- count-asks                         what counting asks
 use Prim.Native.Nat.{ℕ, zero, suc, _+_, _-_, _≤_, _<_}
 use native.Mathlib.Omega.{arith}
 use native.Mathlib.Nat.{sub-zero}
@@ -19,14 +19,17 @@ use Rattle.base.proofs.Tests.{and-parts}
 use Rattle.listed.specs.declared.Spot.{Spot}
 use Rattle.listed.specs.Lines.{line, given, isPacket, isRefusal, isDamaged, isLost, longest}
 use Rattle.lines.proofs.Short.{line-short, line-some}
-use Rattle.recording.specs.declared.tape.Tape.{Tape}
-use Rattle.recording.specs.declared.tape.Heard.{Heard}
+use Rattle.tape.specs.declared.tape.Tape.{Tape}
+use Rattle.tape.specs.declared.tape.Heard.{Heard}
+use Rattle.tape.specs.Deck.{Deck, deckHear}
+use Rattle.tape.specs.Called.{far, deckOf, isMore, tapeCall, NextIs}
+use Rattle.tape.specs.Private.{Stays, HeardIs}
+use Rattle.tape.proofs.Turn.{more-none, more-some}
+use Rattle.tape.proofs.Next.{next-heard}
 use Rattle.recording.specs.declared.recording.Totals.{Totals}
 use Rattle.recording.specs.declared.recording.Wants.the-variants.{More, Room}
-use Rattle.recording.specs.Deck.{Deck, deckHear}
-use Rattle.recording.specs.Private.{isMore, Stays, HeardIs, Below, StepIs}
-use Rattle.recording.specs.Printed.{counted, Printed, printed, behind, onAnswer, print, far, near, deckOf}
-use Rattle.recording.proofs.Turn.{more-none, more-some}
+use Rattle.recording.specs.Private.{Below, StepIs}
+use Rattle.recording.specs.Printed.{counted, Printed, printed, behind, onAnswer, print, near}
 use Rattle.recording.proofs.Counting.{one-most}
 
 -- ---- no number passes its width
@@ -81,10 +84,6 @@ module _ (t : Tape) (u : Totals) (l k bs out : List ℕ) (wide : length bs ≤ f
   ni : Near (t .spot) u (length bs) (length out)
   ni = near-of (t .spot) u (length bs) (length out) near-it
 
-  -- what hearing asks
-  pub step-asks : (sound (t .receiver) ≡ true) × (roomy l k ≡ true) × (t .spot .offset + length bs ≤ far)
-  step-asks = (ok, room, omega (arith, ni .offset))
-
   none-room : (f : ℕ) → length out < longest → print f (length out) m u bs ≡ printed Room m u
   unfolding print
   none-room zero h = refl
@@ -103,7 +102,11 @@ module _ (t : Tape) (u : Totals) (l k bs out : List ℕ) (wide : length bs ≤ f
     nears = near-is (t .spot) u (length bs - 0) (length out - 0) (rw (sub-zero (length bs), sub-zero (length out)) ni);
   }
 
-  module _ (h : Heard) (l′ k′ : List ℕ) (heard : HeardIs m bs h l′ k′) (roomy-out : longest ≤ length out) where
+  module _ (h : Heard) (l′ k′ : List ℕ) (next : NextIs (tapeCall m bs) h l′ k′) (roomy-out : longest ≤ length out) where
+    -- the call on the tape passes 10 and 11
+    heard : HeardIs m bs h l′ k′
+    heard = next-heard t l k bs ok (le-leb _ _ (ni .offset)) room next
+
     -- what stays within its limits
     abbrev stay : Stays m bs (h .taken) (h .tape) l′ k′
     stay = heard .1

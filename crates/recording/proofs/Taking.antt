@@ -5,11 +5,12 @@ use mathlib.Core.Bool.{Bool, true, false}
 use mathlib.Core.List.{List}
 use lib.ListN.{length}
 use Rattle.channel.specs.Called.{sound, roomy}
+use Rattle.tape.specs.Deck.{Deck}
+use Rattle.tape.specs.Called.{deckOf}
 use Rattle.recording.specs.declared.recording.Recording.{Recording}
 use Rattle.recording.specs.declared.recording.Took.{Took}
 use Rattle.recording.specs.declared.recording.Wants.the-variants.{Refused}
-use Rattle.recording.specs.Deck.{Deck}
-use Rattle.recording.specs.Printed.{Printed, printed, print, near, takesBy, takes, TookIs, deckOf}
+use Rattle.recording.specs.Printed.{Printed, printed, print, near, takesBy, takes, TookIs}
 
 module _ (r : Recording) (l k bs out : List ℕ) where
   abbrev m : Deck

@@ -1,4 +1,3 @@
-pub mod Deck
 pub mod Printed
 pub mod Runs
 pub mod Private

@@ -13,29 +13,26 @@ use lib.ListN.{length, drop}
 use Rattle.base.specs.Choice.{pick}
 use Rattle.base.specs.Written.{Outcome, write}
 use Rattle.channel.specs.Channel.{Event}
-use Rattle.channel.specs.Called.{board, sound, roomy, freshReceiver}
+use Rattle.channel.specs.Called.{sound, roomy}
 use Rattle.channel.specs.declared.answer.Answer.{Answer}
 use Rattle.listed.specs.declared.Spot.{Spot}
 use Rattle.listed.specs.declared.Total.{Total}
-use Rattle.listed.specs.Apart.{start, well}
+use Rattle.listed.specs.Apart.{well}
 use Rattle.listed.specs.Lines.{line, given, one, totalOf, inPackets, inRefusals, inDamaged, inLost, endLine, wrongLine, longest}
-use Rattle.recording.specs.declared.tape.Tape.{Tape}
+use Rattle.tape.specs.Deck.{Deck, deckHear}
+use Rattle.tape.specs.Called.{startTape, far, nearSpot, tapeOf}
+pub use Rattle.tape.specs.Called.{deckOf}
 use Rattle.recording.specs.declared.recording.Totals.{Totals}
 use Rattle.recording.specs.declared.recording.Recording.{Recording}
 use Rattle.recording.specs.declared.recording.Wants.{Wants}
 use Rattle.recording.specs.declared.recording.Wants.the-variants.{More, Room, Refused}
 use Rattle.recording.specs.declared.recording.Took.{Took}
-use Rattle.recording.specs.Deck.{ear, Deck, deck, deckHear}
 
 -- nothing counted yet
 abbrev pub noTotals : Totals
 noTotals = record { packets = 0; refused = 0; damaged = 0; lost = 0 }
 
--- before the first byte
-abbrev pub startTape : Tape
-startTape = record { spot = start; channel = false; receiver = freshReceiver }
-
--- .. and nothing counted
+-- before the first byte, and nothing counted
 abbrev pub begins : Recording
 begins = record { tape = startTape; totals = noTotals }
 
@@ -81,10 +78,6 @@ print (suc f) room m t bs =
     (onAnswer (deckHear m bs .0) (behind (deckHear m bs .1) [] (printed More (deckHear m bs .2) t))
     (λ a. behind (deckHear m bs .1) (line a) (print f (room - length (line a)) (deckHear m bs .2) (counted t a) (drop (deckHear m bs .1) bs))))
 
--- numbers are below 2^64
-abbrev pub far : ℕ
-far = 18446744073709551615
-
 -- no total can pass its width while so many bytes are written: each line has a byte at least
 abbrev pub nearTotals : Totals → ℕ → Bool
 nearTotals t room =
@@ -92,7 +85,7 @@ nearTotals t room =
 
 -- no number of the state can pass its width in a call on n bytes with so much room
 abbrev pub near : Spot → Totals → ℕ → ℕ → Bool
-near p t n room = leb (p .offset) (far - n) && nearTotals t room
+near p t n room = nearSpot p n && nearTotals t room
 
 -- by: does it pass 10 (the receiver's counts, and these numbers), does it pass 11 (the buffers)
 abbrev pub takesBy : Bool → Bool → Bool → Deck → Totals → ℕ → List ℕ → Printed
@@ -105,14 +98,6 @@ takesBy true true true m t room bs = print room room m t bs
 abbrev pub takes : Deck → Totals → ℕ → List ℕ → Printed
 takes m t room bs =
     takesBy (sound (m .ear .board .st)) (near (m .spot) t (length bs) room) (roomy (m .ear .board .recv) (m .ear .board .word)) m t room bs
-
--- the deck of a tape and the buffers lent ..
-abbrev pub deckOf : Tape → List ℕ → List ℕ → Deck
-deckOf t recv word = deck (t .spot) (ear (t .channel) (board (t .receiver) recv word))
-
--- .. and a deck's tape
-abbrev pub tapeOf : Deck → Tape
-tapeOf m = record { spot = m .spot; channel = m .ear .channel; receiver = m .ear .board .st }
 
 -- the code's state of a deck and totals
 abbrev pub recorded : Deck → Totals → Recording

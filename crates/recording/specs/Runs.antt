@@ -8,7 +8,7 @@ use mathlib.Core.List.{List, [], _∷_, _++_}
 use lib.ListN.{drop}
 use Rattle.recording.specs.declared.recording.Totals.{Totals}
 use Rattle.recording.specs.declared.recording.Wants.the-variants.{More, Room}
-use Rattle.recording.specs.Deck.{Deck}
+use Rattle.tape.specs.Deck.{Deck}
 use Rattle.listed.specs.Lines.{longest}
 use Rattle.recording.specs.Printed.{takes}
 

@@ -9,11 +9,9 @@ ghost use Rattle.channel.specs.Called.{sound, roomy};
 ghost use Rattle.listed.specs.Lines.{line, totalOf, longest};
 ghost use Rattle.channel.specs.declared.answer.Answer.the-variants.{Said, Block};
 ghost use Rattle.recording.specs.declared.recording.Wants.the-variants.{Refused};
-ghost use Rattle.recording.specs.Printed.{noTotals, begins, counted, nearTotals, near, takes, print, TookIs, finishing, deckOf};
+ghost use Rattle.tape.specs.Called.{deckOf};
+ghost use Rattle.recording.specs.Printed.{noTotals, begins, counted, nearTotals, near, takes, print, TookIs, finishing};
 ghost use Rattle.recording.specs.Private.{Below, StepIs};
-use crate::spot;
-use crate::tape;
-use crate::tape::Tape;
 use base::Refusal;
 use base::Written;
 use channel::Answer;
@@ -22,6 +20,7 @@ use channel::Receiver;
 use lines::Line;
 use listed::Total;
 use packet::Judged;
+use tape::Tape;
 
 /// What is counted of a recording's answers.
 pub struct Totals {
@@ -233,10 +232,10 @@ impl Recording {
         }
         let before = self.tape;
         let totals = self.totals;
-        let heard = before.hear(recv, word, piece);
+        let heard = before.next(recv, word, piece);
         let answer = heard.answer;
         let tape = heard.tape;
-        if tape::is_more(answer) {
+        if heard.is_more() {
             return Step {
                 done: true,
                 wants: Wants::More,
@@ -306,9 +305,8 @@ impl Recording {
     {
         let tape = self.tape;
         let at = tape.spot;
-        let place = at.place;
         let totals = self.totals;
-        if spot::is_well(place) {
+        if tape.may_end() {
             return lines::print_end(
                 at.count,
                 totals.packets,

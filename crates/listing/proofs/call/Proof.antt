@@ -1,7 +1,7 @@
 -- `listing::call` stays within what it is lent.
 use native.Mathlib.Omega.{arith}
 use borrow.Author.Needs.{needs}
-use Rattle.recording.specs.Printed.{deckOf}
+use Rattle.tape.specs.Called.{deckOf}
 use Rattle.listing.proofs.Within.{call-within}
 use Rattle.listing.proofs.call.Statement.{statement}
 use Rattle.listing.proofs.call.Tie as tie

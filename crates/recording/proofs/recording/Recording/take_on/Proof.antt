@@ -3,7 +3,8 @@ use native.Mathlib.Omega.{arith}
 use Prim.Native.Nat.{_-_, _≤_}
 use mathlib.Core.Path.{_≡_, refl}
 use lib.ListN.{length}
-use Rattle.recording.specs.Printed.{print, far, deckOf}
+use Rattle.tape.specs.Called.{far, deckOf}
+use Rattle.recording.specs.Printed.{print}
 use Rattle.recording.proofs.Output.{Far, far-start, far-asks, far-within, far-length, far-on, far-done}
 use Rattle.recording.proofs.recording.Recording.take_on.Statement.{statement}
 use Rattle.recording.proofs.recording.Recording.take_on.Tie as tie

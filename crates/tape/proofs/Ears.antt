@@ -1,0 +1,235 @@
+-- What the ear hears is what the receiver hears, or of a plain stream the frame reader.
+-- channel-hear, plain-hear   of one call
+-- channel-all, plain-all     of a whole byte string
+-- listen-on, listen-off, listen-more, listen-said   as the code hears it
+use Prim.Native.Nat.{ℕ, zero, suc, _≤_}
+use native.Mathlib.Omega.{arith}
+use mathlib.Core.Path.{_≡_, refl, sym, _∙_, ap, subst}
+use mathlib.Core.Bool.{Bool, true, false}
+use mathlib.Core.List.{List, [], _∷_, map}
+use mathlib.Core.Option.{Option, some, none}
+use lib.ListN.{length}
+use lib.Dec.{leb}
+use borrow.Author.Tests.{leb-true}
+use Rattle.base.specs.Calls.{tell, unless, oneMore, owesNone, handsNone}
+use Rattle.base.specs.Calls as calls
+use Rattle.base.proofs.Calls.{none-owed}
+use Rattle.base.proofs.Tests.{and-parts}
+use Rattle.packet.specs.Contents.{rawLimit}
+use Rattle.packet.specs.Frame.{Told}
+use Rattle.packet.specs.declared.frame.Judged.{Judged}
+use Rattle.stream.specs.Called.{Held, held, takeByte, readAll, readOn, readCall, ReadIs, sound as soundFrame, answered as heardOf}
+use Rattle.stream.specs.declared.frame.Read.{Read}
+use Rattle.stream.specs.declared.frame.Heard.{Heard}
+use Rattle.stream.specs.declared.frame.Heard.the-variants.{More as NoMore, Said as Says}
+use Rattle.stream.proofs.Fine.{fine-of as frame-fine}
+use Rattle.stream.proofs.Cutting.{read-agrees}
+use Rattle.channel.specs.Channel.{said}
+use Rattle.channel.specs.Called.{Board, board, heldIn, owed, handOn, eatByte, asEvent, hearAll, hearOn, hearCall, HearingIs, sound, roomy, answered}
+use Rattle.channel.specs.declared.receiver.Receiver.{Receiver}
+use Rattle.channel.specs.declared.answer.Hearing.{Hearing}
+use Rattle.channel.specs.declared.answer.Answer.{Answer}
+use Rattle.channel.specs.declared.answer.Answer.the-variants.{More, Said}
+use Rattle.channel.proofs.Fine.{fine-of}
+use Rattle.channel.proofs.Cutting.{hand-one, hear-agrees}
+use Rattle.tape.specs.Deck.{Ear, ear, withHeld, owesBy, earOwes, earHand, earEat}
+use Rattle.tape.specs.Private.{earHear, EarIs, PlainIs}
+
+-- a reader that is another one, seen through f and g
+module _ {S T A B : Type 0} (pend : S → ℕ) (hand : S → Option A × S) (eat : S → ℕ → Option A × S)
+    (pend′ : T → ℕ) (hand′ : T → Option B × T) (eat′ : T → ℕ → Option B × T)
+    (f : S → T) (g : A → B) (h : Option A → Option B) (l : List A → List B)
+    (h-none : h none ≡ none) (h-some : (a : A) → h (some a) ≡ some (g a)) (l-none : l [] ≡ []) (l-some : (a : A) (xs : List A) → l (a ∷ xs) ≡ g a ∷ l xs)
+    (same-pend : (s : S) → pend′ (f s) ≡ pend s) (same-hand : (s : S) (n : ℕ) → pend s ≡ suc n → hand′ (f s) ≡ (h (hand s .0), f (hand s .1)))
+    (same-eat : (s : S) (b : ℕ) → eat′ (f s) b ≡ (h (eat s b .0), f (eat s b .1)))
+    (hand-one : (s : S) (n : ℕ) → pend s ≡ suc n → pend (hand s .1) ≡ n) where
+  abbrev seen : Option A × ℕ × S → Option B × ℕ × T
+  seen r = (h (r .0), r .1, f (r .2))
+
+  abbrev seenAll : List A × S → List B × T
+  seenAll r = (l (r .0), f (r .1))
+
+  unless-seen : (o : Option A) (n : ℕ) (t : S) (r : Option A × ℕ × S) → unless (h o) n (f t) (seen r) ≡ seen (unless o n t r)
+  unless-seen none n t r = ap (λ x. unless x n (f t) (seen r)) h-none
+  unless-seen (some a) n t r = ap (λ x. unless x n (f t) (seen r)) (h-some a) ∙ (λ i. (sym (h-some a) i, n, f t))
+
+  tell-seen : (o : Option A) (r : List A × S) → tell (h o) (seenAll r) ≡ seenAll (tell o r)
+  tell-seen none r = ap (λ x. tell x (seenAll r)) h-none
+  tell-seen (some a) r = ap (λ x. tell x (seenAll r)) (h-some a) ∙ (λ i. (sym (l-some a (r .0)) i, f (r .1)))
+
+  first-seen : (k : S → Option A × ℕ × S) (k′ : T → Option B × ℕ × T) → ((s : S) → k′ (f s) ≡ seen (k s))
+      → (n : ℕ) (s : S) → pend s ≡ n → calls.first pend′ hand′ eat′ n (f s) k′ ≡ seen (calls.first pend hand eat n s k)
+  first-seen k k′ e zero s z = e s
+  first-seen k k′ e (suc n) s z =
+      ap (λ x. unless (x .0) 0 (x .1) (calls.first pend′ hand′ eat′ n (x .1) k′)) (same-hand s n z)
+      ∙ ap (unless (h (hand s .0)) 0 (f (hand s .1))) (first-seen k k′ e n (hand s .1) (hand-one s n z))
+      ∙ unless-seen (hand s .0) 0 (hand s .1) (calls.first pend hand eat n (hand s .1) k)
+
+  drain-seen : (k : S → List A × S) (k′ : T → List B × T) → ((s : S) → k′ (f s) ≡ seenAll (k s))
+      → (n : ℕ) (s : S) → pend s ≡ n → calls.drain pend′ hand′ eat′ n (f s) k′ ≡ seenAll (calls.drain pend hand eat n s k)
+  drain-seen k k′ e zero s z = e s
+  drain-seen k k′ e (suc n) s z =
+      ap (λ x. tell (x .0) (calls.drain pend′ hand′ eat′ n (x .1) k′)) (same-hand s n z)
+      ∙ ap (tell (h (hand s .0))) (drain-seen k k′ e n (hand s .1) (hand-one s n z))
+      ∙ tell-seen (hand s .0) (calls.drain pend hand eat n (hand s .1) k)
+
+  wait-seen : (bs : List ℕ) (s : S) → calls.wait pend′ hand′ eat′ bs (f s) ≡ seen (calls.wait pend hand eat bs s)
+  wait-seen [] s = λ i. (sym h-none i, 0, f s)
+  wait-seen (b ∷ bs) s =
+      let t : S = eat s b .1 in
+      ap (λ x. unless (x .0) 1 (x .1) (oneMore (calls.hear pend′ hand′ eat′ (x .1) bs))) (same-eat s b)
+      ∙ ap (λ n. unless (h (eat s b .0)) 1 (f t) (oneMore (calls.first pend′ hand′ eat′ n (f t) (calls.wait pend′ hand′ eat′ bs)))) (same-pend t)
+      ∙ ap (λ r. unless (h (eat s b .0)) 1 (f t) (oneMore r))
+      (first-seen (calls.wait pend hand eat bs) (calls.wait pend′ hand′ eat′ bs) (wait-seen bs) (pend t) t refl)
+      ∙ unless-seen (eat s b .0) 1 t (oneMore (calls.hear pend hand eat t bs))
+
+  rest-seen : (bs : List ℕ) (s : S) → calls.rest pend′ hand′ eat′ bs (f s) ≡ seenAll (calls.rest pend hand eat bs s)
+  rest-seen [] s = λ i. (sym l-none i, f s)
+  rest-seen (b ∷ bs) s =
+      let t : S = eat s b .1 in
+      ap (λ x. tell (x .0) (calls.all pend′ hand′ eat′ (x .1) bs)) (same-eat s b)
+      ∙ ap (λ n. tell (h (eat s b .0)) (calls.drain pend′ hand′ eat′ n (f t) (calls.rest pend′ hand′ eat′ bs))) (same-pend t)
+      ∙ ap (tell (h (eat s b .0))) (drain-seen (calls.rest pend hand eat bs) (calls.rest pend′ hand′ eat′ bs) (rest-seen bs) (pend t) t refl)
+      ∙ tell-seen (eat s b .0) (calls.all pend hand eat t bs)
+
+  pub hear-seen : (s : S) (bs : List ℕ) → calls.hear pend′ hand′ eat′ (f s) bs ≡ seen (calls.hear pend hand eat s bs)
+  hear-seen s bs =
+      ap (λ n. calls.first pend′ hand′ eat′ n (f s) (calls.wait pend′ hand′ eat′ bs)) (same-pend s)
+      ∙ first-seen (calls.wait pend hand eat bs) (calls.wait pend′ hand′ eat′ bs) (wait-seen bs) (pend s) s refl
+
+  pub all-seen : (s : S) (bs : List ℕ) → calls.all pend′ hand′ eat′ (f s) bs ≡ seenAll (calls.all pend hand eat s bs)
+  all-seen s bs =
+      ap (λ n. calls.drain pend′ hand′ eat′ n (f s) (calls.rest pend′ hand′ eat′ bs)) (same-pend s)
+      ∙ drain-seen (calls.rest pend hand eat bs) (calls.rest pend′ hand′ eat′ bs) (rest-seen bs) (pend s) s refl
+
+-- ---- the opportunistic channel
+abbrev onChannel : Board → Ear
+onChannel c = ear true c
+
+channel-pend : (c : Board) → earOwes (onChannel c) ≡ owed c
+unfolding earOwes
+channel-pend c = refl
+
+channel-hand : (c : Board) (n : ℕ) → owed c ≡ suc n → earHand (onChannel c) ≡ (handOn c .0, onChannel (handOn c .1))
+unfolding earHand
+channel-hand c n e = refl
+
+channel-eat : (c : Board) (b : ℕ) → earEat (onChannel c) b ≡ (eatByte c b .0, onChannel (eatByte c b .1))
+unfolding earEat
+channel-eat c b = refl
+
+pub channel-hear : (c : Board) (bs : List ℕ) → earHear (ear true c) bs ≡ (hearOn c bs .0, hearOn c bs .1, ear true (hearOn c bs .2))
+channel-hear c bs =
+    hear-seen owed handOn eatByte earOwes earHand earEat onChannel (λ a. a) (λ o. o) (λ l. l) refl (λ a. refl) refl (λ a xs. refl)
+    channel-pend channel-hand channel-eat hand-one c bs
+
+pub channel-all : (c : Board) (bs : List ℕ) → calls.all earOwes earHand earEat (ear true c) bs ≡ (hearAll c bs .0, ear true (hearAll c bs .1))
+channel-all c bs =
+    all-seen owed handOn eatByte earOwes earHand earEat onChannel (λ a. a) (λ o. o) (λ l. l) refl (λ a. refl) refl (λ a xs. refl)
+    channel-pend channel-hand channel-eat hand-one c bs
+
+-- ---- a plain stream
+module _ (c : Board) where
+  abbrev plain : Held → Ear
+  plain h = ear false (withHeld c h)
+
+  plain-pend : (h : Held) → earOwes (plain h) ≡ owesNone h
+  unfolding earOwes
+  plain-pend h = refl
+
+  plain-hand : (h : Held) (n : ℕ) → owesNone h ≡ suc n → earHand (plain h) ≡ (asEvent (handsNone h .0), plain h)
+  plain-hand h n e = absurd (omega arith)
+
+  plain-eat : (h : Held) (b : ℕ) → earEat (plain h) b ≡ (asEvent (takeByte h b .0), plain (takeByte h b .1))
+  unfolding earEat
+  plain-eat h b = refl
+
+  pub plain-hear : (bs : List ℕ)
+      → earHear (ear false c) bs ≡ (asEvent (readOn (heldIn c) bs .0), readOn (heldIn c) bs .1, ear false (withHeld c (readOn (heldIn c) bs .2)))
+  plain-hear bs =
+      hear-seen owesNone handsNone takeByte earOwes earHand earEat plain said asEvent (map said) refl (λ a. refl) refl (λ a xs. refl)
+      plain-pend plain-hand plain-eat none-owed (heldIn c) bs
+
+  pub plain-all : (bs : List ℕ)
+      → calls.all earOwes earHand earEat (ear false c) bs ≡ (map said (readAll (heldIn c) bs .0), ear false (withHeld c (readAll (heldIn c) bs .1)))
+  plain-all bs =
+      all-seen owesNone handsNone takeByte earOwes earHand earEat plain said asEvent (map said) refl (λ a. refl) refl (λ a xs. refl)
+      plain-pend plain-hand plain-eat none-owed (heldIn c) bs
+
+-- ---- as the code hears it
+pub listen-channel : (c : Board) (bs : List ℕ) {r : Hearing} {l k : List ℕ} → sound (c .st) ≡ true → roomy (c .recv) (c .word) ≡ true
+    → HearingIs (hearCall c bs) r l k → EarIs true (earHear (ear true c) bs) r l k
+listen-channel c bs {r} {l} {k} s q h =
+    let j : HearingIs (hearOn c bs) r l k = subst (λ x. HearingIs x r l k) (hear-agrees c bs (fine-of c s q)) h in
+    subst (λ x. EarIs true x r l k) (sym (channel-hear c bs)) (
+      ap (λ x. x .answer) (j .0),
+      λ i. (hearOn c bs .0, sym (j .0) i .taken, ear true (board (sym (j .0) i .receiver) (sym (j .1) i) (sym (j .2) i))),
+    )
+
+-- the same, by: is it the channel
+pub listen-on : (t : Bool) (c : Board) (bs : List ℕ) {r : Hearing} {l k : List ℕ} → t ≡ true → sound (c .st) ≡ true → roomy (c .recv) (c .word) ≡ true
+    → HearingIs (hearCall c bs) r l k → EarIs t (earHear (ear t c) bs) r l k
+listen-on t c bs {r} {l} {k} e s q h = subst (λ (u : Bool). EarIs u (earHear (ear u c) bs) r l k) (sym e) (listen-channel c bs s q h)
+
+pub listen-off : (t : Bool) (s : Receiver) (l k bs : List ℕ) {r : Hearing} {l′ : List ℕ} → t ≡ false → PlainIs s l bs r l′
+    → EarIs t (earHear (ear t (board s l k)) bs) r l′ k
+listen-off t s l k bs {r} {l′} e h = subst (λ (u : Bool). EarIs u (earHear (ear u (board s l k)) bs) r l′ k) (sym e) (h k)
+
+-- what a plain stream asks is among what the channel asks
+pub plain-fine : (s : Receiver) (l k : List ℕ) → sound s ≡ true → roomy l k ≡ true → (soundFrame (s .frame) ≡ true) × (rawLimit ≤ length l)
+plain-fine s l k a b = (and-parts _ _ a .0, leb-true _ _ (and-parts (leb rawLimit (length l)) _ b .0))
+
+-- what tells the frame reader's answers apart
+abbrev heardTag : Heard → ℕ
+heardTag NoMore = 0
+heardTag (Says j) = 1
+
+-- a plain stream's answer, as the channel's
+heard-more : (o : Option Told) → heardOf o ≡ NoMore → More ≡ answered (asEvent o)
+heard-more none e = refl
+heard-more (some t) e = absurd (omega (arith, ap heardTag e))
+
+heard-said : (o : Option Told) (j : Judged) → heardOf o ≡ Says j → Said j ≡ answered (asEvent o)
+heard-said none j e = absurd (omega (arith, ap heardTag e))
+heard-said (some t) j e = ap (λ (x : Heard). answerOf x) (sym e)
+  where
+    answerOf : Heard → Answer
+    answerOf NoMore = More
+    answerOf (Says i) = Said i
+
+module _ (s : Receiver) (bs l : List ℕ) {read : Read} {l′ : List ℕ} (fine : soundFrame (s .frame) ≡ true) (room : rawLimit ≤ length l)
+    (h : ReadIs (readCall (held (s .frame) l) bs) read l′) where
+  abbrev kept : Receiver
+  kept = record { locked = s .locked; hunting = s .hunting; lock = s .lock; frame = read .frame }
+
+  listen-plain : (a : Answer) → a ≡ answered (asEvent (readOn (held (s .frame) l) bs .0)) → PlainIs s l bs (record { answer = a; taken = read .taken; receiver = kept }) l′
+  listen-plain a e k =
+      let x : Option Told × ℕ × Held = readOn (held (s .frame) l) bs in
+      let j : ReadIs x read l′ = subst (λ y. ReadIs y read l′) (read-agrees (held (s .frame) l) bs (frame-fine (s .frame) l fine room)) h in
+      subst (λ y. EarIs false y (record { answer = a; taken = read .taken; receiver = kept }) l′ k) (sym (plain-hear (board s l k) bs)) (
+        e,
+        λ i. (
+          asEvent (x .0),
+          sym (j .0) i .taken,
+          ear false (board (record { locked = s .locked; hunting = s .hunting; lock = s .lock; frame = sym (j .0) i .frame }) (sym (j .1) i) k),
+        ),
+      )
+
+  says : read .heard ≡ heardOf (readOn (held (s .frame) l) bs .0)
+  says =
+      ap (λ x. x .heard) (h .0) ∙ ap (λ (y : Option Told × ℕ × Held). heardOf (y .0)) (read-agrees (held (s .frame) l) bs (frame-fine (s .frame) l fine room))
+
+  pub listen-more : read .heard ≡ NoMore → PlainIs s l bs (record { answer = More; taken = read .taken; receiver = kept }) l′
+  listen-more e = listen-plain More (heard-more (readOn (held (s .frame) l) bs .0) (sym says ∙ e))
+
+  pub listen-said : (j : Judged) → read .heard ≡ Says j → PlainIs s l bs (record { answer = Said j; taken = read .taken; receiver = kept }) l′
+  listen-said j e = listen-plain (Said j) (heard-said (readOn (held (s .frame) l) bs .0) j (sym says ∙ e))
+
+-- a move that is owed leaves one less
+hand-one-by : (t : Bool) (c : Board) (n : ℕ) → owesBy t c ≡ suc n → owesBy t (handOn c .1) ≡ n
+hand-one-by true c n e = hand-one c n e
+hand-one-by false c n e = absurd (omega arith)
+
+pub ear-hand-one : (d : Ear) (n : ℕ) → earOwes d ≡ suc n → earOwes (earHand d .1) ≡ n
+unfolding earOwes earHand
+ear-hand-one d n e = hand-one-by (d .channel) (d .board) n e

@@ -1,0 +1,11 @@
+pub mod Ears
+pub mod Spots
+pub mod Run
+pub mod Turn
+pub mod Heard
+pub mod Kept
+pub mod Next
+pub mod Means
+pub mod Cutting
+pub mod Demands
+pub mod Determined

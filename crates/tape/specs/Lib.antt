@@ -1,0 +1,3 @@
+pub mod Deck
+pub mod Called
+pub mod Private
