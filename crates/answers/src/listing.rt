@@ -54,7 +54,7 @@ fn begin(kind: u64) -> Recording {
         1 => near(0, 4294967295 - 300, 0),
         2 => near(u64::MAX - 300, 0, 0),
         3 => near(0, 0, u64::MAX - 140),
-        _ => Recording::start(),
+        _ => Recording::fresh(),
     }
 }
 

@@ -14,7 +14,7 @@ use Rattle.base.specs.Calls.{andThen}
 use Rattle.stream.specs.Reader.{Reading, waiting, reads}
 use Rattle.channel.specs.declared.hunting.Hunting.{Hunting}
 use Rattle.channel.specs.Sender.{marker, framed}
-use Rattle.channel.specs.Channel.{condition, mend, Event, said, block, lost, message, isMarker, zeros, Chan, inMark, start, whole, compared, hears, answers}
+use Rattle.channel.specs.Channel.{condition, mend, Event, said, block, lost, message, isMarker, zeros, Chan, inMark, freshChannel, whole, compared, hears, answers}
 use Rattle.channel.specs.Channel.{IsWord, wordsGive, FirstMarker}
 use Rattle.channel.specs.Called.{EveryCut}
 use Rattle.channel.proofs.Streaming.{hears-append, theMarker, wholes, behindWords, is-marker, received}
@@ -60,7 +60,7 @@ module _ (stray : List ℕ) (ws : List (List ℕ)) (some : ws ≢ []) (words : E
   behind-words bs gives k =
       let m = behind-mark ws zeros [] waiting in
       ap (λ (x : List Event × Chan). x .0)
-      (hears-append start (stray ++ framed ws) bs
+      (hears-append freshChannel (stray ++ framed ws) bs
       ∙ ap (λ (x : List Event × Chan). andThen x (λ t. hears t bs)) (received stray ws some words first))
       ∙ (λ i. wholes-give ws waiting i ++ hears (m .3 i) bs .0)
       ∙ ap (λ (l : List Event). wordsGive ws waiting ++ l) (k (m .0) (m .1) (m .2))

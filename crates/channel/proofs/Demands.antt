@@ -16,7 +16,7 @@ use Rattle.packet.specs.Contents.{rawLimit, Packet}
 use Rattle.stream.specs.Reader.{waiting, reads}
 use Rattle.stream.specs.Sender.{Accepted, delivered, openedFrom}
 use Rattle.channel.specs.Sender.{wordBytes, framed, sentWords, sent}
-use Rattle.channel.specs.Channel.{condition, Event, frames, blocks, losses, start, hears, answers, IsWord, carried, FirstMarker}
+use Rattle.channel.specs.Channel.{condition, Event, frames, blocks, losses, freshChannel, hears, answers, IsWord, carried, FirstMarker}
 use Rattle.channel.specs.declared.answer.Condition.the-variants.{Clean as clean}
 use Rattle.channel.specs.Called.{Board, board, freshReceiver, hearCall, hearAll, EveryCut, boardOf, inUse}
 use Rattle.channel.proofs.Fine.{fine-fresh}
@@ -44,13 +44,13 @@ module _ (recv word : List ℕ) (r : rawLimit ≤ length recv) (w : wordBytes �
 
 -- every way of cutting yields the list of answers and the final state of the uncut string, which are those of the receiver without a limit,
 -- that has no buffers: what they held before does not matter
-pub every-cut : (bs : List ℕ) → EveryCut bs λ es d. (es ≡ answers bs) × (inUse d ≡ inUse (boardOf (hears start bs .1) [] []))
+pub every-cut : (bs : List ℕ) → EveryCut bs λ es d. (es ≡ answers bs) × (inUse d ≡ inUse (boardOf (hears freshChannel bs .1) [] []))
 every-cut bs recv word r w pieces cut =
-    let s = shown-all bs start recv word tt (r, w) in
+    let s = shown-all bs freshChannel recv word tt (r, w) in
     yields-so (heard recv word r w pieces) λ es d x.
-    let e : _≡_ {A = List Event × Board} (es, d) (hears start bs .0, boardOf (hears start bs .1) (s .0) (s .1)) =
+    let e : _≡_ {A = List Event × Board} (es, d) (hears freshChannel bs .0, boardOf (hears freshChannel bs .1) (s .0) (s .1)) =
     x ∙ ap (hearAll (board freshReceiver recv word)) cut ∙ s .2 in
-    (ap (λ q. q .0) e, ap (λ q. inUse (q .1)) e ∙ in-use (hears start bs .1) (s .0) (s .1) (s .3))
+    (ap (λ q. q .0) e, ap (λ q. inUse (q .1)) e ∙ in-use (hears freshChannel bs .1) (s .0) (s .1) (s .3))
 
 -- let a fresh receiver hear stray bytes and then a sender's whole marked stream, the marker first appearing where that stream begins:
 -- it delivers the sent packets once each, in order, and nothing else; every block is clean, and no lock is lost

@@ -32,7 +32,7 @@ use Rattle.channel.specs.declared.hunting.Hunting.{Hunting}
 use Rattle.channel.specs.Sender.{marker, messageBytes, parityBytes, wordBytes, wordOf, framed}
 use Rattle.channel.specs.Sender.{fillers, filled, cutUp, messagesOf, sentWords, sent}
 use Rattle.channel.specs.Channel.{condition, mend, Event, said, frames, blocks, losses, message, shift, isMarker, zeros}
-use Rattle.channel.specs.Channel.{Chan, hunting, inWord, inMark, start, whole, hunt, grow, step, hears, answers}
+use Rattle.channel.specs.Channel.{Chan, hunting, inWord, inMark, freshChannel, whole, hunt, grow, step, hears, answers}
 use Rattle.channel.specs.Channel.{IsWord, carried, FirstMarker}
 use Rattle.channel.specs.declared.answer.Condition.the-variants.{Clean as clean}
 use Rattle.channel.proofs.Words.{condition-clean, mend-clean}
@@ -146,7 +146,7 @@ hunted (s ∷ stray) cs f h =
     (λ q. let l = h (f .a ∷ []) (stray ++ (marker ++ cs)) (ap (λ x. f .a ∷ (x ++ (stray ++ (marker ++ cs)))) q) in omega arith))
     ∙ hunted stray cs (shift f s) (λ xs ys q. let l = h (f .a ∷ xs) ys (ap (λ x. f .a ∷ x) q) in omega arith)
 
-from-start : (stray cs : List ℕ) → FirstMarker stray (marker ++ cs) → hears start (stray ++ (marker ++ cs)) ≡ hears (inWord theMarker [] waiting) cs
+from-start : (stray cs : List ℕ) → FirstMarker stray (marker ++ cs) → hears freshChannel (stray ++ (marker ++ cs)) ≡ hears (inWord theMarker [] waiting) cs
 from-start stray cs h = hunted stray cs zeros go
   where
     go : (xs ys : List ℕ) → bytesOf zeros ++ (stray ++ (marker ++ cs)) ≡ xs ++ (marker ++ ys) → 4 + length stray ≤ length xs
@@ -159,7 +159,7 @@ from-start stray cs h = hunted stray cs zeros go
 
 -- a fresh receiver that hears stray bytes and then words, each with the marker before it: the answers are those of the words
 pub received : (stray : List ℕ) (ws : List (List ℕ)) → ws ≢ [] → Each IsWord ws → FirstMarker stray (framed ws)
-    → hears start (stray ++ framed ws) ≡ (wholes ws waiting .0, behindWords zeros [] ws waiting)
+    → hears freshChannel (stray ++ framed ws) ≡ (wholes ws waiting .0, behindWords zeros [] ws waiting)
 received stray [] n h m = absurd (n refl)
 received stray (w ∷ ws) n h m = from-start stray (w ++ framed ws) m ∙ framed-read (w ∷ ws) h zeros [] waiting
 
@@ -302,18 +302,18 @@ whole-stream stray ps a h =
 module _ (stray : List ℕ) (ps : List Packet) (accepted : Each Accepted ps) (first : FirstMarker stray (sent ps))
     (earlier later : List (List ℕ)) (w v : List ℕ) (one : sentWords ps ≡ earlier ++ w ∷ later) (any : IsWord v) where
   in-order : (ws : List (List ℕ)) → answers (stray ++ framed (earlier ++ ws))
-      ≡ answers (stray ++ framed earlier) ++ hears (hears start (stray ++ framed earlier) .1) (framed ws) .0
+      ≡ answers (stray ++ framed earlier) ++ hears (hears freshChannel (stray ++ framed earlier) .1) (framed ws) .0
   in-order ws =
       ap answers (ap (λ l. stray ++ l) (framed-append earlier ws) ∙ sym (append-assoc stray (framed earlier) (framed ws)))
-      ∙ ap (λ x. x .0) (hears-append start (stray ++ framed earlier) (framed ws))
+      ∙ ap (λ x. x .0) (hears-append freshChannel (stray ++ framed earlier) (framed ws))
 
   -- the answers of the earlier blocks stay the same
   pub earlier-same : (xs ys : List Event)
       × (answers (stray ++ sent ps) ≡ answers (stray ++ framed earlier) ++ xs)
       × (answers (stray ++ framed (earlier ++ v ∷ later)) ≡ answers (stray ++ framed earlier) ++ ys)
   earlier-same = (
-    hears (hears start (stray ++ framed earlier) .1) (framed (w ∷ later)) .0,
-    hears (hears start (stray ++ framed earlier) .1) (framed (v ∷ later)) .0,
+    hears (hears freshChannel (stray ++ framed earlier) .1) (framed (w ∷ later)) .0,
+    hears (hears freshChannel (stray ++ framed earlier) .1) (framed (v ∷ later)) .0,
     ap (λ ws. answers (stray ++ framed ws)) one ∙ in-order (w ∷ later),
     in-order (v ∷ later),
   )

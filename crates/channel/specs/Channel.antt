@@ -93,8 +93,8 @@ pub data Chan : Type 0 where
   inMark : Hunting → List ℕ → ℕ → Reading → Chan
 
 -- fresh
-abbrev pub start : Chan
-start = hunting zeros
+abbrev pub freshChannel : Chan
+freshChannel = hunting zeros
 
 -- a whole word: the block's answer, and then those of its message bytes
 abbrev pub whole : List ℕ → Reading → List Event × Reading
@@ -133,7 +133,7 @@ hears s (b ∷ bs) = andThen (step s b) (λ t. hears t bs)
 
 -- all answers of a fresh receiver
 abbrev pub answers : List ℕ → List Event
-answers bs = hears start bs .0
+answers bs = hears freshChannel bs .0
 
 -- 255 bytes, whatever they are
 abbrev pub IsWord : List ℕ → Type 0

@@ -53,7 +53,7 @@ use Rattle.stream.proofs.Sending.{begin-stream, append-stream}
 use Rattle.channel.specs.Sender.{parityBytes, wordOf, fillers, filled, sending, sent}
 use Rattle.channel.specs.Channel.{conditionBy, condition, mend, IsWord, Event, frames, blocks, losses, asMended}
 use Rattle.channel.proofs.Words.{block-promised, block-determined}
-use Rattle.listed.specs.Apart.{most, start, apart, onChannel, records}
+use Rattle.listed.specs.Apart.{most, freshSpot, apart, onChannel, records}
 use Rattle.listed.specs.Lines.{letter, lines, isPacket, isRefusal, isDamaged, isLost, count, packetsIn, refusalsIn, damagedIn, longest}
 use Rattle.listed.specs.Listing.{heard, totalLine, listing}
 use Rattle.listed.proofs.Totals.{packets-counted, refusals-counted, damaged-counted, lost-counted, sent-counted}
@@ -191,7 +191,7 @@ sent-totals ps es e = (packets-counted es ∙ ap packetsIn e ∙ sent-counted ps
 -- ---- a recording by calls, one answer each: however it is cut, and whatever the lent buffers held, the calls come to their end, their answers are
 -- those of its stream bytes, and behind them it stands where taking it apart ends (a recording below 2^64 bytes)
 pub recorded-by-calls : (file : List ℕ) → length file ≤ far
-    → EveryCut file λ es m. (es ≡ heard (onChannel file) (apart start file .0)) × (m .spot ≡ apart start file .1)
+    → EveryCut file λ es m. (es ≡ heard (onChannel file) (apart freshSpot file .0)) × (m .spot ≡ apart freshSpot file .1)
 recorded-by-calls = taken-apart
 
 -- ---- the listing by calls: a recording cut in any way, each piece handed in until more is wanted, by calls with any room each, and then the

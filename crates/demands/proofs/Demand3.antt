@@ -37,7 +37,7 @@ use Rattle.stream.proofs.Shown.{shown-plain, held-use, held-st}
 use Rattle.stream.proofs.Delivery.{payload-held}
 use Rattle.stream.proofs.Streaming.{ignored, stream-read, opened-behind}
 use Rattle.channel.specs.Sender.{marker, wordBytes, framed, sentWords, sent}
-use Rattle.channel.specs.Channel.{condition, Event, lost, frames, blocks, losses, start, hears, answers, IsWord, carried, wordsGive, FirstMarker}
+use Rattle.channel.specs.Channel.{condition, Event, lost, frames, blocks, losses, freshChannel, hears, answers, IsWord, carried, wordsGive, FirstMarker}
 use Rattle.channel.specs.declared.answer.Condition.the-variants.{Clean as clean}
 use Rattle.channel.specs.Called.{Board, board, freshReceiver, hearCall, EveryCut, ThereEvent, boardOf, inUse}
 use Rattle.channel.proofs.Demands as channel
@@ -58,7 +58,7 @@ no-refuser {S} {A} a s p ps P y = go (y .ends .2)
 
 -- ---- "For every received byte string, every way of cutting it yields the list of answers and the final state .. for the uncut string": the
 -- state's numbers, the hunted bytes, and the bytes in use in both buffers ..
-pub every-cut : (bs : List ℕ) → EveryCut bs λ es d. (es ≡ answers bs) × (inUse d ≡ inUse (boardOf (hears start bs .1) [] []))
+pub every-cut : (bs : List ℕ) → EveryCut bs λ es d. (es ≡ answers bs) × (inUse d ≡ inUse (boardOf (hears freshChannel bs .1) [] []))
 every-cut = channel.every-cut
 
 -- .. and from the same buffers two ways yield the same, to the last byte of both

@@ -31,7 +31,7 @@ use Rattle.office.specs.declared.Started.{Started}
 use Rattle.office.specs.declared.Started.the-variants.{Ready, Refused as StartRefused}
 use Rattle.office.specs.declared.Answer.the-variants.{Refused}
 use Rattle.office.specs.Desk.{Spoken, blocks, unread, refusal, Said, endingBy, Desk, soFar, kept, endingOf, ended, eat}
-use Rattle.office.specs.Called.{heldLimit, holdLimit, outLimit, begins, starting, sound, roomy, hearOn, denied, hearBy, hearCall, endBytes, closeCall, spoken, answered, spokenOut, answeredOut, finishBy, finishing}
+use Rattle.office.specs.Called.{heldLimit, holdLimit, outLimit, freshOffice, starting, sound, roomy, hearOn, denied, hearBy, hearCall, endBytes, closeCall, spoken, answered, spokenOut, answeredOut, finishBy, finishing}
 use Rattle.demands.specs.Table.{Exact}
 use Rattle.demands.specs.Refusals.{ByCall}
 use Rattle.demands.specs.Desks.{DeskBeyond, DeskShort, Bids, lineRows, OfCall, ByDesk, ByStart, ByLine, BySpoken}
@@ -228,8 +228,8 @@ office-start-exact hold =
 pub office-start-same : (hold : List ℕ) (n : ℕ) → ByStart (starting hold) n → starting hold ≡ (StartRefused n, hold)
 office-start-same hold n = go (ltb (length hold) holdLimit)
   where
-    go : (t : Bool) → ByStart (pick t (StartRefused 11, hold) (Ready begins, flag ∷ drop 1 hold)) n
-        → _≡_ {A = Started × List ℕ} (pick t (StartRefused 11, hold) (Ready begins, flag ∷ drop 1 hold)) (StartRefused n, hold)
+    go : (t : Bool) → ByStart (pick t (StartRefused 11, hold) (Ready freshOffice, flag ∷ drop 1 hold)) n
+        → _≡_ {A = Started × List ℕ} (pick t (StartRefused 11, hold) (Ready freshOffice, flag ∷ drop 1 hold)) (StartRefused n, hold)
     go true b = λ i. (b i, hold)
     go false b = let z : _≡_ {A = ℕ} 0 1 = cc in absurd (omega arith)
 

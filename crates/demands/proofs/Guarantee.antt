@@ -26,7 +26,7 @@ use Rattle.stream.specs.Sender.{Accepted, stream, delivered}
 use Rattle.packet.specs.Contents.{Packet}
 use Rattle.stream.proofs.Streaming.{stream-read}
 use Rattle.channel.specs.Sender.{parityBytes, framed, fillers, messagesOf, sentWords, sent}
-use Rattle.channel.specs.Channel.{zeros, frames, blocks, losses, start, hears, IsWord, FirstMarker}
+use Rattle.channel.specs.Channel.{zeros, frames, blocks, losses, freshChannel, hears, IsWord, FirstMarker}
 use Rattle.channel.specs.Called.{EveryCut, boardOf, inUse}
 use Rattle.channel.proofs.Streaming.{wholes, behindWords, frames-wholes, blocks-wholes, losses-wholes, first-markers, sent-messages, sent-each, sent-bytes, sent-some}
 use Rattle.channel.proofs.Streaming.{received as heard-words}
@@ -68,7 +68,7 @@ module _ (stray : List ℕ) (ps : List Packet) (accepted : Each Accepted ps) (fi
   some : vs ≢ []
   some = some-received (sentWords ps) vs came (sent-some ps accepted)
 
-  heard : hears start (stray ++ framed vs) ≡ (wholes vs waiting .0, behindWords zeros [] vs waiting)
+  heard : hears freshChannel (stray ++ framed vs) ≡ (wholes vs waiting .0, behindWords zeros [] vs waiting)
   heard = heard-words stray vs some (words-received (sentWords ps) vs came) (first-markers stray (sentWords ps) vs (sent-some ps accepted) some first)
 
   -- the frame answers are the sent packets, once each, in order, and nothing else; each block is clean, or repaired in exactly the places

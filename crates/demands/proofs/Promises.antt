@@ -67,11 +67,11 @@ use Rattle.parity.proofs.check as parity-check
 use Rattle.repair.proofs.repair as repair-repair
 use Rattle.interleaver.proofs.interleave as interleaver-interleave
 use Rattle.interleaver.proofs.restore as interleaver-restore
-use Rattle.tape.proofs.tape.Tape.start as tape-start
+use Rattle.tape.proofs.tape.Tape.fresh as tape-fresh
 use Rattle.tape.proofs.tape.Tape.next as tape-next
 use Rattle.tape.proofs.tape.Tape.may_end as tape-may-end
 use Rattle.tape.proofs.tape.Heard.is_more as tape-is-more
-use Rattle.recording.proofs.recording.Recording.start as recording-start
+use Rattle.recording.proofs.recording.Recording.fresh as recording-fresh
 use Rattle.recording.proofs.recording.Recording.take as recording-take
 use Rattle.recording.proofs.recording.Recording.finish as recording-finish
 use Rattle.lines.proofs.print as lines-print
@@ -200,7 +200,7 @@ pub interleaver-restore-means : Means interleaver-restore.Statement.statement in
 interleaver-restore-means = (λ M. interleaver-restore.Met.met, λ κs a. tt, λ κs a z ws. (λ p. p, λ p. p))
 
 -- ---- a recording's bytes. Before the first one: at the byte that says which stream it is, with a fresh receiver
-pub tape-start-means : Means tape-start.Statement.statement tape-start.Kinds.ps tape-start.Kinds.r tape-start.Reads.Asked tape-start.Reads.Learnt
+pub tape-fresh-means : Means tape-fresh.Statement.statement tape-fresh.Kinds.ps tape-fresh.Kinds.r tape-fresh.Reads.Asked tape-fresh.Reads.Learnt
     λ κs r. r ≡ record {
       spot = record { place = Mode; offset = 0; count = 0 };
       channel = false;
@@ -211,7 +211,7 @@ pub tape-start-means : Means tape-start.Statement.statement tape-start.Kinds.ps 
         frame = record { opened = false; raw = 0; stored = 0 };
       };
     }
-tape-start-means = (λ M. tape-start.Met.met, λ κs a. tt, λ κs a z ws. (λ p. p, λ p. p))
+tape-fresh-means = (λ M. tape-fresh.Met.met, λ κs a. tt, λ κs a z ws. (λ p. p, λ p. p))
 
 pub tape-next-means : Means tape-next.Statement.statement tape-next.Kinds.ps tape-next.Kinds.r tape-next.Reads.Asked tape-next.Reads.Learnt
     λ κs self recv word piece r. let x = tapeCall (deckOf self (now (recv .entry)) (now (word .entry))) (now piece) in
@@ -232,7 +232,7 @@ pub more-is : (j : Judged) (c : Condition)
 more-is j c = (refl, refl, refl, refl)
 
 -- ---- a recording that is listed. Before its first byte: at the byte that says which stream it is, with a fresh receiver and nothing counted
-pub recording-start-means : Means recording-start.Statement.statement recording-start.Kinds.ps recording-start.Kinds.r recording-start.Reads.Asked recording-start.Reads.Learnt
+pub recording-fresh-means : Means recording-fresh.Statement.statement recording-fresh.Kinds.ps recording-fresh.Kinds.r recording-fresh.Reads.Asked recording-fresh.Reads.Learnt
     λ κs r. r ≡ record {
       tape = record {
         spot = record { place = Mode; offset = 0; count = 0 };
@@ -246,7 +246,7 @@ pub recording-start-means : Means recording-start.Statement.statement recording-
       };
       totals = record { packets = 0; refused = 0; damaged = 0; lost = 0 };
     }
-recording-start-means = (λ M. recording-start.Met.met, λ κs a. tt, λ κs a z ws. (λ p. p, λ p. p))
+recording-fresh-means = (λ M. recording-fresh.Met.met, λ κs a. tt, λ κs a z ws. (λ p. p, λ p. p))
 
 pub recording-take-means : Means recording-take.Statement.statement recording-take.Kinds.ps recording-take.Kinds.r recording-take.Reads.Asked recording-take.Reads.Learnt
     λ κs self recv word piece out r.

@@ -13,7 +13,7 @@ use Rattle.base.specs.Calls.{joined}
 use Rattle.listed.specs.declared.Place.{Place}
 use Rattle.listed.specs.declared.Place.the-variants.{Mark, Inside}
 use Rattle.listed.specs.declared.Spot.{Spot}
-use Rattle.listed.specs.Apart.{most, wrong, left, through, nextAt, inStream, keep, apart, start, recordOf, records}
+use Rattle.listed.specs.Apart.{most, wrong, left, through, nextAt, inStream, keep, apart, freshSpot, recordOf, records}
 
 abbrev at : Place → ℕ → ℕ → Spot
 at q o c = record { place = q; offset = o; count = c }
@@ -65,11 +65,11 @@ rest-apart (p ∷ ps) o c h =
 
 -- a recording of pieces: its stream is the pieces joined, and it ends well
 pub records-apart : (ps : List (List ℕ)) → length (joined ps) ≤ most
-    → _≡_ {A = List ℕ × Spot} (apart start (0x50 ∷ records ps)) (joined ps, at Mark (0 + 1 + length (records ps)) (0 + length (joined ps)))
+    → _≡_ {A = List ℕ × Spot} (apart freshSpot (0x50 ∷ records ps)) (joined ps, at Mark (0 + 1 + length (records ps)) (0 + length (joined ps)))
 unfolding apart inStream nextAt
 records-apart ps h = rest-apart ps (0 + 1) 0 (omega arith)
 
 -- the same on the opportunistic channel
-pub records-channel : (ps : List (List ℕ)) → apart start (0x4F ∷ records ps) ≡ apart start (0x50 ∷ records ps)
+pub records-channel : (ps : List (List ℕ)) → apart freshSpot (0x4F ∷ records ps) ≡ apart freshSpot (0x50 ∷ records ps)
 unfolding apart inStream nextAt
 records-channel ps = refl

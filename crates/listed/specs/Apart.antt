@@ -19,8 +19,8 @@ abbrev pub most : ℕ
 most = 4294967295
 
 -- before the first byte
-abbrev pub start : Spot
-start = record { place = Mode; offset = 0; count = 0 }
+abbrev pub freshSpot : Spot
+freshSpot = record { place = Mode; offset = 0; count = 0 }
 
 -- one byte on, at a new place
 abbrev pub on : Place → Spot → Spot

@@ -9,7 +9,7 @@ use Rattle.base.specs.Choice.{pick}
 use Rattle.stream.specs.Reader.{waiting, reads}
 use Rattle.channel.specs.Channel.{Event, said, answers}
 use Rattle.listed.specs.declared.Spot.{Spot}
-use Rattle.listed.specs.Apart.{start, apart, well, onChannel}
+use Rattle.listed.specs.Apart.{freshSpot, apart, well, onChannel}
 use Rattle.listed.specs.Lines.{lines, count, isPacket, isRefusal, isDamaged, isLost, endLine, wrongLine}
 
 -- the answers of a stream, by: is it the opportunistic channel
@@ -31,4 +31,4 @@ listed r es = lines es ++ lastLine (r .1) (length (r .0)) es
 
 -- what is printed of a recording
 unfoldable pub listing : List ℕ → List ℕ
-listing file = listed (apart start file) (heard (onChannel file) (apart start file .0))
+listing file = listed (apart freshSpot file) (heard (onChannel file) (apart freshSpot file .0))

@@ -22,7 +22,7 @@ fn main() {
     let mut word = [0u8; Receiver::WORD];
     let mut piece = io::large_buffer();
     let mut out = io::large_buffer();
-    let mut recording = Recording::start();
+    let mut recording = Recording::fresh();
     let mut reads = u64::MAX;
     while reads > 0 {
         let got = libc::read(0, &mut piece);

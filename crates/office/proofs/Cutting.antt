@@ -23,7 +23,7 @@ use Rattle.bid.specs.Input.{packetsOf, complaints}
 use Rattle.office.specs.declared.Started.{Started}
 use Rattle.office.specs.declared.Started.the-variants.{Ready}
 use Rattle.office.specs.Desk.{sentFor, Said, Desk, waiting, eat, deskAll, sentBy, complaintsBy}
-use Rattle.office.specs.Called.{holdLimit, outLimit, begins, starting, hearBy, hearCall, endBytes, closeCall, finishBy, finishing, sound, roomy, Fine, first, lastOf}
+use Rattle.office.specs.Called.{holdLimit, outLimit, freshOffice, starting, hearBy, hearCall, endBytes, closeCall, finishBy, finishing, sound, roomy, Fine, first, lastOf}
 use Rattle.office.proofs.Hearing.{call-on, start-ready}
 use Rattle.office.proofs.Sent.{sent-append, fine-sound, fine-roomy, fine-eat, fine-closed, closed, says, names}
 
@@ -44,7 +44,7 @@ finish-sends : (d : Desk) (out : List ℕ) → Fine d → finishing (d .st) (d .
 finish-sends d out f i = finishBy (fine-sound d f i) (le-leb holdLimit (length (d .hold)) (f .hold) i) (d .st) (d .hold) out
 
 -- with a buffer that passes 11 the sender starts: one flag is held
-pub bids-start : (hold : List ℕ) → holdLimit ≤ length hold → starting hold ≡ (Ready begins, flag ∷ drop 1 hold)
+pub bids-start : (hold : List ℕ) → holdLimit ≤ length hold → starting hold ≡ (Ready freshOffice, flag ∷ drop 1 hold)
 bids-start = start-ready
 
 -- from there, with buffers that pass 11 ..

@@ -36,7 +36,7 @@ use Rattle.office.specs.declared.Answer.the-variants.{More, Refused}
 use Rattle.office.specs.declared.Heard.{Heard}
 use Rattle.office.specs.declared.Ended.{Ended}
 use Rattle.office.specs.Desk.{Said, endingBy, Desk, desk, kept, endingOf, ended, eat}
-use Rattle.office.specs.Called.{heldLimit, holdLimit, outLimit, begins, starting, sound, roomy, hearOn, denied, hearBy, hearCall, lastFeed, endBytes, closeCall, HeardIs, finishBy, finishing}
+use Rattle.office.specs.Called.{heldLimit, holdLimit, outLimit, freshOffice, starting, sound, roomy, hearOn, denied, hearBy, hearCall, lastFeed, endBytes, closeCall, HeardIs, finishBy, finishing}
 use Rattle.office.specs.Private.{EndedIs}
 
 -- ---- bytes of a line stored
@@ -264,13 +264,13 @@ one-begun d n = ap (λ (t : Bool). pick t [] lastFeed) (ne-eqb _ _ n)
 
 -- the start
 pub start-short : (hold : List ℕ) → length hold < holdLimit → starting hold ≡ (StartRefused 11, hold)
-start-short hold h = ap (λ (t : Bool). pick t (StartRefused 11, hold) (Ready begins, flag ∷ drop 1 hold)) (lt-ltb _ _ h)
+start-short hold h = ap (λ (t : Bool). pick t (StartRefused 11, hold) (Ready freshOffice, flag ∷ drop 1 hold)) (lt-ltb _ _ h)
 
-pub start-ready : (hold : List ℕ) → holdLimit ≤ length hold → starting hold ≡ (Ready begins, flag ∷ drop 1 hold)
-start-ready hold h = ap (λ (t : Bool). pick t (StartRefused 11, hold) (Ready begins, flag ∷ drop 1 hold)) (le-ltb _ _ h)
+pub start-ready : (hold : List ℕ) → holdLimit ≤ length hold → starting hold ≡ (Ready freshOffice, flag ∷ drop 1 hold)
+start-ready hold h = ap (λ (t : Bool). pick t (StartRefused 11, hold) (Ready freshOffice, flag ∷ drop 1 hold)) (le-ltb _ _ h)
 
-pub start-copied : (hold : List ℕ) {y : List ℕ} → holdLimit ≤ length hold → y ≡ copied (flag ∷ []) hold → starting hold ≡ (Ready begins, y)
-start-copied hold h e = start-ready hold h ∙ (λ i. (Ready begins, sym (e ∙ copied-fits (flag ∷ []) hold (omega arith)) i))
+pub start-copied : (hold : List ℕ) {y : List ℕ} → holdLimit ≤ length hold → y ≡ copied (flag ∷ []) hold → starting hold ≡ (Ready freshOffice, y)
+start-copied hold h e = start-ready hold h ∙ (λ i. (Ready freshOffice, sym (e ∙ copied-fits (flag ∷ []) hold (omega arith)) i))
 
 -- the last block
 pub finish-unsound : (s : Office) (hold out : List ℕ) → sound s ≡ false → refused 10 out ≡ finishing s hold out

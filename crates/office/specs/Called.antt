@@ -1,5 +1,5 @@
 -- The office as it is called: its state and the lent buffers go in and come back, and one call gives at most one answer.
--- begins, starting         the start
+-- freshOffice, starting         the start
 -- hearCall, HeardIs        one call on bytes, and that the code's results are those
 -- endBytes, closeCall      the end of the input
 -- finishing                the last block
@@ -40,12 +40,12 @@ abbrev pub outLimit : ℕ
 outLimit = holdLimit / messageBytes * blockBytes
 
 -- before the first byte one flag is held
-abbrev pub begins : Office
-begins = record { lines = 0; stored = 0; held = 1 }
+abbrev pub freshOffice : Office
+freshOffice = record { lines = 0; stored = 0; held = 1 }
 
 -- the starting call: its answer, and the buffer of the bytes held then. 11: it is too short
 abbrev pub starting : List ℕ → Started × List ℕ
-starting hold = pick (ltb (length hold) holdLimit) (StartRefused 11, hold) (Ready begins, flag ∷ drop 1 hold)
+starting hold = pick (ltb (length hold) holdLimit) (StartRefused 11, hold) (Ready freshOffice, flag ∷ drop 1 hold)
 
 -- passes 10: no count is beyond its limit
 abbrev pub sound : Office → Bool
@@ -135,7 +135,7 @@ pub record Fine (d : Desk) : Type 0 where
 
 -- the desk behind the start, with these buffers
 abbrev pub first : List ℕ → List ℕ → Desk
-first line hold = desk begins line (starting hold .1)
+first line hold = desk freshOffice line (starting hold .1)
 
 -- what the last call says, as a list
 abbrev pub lastOf : Option Said → List Said

@@ -2,15 +2,15 @@
 use mathlib.Core.Path.{refl}
 use Rattle.base.specs.Determined.{Determined}
 use Rattle.base.proofs.Determining.{same, same-answer, same-output, buffer, skip}
-use Rattle.recording.proofs.recording.Recording.start.Kinds as start-kinds
-use Rattle.recording.proofs.recording.Recording.start.Reads as start-reads
+use Rattle.recording.proofs.recording.Recording.fresh.Kinds as fresh-kinds
+use Rattle.recording.proofs.recording.Recording.fresh.Reads as fresh-reads
 use Rattle.recording.proofs.recording.Recording.take.Kinds as take-kinds
 use Rattle.recording.proofs.recording.Recording.take.Reads as take-reads
 use Rattle.recording.proofs.recording.Recording.finish.Kinds as finish-kinds
 use Rattle.recording.proofs.recording.Recording.finish.Reads as finish-reads
 
-pub start-determined : Determined start-kinds.ps start-kinds.r start-reads.Asked start-reads.Learnt
-start-determined κs a z z′ ws ws′ pre p q = (same p q, refl)
+pub fresh-determined : Determined fresh-kinds.ps fresh-kinds.r fresh-reads.Asked fresh-reads.Learnt
+fresh-determined κs a z z′ ws ws′ pre p q = (same p q, refl)
 
 pub take-determined : Determined take-kinds.ps take-kinds.r take-reads.Asked take-reads.Learnt
 take-determined κs a z z′ ws ws′ pre p q =

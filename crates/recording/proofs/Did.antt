@@ -23,7 +23,7 @@ use Rattle.tape.proofs.Turn.{deck-hand-one}
 use Rattle.recording.specs.declared.recording.Totals.{Totals}
 use Rattle.recording.specs.declared.recording.Wants.{Wants}
 use Rattle.recording.specs.declared.recording.Wants.the-variants.{More, Room, Refused}
-use Rattle.recording.specs.Printed.{counted, Printed, printed, behind, onAnswer, print, near, takesBy, takes}
+use Rattle.recording.specs.Printed.{counted, Printed, printed, further, onAnswer, print, near, takesBy, takes}
 use Rattle.recording.specs.Runs.{Lists, ListsAll}
 use Rattle.recording.specs.Runs.Lists.{more, room}
 use Rattle.recording.specs.Runs.ListsAll.{done, piece}
@@ -61,7 +61,7 @@ left-behind Room e es m n k bs all h = ap (before (e ∷ [])) h ∙ ap (λ (l : 
 left-behind (Refused c) e es m n k bs all h = ap (before (e ∷ [])) h ∙ ap (λ (l : List ℕ). before (e ∷ es) (deckAll m l)) (drop-drop k n bs)
 
 line-did : (t : Totals) (bs : List ℕ) (n : ℕ) (e : Event) (all : List Event × Deck) (r : Printed) → Did (counted t (given e)) (drop n bs) all r
-    → Did t bs (before (e ∷ []) all) (behind n (line (given e)) r)
+    → Did t bs (before (e ∷ []) all) (further n (line (given e)) r)
 unfolding lines
 line-did t bs n e all r d = record {
   events = e ∷ d .events;
@@ -73,11 +73,11 @@ line-did t bs n e all r d = record {
 answer-did : (m : Deck) (t : Totals) (bs : List ℕ) (next : Answer → Deck → List ℕ → Printed)
     → ((e : Event) (k : Deck) (l : List ℕ) → Did (counted t (given e)) l (deckAll k l) (next (given e) k l))
     → (o : Option Event) (n : ℕ) (k : Deck) → deckAll m bs ≡ told deckOwes deckHand deckEat (o, n, k) bs
-    → Did t bs (deckAll m bs) (onAnswer o (behind n [] (printed More k t)) (λ a. behind n (line a) (next a k (drop n bs))))
+    → Did t bs (deckAll m bs) (onAnswer o (further n [] (printed More k t)) (λ a. further n (line a) (next a k (drop n bs))))
 unfolding lines
 answer-did m t bs next ih none n k e = record { events = []; text = refl; counts = refl; left = e }
 answer-did m t bs next ih (some x) n k e =
-    subst (λ (q : List Event × Deck). Did t bs q (behind n (line (given x)) (next (given x) k (drop n bs)))) (sym e)
+    subst (λ (q : List Event × Deck). Did t bs q (further n (line (given x)) (next (given x) k (drop n bs)))) (sym e)
     (line-did t bs n x (deckAll k (drop n bs)) (next (given x) k (drop n bs)) (ih x k (drop n bs)))
 
 pub print-did : (f n : ℕ) (m : Deck) (t : Totals) (bs : List ℕ) → Did t bs (deckAll m bs) (print f n m t bs)

@@ -26,7 +26,7 @@ use Rattle.channel.proofs.Fine.{fine-is, fine-roomy, fine-fresh}
 use Rattle.listed.specs.declared.Place.{Place}
 use Rattle.listed.specs.declared.Place.the-variants.{Mode, Mark, Second, Low, High, Inside, Wrong}
 use Rattle.listed.specs.declared.Spot.{Spot}
-use Rattle.listed.specs.Apart.{most, start, on, wrong, through, nextAt, next, inStream, apart, well, keep}
+use Rattle.listed.specs.Apart.{most, freshSpot, on, wrong, through, nextAt, next, inStream, apart, well, keep}
 use Rattle.listed.specs.Lines.{given, line, lines, isPacket, isRefusal, isDamaged, isLost, longest}
 use Rattle.lines.proofs.Short.{line-some, end-short, wrong-short}
 use Rattle.tape.specs.Deck.{Ear, ear, owesBy, earOwes, earHand, earEat, Deck, deck, fresh, deckOwes, deckHand, deckEat, deckAll, deckHear}
@@ -38,7 +38,7 @@ use Rattle.recording.specs.declared.recording.Totals.{Totals}
 use Rattle.recording.specs.declared.recording.Recording.{Recording}
 use Rattle.recording.specs.declared.recording.Wants.{Wants}
 use Rattle.recording.specs.declared.recording.Wants.the-variants.{More, Room, Refused}
-use Rattle.recording.specs.Printed.{noTotals, counted, Printed, printed, behind, onAnswer, print, near, takesBy, takes, lastBy, lastOf, finishing}
+use Rattle.recording.specs.Printed.{noTotals, counted, Printed, printed, further, onAnswer, print, near, takesBy, takes, lastBy, lastOf, finishing}
 use Rattle.recording.specs.Runs.{Lists, Run, Fair}
 use Rattle.recording.specs.Runs.Lists.{more, room}
 use Rattle.recording.specs.Runs.ListsAll.{done, piece}
@@ -122,14 +122,14 @@ module _ (recv word : List ℕ) (recv-room : rawLimit ≤ length recv) (word-roo
       go : deckOwes (fresh recv word) ≡ 0 → length (deckAll (fresh recv word) [] .0) ≤ few
       go e = rw e (omega arith)
   answers-few (b ∷ bs) =
-      let q : List ℕ × Spot = apart (next start b) bs in
+      let q : List ℕ × Spot = apart (next freshSpot b) bs in
       let d : Ear = ear (eqb b 0x4F) (board freshReceiver recv word) in
-      let s : length (q .0) ≤ most = omega (arith, apart-count bs (next start b), apart-most bs (next start b) (most-at Mode start b (omega arith))) in
+      let s : length (q .0) ≤ most = omega (arith, apart-count bs (next freshSpot b), apart-most bs (next freshSpot b) (most-at Mode freshSpot b (omega arith))) in
       let e = ap (λ (x : List Event × Deck). length (x .0)) (means-start b bs (ear false (board freshReceiver recv word)) (fresh-owes recv word recv-room word-room false)) in
       omega (arith, e, all-few (q .0) d, fresh-owes recv word recv-room word-room (eqb b 0x4F), s)
 
 -- ---- what a call keeps
-behind-kept : (m k : Deck) (bs ws : List ℕ) (n : ℕ) (r : Printed) → Kept m bs n k → Kept k (drop n bs) (r .taken) (r .deck) → Kept m bs (behind n ws r .taken) (behind n ws r .deck)
+behind-kept : (m k : Deck) (bs ws : List ℕ) (n : ℕ) (r : Printed) → Kept m bs n k → Kept k (drop n bs) (r .taken) (r .deck) → Kept m bs (further n ws r .taken) (further n ws r .deck)
 behind-kept m k bs ws n r h j = record { fine = j .fine; within = omega (arith, h .within, j .within, length-drop n bs); near = omega (arith, h .near, j .near) }
 
 none-kept : (m : Deck) (bs : List ℕ) → FineDeck m → Kept m bs 0 m
@@ -137,7 +137,7 @@ none-kept m bs i = record { fine = i; within = omega arith; near = omega arith }
 
 answer-kept : (m : Deck) (t : Totals) (bs : List ℕ) → FineDeck m → (next : Answer → Printed)
     → ((a : Answer) → Kept m bs (next a .taken) (next a .deck)) → (o : Option Event)
-    → let r = onAnswer o (behind (deckHear m bs .1) [] (printed More (deckHear m bs .2) t)) next in Kept m bs (r .taken) (r .deck)
+    → let r = onAnswer o (further (deckHear m bs .1) [] (printed More (deckHear m bs .2) t)) next in Kept m bs (r .taken) (r .deck)
 answer-kept m t bs i next k none =
     let h = hear-kept m bs i in
     behind-kept m (deckHear m bs .2) bs [] (deckHear m bs .1) (printed More (deckHear m bs .2) t) h (none-kept (deckHear m bs .2) (drop (deckHear m bs .1) bs) (h .fine))
@@ -154,8 +154,8 @@ print-kept zero n m t bs i = none-kept m bs i
 print-kept (suc f) n m t bs i =
     let h = hear-kept m bs i in
     let x : Option Event × ℕ × Deck = deckHear m bs in
-    let next : Answer → Printed = λ a. behind (x .1) (line a) (print f (n - length (line a)) (x .2) (counted t a) (drop (x .1) bs)) in
-    room-kept (ltb n longest) m t bs (onAnswer (x .0) (behind (x .1) [] (printed More (x .2) t)) next) i
+    let next : Answer → Printed = λ a. further (x .1) (line a) (print f (n - length (line a)) (x .2) (counted t a) (drop (x .1) bs)) in
+    room-kept (ltb n longest) m t bs (onAnswer (x .0) (further (x .1) [] (printed More (x .2) t)) next) i
     (answer-kept m t bs i next
     (λ a. behind-kept m (x .2) bs (line a) (x .1) (print f (n - length (line a)) (x .2) (counted t a) (drop (x .1) bs)) h (print-kept f (n - length (line a)) (x .2) (counted t a) (drop (x .1) bs) (h .fine)))
     (x .0))
@@ -166,8 +166,8 @@ unfolding print
 some-printed f n m t bs h = rw (le-ltb n longest h) (go (deckHear m bs .0))
   where
     go : (o : Option Event)
-        → onAnswer o (behind (deckHear m bs .1) [] (printed More (deckHear m bs .2) t)) (λ a. behind (deckHear m bs .1) (line a) (print f (n - length (line a)) (deckHear m bs .2) (counted t a) (drop (deckHear m bs .1) bs))) .wants ≡ Room
-        → 0 < length (onAnswer o (behind (deckHear m bs .1) [] (printed More (deckHear m bs .2) t)) (λ a. behind (deckHear m bs .1) (line a) (print f (n - length (line a)) (deckHear m bs .2) (counted t a) (drop (deckHear m bs .1) bs))) .text)
+        → onAnswer o (further (deckHear m bs .1) [] (printed More (deckHear m bs .2) t)) (λ a. further (deckHear m bs .1) (line a) (print f (n - length (line a)) (deckHear m bs .2) (counted t a) (drop (deckHear m bs .1) bs))) .wants ≡ Room
+        → 0 < length (onAnswer o (further (deckHear m bs .1) [] (printed More (deckHear m bs .2) t)) (λ a. further (deckHear m bs .1) (line a) (print f (n - length (line a)) (deckHear m bs .2) (counted t a) (drop (deckHear m bs .1) bs))) .text)
     go none e = absurd (omega (arith, ap wantsTag e))
     go (some x) e =
         let r = print f (n - length (line (given x))) (deckHear m bs .2) (counted t (given x)) (drop (deckHear m bs .1) bs) in
@@ -178,7 +178,7 @@ pub print-not : (f n : ℕ) (m : Deck) (t : Totals) (bs : List ℕ) (c : ℕ) �
 unfolding print
 print-not zero n m t bs c = λ e. omega (arith, ap wantsTag e)
 print-not (suc f) n m t bs c =
-    room-not (ltb n longest) (onAnswer (deckHear m bs .0) (behind (deckHear m bs .1) [] (printed More (deckHear m bs .2) t)) (λ a. behind (deckHear m bs .1) (line a) (print f (n - length (line a)) (deckHear m bs .2) (counted t a) (drop (deckHear m bs .1) bs))))
+    room-not (ltb n longest) (onAnswer (deckHear m bs .0) (further (deckHear m bs .1) [] (printed More (deckHear m bs .2) t)) (λ a. further (deckHear m bs .1) (line a) (print f (n - length (line a)) (deckHear m bs .2) (counted t a) (drop (deckHear m bs .1) bs))))
     (answer-not (deckHear m bs .0) (λ a. print-not f (n - length (line a)) (deckHear m bs .2) (counted t a) (drop (deckHear m bs .1) bs) c))
   where
     room-not : (b : Bool) (r : Printed) → (r .wants ≡ Refused c → ⊥) → pick b (printed Room m t) r .wants ≡ Refused c → ⊥
@@ -187,7 +187,7 @@ print-not (suc f) n m t bs c =
 
     answer-not : (o : Option Event)
         → ((a : Answer) → print f (n - length (line a)) (deckHear m bs .2) (counted t a) (drop (deckHear m bs .1) bs) .wants ≡ Refused c → ⊥)
-        → onAnswer o (behind (deckHear m bs .1) [] (printed More (deckHear m bs .2) t)) (λ a. behind (deckHear m bs .1) (line a) (print f (n - length (line a)) (deckHear m bs .2) (counted t a) (drop (deckHear m bs .1) bs))) .wants ≡ Refused c → ⊥
+        → onAnswer o (further (deckHear m bs .1) [] (printed More (deckHear m bs .2) t)) (λ a. further (deckHear m bs .1) (line a) (print f (n - length (line a)) (deckHear m bs .2) (counted t a) (drop (deckHear m bs .1) bs))) .wants ≡ Refused c → ⊥
     answer-not none k e = omega (arith, ap wantsTag e)
     answer-not (some x) k e = k (given x) e
 

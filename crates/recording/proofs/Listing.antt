@@ -23,7 +23,7 @@ use Rattle.channel.specs.Called.{board, freshReceiver}
 use Rattle.listed.specs.declared.Place.{Place}
 use Rattle.listed.specs.declared.Place.the-variants.{Mode, Mark, Second, Low, High, Inside, Wrong}
 use Rattle.listed.specs.declared.Spot.{Spot}
-use Rattle.listed.specs.Apart.{most, start, on, wrong, through, nextAt, next, inStream, keep, apart, well}
+use Rattle.listed.specs.Apart.{most, freshSpot, on, wrong, through, nextAt, next, inStream, keep, apart, well}
 use Rattle.listed.specs.Lines.{given, lines, count, one, isPacket, isRefusal, isDamaged, isLost, endLine, wrongLine}
 use Rattle.listed.specs.Listing.{totalLine, heard, lastLine, listed, listing}
 use Rattle.tape.specs.Deck.{Ear, ear, Deck, deck, fresh, deckOwes, deckAll}
@@ -133,10 +133,10 @@ module _ (recv word : List ℕ) (recv-room : rawLimit ≤ length recv) (word-roo
       none-heard : deckOwes (fresh recv word) ≡ 0 → deckAll (fresh recv word) [] ≡ ([], fresh recv word)
       none-heard e = rw e refl
   listing-shown (b ∷ bs) =
-      let q : List ℕ × Spot = apart (next start b) bs in
+      let q : List ℕ × Spot = apart (next freshSpot b) bs in
       let x : List Event × Ear = earAll (ear (eqb b 0x4F) (board freshReceiver recv word)) (q .0) in
       let h : x .0 ≡ heard (eqb b 0x4F) (q .0) = heard-all (eqb b 0x4F) recv word (q .0) recv-room word-room in
-      let c : q .1 .count ≡ length (q .0) = omega (arith, apart-count bs (next start b), count-at Mode start b) in
+      let c : q .1 .count ≡ length (q .0) = omega (arith, apart-count bs (next freshSpot b), count-at Mode freshSpot b) in
       ap shown (means-start b bs (ear false (board freshReceiver recv word)) (fresh-owes recv word recv-room word-room false))
       ∙ ap (λ (l : List ℕ). lines (x .0) ++ l) (last-same (deck (q .1) (x .1)) (length (q .0)) (x .0) c)
       ∙ ap (λ (es : List Event). lines es ++ lastLine (q .1) (length (q .0)) es) h

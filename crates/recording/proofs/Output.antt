@@ -15,14 +15,14 @@ use Rattle.channel.specs.Called.{sound, roomy}
 use Rattle.tape.specs.Called.{deckOf}
 use Rattle.recording.specs.declared.recording.Recording.{Recording}
 use Rattle.recording.specs.declared.recording.Step.{Step}
-use Rattle.recording.specs.Printed.{Printed, printed, behind, print, near, TookIs}
+use Rattle.recording.specs.Printed.{Printed, printed, further, print, near, TookIs}
 use Rattle.recording.specs.Private.{StepBy, StepIs}
 
 -- behind i bytes taken and w written the call goes on with what is left
 pub record Far (x : Printed) (bs old : List ℕ) (i w : ℕ) (r : Recording) (l k out : List ℕ) : Type 0 where
   pub fuel : ℕ
   pub enough : length out - w ≤ fuel
-  pub same : x ≡ behind i (take w out) (print fuel (length out - w) (deckOf (r .tape) l k) (r .totals) (drop i bs))
+  pub same : x ≡ further i (take w out) (print fuel (length out - w) (deckOf (r .tape) l k) (r .totals) (drop i bs))
   pub taken : i ≤ length bs
   pub wrote : w ≤ length out
   pub old-behind : drop w out ≡ drop w old
@@ -41,7 +41,7 @@ far-start r l k bs out a b c =
       enough = omega arith;
       same =
           (λ i. record { wants = x .wants; taken = sym (zero-add (x .taken)) i; text = x .text; deck = x .deck; totals = x .totals })
-          ∙ ap (λ (n : ℕ). behind 0 [] (print (length out) n (deckOf (r .tape) l k) (r .totals) bs)) (sym (sub-zero (length out)));
+          ∙ ap (λ (n : ℕ). further 0 [] (print (length out) n (deckOf (r .tape) l k) (r .totals) bs)) (sym (sub-zero (length out)));
       taken = omega arith;
       wrote = omega arith;
       old-behind = refl;
@@ -51,7 +51,7 @@ far-start r l k bs out a b c =
       nears = rw (sub-zero (length bs), sub-zero (length out)) c;
     }
 
-behind-behind : (i n : ℕ) (ws vs : List ℕ) (r : Printed) → behind i ws (behind n vs r) ≡ behind (i + n) (ws ++ vs) r
+behind-behind : (i n : ℕ) (ws vs : List ℕ) (r : Printed) → further i ws (further n vs r) ≡ further (i + n) (ws ++ vs) r
 behind-behind i n ws vs r =
     λ j. record { wants = r .wants; taken = sym (add-assoc i n (r .taken)) j; text = sym (append-assoc ws vs (r .text)) j; deck = r .deck; totals = r .totals }
 
@@ -133,12 +133,12 @@ module _ {x : Printed} {bs old : List ℕ} {i w : ℕ} {r : Recording} {l k out 
               fuel = f;
               enough = omega (arith, far .enough, out-length, step .written, y .1);
               same =
-                  far .same ∙ ap (λ (n : ℕ). behind i (take w out) (print n (length out - w) (deckOf (r .tape) l k) (r .totals) (drop i bs))) g
-                  ∙ ap (λ (n : ℕ). behind i (take w out) (print (suc f) n (deckOf (r .tape) l k) (r .totals) (drop i bs))) (sym room-length)
-                  ∙ ap (behind i (take w out)) (from-left (suc f) (length room) ∙ y .0 f (omega (arith, far .enough, room-length)))
+                  far .same ∙ ap (λ (n : ℕ). further i (take w out) (print n (length out - w) (deckOf (r .tape) l k) (r .totals) (drop i bs))) g
+                  ∙ ap (λ (n : ℕ). further i (take w out) (print (suc f) n (deckOf (r .tape) l k) (r .totals) (drop i bs))) (sym room-length)
+                  ∙ ap (further i (take w out)) (from-left (suc f) (length room) ∙ y .0 f (omega (arith, far .enough, room-length)))
                   ∙ behind-behind i (s .taken) (take w out) text (print f (length room - length text) (deckOf (s .next .tape) l′ k′) (s .next .totals) (drop (s .taken) left))
                   ∙ (λ j.
-                  behind (i + s .taken) (sym printed-is j)
+                  further (i + s .taken) (sym printed-is j)
                   (print f (sym a j) (deckOf (s .next .tape) l′ k′) (s .next .totals) ((ap (drop (s .taken)) (tail-is i bs) ∙ drop-drop (s .taken) i bs) j)));
               taken = far-within .0;
               wrote = omega (arith, out-length, far-within .1);
@@ -167,10 +167,10 @@ module _ {x : Printed} {bs old : List ℕ} {i w : ℕ} {r : Recording} {l k out 
         let y : StepBy true (deckOf (r .tape) l k) (r .totals) left (length room) s text l′ k′ =
         subst (λ (u : Bool). StepBy u (deckOf (r .tape) l k) (r .totals) left (length room) s text l′ k′) e (step .means) in
         let last : Printed = printed (s .wants) (deckOf (s .next .tape) l′ k′) (s .next .totals) in
-        let p : x ≡ behind (i + s .taken) (take w out ++ text) last =
+        let p : x ≡ further (i + s .taken) (take w out ++ text) last =
         far .same
-        ∙ ap (λ (n : ℕ). behind i (take w out) (print (far .fuel) n (deckOf (r .tape) l k) (r .totals) (drop i bs))) (sym room-length)
-        ∙ ap (behind i (take w out)) (from-left (far .fuel) (length room) ∙ y (far .fuel) (omega (arith, far .enough, room-length)))
+        ∙ ap (λ (n : ℕ). further i (take w out) (print (far .fuel) n (deckOf (r .tape) l k) (r .totals) (drop i bs))) (sym room-length)
+        ∙ ap (further i (take w out)) (from-left (far .fuel) (length room) ∙ y (far .fuel) (omega (arith, far .enough, room-length)))
         ∙ behind-behind i (s .taken) (take w out) text last in
         subst (λ (z : Printed). TookIs z (record { wants = s .wants; taken = i + s .taken; written = w + s .written; next = s .next }) l′ k′ old out′) (sym p) (
           (λ j. record { wants = s .wants; taken = sym (add-zero (i + s .taken)) j; written = text-length j; next = s .next }),

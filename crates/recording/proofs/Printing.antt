@@ -29,7 +29,7 @@ use Rattle.tape.proofs.Next.{next-heard}
 use Rattle.recording.specs.declared.recording.Totals.{Totals}
 use Rattle.recording.specs.declared.recording.Wants.the-variants.{More, Room}
 use Rattle.recording.specs.Private.{Below, StepIs}
-use Rattle.recording.specs.Printed.{counted, Printed, printed, behind, onAnswer, print, near}
+use Rattle.recording.specs.Printed.{counted, Printed, printed, further, onAnswer, print, near}
 use Rattle.recording.proofs.Counting.{one-most}
 
 -- ---- no number passes its width
@@ -112,22 +112,22 @@ module _ (t : Tape) (u : Totals) (l k bs out : List ℕ) (wide : length bs ≤ f
     stay = heard .1
 
     asked : (f : ℕ) → print (suc f) (length out) m u bs
-        ≡ onAnswer (deckHear m bs .0) (behind (deckHear m bs .1) [] (printed More (deckHear m bs .2) u))
-        (λ a. behind (deckHear m bs .1) (line a) (print f (length out - length (line a)) (deckHear m bs .2) (counted u a) (drop (deckHear m bs .1) bs)))
+        ≡ onAnswer (deckHear m bs .0) (further (deckHear m bs .1) [] (printed More (deckHear m bs .2) u))
+        (λ a. further (deckHear m bs .1) (line a) (print f (length out - length (line a)) (deckHear m bs .2) (counted u a) (drop (deckHear m bs .1) bs)))
     unfolding print
     asked f = rw (le-ltb (length out) longest roomy-out)
 
     abbrev answering : Option Event → ℕ → Printed
     answering o f =
-        onAnswer o (behind (h .taken) [] (printed More (deckOf (h .tape) l′ k′) u))
-        (λ a. behind (h .taken) (line a) (print f (length out - length (line a)) (deckOf (h .tape) l′ k′) (counted u a) (drop (h .taken) bs)))
+        onAnswer o (further (h .taken) [] (printed More (deckOf (h .tape) l′ k′) u))
+        (λ a. further (h .taken) (line a) (print f (length out - length (line a)) (deckOf (h .tape) l′ k′) (counted u a) (drop (h .taken) bs)))
 
     told : (f : ℕ) (o : Option Event) → deckHear m bs .0 ≡ o → print (suc f) (length out) m u bs ≡ answering o f
     told f o e =
         asked f
         ∙ ap (λ (x : Option Event × ℕ × Deck).
-        onAnswer (x .0) (behind (x .1) [] (printed More (x .2) u))
-        (λ a. behind (x .1) (line a) (print f (length out - length (line a)) (x .2) (counted u a) (drop (x .1) bs)))) (heard .0 .1)
+        onAnswer (x .0) (further (x .1) [] (printed More (x .2) u))
+        (λ a. further (x .1) (line a) (print f (length out - length (line a)) (x .2) (counted u a) (drop (x .1) bs)))) (heard .0 .1)
         ∙ ap (λ (x : Option Event). answering x f) e
 
     near-spot : h .tape .spot .offset ≤ far - (length bs - h .taken)
@@ -180,8 +180,8 @@ module _ (t : Tape) (u : Totals) (l k bs out : List ℕ) (wide : length bs ≤ f
           means = (
             (λ f q.
                 told f (some (o .0)) (o .1)
-                ∙ ap (λ (x : Answer). behind (h .taken) (line x) (print f (length out - length (line x)) (deckOf (h .tape) l′ k′) (counted u x) (drop (h .taken) bs))) a
-                ∙ ap (λ (x : Totals). behind (h .taken) (line (h .answer)) (print f (length out - length (line (h .answer))) (deckOf (h .tape) l′ k′) x (drop (h .taken) bs))) (sym c)),
+                ∙ ap (λ (x : Answer). further (h .taken) (line x) (print f (length out - length (line x)) (deckOf (h .tape) l′ k′) (counted u x) (drop (h .taken) bs))) a
+                ∙ ap (λ (x : Totals). further (h .taken) (line (h .answer)) (print f (length out - length (line (h .answer))) (deckOf (h .tape) l′ k′) x (drop (h .taken) bs))) (sym c)),
             i,
           );
           written = v;

@@ -20,7 +20,7 @@ use Rattle.listed.specs.declared.Total.{Total}
 use Rattle.listed.specs.Apart.{well}
 use Rattle.listed.specs.Lines.{line, given, one, totalOf, inPackets, inRefusals, inDamaged, inLost, endLine, wrongLine, longest}
 use Rattle.tape.specs.Deck.{Deck, deckHear}
-use Rattle.tape.specs.Called.{startTape, far, nearSpot, tapeOf}
+use Rattle.tape.specs.Called.{freshTape, far, nearSpot, tapeOf}
 pub use Rattle.tape.specs.Called.{deckOf}
 use Rattle.recording.specs.declared.recording.Totals.{Totals}
 use Rattle.recording.specs.declared.recording.Recording.{Recording}
@@ -33,8 +33,8 @@ abbrev pub noTotals : Totals
 noTotals = record { packets = 0; refused = 0; damaged = 0; lost = 0 }
 
 -- before the first byte, and nothing counted
-abbrev pub begins : Recording
-begins = record { tape = startTape; totals = noTotals }
+abbrev pub freshRecording : Recording
+freshRecording = record { tape = freshTape; totals = noTotals }
 
 -- one more in a total
 abbrev pub countedIn : Totals → Total → Totals
@@ -62,8 +62,8 @@ abbrev pub printed : Wants → Deck → Totals → Printed
 printed w m t = record { wants = w; taken = 0; text = []; deck = m; totals = t }
 
 -- the same behind n bytes taken and a text printed
-abbrev pub behind : ℕ → List ℕ → Printed → Printed
-behind n ws r = record { wants = r .wants; taken = n + r .taken; text = ws ++ r .text; deck = r .deck; totals = r .totals }
+abbrev pub further : ℕ → List ℕ → Printed → Printed
+further n ws r = record { wants = r .wants; taken = n + r .taken; text = ws ++ r .text; deck = r .deck; totals = r .totals }
 
 -- a call's answer: none, or the line of one and then more
 abbrev pub onAnswer : {B : Type 0} → Option Event → B → (Answer → B) → B
@@ -75,8 +75,8 @@ unfoldable pub print : ℕ → ℕ → Deck → Totals → List ℕ → Printed
 print zero room m t bs = printed Room m t
 print (suc f) room m t bs =
     pick (ltb room longest) (printed Room m t)
-    (onAnswer (deckHear m bs .0) (behind (deckHear m bs .1) [] (printed More (deckHear m bs .2) t))
-    (λ a. behind (deckHear m bs .1) (line a) (print f (room - length (line a)) (deckHear m bs .2) (counted t a) (drop (deckHear m bs .1) bs))))
+    (onAnswer (deckHear m bs .0) (further (deckHear m bs .1) [] (printed More (deckHear m bs .2) t))
+    (λ a. further (deckHear m bs .1) (line a) (print f (room - length (line a)) (deckHear m bs .2) (counted t a) (drop (deckHear m bs .1) bs))))
 
 -- no total can pass its width while so many bytes are written: each line has a byte at least
 abbrev pub nearTotals : Totals → ℕ → Bool

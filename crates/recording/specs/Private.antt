@@ -11,7 +11,7 @@ use Rattle.tape.specs.Called.{far, deckOf}
 use Rattle.tape.specs.Private.{Stays}
 use Rattle.recording.specs.declared.recording.Totals.{Totals}
 use Rattle.recording.specs.declared.recording.Step.{Step}
-use Rattle.recording.specs.Printed.{near, printed, behind, print}
+use Rattle.recording.specs.Printed.{near, printed, further, print}
 
 -- no total is at its width
 abbrev pub Below : Totals → Type 0
@@ -20,10 +20,10 @@ Below t = (t .packets < far) × (t .refused < far) × (t .damaged < far) × (t .
 -- by: does the step end the call. Else the call goes on behind it with less room
 abbrev pub StepBy : Bool → Deck → Totals → List ℕ → ℕ → Step → List ℕ → List ℕ → List ℕ → Type 0
 StepBy true m t bs room x text l k =
-    (f : ℕ) → room ≤ f → print f room m t bs ≡ behind (x .taken) text (printed (x .wants) (deckOf (x .next .tape) l k) (x .next .totals))
+    (f : ℕ) → room ≤ f → print f room m t bs ≡ further (x .taken) text (printed (x .wants) (deckOf (x .next .tape) l k) (x .next .totals))
 StepBy false m t bs room x text l k =
     ((f : ℕ) → room ≤ suc f
-    → print (suc f) room m t bs ≡ behind (x .taken) text (print f (room - length text) (deckOf (x .next .tape) l k) (x .next .totals) (drop (x .taken) bs)))
+    → print (suc f) room m t bs ≡ further (x .taken) text (print f (room - length text) (deckOf (x .next .tape) l k) (x .next .totals) (drop (x .taken) bs)))
     × (0 < length text)
 
 -- l and k are the receiver's buffers and out′ is the output behind the step

@@ -10,7 +10,7 @@ ghost use Rattle.listed.specs.Lines.{line, totalOf, longest};
 ghost use Rattle.channel.specs.declared.answer.Answer.the-variants.{Said, Block};
 ghost use Rattle.recording.specs.declared.recording.Wants.the-variants.{Refused};
 ghost use Rattle.tape.specs.Called.{deckOf};
-ghost use Rattle.recording.specs.Printed.{noTotals, begins, counted, nearTotals, near, takes, print, TookIs, finishing};
+ghost use Rattle.recording.specs.Printed.{noTotals, freshRecording, counted, nearTotals, near, takes, print, TookIs, finishing};
 ghost use Rattle.recording.specs.Private.{Below, StepIs};
 use base::Refusal;
 use base::Written;
@@ -194,11 +194,11 @@ impl Recording {
     pub const ROOM: usize = Line::LONGEST;
 
     /// Before the first byte.
-    pub fn start() -> Self
-        ensures { λ r. ⌜ r ≡ begins ⌝ }
+    pub fn fresh() -> Self
+        ensures { λ r. ⌜ r ≡ freshRecording ⌝ }
     {
         Recording {
-            tape: Tape::start(),
+            tape: Tape::fresh(),
             totals: Totals::none(),
         }
     }

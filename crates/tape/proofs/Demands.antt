@@ -11,7 +11,7 @@ use Rattle.base.specs.Calls.{joined}
 use Rattle.base.proofs.Calls.{yields-so}
 use Rattle.channel.specs.Channel.{Event}
 use Rattle.channel.proofs.Fine.{fine-fresh}
-use Rattle.listed.specs.Apart.{start, apart, onChannel}
+use Rattle.listed.specs.Apart.{freshSpot, apart, onChannel}
 use Rattle.listed.specs.Listing.{heard}
 use Rattle.tape.specs.Deck.{Deck, fresh, deckAll}
 use Rattle.tape.specs.Called.{far, EveryCut}
@@ -21,7 +21,7 @@ use Rattle.tape.proofs.Cutting.{Safe, tape-yields}
 -- a recording below 2^64 bytes: every way of cutting yields the answers of its stream bytes, as the definition takes it apart and hears it,
 -- and behind them it stands where the definition ends: whether it may end there, or at which byte it is wrong
 pub taken-apart : (file : List ℕ) → length file ≤ far
-    → EveryCut file λ es m. (es ≡ heard (onChannel file) (apart start file .0)) × (m .spot ≡ apart start file .1)
+    → EveryCut file λ es m. (es ≡ heard (onChannel file) (apart freshSpot file .0)) × (m .spot ≡ apart freshSpot file .1)
 taken-apart file short recv word r w pieces cut =
     let d = deck-means recv word r w file in
     let s : Safe (fresh recv word) (length (joined pieces)) = record {

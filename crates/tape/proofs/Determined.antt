@@ -2,8 +2,8 @@
 use mathlib.Core.Path.{refl}
 use Rattle.base.specs.Determined.{Determined}
 use Rattle.base.proofs.Determining.{same, buffer, skip}
-use Rattle.tape.proofs.tape.Tape.start.Kinds as start-kinds
-use Rattle.tape.proofs.tape.Tape.start.Reads as start-reads
+use Rattle.tape.proofs.tape.Tape.fresh.Kinds as fresh-kinds
+use Rattle.tape.proofs.tape.Tape.fresh.Reads as fresh-reads
 use Rattle.tape.proofs.tape.Tape.next.Kinds as next-kinds
 use Rattle.tape.proofs.tape.Tape.next.Reads as next-reads
 use Rattle.tape.proofs.tape.Tape.may_end.Kinds as may-end-kinds
@@ -11,8 +11,8 @@ use Rattle.tape.proofs.tape.Tape.may_end.Reads as may-end-reads
 use Rattle.tape.proofs.tape.Heard.is_more.Kinds as is-more-kinds
 use Rattle.tape.proofs.tape.Heard.is_more.Reads as is-more-reads
 
-pub start-determined : Determined start-kinds.ps start-kinds.r start-reads.Asked start-reads.Learnt
-start-determined κs a z z′ ws ws′ pre p q = (same p q, refl)
+pub fresh-determined : Determined fresh-kinds.ps fresh-kinds.r fresh-reads.Asked fresh-reads.Learnt
+fresh-determined κs a z z′ ws ws′ pre p q = (same p q, refl)
 
 pub next-determined : Determined next-kinds.ps next-kinds.r next-reads.Asked next-reads.Learnt
 next-determined κs a z z′ ws ws′ pre p q = (same (p .0) (q .0), skip (buffer (same (p .1) (q .1)) (buffer (same (p .2) (q .2)) refl)))

@@ -15,13 +15,13 @@ use Rattle.packet.specs.Contents.{rawLimit}
 use Rattle.stream.specs.Reader.{waiting}
 use Rattle.stream.proofs.Shown.{shown-plain}
 use Rattle.channel.specs.Sender.{wordBytes}
-use Rattle.channel.specs.Channel.{Event, said, start as hunts}
+use Rattle.channel.specs.Channel.{Event, said, freshChannel as hunts}
 use Rattle.channel.specs.Called.{board, freshReceiver}
 use Rattle.channel.proofs.Shown.{shown-all}
 use Rattle.listed.specs.declared.Place.{Place}
 use Rattle.listed.specs.declared.Place.the-variants.{Mode, Mark, Second, Low, High, Inside, Wrong}
 use Rattle.listed.specs.declared.Spot.{Spot}
-use Rattle.listed.specs.Apart.{most, start, on, wrong, through, nextAt, next, inStream, keep, apart, onChannel}
+use Rattle.listed.specs.Apart.{most, freshSpot, on, wrong, through, nextAt, next, inStream, keep, apart, onChannel}
 use Rattle.listed.specs.Listing.{heard}
 use Rattle.tape.specs.Deck.{Ear, ear, earOwes, earHand, earEat, begun, Deck, deck, fresh, deckOwes, deckHand, byteBy, deckEat, deckAll}
 use Rattle.tape.proofs.Ears.{ear-hand-one, channel-all, plain-all}
@@ -117,10 +117,10 @@ means bs p g d = drain-means p (apart p bs .1) bs (apart p bs .0) (rest-means bs
 
 -- from the start: the first byte says which stream it is
 pub means-start : (b : ℕ) (bs : List ℕ) (d : Ear) → earOwes d ≡ 0
-    → deckAll (deck start d) (b ∷ bs) ≡ placed (apart (next start b) bs .1) (earAll (ear (eqb b 0x4F) (d .board)) (apart (next start b) bs .0))
+    → deckAll (deck freshSpot d) (b ∷ bs) ≡ placed (apart (next freshSpot b) bs .1) (earAll (ear (eqb b 0x4F) (d .board)) (apart (next freshSpot b) bs .0))
 unfolding inStream
 means-start b bs d h =
-    ap (λ n. deckDrain n (deck start d) (deckRest (b ∷ bs))) h ∙ means bs (next start b) (begun-next start b) (ear (eqb b 0x4F) (d .board))
+    ap (λ n. deckDrain n (deck freshSpot d) (deckRest (b ∷ bs))) h ∙ means bs (next freshSpot b) (begun-next freshSpot b) (ear (eqb b 0x4F) (d .board))
 
 -- a fresh receiver's answers, whatever its buffers hold
 pub heard-all : (t : Bool) (recv word ss : List ℕ) → rawLimit ≤ length recv → wordBytes ≤ length word
@@ -142,14 +142,14 @@ module _ (recv word : List ℕ) (recv-room : rawLimit ≤ length recv) (word-roo
 
   -- a whole recording: the answers of its stream bytes, and where it ends
   pub deck-means : (file : List ℕ)
-      → (deckAll (fresh recv word) file .0 ≡ heard (onChannel file) (apart start file .0)) × (deckAll (fresh recv word) file .1 .spot ≡ apart start file .1)
+      → (deckAll (fresh recv word) file .0 ≡ heard (onChannel file) (apart freshSpot file .0)) × (deckAll (fresh recv word) file .1 .spot ≡ apart freshSpot file .1)
   unfolding apart inStream heard
   deck-means [] = none-heard (fresh-owes false)
     where
       none-heard : deckOwes (fresh recv word) ≡ 0
-          → (deckAll (fresh recv word) [] .0 ≡ heard false (apart start [] .0)) × (deckAll (fresh recv word) [] .1 .spot ≡ apart start [] .1)
+          → (deckAll (fresh recv word) [] .0 ≡ heard false (apart freshSpot [] .0)) × (deckAll (fresh recv word) [] .1 .spot ≡ apart freshSpot [] .1)
       none-heard e = rw e (refl, refl)
   deck-means (b ∷ bs) =
-      let q : List ℕ × Spot = apart (next start b) bs in
+      let q : List ℕ × Spot = apart (next freshSpot b) bs in
       let e = means-start b bs (ear false (board freshReceiver recv word)) (fresh-owes false) in
       (ap (λ x. x .0) e ∙ heard-all (eqb b 0x4F) recv word (q .0) recv-room word-room, ap (λ x. x .1 .spot) e)

@@ -1,6 +1,6 @@
 -- A recording's bytes by calls (paper 01, "The listing program", "Numbered refusals"): the tape and the two lent buffers go in and come back, and
 -- one call gives at most one answer.
--- startTape            before the first byte
+-- freshTape            before the first byte
 -- deckOf, tapeOf       the deck of a tape and the buffers lent, and a deck's tape
 -- isMore               that an answer is "more wanted"
 -- tapeCall, NextIs     one call, and that the code's results are those
@@ -21,7 +21,7 @@ use Rattle.channel.specs.Called.{board, sound, roomy, freshReceiver, answered}
 use Rattle.channel.specs.declared.answer.Answer.{Answer}
 use Rattle.channel.specs.declared.answer.Answer.the-variants.{More, Said, Block, LockLost}
 use Rattle.listed.specs.declared.Spot.{Spot}
-use Rattle.listed.specs.Apart.{start}
+use Rattle.listed.specs.Apart.{freshSpot}
 use Rattle.tape.specs.declared.tape.Tape.{Tape}
 use Rattle.tape.specs.declared.tape.Heard.{Heard}
 use Rattle.tape.specs.Deck.{ear, Deck, deck, fresh, deckHear}
@@ -31,8 +31,8 @@ abbrev pub far : ℕ
 far = 18446744073709551615
 
 -- before the first byte
-abbrev pub startTape : Tape
-startTape = record { spot = start; channel = false; receiver = freshReceiver }
+abbrev pub freshTape : Tape
+freshTape = record { spot = freshSpot; channel = false; receiver = freshReceiver }
 
 -- the deck of a tape and the buffers lent ..
 abbrev pub deckOf : Tape → List ℕ → List ℕ → Deck

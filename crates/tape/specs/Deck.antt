@@ -17,7 +17,7 @@ use Rattle.channel.specs.Called.{Board, board, heldIn, owed, handOn, eatByte, a
 use Rattle.listed.specs.declared.Place.{Place}
 use Rattle.listed.specs.declared.Place.the-variants.{Mode, Mark, Second, Low, High, Inside, Wrong}
 use Rattle.listed.specs.declared.Spot.{Spot}
-use Rattle.listed.specs.Apart.{start, next, inStream}
+use Rattle.listed.specs.Apart.{freshSpot, next, inStream}
 
 -- which stream it is, and the receiver with its buffers; of a plain stream its frame reader hears
 pub record Ear : Type 0 where
@@ -69,7 +69,7 @@ deck p d = record { spot = p; ear = d }
 
 -- before the first byte, with these buffers
 abbrev pub fresh : List ℕ → List ℕ → Deck
-fresh recv word = deck start (ear false (board freshReceiver recv word))
+fresh recv word = deck freshSpot (ear false (board freshReceiver recv word))
 
 -- the first byte says which stream it is; no other byte changes that
 abbrev pub channelAt : Place → ℕ → Bool → Bool

@@ -3,7 +3,7 @@ ghost use mathlib.Core.Path.{_≡_};
 ghost use mathlib.Core.Bool.{false};
 ghost use Prim.Native.Nat.{_+_, _-_, _*_, _<_, _≤_};
 ghost use lib.Dec.{eqb};
-ghost use Rattle.listed.specs.Apart.{start, on, wrong, left, next, inStream, well};
+ghost use Rattle.listed.specs.Apart.{freshSpot, on, wrong, left, next, inStream, well};
 ghost use Rattle.tape.specs.Called.{far};
 ghost use Rattle.base.specs.Choice.{pick};
 ghost use Rattle.tape.specs.Deck.{channelAt};
@@ -26,8 +26,8 @@ impl Bytes {
 }
 
 /// Before the first byte.
-pub(crate) fn start() -> Spot
-    ensures { λ r. ⌜ r ≡ start ⌝ }
+pub(crate) fn fresh() -> Spot
+    ensures { λ r. ⌜ r ≡ freshSpot ⌝ }
 {
     Spot {
         place: Place::Mode,

@@ -10,7 +10,7 @@ ghost use Rattle.listed.specs.Apart.{inStream, well};
 ghost use Rattle.packet.specs.declared.frame.Judged.the-variants.{Refused};
 ghost use Rattle.channel.specs.declared.answer.Answer.the-variants.{Said};
 ghost use Rattle.tape.specs.Deck.{ear};
-ghost use Rattle.tape.specs.Called.{startTape, far, deckOf, isMore, nearSpot, tapeCall, NextIs};
+ghost use Rattle.tape.specs.Called.{freshTape, far, deckOf, isMore, nearSpot, tapeCall, NextIs};
 ghost use Rattle.tape.specs.Private.{earHear, EarIs, PlainIs, headed, TurnIs, HeardIs};
 use crate::spot;
 use base::Refusal;
@@ -111,11 +111,11 @@ impl Heard {
 
 impl Tape {
     /// Before the first byte.
-    pub fn start() -> Self
-        ensures { λ r. ⌜ r ≡ startTape ⌝ }
+    pub fn fresh() -> Self
+        ensures { λ r. ⌜ r ≡ freshTape ⌝ }
     {
         Tape {
-            spot: spot::start(),
+            spot: spot::fresh(),
             channel: false,
             receiver: Receiver::fresh(),
         }
