@@ -258,13 +258,23 @@ behind-bytes : (ps : List Packet) → Each Accepted ps → Each IsByte (framesOf
 behind-bytes [] a = tt
 behind-bytes (p ∷ ps) a = each-append IsByte (rawOf p) (flag ∷ framesOf ps) (raw-bytes p (a .0)) (lit< tt, behind-bytes ps (a .1))
 
+-- ---- what is sent of any bytes: their words carry them, filled with flags
+module _ (bs : List ℕ) (b : Bytes bs) where
+  pub messages-each : Each IsMessage (messagesOf bs)
+  messages-each =
+      let n : ℕ = fillers (length bs) in
+      cut-each _ (filled bs) (fill-multiple bs) (each-append IsByte bs (replicate n flag) b (each-replicate IsByte n flag (lit< tt)))
+
+  pub words-carry : carried (map wordOf (messagesOf bs)) ≡ filled bs
+  words-carry = words-messages (messagesOf bs) messages-each ∙ cut-joined _ (filled bs) (fill-multiple bs)
+
 -- ---- what is sent of packets that the sender takes
 module _ (ps : List Packet) (a : Each Accepted ps) where
+  stream-bytes : Bytes (stream ps)
+  stream-bytes = (lit< tt, behind-bytes ps a)
+
   pub sent-messages : Each IsMessage (messagesOf (stream ps))
-  sent-messages =
-      let n : ℕ = fillers (length (stream ps)) in
-      cut-each _ (filled (stream ps)) (fill-multiple (stream ps))
-      (each-append IsByte (stream ps) (replicate n flag) (lit< tt, behind-bytes ps a) (each-replicate IsByte n flag (lit< tt)))
+  sent-messages = messages-each (stream ps) stream-bytes
 
   pub sent-clean-each : Each IsClean (sentWords ps)
   sent-clean-each = words-clean-each (messagesOf (stream ps)) sent-messages
@@ -273,9 +283,7 @@ module _ (ps : List Packet) (a : Each Accepted ps) where
   sent-each = words-each (messagesOf (stream ps)) sent-messages
 
   pub sent-bytes : carried (sentWords ps) ≡ filled (stream ps)
-  sent-bytes =
-      words-messages (messagesOf (stream ps)) sent-messages
-      ∙ cut-joined _ (filled (stream ps)) (fill-multiple (stream ps))
+  sent-bytes = words-carry (stream ps) stream-bytes
 
   pub sent-some : sentWords ps ≢ []
   sent-some e = nil≢cons (sym (ap carried e) ∙ sent-bytes)

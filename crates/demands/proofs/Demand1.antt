@@ -55,17 +55,17 @@ use Rattle.listed.specs.Lines.{line, endLine, wrongLine}
 use Rattle.bid.specs.Line.{verdict}
 use Rattle.office.specs.declared.Office.{Office}
 use Rattle.office.specs.declared.Started.the-variants.{Refused as StartRefused}
-use Rattle.office.specs.Desk.{Desk}
-use Rattle.office.specs.Called.{holdLimit, outLimit, starting, denied, hearCall as desk-hear, closeCall, answeredOut, finishing as desk-finish}
+use Rattle.office.specs.Desk.{Desk, endingOf, refusal as line-refusal}
+use Rattle.office.specs.Called.{holdLimit, outLimit, starting, denied, hearCall as desk-hear, closeCall, spokenOut, answeredOut, finishing as desk-finish}
 use Rattle.demands.specs.Table.{Exact}
-use Rattle.demands.specs.Desks.{DeskBeyond, DeskShort, lineRows, ByDesk, ByStart, ByLine}
+use Rattle.demands.specs.Desks.{DeskBeyond, DeskShort, lineRows, ByDesk, ByStart, ByLine, BySpoken}
 use Rattle.demands.specs.Refusals.{Unusable, frameRows, FrameBeyond, Beyond, NextBeyond, TapeBeyond, Short, ByFrame, ByCall, ByCheck, ByRepair, ByRead, ByHear, ByNext, ByTake}
 use Rattle.demands.proofs.Rows.{row, row-not, not-less, not-same, refuses, wrote, refuses-word, found, repair-as-check, not-whole, is-whole}
 use Rattle.demands.proofs.Frames.{barred-is, free-is, closed-exact, judging-exact, judging-same, judge-exact, undone}
 use Rattle.demands.proofs.Called.{read-given, hear-given, read-exact, read-same, hear-exact, hear-same}
 use Rattle.demands.proofs.Taken.{next-exact, next-same, next-given, take-exact, take-same}
-use Rattle.demands.proofs.Desk.{line-exact, office-start-exact, office-start-same, office-hear-exact, office-hear-same, office-close-exact, office-close-same, office-finish-exact, office-finish-same}
-use Rattle.demands.proofs.Desk.{lines-print-exact, lines-print-same, lines-print-end-exact, lines-print-wrong-exact}
+use Rattle.demands.proofs.Desk.{line-exact, office-line-same, office-start-exact, office-start-same, office-hear-exact, office-hear-same, office-close-exact, office-close-same, office-finish-exact, office-finish-same}
+use Rattle.demands.proofs.Desk.{lines-print-exact, lines-print-same, lines-print-end-exact, lines-print-end-same, lines-print-wrong-exact, lines-print-wrong-same}
 
 -- ---- "Sender and receiver accept every input and come to an end": of each call that is the first half of its law in Promises. Reading comes to
 -- an end too: the pieces of every byte string, each handed in until "more wanted", from every state and buffers that pass 10 and 11, with a
@@ -275,6 +275,12 @@ finish-keeps-out r out = write-keeps (lastOf r) out
 pub print-keeps-out : (a : Answer) (out : List ℕ) → Keeps out (write (line a) out)
 print-keeps-out = lines-print-same
 
+pub print-end-keeps-out : (bytes packets rejected damaged lost : ℕ) (out : List ℕ) → Keeps out (write (endLine bytes packets rejected damaged lost) out)
+print-end-keeps-out = lines-print-end-same
+
+pub print-wrong-keeps-out : (offset : ℕ) (out : List ℕ) → Keeps out (write (wrongLine offset) out)
+print-wrong-keeps-out = lines-print-wrong-same
+
 pub last-keeps-out : (s : Office) (hold out : List ℕ) → Keeps out (desk-finish s hold out)
 last-keeps-out = office-finish-same
 
@@ -289,6 +295,11 @@ desk-keeps-all = office-hear-same
 pub close-keeps-all : (room : ℕ) (d : Desk) (n : ℕ) → ByDesk (closeCall room d) n
     → (closeCall room d ≡ denied n d) × ((out : List ℕ) → answeredOut (closeCall room d .0) out ≡ out)
 close-keeps-all = office-close-same
+
+-- .. a line that is refused what the office holds, and the output ..
+pub line-keeps-all : (d : Desk) (n : ℕ) → BySpoken (endingOf d .said) n
+    → (endingOf d ≡ record { said = line-refusal n; held = d .st .held; hold = d .hold }) × ((out : List ℕ) → spokenOut (endingOf d .said) out ≡ out)
+line-keeps-all = office-line-same
 
 -- .. the call that judges a frame the receive buffer ..
 pub judge-keeps-recv : (recv : List ℕ) (m n : ℕ) → judging recv m .told ≡ refusal n → 10 ≤ n → judging recv m .recv ≡ recv
@@ -312,8 +323,8 @@ take-keeps-all = take-same
 pub frame-kept : (recv : List ℕ) (m n : ℕ) → closed recv m .told ≡ refusal n → n ≤ 3 → closed recv m .recv ≡ recv
 frame-kept = closed-keeps
 
--- .. from 4 on, escapes are undone from the buffer's start, and bytes behind the result stay ..
-pub frame-undone : (recv : List ℕ) (m n : ℕ) → closed recv m .told ≡ refusal n → 3 < n
+-- .. any other frame, delivered or refused, has its escapes undone from the buffer's start, and bytes behind the result stay ..
+pub frame-undone : (recv : List ℕ) (m : ℕ) → ((n : ℕ) → closed recv m .told ≡ refusal n → 3 < n)
     → closed recv m .recv ≡ plain (take m recv) ++ drop (length (plain (take m recv))) recv
 frame-undone = undone
 

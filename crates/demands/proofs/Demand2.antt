@@ -10,10 +10,10 @@
 --   markers         `marked` (crates/channel/specs/Sender.antt), and `answers` (crates/channel/specs/Channel.antt)
 --   block answers   `condition`, `mend` (crates/channel/specs/Channel.antt), by repair's promise: `Promised` (crates/repair/specs/Promise.antt)
 --   the listing     `listing` (crates/listed/specs/Listing.antt), of recordings taken apart: `apart` (crates/listed/specs/Apart.antt)
--- Here: that they hold together. The paper's numbers are in Numbers.
+-- Here: that they hold together. The paper's numbers are in Numbers, and what else it prints in Printed.
 -- round-trip, round-answer           a packet written and read back
 -- part-short, part-long              the part of the receive buffer that is handed out
--- stream-trip, stream-begun, stream-appended, stream-sent, stream-filled   a whole stream, and the calls that make it
+-- stream-trip, stream-begun, stream-appended, stream-sent, stream-filled, words-carry   a whole stream, and the calls that make it
 -- word-clean, word-only, clean-at    parity words
 -- class-letters                      classes of ports
 -- output-is, depth-passes, there-and-back, back-and-there   interleaving
@@ -50,8 +50,9 @@ use Rattle.stream.specs.Reader.{waiting, inside, reads}
 use Rattle.stream.specs.Sender.{Accepted, rawOf, stream, delivered, appending}
 use Rattle.stream.proofs.Streaming.{stream-read}
 use Rattle.stream.proofs.Sending.{begin-stream, append-stream}
-use Rattle.channel.specs.Sender.{parityBytes, wordOf, fillers, filled, sending, sent}
-use Rattle.channel.specs.Channel.{conditionBy, condition, mend, IsWord, Event, frames, blocks, losses, asMended}
+use Rattle.channel.specs.Sender.{parityBytes, wordOf, fillers, filled, messagesOf, sending, sent}
+use Rattle.channel.specs.Channel.{conditionBy, condition, mend, carried, IsWord, Event, frames, blocks, losses, asMended}
+use Rattle.channel.proofs.Streaming as streaming
 use Rattle.channel.proofs.Words.{block-promised, block-determined}
 use Rattle.listed.specs.Apart.{most, freshSpot, apart, onChannel, records}
 use Rattle.listed.specs.Lines.{letter, lines, isPacket, isRefusal, isDamaged, isLost, count, packetsIn, refusalsIn, damagedIn, longest}
@@ -70,8 +71,8 @@ use Rattle.recording.proofs.Listing.{listing-printed}
 use Rattle.recording.proofs.Ends.{listing-ends, finish-ends}
 use Rattle.demands.proofs.Trips.{packet-back, judged-back, plain-listed, channel-listed}
 
--- ---- "a packet the sender accepts, written and read back, is the same packet": where n bytes are written of a packet (numbers of two
--- bytes, a payload of bytes), those n bytes, read behind a flag, give that packet and nothing else ..
+-- ---- "for each packet the sender accepts, a packet written and read back is the same packet.": where n bytes are written of a packet (numbers
+-- of two bytes, a payload of bytes), those n bytes, read behind a flag, give that packet and nothing else ..
 pub round-trip : (p : Packet) → p .port < 65536 → p .sequence < 65536 → Bytes (p .payload) → (out : List ℕ) (n : ℕ)
     → writing p out .answer ≡ Wrote n
     → reads (inside []) (take n (writing p out .output)) ≡ (delivered p ∷ [], inside [])
@@ -112,6 +113,10 @@ stream-sent ps out n e = write-is (sent ps) out n e
 -- "The sender's stream is filled with flags to a multiple of 223 bytes, none if it already is one": n bytes of 7E, fewer than 223
 pub stream-filled : (bs : List ℕ) → (n : ℕ) × (filled bs ≡ bs ++ replicate n 0x7E) × (n < 223) × ((length bs + n) % 223 ≡ 0) × (length bs % 223 ≡ 0 → n ≡ 0)
 stream-filled bs = (fillers (length bs), refl, omega arith, omega arith, λ e. omega arith)
+
+-- each 223 bytes then become a word: of any bytes, the words' messages are these bytes, filled
+pub words-carry : (bs : List ℕ) → Bytes bs → carried (map wordOf (messagesOf bs)) ≡ filled bs
+words-carry = streaming.words-carry
 
 -- ---- "Port classes": S system, A applications, M, D, F future, by the letter that a listing prints
 pub class-letters : (p : ℕ)

@@ -7,7 +7,7 @@
 -- `EveryCut bs λ es d. ..` (crates/channel/specs/Called.antt; of the plain stream crates/stream/specs/Called.antt): a fresh receiver hears bs,
 -- cut in any way, each piece handed in until "more wanted", with any buffers that pass 11. Its calls come to their end, and whatever calls
 -- these are, with es their answers and d the state and buffers behind them, it is so. They are calls of `hearCall`, which is what the
--- code's `hear` promises (`hear-means` of Promises).
+-- code's `hear` promises (`channel-hear-means` of Promises).
 -- no-refuser                                           a receiver that always refuses meets no law of this form
 -- every-cut, same-cut, every-payload                   cutting, on the channel
 -- plain-cut, plain-payload                             .. and on the plain stream
@@ -107,8 +107,10 @@ module _ (stray : List ℕ) (ws : List (List ℕ)) (some-word : ws ≢ []) (word
   pub lock-kept : (bs : List ℕ) → length bs < 4 → EveryCut ((stray ++ framed ws) ++ bs) λ es _. es ≡ wordsGive ws waiting
   lock-kept = blocks-law.lock-kept stray ws some-word words first
 
-  -- .. but then
-  pub lock-lost : (bs : List ℕ) → length bs ≡ 4 → bs ≢ marker → EveryCut ((stray ++ framed ws) ++ bs) λ es _. es ≡ wordsGive ws waiting ++ lost ∷ []
+  -- .. but then; it "drops any open packet and waits for a flag, and hunts with those four bytes as the last ones": what follows is heard as a
+  -- fresh receiver hears it behind these four
+  pub lock-lost : (bs cs : List ℕ) → length bs ≡ 4 → bs ≢ marker → EveryCut ((stray ++ framed ws) ++ (bs ++ cs))
+      λ es d. (es ≡ wordsGive ws waiting ++ lost ∷ answers (bs ++ cs)) × (inUse d ≡ inUse (boardOf (hears freshChannel (bs ++ cs) .1) [] []))
   lock-lost = blocks-law.lock-lost stray ws some-word words first
 
 -- ---- "If the 255 bytes of one block are altered at will and no marker is": w as sent becomes v

@@ -2,7 +2,7 @@
 -- closed-exact, judging-exact, judge-exact   of the raw bytes in a receive buffer, by the call that judges them, and of raw bytes alone
 -- judging-same                a call that is refused leaves the receive buffer
 -- small                       the number is one of 1 to 8
--- undone                      from 4 on, escapes are undone in the buffer
+-- undone                      but for 1, 2 and 3, escapes are undone in the buffer
 use Prim.Native.Nat.{ℕ, suc, _-_, _≤_, _<_}
 use native.Mathlib.Omega.{arith}
 use mathlib.Core.Path.{_≡_, refl, sym, ap, subst, _∙_}
@@ -149,17 +149,14 @@ judging-same recv m n = go (ltb (suc rawLimit) m) (ltb (length recv) rawLimit)
     go false false e h = let k : (1 ≤ n) × (n ≤ 8) = subst Small e (small recv m) in absurd (omega (arith, k .1))
 
 -- ---- escapes undone
-pub undone : (recv : List ℕ) (m n : ℕ) → closed recv m .told ≡ refusal n → 3 < n
+pub undone : (recv : List ℕ) (m : ℕ) → ((n : ℕ) → closed recv m .told ≡ refusal n → 3 < n)
     → closed recv m .recv ≡ plain (take m recv) ++ drop (length (plain (take m recv))) recv
 unfolding closed closedBy
-undone recv m n = go (ltb rawLimit m) (scan (take m recv))
+undone recv m = go (ltb rawLimit m) (scan (take m recv))
   where
-    same : {k l : ℕ} → refusal k ≡ refusal l → k ≡ l
-    same {k} {l} e = is l k .0 (sym e)
-
-    go : (t : Bool) (e : Escapes) → pick t (kept 1 recv) (closedBy e (take m recv) recv) .told ≡ refusal n → 3 < n
+    go : (t : Bool) (e : Escapes) → ((n : ℕ) → pick t (kept 1 recv) (closedBy e (take m recv) recv) .told ≡ refusal n → 3 < n)
         → pick t (kept 1 recv) (closedBy e (take m recv) recv) .recv ≡ plain (take m recv) ++ drop (length (plain (take m recv))) recv
-    go true s e h = let z : 1 ≡ n = same e in absurd (omega arith)
-    go false Unfinished e h = let z : 2 ≡ n = same e in absurd (omega arith)
-    go false Wrong e h = let z : 3 ≡ n = same e in absurd (omega arith)
-    go false Right e h = refl
+    go true s h = let z : 3 < 1 = h 1 refl in absurd (omega arith)
+    go false Unfinished h = let z : 3 < 2 = h 2 refl in absurd (omega arith)
+    go false Wrong h = let z : 3 < 3 = h 3 refl in absurd (omega arith)
+    go false Right h = refl

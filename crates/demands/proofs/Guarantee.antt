@@ -1,5 +1,5 @@
 -- What parity guarantees, as a dealer asked for it (request W12):
---   "State and prove: a clean word with 1 to R bytes altered is never clean. And 'beyond repair' is given exactly when no clean word lies
+--   "State and prove: a clean word with 1 to R bytes altered is never clean. And "beyond repair" is given exactly when no clean word lies
 --   within h places. It follows for demand 3 that if at most 16 bytes of each opportunistic word are altered and no marker is, the
 --   receiver delivers just what was sent."
 -- `Promised r w a o` (crates/repair/specs/Promise.antt) is what the public function `repair` promises of the word w: the answer a, the word o.
@@ -41,7 +41,7 @@ never-clean r v c w l b some few =
     let e = altered-is v w (checked-clean r v (c .1) .1) l in
     altered-damaged r v c w b l (subst (λ (n : ℕ). 0 < n) e some) (subst (λ (n : ℕ). n ≤ r) e few)
 
--- ---- "'beyond repair' is given exactly when no clean word lies within h places", of whatever `repair` may answer
+-- ---- ""beyond repair" is given exactly when no clean word lies within h places", of whatever `repair` may answer
 pub beyond-exactly : (r : ℕ) (w : List ℕ) → r ≤ 64 → IsWord w → Bytes w → (a : Mended) (o : List ℕ) → Promised r w a o
     → (a ≡ Beyond) ↔ ((v : List ℕ) → CleanWord r v → Repairable r (altered w v) → ⊥)
 beyond-exactly r w h l b a o p =
@@ -53,7 +53,7 @@ beyond-exactly r w h l b a o p =
     places : (v : List ℕ) → CleanWord r v → altered w v ≡ distance w v
     places v c = altered-is w v l (checked-clean r v (c .1) .1)
 
--- ---- "one altered byte is always repaired when R is 2 or more" (request W5): the byte at place i has become c, whatever `repair` may answer
+-- ---- "One altered byte is always repaired when R is 2 or more" (request W5): the byte at place i has become c, whatever `repair` may answer
 pub one-byte : (r : ℕ) (v : List ℕ) → CleanWord r v → 2 ≤ r → (i c : ℕ) → i < 255 → c < 256 → getD v i 0 ≢ c
     → (a : Mended) (o : List ℕ) → Promised r (set v i c) a o → (a ≡ Repaired 1) × (o ≡ v)
 one-byte = promising.one-restored

@@ -12,4 +12,3 @@ pub mod Demand3
 pub mod Altered
 pub mod Guarantee
 pub mod Numbers
-pub mod Printed

@@ -3,3 +3,5 @@ pub mod Table
 pub mod Refusals
 pub mod Desks
 pub mod Guarantee
+pub mod Numbers
+pub mod Printed

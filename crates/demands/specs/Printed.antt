@@ -1,13 +1,13 @@
 -- What the paper prints: its fixed numbers and letters said a second time, in the form of Numbers, so that a slip is seen even where code and
--- definition slip together. The fresh states stand in Promises, the rows of refusals in Demand1, and what a law says for all numbers
--- (classes, interleaver) in Demand2.
+-- definition slip together. The fresh states stand in proofs/Promises, the rows of refusals in proofs/Demand1, and what a law says for all numbers
+-- (classes, interleaver) in proofs/Demand2.
 -- printed    the rows
--- as-printed there is none that does not agree
 use Prim.Native.Nat.{ℕ, zero, suc}
 use mathlib.Core.Path.{_≡_, refl}
 use mathlib.Core.Bool.{false}
 use mathlib.Core.List.{List, [], _∷_, _++_, map}
 use lib.ListN.{replicate}
+use Rattle.base.specs.Calls.{joined}
 use Rattle.base.specs.Choice.{pick}
 use Rattle.fcs.specs.Fcs as check
 use Rattle.field.specs.Field as field
@@ -16,6 +16,7 @@ use Rattle.packet.specs.Contents.{format, payloadLimit, plainLimit, rawLimit, w
 use Rattle.packet.specs.Escape.{flag, escape, escapeByte, plain, plainScan, right, last, scan}
 use Rattle.packet.specs.Frame.{packet, refusal, judgeContents, judgeBody, closedBy, closed, judge}
 use Rattle.packet.specs.Port.{class, barred}
+use Rattle.packet.specs.Sender.{refusing}
 use Rattle.packet.specs.declared.frame.Judged.the-variants.{Packet, Refused}
 use Rattle.channel.specs.Sender.{marker, messageBytes, parityBytes, wordBytes, blockBytes}
 use Rattle.channel.specs.Channel.{Event, said, block, lost}
@@ -23,12 +24,15 @@ use Rattle.channel.specs.declared.answer.Condition.the-variants.{Clean, Repaire
 use Rattle.channel.specs.Called.{freshReceiver}
 use Rattle.channel.specs.declared.answer.Answer.the-variants.{Said, Block, LockLost}
 use Rattle.listed.specs.Apart as listed
-use Rattle.listed.specs.Lines.{decimal, decimalBy, letter, told, line, lines, count, endLine, wrongLine}
+use Rattle.bid.specs.Line.{lineLimit}
+use Rattle.office.specs.Called.{heldLimit, holdLimit, outLimit}
+use Rattle.tape.specs.Called.{far}
+use Rattle.listed.specs.Lines.{longest, decimal, decimalBy, letter, told, line, lines, count, endLine, wrongLine}
 use Rattle.listed.specs.Listing.{heard as heardAs, totalLine, lastLine, listed as listedAs, listing}
 use Rattle.listed.specs.declared.Place.the-variants.{Mark}
 use Rattle.recording.specs.declared.recording.Recording.{Recording}
 use Rattle.recording.specs.Printed.{lastOf}
-use Rattle.demands.proofs.Numbers.{Line, heard, wrong}
+use Rattle.demands.specs.Numbers.{Line, inNumbers, heard}
 
 -- so many packets, refusals, blocks beyond repair and lost locks among the answers, and a clean and a repaired block besides
 abbrev answersOf : ℕ → ℕ → ℕ → ℕ → List Event
@@ -50,6 +54,10 @@ letterOf port = letter (class port)
 -- 1 where a port may not be used
 abbrev unusable : ℕ → ℕ
 unusable port = pick (barred port) 1 0
+
+-- the number by which a payload for port 5100 is refused; 0 where it passes
+abbrev refusalOf : List ℕ → ℕ
+refusalOf payload = refusing (record { port = 0x5100; sequence = 0; payload = payload }) (λ n. n) 0
 
 -- the number of a row, what the definitions give, what the paper prints
 abbrev pub printed : List Line
@@ -79,8 +87,7 @@ printed =
     (23, map letterOf (0x0401 ∷ 0x50FF ∷ 0x5100 ∷ 0x5201 ∷ 0x5207 ∷ []), 65 ∷ 65 ∷ 77 ∷ 68 ∷ 68 ∷ []) ∷  -- A 0401 50FF, M 5100, D 5201 5207
     (24, map letterOf (0x5300 ∷ 0x7CFF ∷ 0x7F00 ∷ 0xFEFF ∷ []), 70 ∷ 70 ∷ 70 ∷ 70 ∷ []) ∷  -- F 5300 7CFF 7F00 FEFF
     (25, map unusable (0x7CFF ∷ 0x7D00 ∷ 0x7EFF ∷ 0x7F00 ∷ []), 0 ∷ 1 ∷ 1 ∷ 0 ∷ []) ∷  -- 7D00-7EFF may not be used, and the ports beside them may
+    (26, lineLimit ∷ heldLimit ∷ holdLimit ∷ outLimit ∷ longest ∷ far ∷ [], 8205 ∷ 222 ∷ 8428 ∷ 9583 ∷ 128 ∷ 18446744073709551615 ∷ []) ∷  -- our own limits, as docs/REFUSALS.md and docs/DECISIONS.md print them
+    (27, map refusalOf (replicate 8192 0 ∷ replicate 8193 0 ∷ replicate 4096 0x7E ∷ replicate 4097 0x7E ∷ []), 0 ∷ 21 ∷ 0 ∷ 21 ∷ []) ∷  -- 8,192 plain payload bytes pass and 8,193 get 21; 4,096 bytes of 0x7E pass and 4,097 get 21
+    (28, joined (map inNumbers (judge (replicate 8205 0x7D) ∷ judge (replicate 8206 0x7D) ∷ [])), 2 ∷ 1 ∷ []) ∷  -- 8,205 raw bytes are judged further and 8,206 get 1
     []
-
-pub as-printed : wrong printed ≡ []
-unfolding check.fcs check.register check.entered contents withCheck escape escapeByte judge closed closedBy judgeContents judgeBody scan last plainScan right plain class told lines count endLine wrongLine decimal decimalBy heardAs lastLine listedAs listing listed.apart listed.inStream listed.nextAt
-as-printed = refl
