@@ -1,8 +1,8 @@
--- The paper's sentences on calls, of the two receiving calls: "One call gives at most one answer, with the number of bytes taken. It takes
+-- The paper's sentences on calls, of the receiving calls: "One call gives at most one answer, with the number of bytes taken. It takes
 -- no byte behind the one that caused the answer, and the rest of a stored word is handed on before any new byte is taken. It says "more
 -- wanted" exactly when all bytes are taken, a stored word is handed on whole and no answer is owed."
 -- That a call gives at most one answer is its type (`Option Event`); with the answers of `hearAll` it is tied by `hear-first`.
-use Prim.Native.Nat.{ℕ, suc}
+use Prim.Native.Nat.{ℕ, suc, _+_, _≤_}
 use native.Mathlib.Omega.{arith}
 use mathlib.Core.Path.{_≡_, refl, sym, _∙_, ap}
 use mathlib.Core.Bool.{Bool, true, false}
@@ -13,7 +13,7 @@ use lib.ListN.{length, take, drop}
 use lib.Dec.{leb}
 use borrow.Author.Tests.{leb-true}
 use Rattle.base.specs.Calls.{owesNone, handsNone, unless, told}
-use Rattle.base.proofs.Calls.{none-owed, inv-hear}
+use Rattle.base.proofs.Calls.{none-owed, law, inv-hear}
 use Rattle.packet.specs.Contents.{rawLimit}
 use Rattle.packet.specs.Frame.{Told}
 use Rattle.stream.specs.Called.{Held, takeByte, readAll, readOn, readBy, readCall, sound as soundFrame, Fine as FineFrame}
@@ -23,6 +23,11 @@ use Rattle.channel.specs.Called.{Board, owed, handOn, eatByte, sound, roomy, he
 use Rattle.channel.proofs.Fine.{fine-of, fine-hand, fine-eat}
 use Rattle.channel.proofs.Cutting.{hand-one, hear-agrees, hear-law}
 use Rattle.base.proofs.Stopping.{stops, blind, owed-first, wanting}
+use Rattle.tape.specs.Deck.{Deck, deckOwes, deckHand, deckEat, deckAll, deckHear}
+use Rattle.tape.specs.Called.{far, tapeCall}
+use Rattle.tape.proofs.Turn.{deck-hand-one}
+use Rattle.tape.proofs.Kept.{hear-kept}
+use Rattle.tape.proofs.Next.{tape-agrees}
 
 none-behind : {A S : Type 0} (a b : A) (n : ℕ) (s t : S) → _≡_ {A = Option A × ℕ × S} (some a, 0, s) (some b, suc n, t) → ⊥
 none-behind {A} {S} a b n s t e = let z : 0 ≡ suc n = ap (λ (q : Option A × ℕ × S). q .1) e in omega arith
@@ -102,3 +107,30 @@ pub read-wanting : (h : Held) → FineFrame h → (bs : List ℕ) → (readCall 
 read-wanting h f bs =
     let w = wanting owesNone handsNone takeByte none-owed h bs in
     rw (read-agrees h bs f) (λ e. (w .0 e .0, w .0 e .2), λ p. w .1 (p .0, refl, p .1))
+
+-- ---- on a recording's bytes, by a call that is not refused: the receiver and both buffers pass, and the offset stays below 2^64
+module _ (m : Deck) (f : Fine (m .ear .board)) (bs : List ℕ) (o : m .spot .offset + length bs ≤ far) where
+  pub next-first : (e : Event) (n : ℕ) (d : Deck) → tapeCall m bs ≡ (some e, n, d)
+      → (deckAll m bs .0 ≡ e ∷ deckAll d (drop n bs) .0) × (deckAll m bs .1 ≡ deckAll d (drop n bs) .1)
+  next-first e n d h =
+      let l = law deckOwes deckHand deckEat deck-hand-one m bs ∙ ap (λ r. told deckOwes deckHand deckEat r bs) (sym (tape-agrees m bs f o) ∙ h) in
+      (ap (λ (x : List Event × Deck). x .0) l, ap (λ (x : List Event × Deck). x .1) l)
+
+  pub next-stops : (e : Event) (n : ℕ) (d : Deck) → tapeCall m bs ≡ (some e, suc n, d) → deckAll m (take n bs) .0 ≡ []
+  next-stops e n d h = stops deckOwes deckHand deckEat m bs e n d (sym (tape-agrees m bs f o) ∙ h)
+
+  pub next-blind : (e : Event) (n : ℕ) (d : Deck) → tapeCall m bs ≡ (some e, n, d)
+      → (cs : List ℕ) → m .spot .offset + length (take n bs ++ cs) ≤ far → tapeCall m (take n bs ++ cs) ≡ (some e, n, d)
+  next-blind e n d h cs p =
+      tape-agrees m (take n bs ++ cs) f p ∙ blind deckOwes deckHand deckEat cs m bs e n d (sym (tape-agrees m bs f o) ∙ h)
+
+  pub next-owed : tapeCall m bs ≡ unless (tapeCall m [] .0) 0 (tapeCall m [] .2) (tapeCall (tapeCall m [] .2) bs)
+  next-owed =
+      let k = hear-kept m [] f in
+      let none-yet = tape-agrees m [] f (omega arith) in
+      tape-agrees m bs f o ∙ owed-first deckOwes deckHand deckEat deck-hand-one m bs
+      ∙ ap (unless (deckHear m [] .0) 0 (deckHear m [] .2)) (sym (tape-agrees (deckHear m [] .2) bs (k .fine) (omega (arith, k .within, k .near))))
+      ∙ ap (λ (x : Option Event × ℕ × Deck). unless (x .0) 0 (x .2) (tapeCall (x .2) bs)) (sym none-yet)
+
+  pub next-wanting : (tapeCall m bs .0 ≡ none) ↔ ((tapeCall m bs .1 ≡ length bs) × (deckOwes (tapeCall m bs .2) ≡ 0) × (deckAll m bs .0 ≡ []))
+  next-wanting = rw (tape-agrees m bs f o) (wanting deckOwes deckHand deckEat deck-hand-one m bs)

@@ -1,23 +1,22 @@
 -- Every way of cutting a recording below 2^64 bytes comes to its end, and yields the answers and the deck of the uncut recording.
 -- Safe           so many bytes may still come: no call on them is refused
 -- tape-yields    from any deck that is safe for the bytes to come, where nothing is owed
-use Prim.Native.Nat.{ℕ, _+_, _-_, _≤_}
+use Prim.Native.Nat.{ℕ, _+_, _≤_}
 use native.Mathlib.Omega.{arith}
 use mathlib.Core.Path.{_≡_, sym, _∙_, subst}
 use mathlib.Core.List.{List, _∷_}
 use mathlib.Core.Option.{Option, some, none}
 use lib.ListN.{length, drop, length-append, length-drop}
-use borrow.Author.Tests.{le-leb}
 use Rattle.base.specs.Calls.{joined, Reads, ReadsAll, Yields}
 use Rattle.base.specs.Calls.Reads.{more, answer}
 use Rattle.base.specs.Calls.ReadsAll.{done, piece}
 use Rattle.base.proofs.Calls.{cut, cut-ends}
 use Rattle.channel.specs.Channel.{Event}
-use Rattle.channel.proofs.Fine.{fine-is, fine-roomy}
 use Rattle.tape.specs.Deck.{Deck, deckOwes, deckHand, deckEat, deckAll, deckHear}
-use Rattle.tape.specs.Called.{far, tapeBy, tapeCall}
+use Rattle.tape.specs.Called.{far, tapeCall}
 use Rattle.tape.proofs.Turn.{deck-hand-one}
 use Rattle.tape.proofs.Kept.{FineDeck, Kept, hear-kept}
+use Rattle.tape.proofs.Next.{tape-agrees}
 
 -- n bytes may still come
 pub record Safe (m : Deck) (n : ℕ) : Type 0 where
@@ -26,9 +25,7 @@ pub record Safe (m : Deck) (n : ℕ) : Type 0 where
 
 -- no call on them is refused ..
 safe-on : (m : Deck) (bs : List ℕ) (k : ℕ) → Safe m (length bs + k) → tapeCall m bs ≡ deckHear m bs
-safe-on m bs k s =
-    let o : m .spot .offset ≤ far - length bs = omega (arith, s .offset) in
-    λ i. tapeBy (fine-is (m .ear .board) (s .fine) i) (le-leb (m .spot .offset) (far - length bs) o i) (fine-roomy (m .ear .board) (s .fine) i) m bs
+safe-on m bs k s = tape-agrees m bs (s .fine) (omega (arith, s .offset))
 
 -- .. and behind it those that are left may still come
 safe-behind : (m t : Deck) (bs : List ℕ) (k n : ℕ) (o : Option Event) → Safe m (length bs + k) → deckHear m bs ≡ (o, n, t) → Safe t (length (drop n bs) + k)

@@ -1,7 +1,9 @@
 -- One call: refused with 10, with 11, or let on.
+-- near-is, near-of                                10 of the offset, as a fact
 -- next-unsound, next-far, next-cramped, next-on   the ways out of a call
 -- next-asks                                       what hearing asks
 -- let-on                                          behind 10 and 11 a call hears
+-- tape-agrees                                     .. by facts
 -- next-heard                                      .. and what it then keeps
 use Prim.Native.Nat.{ℕ, _+_, _-_, _≤_}
 use native.Mathlib.Omega.{arith}
@@ -10,18 +12,26 @@ use mathlib.Core.Bool.{Bool, true, false}
 use mathlib.Core.List.{List}
 use mathlib.Core.Option.{Option}
 use lib.ListN.{length}
-use borrow.Author.Tests.{leb-true}
+use borrow.Author.Tests.{le-leb, leb-true}
 use Rattle.packet.specs.declared.frame.Judged.the-variants.{Refused}
 use Rattle.channel.specs.Channel.{Event}
-use Rattle.channel.specs.Called.{sound, roomy}
+use Rattle.channel.specs.Called.{sound, roomy, Fine}
 use Rattle.channel.specs.declared.answer.Answer.the-variants.{Said}
 use Rattle.channel.proofs.Fine.{fine-of, fine-is, fine-roomy}
+use Rattle.listed.specs.declared.Spot.{Spot}
 use Rattle.tape.specs.declared.tape.Tape.{Tape}
 use Rattle.tape.specs.declared.tape.Heard.{Heard}
 use Rattle.tape.specs.Deck.{Deck, deckHear}
 use Rattle.tape.specs.Called.{far, deckOf, tapeOf, nearSpot, tapeBy, tapeCall, NextIs}
 use Rattle.tape.specs.Private.{HeardIs}
 use Rattle.tape.proofs.Kept.{Kept, hear-kept}
+
+-- on n bytes the offset stays below 2^64
+near-is : (p : Spot) (n : ℕ) → p .offset + n ≤ far → nearSpot p n ≡ true
+near-is p n h = le-leb (p .offset) (far - n) (omega arith)
+
+near-of : (p : Spot) (n : ℕ) → n ≤ far → nearSpot p n ≡ true → p .offset + n ≤ far
+near-of p n wide e = let h : p .offset ≤ far - n = leb-true (p .offset) (far - n) e in omega arith
 
 module _ (t : Tape) (l k bs : List ℕ) where
   abbrev m : Deck
@@ -54,7 +64,7 @@ module _ (t : Tape) (l k bs : List ℕ) where
 
     -- what hearing asks
     pub next-asks : length bs ≤ far → (sound (t .receiver) ≡ true) × (roomy l k ≡ true) × (t .spot .offset + length bs ≤ far)
-    next-asks wide = let h : t .spot .offset ≤ far - length bs = leb-true _ _ n in (e, b, omega arith)
+    next-asks wide = (e, b, near-of (t .spot) (length bs) wide n)
 
     pub next-on : {r : Heard} {l′ k′ : List ℕ} → HeardIs m bs r l′ k′ → NextIs (tapeCall m bs) r l′ k′
     next-on {r} {l′} {k′} h =
@@ -82,3 +92,8 @@ module _ (t : Tape) (l k bs : List ℕ) where
             roomy = fine-roomy (deckOf (r .tape) l′ k′ .ear .board) (c .fine);
           },
         )
+
+-- behind 10 and 11, as facts, a call hears
+pub tape-agrees : (m : Deck) (bs : List ℕ) → Fine (m .ear .board) → m .spot .offset + length bs ≤ far → tapeCall m bs ≡ deckHear m bs
+tape-agrees m bs f o =
+    let-on (tapeOf m) (m .ear .board .recv) (m .ear .board .word) bs (fine-is (m .ear .board) f) (near-is (m .spot) (length bs) o) (fine-roomy (m .ear .board) f)
