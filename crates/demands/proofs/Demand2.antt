@@ -61,11 +61,11 @@ use Rattle.listed.proofs.Totals.{packets-counted, refusals-counted, damaged-cou
 use Rattle.packet.specs.Contents.{rawLimit, Packet}
 use Rattle.channel.specs.Sender.{wordBytes}
 use Rattle.tape.specs.Deck.{Deck, fresh}
-use Rattle.tape.specs.Called.{far, EveryCut}
+use Rattle.tape.specs.Called.{far, deckOf, EveryCut}
 use Rattle.tape.proofs.Demands.{taken-apart}
 use Rattle.recording.specs.declared.recording.Totals.{Totals}
 use Rattle.recording.specs.declared.recording.Recording.{Recording}
-use Rattle.recording.specs.Printed.{noTotals, lastOf, recorded, finishing}
+use Rattle.recording.specs.Printed.{noTotals, lastOf, recorded, finishing, freshRecording}
 use Rattle.recording.specs.Runs.{ListsAll, Run, Fair}
 use Rattle.recording.proofs.Listing.{listing-printed}
 use Rattle.recording.proofs.Ends.{listing-ends, finish-ends}
@@ -206,6 +206,10 @@ pub listed-by-calls : (recv word : List ℕ) → rawLimit ≤ length recv → wo
     → (out : List ℕ) (n : ℕ) → finishing (recorded m t) out .answer ≡ Wrote n
     → text ++ take n (finishing (recorded m t) out .output) ≡ listing (joined pieces)
 listed-by-calls = listing-printed
+
+-- .. from the fresh recording's deck and totals ..
+pub listed-from : (recv word : List ℕ) → (deckOf (freshRecording .tape) recv word ≡ fresh recv word) × (freshRecording .totals ≡ noTotals)
+listed-from recv word = (refl, refl)
 
 -- .. and such a run exists and comes to its end: a recording below 2^64 bytes, and for each call room for any line (2^63 bytes at most)
 pub listed-at-last : (rooms : ℕ → ℕ) → Fair rooms → (recv word : List ℕ) → rawLimit ≤ length recv → wordBytes ≤ length word
