@@ -19,9 +19,10 @@
 -- output-is, depth-passes, there-and-back, back-and-there   interleaving
 -- block-answer, block-only           a block's answer and the word that is read are what repair promises
 -- plain-listing, channel-listing, totals, sent-totals   the listing's lines and totals
+-- x-offset                                              the offset that `X` prints
 -- recorded-by-calls                                     a recording's answers by calls, and where it ends
 -- listed-by-calls, listed-at-last, finished-at-last     the listing by calls
-use Prim.Native.Nat.{ℕ, _+_, _-_, _*_, _/_, _%_, _≤_, _<_}
+use Prim.Native.Nat.{ℕ, suc, _+_, _-_, _*_, _/_, _%_, _≤_, _<_}
 use native.Mathlib.Omega.{arith}
 use mathlib.Core.Path.{_≡_, refl, sym, _∙_, ap}
 use mathlib.Core.Bool.{Bool, true, false}
@@ -56,6 +57,8 @@ use Rattle.channel.proofs.Words.{block-promised, block-determined}
 use Rattle.listed.specs.Apart.{most, freshSpot, apart, onChannel, records}
 use Rattle.listed.specs.Lines.{letter, lines, isPacket, isRefusal, isDamaged, isLost, count, packetsIn, refusalsIn, damagedIn, longest}
 use Rattle.listed.specs.Listing.{heard, totalLine, listing}
+use Rattle.listed.specs.declared.Place.the-variants.{Wrong}
+use Rattle.listed.proofs.Offsets.{offset-right, offset-wrong}
 use Rattle.listed.proofs.Totals.{packets-counted, refusals-counted, damaged-counted, lost-counted, sent-counted}
 use Rattle.packet.specs.Contents.{rawLimit, Packet}
 use Rattle.channel.specs.Sender.{wordBytes}
@@ -187,6 +190,16 @@ totals es = (packets-counted es, refusals-counted es, damaged-counted es, lost-c
 -- of a sender's packets all are packets, and none is a refusal
 pub sent-totals : (ps : List Packet) (es : List Event) → frames es ≡ map delivered ps → (count isPacket es ≡ length ps) × (count isRefusal es ≡ 0)
 sent-totals ps es e = (packets-counted es ∙ ap packetsIn e ∙ sent-counted ps .0, refusals-counted es ∙ ap refusalsIn e ∙ sent-counted ps .1)
+
+-- "`X offset` where the input is not as described: the file offset of the first wrong byte, or the input's length if it ends early": where a byte
+-- is wrong, up to that offset none is, and with the byte there one is; where none is, the offset is the length
+pub x-offset : (file : List ℕ)
+    → ((apart freshSpot file .1 .place ≡ Wrong → ⊥) → apart freshSpot file .1 .offset ≡ length file)
+    × (apart freshSpot file .1 .place ≡ Wrong
+    → (apart freshSpot file .1 .offset < length file)
+    × (apart freshSpot (take (apart freshSpot file .1 .offset) file) .1 .place ≡ Wrong → ⊥)
+    × (apart freshSpot (take (suc (apart freshSpot file .1 .offset)) file) .1 .place ≡ Wrong))
+x-offset file = (offset-right file, offset-wrong file)
 
 -- ---- a recording by calls, one answer each: however it is cut, and whatever the lent buffers held, the calls come to their end, their answers are
 -- those of its stream bytes, and behind them it stands where taking it apart ends (a recording below 2^64 bytes)
