@@ -19,7 +19,7 @@
 -- output-is, depth-passes, there-and-back, back-and-there   interleaving
 -- block-answer, block-only           a block's answer and the word that is read are what repair promises
 -- plain-listing, channel-listing, totals, sent-totals   the listing's lines and totals
--- x-offset                                              the offset that `X` prints
+-- x-offset, decimal-value                               the offset that `X` prints, and numbers as they are printed
 -- recorded-by-calls                                     a recording's answers by calls, and where it ends
 -- listed-by-calls, listed-at-last, finished-at-last     the listing by calls
 use Prim.Native.Nat.{ℕ, suc, _+_, _-_, _*_, _/_, _%_, _≤_, _<_}
@@ -55,7 +55,8 @@ use Rattle.channel.specs.Sender.{parityBytes, wordOf, fillers, filled, sending,
 use Rattle.channel.specs.Channel.{conditionBy, condition, mend, IsWord, Event, frames, blocks, losses, asMended}
 use Rattle.channel.proofs.Words.{block-promised, block-determined}
 use Rattle.listed.specs.Apart.{most, freshSpot, apart, onChannel, records}
-use Rattle.listed.specs.Lines.{letter, lines, isPacket, isRefusal, isDamaged, isLost, count, packetsIn, refusalsIn, damagedIn, longest}
+use Rattle.bid.specs.Line.{digits, value}
+use Rattle.listed.specs.Lines.{decimal, letter, lines, isPacket, isRefusal, isDamaged, isLost, count, packetsIn, refusalsIn, damagedIn, longest}
 use Rattle.listed.specs.Listing.{heard, totalLine, listing}
 use Rattle.listed.specs.declared.Place.the-variants.{Wrong}
 use Rattle.listed.proofs.Offsets.{offset-right, offset-wrong}
@@ -71,6 +72,7 @@ use Rattle.recording.specs.Printed.{noTotals, lastOf, recorded, finishing}
 use Rattle.recording.specs.Runs.{ListsAll, Run, Fair}
 use Rattle.recording.proofs.Listing.{listing-printed}
 use Rattle.recording.proofs.Ends.{listing-ends, finish-ends}
+use Rattle.demands.proofs.Digits.{decimal-digits}
 use Rattle.demands.proofs.Trips.{packet-back, judged-back, plain-listed, channel-listed}
 
 -- ---- "a packet the sender accepts, written and read back, is the same packet": where n bytes are written of a packet (numbers of two
@@ -200,6 +202,12 @@ pub x-offset : (file : List ℕ)
     × (apart freshSpot (take (apart freshSpot file .1 .offset) file) .1 .place ≡ Wrong → ⊥)
     × (apart freshSpot (take (suc (apart freshSpot file .1 .offset)) file) .1 .place ≡ Wrong))
 x-offset file = (offset-right file, offset-wrong file)
+
+-- a number below 10^20 (the code's are below 2^64) is printed in decimal digits without leading zeros: digits alone, their value is the number,
+-- and where it is not 0 the first is not `0`
+pub decimal-value : (n : ℕ) → n < 100000000000000000000
+    → (digits (decimal n) ≡ true) × (value 0 (decimal n) ≡ n) × (1 ≤ n → getD (decimal n) 0 48 ≡ 48 → ⊥)
+decimal-value = decimal-digits
 
 -- ---- a recording by calls, one answer each: however it is cut, and whatever the lent buffers held, the calls come to their end, their answers are
 -- those of its stream bytes, and behind them it stands where taking it apart ends (a recording below 2^64 bytes)
