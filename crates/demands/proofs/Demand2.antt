@@ -22,6 +22,7 @@
 -- x-offset, decimal-value                               the offset that `X` prints, and numbers as they are printed
 -- recorded-by-calls                                     a recording's answers by calls, and where it ends
 -- listed-by-calls, listed-at-last, finished-at-last     the listing by calls
+-- line-number, close-number                             the number of a line that the office tells of
 use Prim.Native.Nat.{ℕ, suc, _+_, _-_, _*_, _/_, _%_, _≤_, _<_}
 use native.Mathlib.Omega.{arith}
 use mathlib.Core.Path.{_≡_, refl, sym, _∙_, ap}
@@ -31,7 +32,7 @@ use mathlib.Core.List.{List, [], _∷_, _++_, map, append-nil}
 use lib.ListN.{length, take, drop, getD, replicate}
 use borrow.Author.Tests.{lt-ltb, le-ltb}
 use Rattle.base.specs.Bytes.{Each, Bytes}
-use Rattle.base.specs.Calls.{joined}
+use Rattle.base.specs.Calls.{joined, With}
 use Rattle.base.specs.Written.{write}
 use Rattle.base.proofs.Writing.{write-is}
 use Rattle.base.specs.declared.Written.the-variants.{Wrote}
@@ -72,6 +73,9 @@ use Rattle.recording.specs.Printed.{noTotals, lastOf, recorded, finishing}
 use Rattle.recording.specs.Runs.{ListsAll, Run, Fair}
 use Rattle.recording.proofs.Listing.{listing-printed}
 use Rattle.recording.proofs.Ends.{listing-ends, finish-ends}
+use Rattle.office.specs.Desk.{Said, Desk}
+use Rattle.office.specs.Called.{hearCall, closeCall}
+use Rattle.demands.proofs.Desk.{office-line-number, office-close-number}
 use Rattle.demands.proofs.Digits.{decimal-digits}
 use Rattle.demands.proofs.Trips.{packet-back, judged-back, plain-listed, channel-listed}
 
@@ -231,3 +235,11 @@ listed-at-last = listing-ends
 -- .. the finishing call with it
 pub finished-at-last : (r : Recording) (out : List ℕ) → longest ≤ length out → finishing r out .answer ≡ Wrote (length (lastOf r))
 finished-at-last = finish-ends
+
+-- ---- the office's lines: the number told with a line is the count of lines of the state that comes with it, at each call ..
+pub line-number : (room : ℕ) (d : Desk) (bs : List ℕ) → With (λ (x : Said) (e : Desk). x .0 ≡ e .st .lines) (hearCall room d bs .0) (hearCall room d bs .2)
+line-number = office-line-number
+
+-- .. and at the end of the input
+pub close-number : (room : ℕ) (d : Desk) → With (λ (x : Said) (e : Desk). x .0 ≡ e .st .lines) (closeCall room d .0) (closeCall room d .2)
+close-number = office-close-number
