@@ -19,9 +19,11 @@
 -- output-is, depth-passes, there-and-back, back-and-there   interleaving
 -- block-answer, block-only           a block's answer and the word that is read are what repair promises
 -- plain-listing, channel-listing, totals, sent-totals   the listing's lines and totals
+-- x-offset, decimal-value                               the offset that `X` prints, and numbers as they are printed
 -- recorded-by-calls                                     a recording's answers by calls, and where it ends
 -- listed-by-calls, listed-at-last, finished-at-last     the listing by calls
-use Prim.Native.Nat.{ℕ, _+_, _-_, _*_, _/_, _%_, _≤_, _<_}
+-- line-number, close-number                             the number of a line that the office tells of
+use Prim.Native.Nat.{ℕ, suc, _+_, _-_, _*_, _/_, _%_, _≤_, _<_}
 use native.Mathlib.Omega.{arith}
 use mathlib.Core.Path.{_≡_, refl, sym, _∙_, ap}
 use mathlib.Core.Bool.{Bool, true, false}
@@ -30,7 +32,7 @@ use mathlib.Core.List.{List, [], _∷_, _++_, map, append-nil}
 use lib.ListN.{length, take, drop, getD, replicate}
 use borrow.Author.Tests.{lt-ltb, le-ltb}
 use Rattle.base.specs.Bytes.{Each, Bytes}
-use Rattle.base.specs.Calls.{joined}
+use Rattle.base.specs.Calls.{joined, With}
 use Rattle.base.specs.Written.{write}
 use Rattle.base.proofs.Writing.{write-is}
 use Rattle.base.specs.declared.Written.the-variants.{Wrote}
@@ -55,8 +57,11 @@ use Rattle.channel.specs.Channel.{conditionBy, condition, mend, carried, IsWord
 use Rattle.channel.proofs.Streaming as streaming
 use Rattle.channel.proofs.Words.{block-promised, block-determined}
 use Rattle.listed.specs.Apart.{most, freshSpot, apart, onChannel, records}
-use Rattle.listed.specs.Lines.{letter, lines, isPacket, isRefusal, isDamaged, isLost, count, packetsIn, refusalsIn, damagedIn, longest}
+use Rattle.bid.specs.Line.{digits, value}
+use Rattle.listed.specs.Lines.{decimal, letter, lines, isPacket, isRefusal, isDamaged, isLost, count, packetsIn, refusalsIn, damagedIn, longest}
 use Rattle.listed.specs.Listing.{heard, totalLine, listing}
+use Rattle.listed.specs.declared.Place.the-variants.{Wrong}
+use Rattle.listed.proofs.Offsets.{offset-right, offset-wrong}
 use Rattle.listed.proofs.Totals.{packets-counted, refusals-counted, damaged-counted, lost-counted, sent-counted}
 use Rattle.packet.specs.Contents.{rawLimit, Packet}
 use Rattle.channel.specs.Sender.{wordBytes}
@@ -69,6 +74,10 @@ use Rattle.recording.specs.Printed.{noTotals, lastOf, recorded, finishing, fres
 use Rattle.recording.specs.Runs.{ListsAll, Run, Fair}
 use Rattle.recording.proofs.Listing.{listing-printed}
 use Rattle.recording.proofs.Ends.{listing-ends, finish-ends}
+use Rattle.office.specs.Desk.{Said, Desk}
+use Rattle.office.specs.Called.{hearCall, closeCall}
+use Rattle.demands.proofs.Desk.{office-line-number, office-close-number}
+use Rattle.demands.proofs.Digits.{decimal-digits}
 use Rattle.demands.proofs.Trips.{packet-back, judged-back, plain-listed, channel-listed}
 
 -- ---- "for each packet the sender accepts, a packet written and read back is the same packet.": where n bytes are written of a packet (numbers
@@ -193,6 +202,22 @@ totals es = (packets-counted es, refusals-counted es, damaged-counted es, lost-c
 pub sent-totals : (ps : List Packet) (es : List Event) → frames es ≡ map delivered ps → (count isPacket es ≡ length ps) × (count isRefusal es ≡ 0)
 sent-totals ps es e = (packets-counted es ∙ ap packetsIn e ∙ sent-counted ps .0, refusals-counted es ∙ ap refusalsIn e ∙ sent-counted ps .1)
 
+-- "`X offset` where the input is not as described: the file offset of the first wrong byte, or the input's length if it ends early": where a byte
+-- is wrong, up to that offset none is, and with the byte there one is; where none is, the offset is the length
+pub x-offset : (file : List ℕ)
+    → ((apart freshSpot file .1 .place ≡ Wrong → ⊥) → apart freshSpot file .1 .offset ≡ length file)
+    × (apart freshSpot file .1 .place ≡ Wrong
+    → (apart freshSpot file .1 .offset < length file)
+    × (apart freshSpot (take (apart freshSpot file .1 .offset) file) .1 .place ≡ Wrong → ⊥)
+    × (apart freshSpot (take (suc (apart freshSpot file .1 .offset)) file) .1 .place ≡ Wrong))
+x-offset file = (offset-right file, offset-wrong file)
+
+-- a number below 10^20 (the code's are below 2^64) is printed in decimal digits without leading zeros: digits alone, their value is the number,
+-- and where it is not 0 the first is not `0`
+pub decimal-value : (n : ℕ) → n < 100000000000000000000
+    → (digits (decimal n) ≡ true) × (value 0 (decimal n) ≡ n) × (1 ≤ n → getD (decimal n) 0 48 ≡ 48 → ⊥)
+decimal-value = decimal-digits
+
 -- ---- a recording by calls, one answer each: however it is cut, and whatever the lent buffers held, the calls come to their end, their answers are
 -- those of its stream bytes, and behind them it stands where taking it apart ends (a recording below 2^64 bytes)
 pub recorded-by-calls : (file : List ℕ) → length file ≤ far
@@ -219,3 +244,11 @@ listed-at-last = listing-ends
 -- .. the finishing call with it
 pub finished-at-last : (r : Recording) (out : List ℕ) → longest ≤ length out → finishing r out .answer ≡ Wrote (length (lastOf r))
 finished-at-last = finish-ends
+
+-- ---- the office's lines: the number told with a line is the count of lines of the state that comes with it, at each call ..
+pub line-number : (room : ℕ) (d : Desk) (bs : List ℕ) → With (λ (x : Said) (e : Desk). x .0 ≡ e .st .lines) (hearCall room d bs .0) (hearCall room d bs .2)
+line-number = office-line-number
+
+-- .. and at the end of the input
+pub close-number : (room : ℕ) (d : Desk) → With (λ (x : Said) (e : Desk). x .0 ≡ e .st .lines) (closeCall room d .0) (closeCall room d .2)
+close-number = office-close-number

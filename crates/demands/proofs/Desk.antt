@@ -2,6 +2,7 @@
 -- office-..-exact, lines-..-exact   row by row
 -- office-..-same, lines-..-same     what a refused call leaves: everything as it was, with no byte taken
 -- line-exact, office-line-..        a line's own refusals, 20 to 22, and what they leave
+-- office-line-number, office-close-number   the number of a line that is told
 use Prim.Native.Nat.{ℕ, _≤_, _<_}
 use native.Mathlib.Omega.{arith}
 use mathlib.Core.Path.{_≡_, refl, sym, subst}
@@ -198,6 +199,34 @@ office-close-exact room d = office-hear-exact room d (endBytes d)
 pub office-close-same : (room : ℕ) (d : Desk) (n : ℕ) → ByDesk (closeCall room d) n
     → (closeCall room d ≡ denied n d) × ((out : List ℕ) → answeredOut (closeCall room d .0) out ≡ out)
 office-close-same room d = office-hear-same room d (endBytes d)
+
+-- ---- the number of a line that is told
+-- it is the count of lines of the state that comes with it
+abbrev pub Counted : Said → Desk → Type 0
+Counted x e = x .0 ≡ e .st .lines
+
+-- .. at a byte
+eat-counted : (d : Desk) (b : ℕ) → With Counted (eat d b .0) (eat d b .1)
+unfolding eat
+eat-counted d b = go (eqb b feed)
+  where
+    go : (t : Bool) → With Counted (pick t (ended d) (none, kept d (b ∷ [])) .0) (pick t (ended d) (none, kept d (b ∷ [])) .1)
+    go true = refl
+    go false = tt
+
+-- .. at a call, refused or not
+pub office-line-number : (room : ℕ) (d : Desk) (bs : List ℕ) → With Counted (hearCall room d bs .0) (hearCall room d bs .2)
+office-line-number room d bs = go (sound (d .st)) (roomy (d .line) (d .hold)) (leb outLimit room)
+  where
+    go : (s r o : Bool) → With Counted (hearBy s r o d bs .0) (hearBy s r o d bs .2)
+    go false r o = refl
+    go true false o = refl
+    go true true false = refl
+    go true true true = with-hear owesNone handsNone eat none-owed Counted (λ g. tt) eat-counted d bs
+
+-- .. and at the end of the input
+pub office-close-number : (room : ℕ) (d : Desk) → With Counted (closeCall room d .0) (closeCall room d .2)
+office-close-number room d = office-line-number room d (endBytes d)
 
 -- ---- the last block
 module _ (s : Office) (hold out : List ℕ) where

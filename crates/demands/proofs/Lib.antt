@@ -6,6 +6,7 @@ pub mod Taken
 pub mod Trips
 pub mod Promises
 pub mod Calling
+pub mod Digits
 pub mod Demand1
 pub mod Demand2
 pub mod Demand3

@@ -1,3 +1,4 @@
 pub mod Apart
 pub mod Totals
 pub mod Numbers
+pub mod Offsets
