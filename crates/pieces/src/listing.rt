@@ -8,10 +8,10 @@ use base::Written;
 use channel::Receiver;
 use listed::Spot;
 use recording::Recording;
-use recording::Tape;
 use recording::Took;
 use recording::Totals;
 use recording::Wants;
+use tape::Tape;
 
 // The receive buffer's least length, and the longest one that is lent.
 const RECV: usize = Receiver::RAW;
