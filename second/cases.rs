@@ -1,5 +1,5 @@
 //! Cases for the comparison: how they are written, which are asked, and what the second program answers.
-//! crates/answers/src/main.rt has the form of a case and of an answer.
+//! crates/answers/src/main.rt has the form of a case and of an answer, crates/pieces/src that of an answer in pieces.
 
 use crate::packet::{Delivery, RAW_LIMIT};
 use crate::parity::WORD;
@@ -21,6 +21,11 @@ impl Case {
         to.extend(self.space.to_le_bytes());
         to.extend((self.bytes.len() as u16).to_le_bytes());
         to.extend(&self.bytes);
+    }
+
+    /// A stream, a channel or a recording, read in pieces; each other case is a single call.
+    pub fn in_pieces(&self) -> bool {
+        matches!(self.asked, b'S' | b'O' | b'L')
     }
 
     /// What the second program answers, as bytes.

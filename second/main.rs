@@ -16,11 +16,12 @@
 //!   second steady plain|marked MIB
 //!                            a clean recording to be timed, to standard output
 //!   second samples DIR       the recordings of samples/ with their listings
-//!   second cases [SEED]      cases for the proved code, to standard output
+//!   second cases calls|pieces [SEED]
+//!                            cases for the proved code, to standard output: single calls, or what is read in pieces
 //!   second words R PLACES N  N cases for repair: words altered in so many places
 //!   second time N M          times of N words made and checked, and of M words of each kind repaired (time.rs)
-//!   second compare CASES ANSWERS
-//!                            holds its own answers to those of the proved code
+//!   second compare CASES ANSWERS ..
+//!                            holds its own answers to those of the proved code, of one file or more
 
 mod bids;
 mod cases;
@@ -60,16 +61,16 @@ fn main() {
         ["recordings", dir, seed] => number(seed).map(|seed| write_recordings(dir, seed)),
         ["steady", kind, mib] => first_byte(kind).zip(number(mib)).map(|(letter, mib)| write_steady(letter, mib)),
         ["samples", dir] => Some(samples::write(dir).expect(dir)),
-        ["cases"] => Some(write_cases(1)),
-        ["cases", seed] => number(seed).map(write_cases),
+        ["cases", kind] => in_pieces(kind).map(|pieces| write_cases(pieces, 1)),
+        ["cases", kind, seed] => in_pieces(kind).zip(number(seed)).map(|(pieces, seed)| write_cases(pieces, seed)),
         ["words", r, places, n] => three(r, places, n).map(|(r, places, n)| write(cases::altered_words(r, places, n))),
         ["time", n, m] => number(n).zip(number(m)).map(|(n, m)| time::run(n as usize, m as usize)),
-        ["compare", asked, told] => std::process::exit(compare(asked, told)),
+        ["compare", _, _, ref more @ ..] if more.len() % 2 == 0 => std::process::exit(compare(&words[1..])),
         _ => None,
     };
     if done.is_none() {
         eprintln!("usage: second fcs HEX | parity R HEX | word R HEX | repair R HEX | interleave DEPTH HEX | restore DEPTH HEX | list | kinds FILE..");
-        eprintln!("  | recordings DIR [SEED] | steady plain|marked MIB | samples DIR | cases [SEED] | compare CASES ANSWERS | test [SEED] | words R PLACES N | time N M");
+        eprintln!("  | recordings DIR [SEED] | steady plain|marked MIB | samples DIR | cases calls|pieces [SEED] | compare CASES ANSWERS .. | test [SEED] | words R PLACES N | time N M");
         std::process::exit(2);
     }
 }
@@ -149,8 +150,16 @@ fn write_steady(letter: u8, mib: u64) {
     std::io::stdout().write_all(&bytes).expect("standard output");
 }
 
-fn write_cases(seed: u64) {
-    write(cases::all(seed));
+fn in_pieces(kind: &str) -> Option<bool> {
+    match kind {
+        "calls" => Some(false),
+        "pieces" => Some(true),
+        _ => None,
+    }
+}
+
+fn write_cases(pieces: bool, seed: u64) {
+    write(cases::all(seed).into_iter().filter(|case| case.in_pieces() == pieces).collect());
 }
 
 fn write(cases: Vec<cases::Case>) {
@@ -161,9 +170,23 @@ fn write(cases: Vec<cases::Case>) {
     std::io::stdout().write_all(&bytes).expect("standard output");
 }
 
-/// Reads the cases and the proved code's answers, and counts where the second program answers otherwise. The cases are read
+/// Files of cases, each with the proved code's answers; fails where one has no case.
+fn compare(files: &[&str]) -> i32 {
+    let (mut count, mut differ, mut empty) = (0, 0, false);
+    for pair in files.chunks(2) {
+        let (cases, differences) = compare_file(pair[0], pair[1]);
+        println!("{}: {cases} cases, {differences} differences", pair[1]);
+        count += cases;
+        differ += differences;
+        empty |= cases == 0;
+    }
+    println!("{count} cases, {differ} differences");
+    (differ > 0 || empty) as i32
+}
+
+/// Reads the cases and the proved code's answers, and counts them, and where the second program answers otherwise. The cases are read
 /// back from the file, so that a seed need not be told twice.
-fn compare(asked: &str, told: &str) -> i32 {
+fn compare_file(asked: &str, told: &str) -> (usize, usize) {
     let asked = std::fs::read(asked).expect("cases");
     let told = std::fs::read(told).expect("answers");
     let (mut at, mut from, mut count, mut differ) = (0, 0, 0, 0);
@@ -188,8 +211,7 @@ fn compare(asked: &str, told: &str) -> i32 {
         differ += 1;
         println!("{} bytes behind the last answer", told.len() - from);
     }
-    println!("{count} cases, {differ} differences");
-    (differ > 0 || count == 0) as i32
+    (count, differ)
 }
 
 fn read_case(bytes: &[u8]) -> cases::Case {

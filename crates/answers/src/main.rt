@@ -1,13 +1,9 @@
-//! Answers cases from standard input, one after the other, so that tests/compare can hold the code to the second program.
+//! Answers cases from standard input, one after the other, so that tests/compare can hold the code to the second program. Each asks
+//! for one call; crates/pieces has those that ask for many.
 //!
 //! A case: what is asked (a letter), a number (8 bytes), how many bytes are lent as output and how many follow (2 bytes each),
 //! and those that follow. An answer: a number (8 bytes), and all bytes of the output. Numbers stand low byte first; the output
-//! is lent filled with 0xA5; a refusal n is told as 65,536 + n. Where a stream is asked (reading.rt), a
-//! channel (hearing.rt) or a recording (listing.rt), an answer is longer.
-mod hearing;
-mod listing;
-mod reading;
-
+//! is lent filled with 0xA5; a refusal n is told as 65,536 + n.
 use base::Written;
 use fcs::Register;
 use packet::Class;
@@ -35,8 +31,13 @@ fn answer(bytes: &mut [u8], out: &mut [u8]) -> bool {
     if io::read_full(0, &mut head) != HEAD {
         return false;
     }
-    let room = (wide(head[9]) | wide(head[10]) << 8) as usize;
-    let n = (wide(head[11]) | wide(head[12]) << 8) as usize;
+    let room = pair(head[9], head[10]);
+    let n = pair(head[11], head[12]);
+    follow(head[0], number(head), room, n, bytes, out)
+}
+
+// Reads the n bytes that follow a head, and writes the answer.
+fn follow(asked: u8, number: u64, room: usize, n: usize, bytes: &mut [u8], out: &mut [u8]) -> bool {
     if bytes.len() < n {
         return false;
     }
@@ -46,30 +47,22 @@ fn answer(bytes: &mut [u8], out: &mut [u8]) -> bool {
     if io::read_full(0, &mut bytes[0..n]) != n {
         return false;
     }
-    respond(head[0], number(head), &bytes[0..n], &mut out[0..room])
+    respond(asked, number, &bytes[0..n], &mut out[0..room])
 }
 
 // Writes the answer to one case.
 fn respond(asked: u8, number: u64, bytes: &[u8], out: &mut [u8]) -> bool {
     fill(out);
-    if asked == b'S' {
-        reading::read(number, bytes, out);
-        return io::write_all(1, out);
-    }
-    if asked == b'O' {
-        hearing::hear(number, bytes, out);
-        return io::write_all(1, out);
-    }
-    if asked == b'L' {
-        listing::list(number, bytes, out);
-        return io::write_all(1, out);
-    }
     print(tell(asked, number, bytes, out));
     io::write_all(1, out)
 }
 
 fn wide(b: u8) -> u64 {
     b as u64
+}
+
+fn pair(low: u8, high: u8) -> usize {
+    (wide(low) | wide(high) << 8) as usize
 }
 
 // The number of a case.

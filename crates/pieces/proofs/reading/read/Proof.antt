@@ -1,9 +1,9 @@
--- `answers::reading::read` is safe and ends: the calls that may come grow fewer.
+-- `pieces::reading::read` is safe and ends: the calls that may come grow fewer.
 use mathlib.Core.Path.{_≡_, refl}
 use lib.ListN.{length}
 use borrow.Author.Needs.{needs}
-use Rattle.answers.proofs.reading.read.Statement.{statement}
-use Rattle.answers.proofs.reading.read.Tie as tie
+use Rattle.pieces.proofs.reading.read.Statement.{statement}
+use Rattle.pieces.proofs.reading.read.Tie as tie
 
 abbrev Inv-loop : tie.InvT-loop
 Inv-loop number bytes recv₀ place₀ calls₀ recv place calls = length recv ≡ length recv₀

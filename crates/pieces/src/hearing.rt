@@ -12,9 +12,6 @@ use channel::Receiver;
 
 const HEAD: usize = 15;
 
-// The longest word buffer that is lent.
-const WORD: usize = 300;
-
 // Where the hearing stands: the piece that is handed in is bytes[at..end].
 struct Place {
     receiver: Receiver,
@@ -31,31 +28,32 @@ pub fn hear(number: u64, bytes: &[u8], recv: &mut [u8]) {
     lend(number, head, bytes, recv, &mut word);
 }
 
-// Fills the word buffer and hears what follows it.
+// Lends as much of the word buffer as the head says.
 fn lend(number: u64, head: [u8; 15], bytes: &[u8], recv: &mut [u8], word: &mut [u8]) {
-    let size = pair(head[13], head[14]);
-    if WORD < size {
-        return;
-    }
+    let size = crate::pair(head[13], head[14]);
     if word.len() < size {
         return;
     }
-    let from = HEAD + size;
-    if bytes.len() < from {
+    if bytes.len() < HEAD {
         return;
     }
-    base::copy(&bytes[15..from], word);
-    run(
-        start(number, head, bytes.len() - from),
-        &bytes[from..],
-        recv,
-        &mut word[0..size],
-    );
-    io::write_all(1, &word[0..size]);
+    lent(number, head, &bytes[15..], recv, &mut word[0..size]);
 }
 
-fn pair(low: u8, high: u8) -> usize {
-    (crate::wide(low) | crate::wide(high) << 8) as usize
+// Fills the word buffer and hears what follows it.
+fn lent(number: u64, head: [u8; 15], bytes: &[u8], recv: &mut [u8], word: &mut [u8]) {
+    let size = word.len();
+    if bytes.len() < size {
+        return;
+    }
+    base::copy(bytes, word);
+    run(
+        start(number, head, bytes.len() - size),
+        &bytes[size..],
+        recv,
+        word,
+    );
+    io::write_all(1, word);
 }
 
 // The first piece, of n bytes at most.
@@ -67,9 +65,9 @@ fn start(number: u64, head: [u8; 15], n: usize) -> Place {
         d: head[4],
     };
     let lock = Locked {
-        word: pair(head[5], head[6]),
-        handed: pair(head[7], head[8]),
-        marker: pair(head[9], head[10]),
+        word: crate::pair(head[5], head[6]),
+        handed: crate::pair(head[7], head[8]),
+        marker: crate::pair(head[9], head[10]),
     };
     let receiver = Receiver {
         locked: head[0] == 1,
@@ -81,7 +79,7 @@ fn start(number: u64, head: [u8; 15], n: usize) -> Place {
         receiver,
         seed: number % 0x80000000,
         at: 0,
-        end: base::least(pair(head[11], head[12]), n),
+        end: base::least(crate::pair(head[11], head[12]), n),
         go: true,
     }
 }
