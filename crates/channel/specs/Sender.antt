@@ -21,17 +21,17 @@ use Rattle.packet.specs.Contents.{Packet}
 abbrev pub marker : List ℕ
 marker = 0x7D ∷ 0x3A ∷ 0xE2 ∷ 0x42 ∷ []
 
--- message bytes of a word
-abbrev pub messageBytes : ℕ
-messageBytes = 223
+-- bytes of a word
+abbrev pub wordBytes : ℕ
+wordBytes = parity.wordBytes
 
 -- its parity bytes
 abbrev pub parityBytes : ℕ
 parityBytes = 32
 
--- bytes of a word
-abbrev pub wordBytes : ℕ
-wordBytes = parity.wordBytes
+-- its message bytes
+abbrev pub messageBytes : ℕ
+messageBytes = wordBytes - parityBytes
 
 -- bytes of a block: the marker, and a word behind it
 abbrev pub blockBytes : ℕ

@@ -38,10 +38,6 @@ pub struct Receiver {
 }
 
 impl Receiver {
-    pub const FLAG: u8 = Frame::FLAG;
-
-    pub const MARKER: [u8; 4] = Block::MARKER;
-
     /// Bytes that the receive buffer needs.
     pub const RAW: usize = Frame::RAW;
 

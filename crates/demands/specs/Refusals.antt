@@ -5,7 +5,7 @@
 -- TapeBeyond            .. and of a listing
 -- Short                 11: a lent buffer is too short
 -- ByFrame, By..         that an answer refuses by a number
-use Prim.Native.Nat.{ℕ, _-_, _≤_, _<_, min}
+use Prim.Native.Nat.{ℕ, suc, _-_, _≤_, _<_, min}
 use mathlib.Core.Path.{_≡_}
 use mathlib.Core.Logic.{_⊎_, _≢_}
 use mathlib.Core.List.{List, [], _∷_}
@@ -58,7 +58,7 @@ frameRows raw =
 
 -- 10 of the frame reader: stored bytes other than the raw count or 8,205, whichever is less; raw count above 8,206
 abbrev pub FrameBeyond : Frame → Type 0
-FrameBeyond f = (f .stored ≢ min (f .raw) rawLimit) ⊎ (8206 < f .raw)
+FrameBeyond f = (f .stored ≢ min (f .raw) rawLimit) ⊎ (suc rawLimit < f .raw)
 
 -- 10 of the channel's receiver: the same; bytes of a word above 255, marker bytes above 3, message bytes handed on above 223
 abbrev pub Beyond : Receiver → Type 0

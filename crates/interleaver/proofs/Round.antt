@@ -13,7 +13,7 @@ use lib.ListN.{length, getD}
 use lib.Seq.{take-all}
 use borrow.Author.Tests.{lt-ltb, le-ltb, eqb-true}
 use Rattle.base.specs.Choice.{pick}
-use Rattle.interleaver.specs.Places.{cell, origin}
+use Rattle.interleaver.specs.Places.{width, cell, origin}
 use Rattle.interleaver.specs.Matrix.{tab, interleaved, restored, isMatrix, turned}
 use Rattle.interleaver.proofs.Places.{cell-origin, origin-cell, cell-below, origin-below}
 use Rattle.interleaver.proofs.Tab.{length-tab, tab-same, tab-at, tab-list}
@@ -58,15 +58,15 @@ module _ (f g : ℕ → ℕ) (n : ℕ) (below : (i : ℕ) → i < n → f i < n)
       other = tab (λ j. getD bytes (g j) 0) (length bytes)
 
 module _ (d : ℕ) (bytes : List ℕ) (w : isMatrix d (length bytes) ≡ true) where
-  long : ltb d 2 ≡ false → length bytes ≡ 255 * d
+  long : ltb d 2 ≡ false → length bytes ≡ width * d
   long e = eqb-true _ _ (rw e at w)
 
   pub restored-interleaved : restored d (interleaved d bytes) ≡ bytes
   unfolding interleaved restored moved
   restored-interleaved =
-      moved-back (origin d) (cell d) (255 * d) (λ i h. omega (arith, origin-below d i (omega arith))) (λ i h. cell-origin d i (omega arith)) (ltb d 2) bytes long
+      moved-back (origin d) (cell d) (width * d) (λ i h. omega (arith, origin-below d i (omega arith))) (λ i h. cell-origin d i (omega arith)) (ltb d 2) bytes long
 
   pub interleaved-restored : interleaved d (restored d bytes) ≡ bytes
   unfolding interleaved restored moved
   interleaved-restored =
-      moved-back (cell d) (origin d) (255 * d) (λ i h. omega (arith, cell-below d i (omega arith))) (λ i h. origin-cell d i (omega arith)) (ltb d 2) bytes long
+      moved-back (cell d) (origin d) (width * d) (λ i h. omega (arith, cell-below d i (omega arith))) (λ i h. origin-cell d i (omega arith)) (ltb d 2) bytes long

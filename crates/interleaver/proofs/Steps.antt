@@ -12,7 +12,7 @@ use lib.ListN.{length, getD, set}
 use lib.Seq.{getD-set-same, getD-set-other}
 use borrow.Author.Count.{below-more}
 use Rattle.interleaver.specs.declared.Place.{Place}
-use Rattle.interleaver.specs.Places.{column, cell}
+use Rattle.interleaver.specs.Places.{width, column, cell}
 use Rattle.interleaver.specs.Private.{first, Placed}
 use Rattle.interleaver.proofs.Places.{cell-one, next-column, next-block, first-row, same-block, next-row}
 
@@ -20,11 +20,11 @@ pub first-placed : (d : ℕ) → Placed d first
 first-placed d = record { is-block = refl; is-row = sym (zero-mod d); is-column = refl }
 
 pub placed-below : (d : ℕ) (p : Place) → Placed d p → 0 < d → p .row < d
-placed-below d p h l = omega (arith, h .is-row, mod-lt (p .i - 254 * (p .i / 255)) l)
+placed-below d p h l = omega (arith, h .is-row, mod-lt (p .i - 254 * (p .i / width)) l)
 
-module _ (d : ℕ) (p : Place) (h : Placed d p) {x : ℕ} (e : x ≡ (p .column + 53) % 255) where
+module _ (d : ℕ) (p : Place) (h : Placed d p) {x : ℕ} (e : x ≡ (p .column + 53) % width) where
   is : x ≡ column (p .i + 1)
-  is = e ∙ ap (λ (c : ℕ). (c + 53) % 255) (h .is-column) ∙ next-column (p .i)
+  is = e ∙ ap (λ (c : ℕ). (c + 53) % width) (h .is-column) ∙ next-column (p .i)
 
   pub block-ends : {r : ℕ} → x ≡ 0 → r ≡ (p .block + 1) % d → Placed d (record { i = p .i + 1; block = p .block + 1; row = r; column = x })
   block-ends z k =
@@ -45,11 +45,11 @@ module _ (d : ℕ) (p : Place) (h : Placed d p) {x : ℕ} (e : x ≡ (p .column 
       }
 
 -- ---- the cell of an output, from its place
-pub placed-cell : (d : ℕ) (p : Place) (i : ℕ) → Placed d p → p .i ≡ i → p .row * 255 + p .column ≡ cell d i
-placed-cell d p i h e = ap₂ (λ (r c : ℕ). r * 255 + c) (h .is-row) (h .is-column) ∙ ap (cell d) e
+pub placed-cell : (d : ℕ) (p : Place) (i : ℕ) → Placed d p → p .i ≡ i → p .row * width + p .column ≡ cell d i
+placed-cell d p i h e = ap₂ (λ (r c : ℕ). r * width + c) (h .is-row) (h .is-column) ∙ ap (cell d) e
 
 -- ---- a byte stored in its cell, one more
-pub put-more : (d : ℕ) (m s : List ℕ) (i k : ℕ) → ((j : ℕ) → j < i → getD m (cell d j) 0 ≡ getD s j 0) → k ≡ cell d i → k < length m → i < 255 * d
+pub put-more : (d : ℕ) (m s : List ℕ) (i k : ℕ) → ((j : ℕ) → j < i → getD m (cell d j) 0 ≡ getD s j 0) → k ≡ cell d i → k < length m → i < width * d
     → (j : ℕ) → j < i + 1 → getD (set m k (getD s i 0)) (cell d j) 0 ≡ getD s j 0
 put-more d m s i k all e room h =
     below-more (λ j. getD (set m k (getD s i 0)) (cell d j) 0 ≡ getD s j 0) i

@@ -13,8 +13,8 @@ use borrow.Author.Tests.{lt-ltb, le-ltb, eq-eqb, ne-eqb}
 use Rattle.base.specs.Written.{outcome, refused, write, copied, Keeps}
 use Rattle.base.specs.declared.Written.the-variants.{Wrote}
 use Rattle.base.proofs.Writing.{copied-fits, write-fits, write-short, refused-keeps, write-keeps, pick-keeps}
-use Rattle.interleaver.specs.Places.{cell, origin}
-use Rattle.interleaver.specs.Matrix.{tab, interleaved, restored, isMatrix, turned, turning}
+use Rattle.interleaver.specs.Places.{width, cell, origin}
+use Rattle.interleaver.specs.Matrix.{depthLimit, tab, interleaved, restored, isMatrix, turned, turning}
 use Rattle.interleaver.proofs.Places.{cell-below, origin-below, cell-origin}
 use Rattle.interleaver.proofs.Tab.{tab-same, tab-list}
 use Rattle.interleaver.proofs.Round.{passed, length-turned}
@@ -24,7 +24,7 @@ read : (d : ℕ) (bytes : List ℕ) → 2 ≤ d → tab (λ i. getD bytes (cell 
 unfolding interleaved
 read d bytes h = simp (le-ltb d 2 h)
 
-module _ (d : ℕ) (bytes m out : List ℕ) {o : List ℕ} (h : 2 ≤ d) (l : length bytes ≡ 255 * d) where
+module _ (d : ℕ) (bytes m out : List ℕ) {o : List ℕ} (h : 2 ≤ d) (l : length bytes ≡ width * d) where
   pub put-back-leaves : length bytes ≤ length m → ((i : ℕ) → i < length bytes → getD m (cell d i) 0 ≡ getD bytes i 0)
       → o ≡ copied (take (length bytes) m) out → o ≡ copied (restored d bytes) out
   unfolding restored
@@ -44,8 +44,8 @@ module _ (d : ℕ) (bytes m out : List ℕ) {o : List ℕ} (h : 2 ≤ d) (l : le
 
 -- ---- the ways
 module _ (back : Bool) (d : ℕ) (bytes out : List ℕ) where
-  pub too-deep : 64 < d → refused 32 out ≡ turning back d bytes out
-  too-deep h = simp (lt-ltb 64 d h)
+  pub too-deep : depthLimit < d → refused 32 out ≡ turning back d bytes out
+  too-deep h = simp (lt-ltb depthLimit d h)
 
   -- answer and output where the result fits, and where it does not
   fits : {o : List ℕ} → length bytes ≤ length out → o ≡ copied (turned back d bytes) out → outcome (Wrote (length bytes)) o ≡ write (turned back d bytes) out
@@ -57,10 +57,10 @@ module _ (back : Bool) (d : ℕ) (bytes out : List ℕ) where
   short : length out < length bytes → refused 23 out ≡ write (turned back d bytes) out
   short room = sym (write-short (turned back d bytes) out (omega (arith, length-turned back d bytes)))
 
-  module _ (h : d ≤ 64) where
+  module _ (h : d ≤ depthLimit) where
     module _ (f : d < 2) where
       flat : write (turned back d bytes) out ≡ turning back d bytes out
-      flat = simp (le-ltb 64 d h, lt-ltb d 2 f)
+      flat = simp (le-ltb depthLimit d h, lt-ltb d 2 f)
 
       pub flat-short : length out < length bytes → refused 23 out ≡ turning back d bytes out
       flat-short room = short room ∙ flat
@@ -69,12 +69,12 @@ module _ (back : Bool) (d : ℕ) (bytes out : List ℕ) where
       flat-fits room e = fits room (e ∙ ap (λ (x : List ℕ). copied x out) (sym (passed back d bytes f))) ∙ flat
 
     module _ (f : 2 ≤ d) where
-      pub no-matrix : (length bytes ≡ 255 * d → ⊥) → refused 33 out ≡ turning back d bytes out
-      no-matrix n = simp (le-ltb 64 d h, le-ltb d 2 f, ne-eqb _ _ n)
+      pub no-matrix : (length bytes ≡ width * d → ⊥) → refused 33 out ≡ turning back d bytes out
+      no-matrix n = simp (le-ltb depthLimit d h, le-ltb d 2 f, ne-eqb _ _ n)
 
-      module _ (l : length bytes ≡ 255 * d) where
+      module _ (l : length bytes ≡ width * d) where
         deep : write (turned back d bytes) out ≡ turning back d bytes out
-        deep = simp (le-ltb 64 d h, le-ltb d 2 f, eq-eqb _ _ l)
+        deep = simp (le-ltb depthLimit d h, le-ltb d 2 f, eq-eqb _ _ l)
 
         pub deep-short : length out < length bytes → refused 23 out ≡ turning back d bytes out
         deep-short room = short room ∙ deep
@@ -84,4 +84,4 @@ module _ (back : Bool) (d : ℕ) (bytes out : List ℕ) where
 
   pub turning-keeps : Keeps out (turning back d bytes out)
   turning-keeps =
-      pick-keeps (ltb 64 d) out (refused-keeps 32 out) (pick-keeps (isMatrix d (length bytes)) out (write-keeps (turned back d bytes) out) (refused-keeps 33 out))
+      pick-keeps (ltb depthLimit d) out (refused-keeps 32 out) (pick-keeps (isMatrix d (length bytes)) out (write-keeps (turned back d bytes) out) (refused-keeps 33 out))

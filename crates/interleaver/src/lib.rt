@@ -5,9 +5,9 @@ ghost use mathlib.Core.List.{_++_};
 ghost use Prim.Native.Nat.{ℕ, _+_, _*_, _%_, _≤_, _<_};
 ghost use lib.ListN.{length, getD, drop};
 ghost use Rattle.base.specs.Written.{copied, outcome};
-ghost use Rattle.interleaver.specs.Places.{cell};
+ghost use Rattle.interleaver.specs.Places.{width, cell};
 ghost use Rattle.interleaver.specs.Private.{first, Placed};
-ghost use Rattle.interleaver.specs.Matrix.{tab, turned, turning};
+ghost use Rattle.interleaver.specs.Matrix.{depthLimit, tab, turned, turning};
 use base::Refusal;
 use base::Written;
 
@@ -19,6 +19,8 @@ impl Matrix {
     const DEEPEST: usize = 64;
     // The columns of a row.
     const ROW: usize = 255;
+    // The bytes of the largest.
+    const CELLS: usize = Self::DEEPEST * Self::ROW;
     // From output to output the column moves on by so many, around 255.
     const STEP: usize = 53;
 }
@@ -46,15 +48,15 @@ impl Place {
 
     // The cell, row by row.
     fn cell(self) -> usize
-        requires { ⌜ (self .row < 64) × (self .column < 255) ⌝ }
-        ensures { λ r. ⌜ (r ≡ self .row * 255 + self .column) × (r < 16320) ⌝ }
+        requires { ⌜ (self .row < depthLimit) × (self .column < width) ⌝ }
+        ensures { λ r. ⌜ (r ≡ self .row * width + self .column) × (r < depthLimit * width) ⌝ }
     {
         self.row * Matrix::ROW + self.column
     }
 
     // The place of the next output: a column returns to 0 where a block ends.
     fn next(self, depth: usize) -> Self
-        requires { ⌜ (Placed depth self) × (self .i < 255 * depth) × (depth ≤ 64) ⌝ }
+        requires { ⌜ (Placed depth self) × (self .i < width * depth) × (depth ≤ depthLimit) ⌝ }
         ensures { λ r. ⌜ (Placed depth r) × (r .i ≡ self .i + 1) ⌝ }
     {
         let i = self.i + 1;
@@ -90,8 +92,8 @@ fn around(x: usize, depth: usize) -> usize
 
 // The column of the next output.
 fn next_column(column: usize) -> usize
-    requires { ⌜ column < 255 ⌝ }
-    ensures { λ r. ⌜ r ≡ (column + 53) % 255 ⌝ }
+    requires { ⌜ column < width ⌝ }
+    ensures { λ r. ⌜ r ≡ (column + 53) % width ⌝ }
 {
     if column < Matrix::ROW - Matrix::STEP {
         return column + Matrix::STEP;
@@ -100,11 +102,11 @@ fn next_column(column: usize) -> usize
 }
 
 // The matrix filled row by row.
-fn filled(bytes: &[u8]) -> [u8; 16320]
-    requires { ⌜ length (now bytes) ≤ 16320 ⌝ }
+fn filled(bytes: &[u8]) -> [u8; Matrix::CELLS]
+    requires { ⌜ length (now bytes) ≤ depthLimit * width ⌝ }
     ensures { λ r. ⌜ ((k : ℕ) → k < length (now (bytes .entry)) → getD r k 0 ≡ getD (now (bytes .entry)) k 0) ⌝ }
 {
-    let mut cells = [0u8; 16320];
+    let mut cells = [0u8; Matrix::CELLS];
     let mut i: usize = 0;
     while i < bytes.len() {
         cells[i] = bytes[i];
@@ -114,8 +116,8 @@ fn filled(bytes: &[u8]) -> [u8; 16320]
 }
 
 // The first n outputs, read from the matrix by the equations.
-fn read_out(depth: usize, cells: &[u8; 16320], n: usize, out: &mut [u8])
-    requires { ⌜ (depth ≤ 64) × (n ≤ 255 * depth) × (n ≤ length (now out)) ⌝ }
+fn read_out(depth: usize, cells: &[u8; Matrix::CELLS], n: usize, out: &mut [u8])
+    requires { ⌜ (depth ≤ depthLimit) × (n ≤ width * depth) × (n ≤ length (now out)) ⌝ }
     ensures { λ _. ⌜ now (out .exit) ≡ tab (λ i. getD (now (cells .entry)) (cell depth i) 0) n ++ drop n (now (out .entry)) ⌝ }
 {
     let mut at = Place::first();
@@ -129,11 +131,11 @@ fn read_out(depth: usize, cells: &[u8; 16320], n: usize, out: &mut [u8])
 }
 
 // The matrix filled by the equations, from the bytes that were read from it.
-fn put_back(depth: usize, bytes: &[u8]) -> [u8; 16320]
-    requires { ⌜ (depth ≤ 64) × (length (now bytes) ≡ 255 * depth) ⌝ }
+fn put_back(depth: usize, bytes: &[u8]) -> [u8; Matrix::CELLS]
+    requires { ⌜ (depth ≤ depthLimit) × (length (now bytes) ≡ width * depth) ⌝ }
     ensures { λ r. ⌜ ((i : ℕ) → i < length (now (bytes .entry)) → getD r (cell depth i) 0 ≡ getD (now (bytes .entry)) i 0) ⌝ }
 {
-    let mut cells = [0u8; 16320];
+    let mut cells = [0u8; Matrix::CELLS];
     let mut at = Place::first();
     let mut i: usize = 0;
     while i < bytes.len() {
@@ -147,7 +149,7 @@ fn put_back(depth: usize, bytes: &[u8]) -> [u8; 16320]
 
 // A whole matrix at depth 2 or more, through the cells, back or there.
 fn through(back: bool, depth: usize, bytes: &[u8], out: &mut [u8])
-    requires { ⌜ (2 ≤ depth) × (depth ≤ 64) × (length (now bytes) ≡ 255 * depth) × (length (now bytes) ≤ length (now out)) ⌝ }
+    requires { ⌜ (2 ≤ depth) × (depth ≤ depthLimit) × (length (now bytes) ≡ width * depth) × (length (now bytes) ≤ length (now out)) ⌝ }
     ensures { λ _. ⌜ now (out .exit) ≡ copied (turned back depth (now (bytes .entry))) (now (out .entry)) ⌝ }
 {
     let n = bytes.len();

@@ -118,16 +118,19 @@ inLost Damaged = false
 inLost Lost = true
 inLost Nothing = false
 
--- a delivered packet, a frame refusal, a damaged block, a lost lock, by its total
+-- an answer counts as a delivered packet
 abbrev pub isPacket : Answer → Bool
 isPacket a = inPackets (totalOf a)
 
+-- it counts as a refusal
 abbrev pub isRefusal : Answer → Bool
 isRefusal a = inRefusals (totalOf a)
 
+-- it counts as a damaged block
 abbrev pub isDamaged : Answer → Bool
 isDamaged a = inDamaged (totalOf a)
 
+-- it counts as a lost lock
 abbrev pub isLost : Answer → Bool
 isLost a = inLost (totalOf a)
 

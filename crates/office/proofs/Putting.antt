@@ -2,7 +2,7 @@
 -- put-is, put-not                whole messages put out, the rest moved
 -- send-asks, send-is, send-not   a bid
 -- line-asks, line-bid, line-none a line's end
-use Prim.Native.Nat.{ℕ, _+_, _-_, _*_, _/_, _%_, _≤_}
+use Prim.Native.Nat.{ℕ, suc, _+_, _-_, _*_, _/_, _%_, _≤_}
 use native.Mathlib.Omega.{arith}
 use native.Mathlib.Nat.{sub-zero}
 use mathlib.Core.Path.{_≡_, refl, sym, _∙_, ap, subst}
@@ -17,7 +17,7 @@ use Rattle.base.proofs.Lists.{drop-take}
 use Rattle.base.proofs.Tests.{by-eq, by-le, by-test}
 use Rattle.base.proofs.Writing.{copied-fits, room-wrote, room-never}
 use Rattle.packet.specs.Port.{barred}
-use Rattle.packet.specs.Contents.{payloadLimit, Packet}
+use Rattle.packet.specs.Contents.{payloadLimit, plainLimit, Packet}
 use Rattle.packet.specs.Escape.{flag, escape}
 use Rattle.packet.specs.Sender.{flagged, frameOf, writing}
 use Rattle.packet.proofs.Sending.{Wrote-is, wrote-is, write-empty, write-long, write-barred, write-free}
@@ -116,7 +116,7 @@ module _ (p : Packet) (at : ℕ) (hold : List ℕ) (small : at ≤ heldLimit) (r
       unfolding frameOf flagged
       long = shows .long
 
-      frame-short : length frame ≤ 8206
+      frame-short : length frame ≤ suc plainLimit
       frame-short =
           omega (arith, length-append (rawOf p) (flag ∷ []), raw-fits p (shows .some) (shows .short) (shows .free))
 

@@ -6,7 +6,7 @@ ghost use lib.ListN.{length, drop, replicate};
 ghost use Rattle.base.specs.Written.{copied, outcome};
 ghost use Rattle.field.specs.Field.{alpha};
 ghost use Rattle.parity.specs.Word.{clean, scale, onto, generator, divide, remainder};
-ghost use Rattle.parity.specs.Calls.{atRoots, checked, made};
+ghost use Rattle.parity.specs.Calls.{wordBytes, rootLimit, atRoots, checked, made};
 ghost use Rattle.parity.specs.Private.{points, stepped};
 use base::Refusal;
 use base::Written;
@@ -27,16 +27,18 @@ impl Word {
     pub const LENGTH: usize = 255;
     /// The most of them that may be parity.
     pub const MOST: usize = 64;
+    // Coefficients of the generator, at most.
+    const GENERATOR: usize = Self::MOST + 1;
 }
 
 // The points alpha, alpha^2, .. alpha^64.
-fn points() -> [u8; 64]
-    ensures { λ p. ⌜ p ≡ points alpha 64 ⌝ }
+fn points() -> [u8; Word::MOST]
+    ensures { λ p. ⌜ p ≡ points alpha rootLimit ⌝ }
 {
-    let mut p = [0u8; 64];
+    let mut p = [0u8; Word::MOST];
     let mut x = field::ALPHA;
     let mut j: usize = 0;
-    while j < 64 {
+    while j < Word::MOST {
         p[j] = x;
         x = field::times(x, field::ALPHA);
         j += 1;
@@ -45,12 +47,12 @@ fn points() -> [u8; 64]
 }
 
 // One step of Horner's rule at 64 points, side by side: c comes behind the coefficients whose values are v.
-fn step(c: u8, p: [u8; 64], v: [u8; 64]) -> [u8; 64]
+fn step(c: u8, p: [u8; Word::MOST], v: [u8; Word::MOST]) -> [u8; Word::MOST]
     ensures { λ n. ⌜ n ≡ stepped c p v ⌝ }
 {
     let mut next = v;
     let mut j: usize = 0;
-    while j < 64 {
+    while j < Word::MOST {
         next[j] = field::plus(field::times(p[j], next[j]), c);
         j += 1;
     }
@@ -58,11 +60,11 @@ fn step(c: u8, p: [u8; 64], v: [u8; 64]) -> [u8; 64]
 }
 
 /// The values of a word at alpha, alpha^2, .. alpha^64: at all roots that it may have.
-pub fn at_roots(word: &[u8]) -> [u8; 64]
+pub fn at_roots(word: &[u8]) -> [u8; Word::MOST]
     ensures { λ v. ⌜ v ≡ atRoots (now (word .entry)) ⌝ }
 {
     let p = points();
-    let mut v = [0u8; 64];
+    let mut v = [0u8; Word::MOST];
     let mut i: usize = 0;
     while i < word.len() {
         let next = step(word[i], p, v);
@@ -74,7 +76,7 @@ pub fn at_roots(word: &[u8]) -> [u8; 64]
 
 // Whether a word is zero at the roots 1 to r.
 fn zero_at(r: usize, word: &[u8]) -> bool
-    requires { ⌜ r ≤ 64 ⌝ }
+    requires { ⌜ r ≤ rootLimit ⌝ }
     ensures { λ b. ⌜ b ≡ clean r (now (word .entry)) ⌝ }
 {
     let v = at_roots(word);
@@ -119,11 +121,11 @@ fn times_root(a: u8, g: &mut [u8])
 }
 
 // The generator for r roots, with zeros behind.
-fn generate(r: usize) -> [u8; 65]
-    requires { ⌜ r ≤ 64 ⌝ }
-    ensures { λ g. ⌜ g ≡ generator r ++ replicate (64 - r) 0 ⌝ }
+fn generate(r: usize) -> [u8; Word::GENERATOR]
+    requires { ⌜ r ≤ rootLimit ⌝ }
+    ensures { λ g. ⌜ g ≡ generator r ++ replicate (rootLimit - r) 0 ⌝ }
 {
-    let mut g = [0u8; 65];
+    let mut g = [0u8; Word::GENERATOR];
     g[0] = 1;
     let mut roots: usize = 0;
     while roots < r {
@@ -163,14 +165,14 @@ fn reduce(n: usize, g: &[u8], p: &mut [u8])
 
 // Stores the parity of a message from the start of out on.
 fn put_parity(r: usize, message: &[u8], out: &mut [u8])
-    requires { ⌜ r ≤ 64 ⌝ }
-    requires { ⌜ length (now message) ≡ 255 - r ⌝ }
+    requires { ⌜ r ≤ rootLimit ⌝ }
+    requires { ⌜ length (now message) ≡ wordBytes - r ⌝ }
     ensures { λ _. ⌜ now (out .exit) ≡ copied (remainder r (now (message .entry))) (now (out .entry)) ⌝ }
 {
     let n = Word::LENGTH - r;
     let end = r + 1;
     let g = generate(r);
-    let mut p = [0u8; 255];
+    let mut p = [0u8; Word::LENGTH];
     base::copy(message, &mut p);
     reduce(n, &g[1..end], &mut p);
     base::copy(&p[n..], out);

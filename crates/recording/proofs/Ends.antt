@@ -18,7 +18,7 @@ use Rattle.base.specs.declared.Written.the-variants.{Wrote}
 use Rattle.base.proofs.Calls.{all-append}
 use Rattle.base.proofs.Writing.{write-fits}
 use Rattle.packet.specs.Contents.{rawLimit}
-use Rattle.channel.specs.Sender.{wordBytes}
+use Rattle.channel.specs.Sender.{messageBytes, wordBytes}
 use Rattle.channel.specs.Channel.{Event}
 use Rattle.channel.specs.Called.{Board, board, freshReceiver, owedBy}
 use Rattle.channel.specs.declared.answer.Answer.{Answer}
@@ -49,16 +49,16 @@ use Rattle.recording.proofs.Did.{countAll, before, left-room, left-more
 use Rattle.recording.proofs.Listing.{apart-count}
 
 -- ---- how many answers there are
-owes-by : (l t : Bool) (h : ℕ) → owedBy l t h ≤ 223
+owes-by : (l t : Bool) (h : ℕ) → owedBy l t h ≤ messageBytes
 owes-by true true h = omega arith
 owes-by true false h = omega arith
 owes-by false t h = omega arith
 
-ear-by : (t : Bool) (c : Board) → owesBy t c ≤ 223
+ear-by : (t : Bool) (c : Board) → owesBy t c ≤ messageBytes
 ear-by true c = owes-by (c .st .locked) (eqb (c .st .lock .word) wordBytes) (c .st .lock .handed)
 ear-by false c = omega arith
 
-few-owed : (d : Ear) → earOwes d ≤ 223
+few-owed : (d : Ear) → earOwes d ≤ messageBytes
 unfolding earOwes
 few-owed d = ear-by (d .channel) (d .board)
 

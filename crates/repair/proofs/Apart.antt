@@ -21,7 +21,7 @@ use Rattle.field.proofs.Sum.{add-self, add-eq}
 use Rattle.field.proofs.Product.{mul-comm}
 use Rattle.field.proofs.Powers.{pow-suc, pow-lt, cancel}
 use Rattle.parity.specs.Word.{onto, clean, Zero}
-use Rattle.parity.specs.Calls.{checked}
+use Rattle.parity.specs.Calls.{checked, rootLimit, wordBytes}
 use Rattle.parity.specs.declared.Checked.{Checked}
 use Rattle.parity.specs.declared.Checked.the-variants as check
 use Rattle.parity.proofs.Sums.{length-onto, bytes-onto, onto-zero}
@@ -104,32 +104,32 @@ harmed-by false true true e = absurd (let z : _≡_ {A = ℕ} 0 1 = cc in omega 
 harmed-by false true false e = (refl, refl, refl)
 harmed-by false false u e = absurd (let z : _≡_ {A = ℕ} 0 1 = cc in omega arith)
 
-pub checked-clean : (r : ℕ) (w : List ℕ) → checked r w ≡ check.Clean → (r ≤ 64) × (length w ≡ 255) × (clean r w ≡ true)
+pub checked-clean : (r : ℕ) (w : List ℕ) → checked r w ≡ check.Clean → (r ≤ rootLimit) × (length w ≡ wordBytes) × (clean r w ≡ true)
 checked-clean r w e =
-    let s = fine-by (ltb 64 r) (eqb (length w) 255) (clean r w) e in
-    (ltb-false 64 r (s .0), eqb-true (length w) 255 (s .1), s .2)
+    let s = fine-by (ltb rootLimit r) (eqb (length w) wordBytes) (clean r w) e in
+    (ltb-false rootLimit r (s .0), eqb-true (length w) wordBytes (s .1), s .2)
 
-pub checked-damaged : (r : ℕ) (w : List ℕ) → checked r w ≡ check.Damaged → (r ≤ 64) × (length w ≡ 255) × (clean r w ≡ false)
+pub checked-damaged : (r : ℕ) (w : List ℕ) → checked r w ≡ check.Damaged → (r ≤ rootLimit) × (length w ≡ wordBytes) × (clean r w ≡ false)
 checked-damaged r w e =
-    let s = harmed-by (ltb 64 r) (eqb (length w) 255) (clean r w) e in
-    (ltb-false 64 r (s .0), eqb-true (length w) 255 (s .1), s .2)
+    let s = harmed-by (ltb rootLimit r) (eqb (length w) wordBytes) (clean r w) e in
+    (ltb-false rootLimit r (s .0), eqb-true (length w) wordBytes (s .1), s .2)
 
-pub checked-is : (r : ℕ) (w : List ℕ) → r ≤ 64 → length w ≡ 255 → checked r w ≡ pick (clean r w) check.Clean check.Damaged
-checked-is r w h l = rw (le-ltb 64 r h, eq-eqb (length w) 255 l)
+pub checked-is : (r : ℕ) (w : List ℕ) → r ≤ rootLimit → length w ≡ wordBytes → checked r w ≡ pick (clean r w) check.Clean check.Damaged
+checked-is r w h l = rw (le-ltb rootLimit r h, eq-eqb (length w) wordBytes l)
 
 -- ---- a word of few bytes that is zero at the roots is zero
-each-zero : (d : List ℕ) → Bytes d → length d ≤ 255 → AtEach (λ x e. mul e x ≡ 0) d → d ≡ replicate (length d) 0
+each-zero : (d : List ℕ) → Bytes d → length d ≤ wordBytes → AtEach (λ x e. mul e x ≡ 0) d → d ≡ replicate (length d) 0
 each-zero [] b l e = refl
 each-zero (c ∷ cs) b l e =
     ap₂ _∷_ (cancel (pow alpha (length cs)) c (point-pos (length cs) (omega arith)) (pow-lt alpha _) (b .0) (mul-comm _ c ∙ e .0)) (each-zero cs (b .1) (omega arith) (e .1))
 
-light-zero : (r : ℕ) (d : List ℕ) → Bytes d → length d ≤ 255 → weight d ≤ r → Zero r d → d ≡ replicate (length d) 0
+light-zero : (r : ℕ) (d : List ℕ) → Bytes d → length d ≤ wordBytes → weight d ≤ r → Zero r d → d ≡ replicate (length d) 0
 light-zero r d b l k h =
     each-zero d b l
     (few d (λ x. x) r l k
     (λ j i. weigh-same (λ x. mul x (pow x j)) (λ x. pow x (suc j)) d (λ x. sym (pow-suc x j)) ∙ sym (sum-weigh (suc j) d b) ∙ h (suc j) (omega arith) i))
 
-near-same : (r : ℕ) (v w : List ℕ) → Bytes v → Bytes w → length v ≡ 255 → length w ≡ 255 → clean r v ≡ true → clean r w ≡ true → distance v w ≤ r → v ≡ w
+near-same : (r : ℕ) (v w : List ℕ) → Bytes v → Bytes w → length v ≡ wordBytes → length w ≡ wordBytes → clean r v ≡ true → clean r w ≡ true → distance v w ≤ r → v ≡ w
 near-same r v w bv bw lv lw cv cw k =
     let l : length v ≡ length w = lv ∙ sym lw in
     onto-zero v w l
@@ -145,10 +145,10 @@ module _ (r : ℕ) (v : List ℕ) (hv : CleanWord r v) where
       let q = checked-clean r w (hw .1) in
       by-le (distance v w) r (λ k. absurd (n (near-same r v w (hv .0) (hw .0) (p .1) (q .1) (p .2) (q .2) k))) (λ k. k)
 
-  pub altered-damaged : (w : List ℕ) → Bytes w → length w ≡ 255 → 0 < distance v w → distance v w ≤ r → checked r w ≡ check.Damaged
+  pub altered-damaged : (w : List ℕ) → Bytes w → length w ≡ wordBytes → 0 < distance v w → distance v w ≤ r → checked r w ≡ check.Damaged
   altered-damaged w b l p k = by (clean r w) refl
     where
-      fine : (r ≤ 64) × (length v ≡ 255) × (clean r v ≡ true)
+      fine : (r ≤ rootLimit) × (length v ≡ wordBytes) × (clean r v ≡ true)
       fine = checked-clean r v (hv .1)
 
       by : (t : Bool) → clean r w ≡ t → checked r w ≡ check.Damaged

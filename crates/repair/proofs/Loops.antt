@@ -19,7 +19,7 @@ use Rattle.field.proofs.Sum.{add-zero, zero-add, add-assoc}
 use Rattle.field.proofs.Product.{mul-zero, zero-mul, mul-comm}
 use Rattle.field.proofs.Powers.{pow-suc}
 use Rattle.parity.specs.Word.{valuesFrom, scale, onto}
-use Rattle.parity.specs.Calls.{atRoots, checked}
+use Rattle.parity.specs.Calls.{atRoots, checked, rootLimit, wordBytes}
 use Rattle.parity.specs.declared.Checked.{Checked}
 use Rattle.parity.specs.declared.Checked.the-variants as check
 use Rattle.parity.proofs.Sums.{length-onto}
@@ -50,15 +50,15 @@ module _ (n i : ℕ) (a b : List ℕ) {t : ℕ} (inv : n + distance (drop i a) (
   distance-done h = sym (plus-zero n) ∙ rw (drop-of-length-le a h) at inv
 
 -- ---- sums
-pub sums-are : (r : ℕ) (w : List ℕ) {v s : List ℕ} → r ≤ 64 → v ≡ atRoots w → s ≡ copied (take r v) (replicate 64 0) → s ≡ sums r w
+pub sums-are : (r : ℕ) (w : List ℕ) {v s : List ℕ} → r ≤ rootLimit → v ≡ atRoots w → s ≡ copied (take r v) (replicate rootLimit 0) → s ≡ sums r w
 unfolding sums
 sums-are r w {v} h ev es =
-    es ∙ ap (λ (t : List ℕ). copied t (replicate 64 0)) front
-    ∙ copied-fits (valuesFrom w 1 r) (replicate 64 0) (omega (arith, length-values w 1 r, length-replicate {A = ℕ} 64 0))
-    ∙ ap (λ (t : List ℕ). valuesFrom w 1 r ++ t) (ap (λ (n : ℕ). drop n (replicate 64 0)) (length-values w 1 r) ∙ drop-replicate r 64)
+    es ∙ ap (λ (t : List ℕ). copied t (replicate rootLimit 0)) front
+    ∙ copied-fits (valuesFrom w 1 r) (replicate rootLimit 0) (omega (arith, length-values w 1 r, length-replicate {A = ℕ} rootLimit 0))
+    ∙ ap (λ (t : List ℕ). valuesFrom w 1 r ++ t) (ap (λ (n : ℕ). drop n (replicate rootLimit 0)) (length-values w 1 r) ∙ drop-replicate r rootLimit)
   where
     front : take r v ≡ valuesFrom w 1 r
-    front = ap (take r) ev ∙ values-front w 1 64 r h
+    front = ap (take r) ev ∙ values-front w 1 rootLimit r h
 
 -- ---- dot
 module _ (a i : ℕ) (u row : List ℕ) {d : ℕ} (inv : add a (dot (drop i u) (drop i row)) ≡ d) where
@@ -82,7 +82,7 @@ copied-row bs l =
     ∙ ap (λ (t : List ℕ). bs ++ t) (drop-of-length-le (replicate 33 0) {i = length bs} (omega (arith, length-replicate {A = ℕ} 33 0))) ∙ append-nil bs
 
 module _ (n i : ℕ) (s : List ℕ) (rows : List (List ℕ)) {t : List (List ℕ)} (inv : take i rows ++ windows i (n - i) s ≡ t) where
-  pub equations-next : {row : List ℕ} → i < n → n ≤ length rows → n ≤ 32 → length s ≡ 64 → row ≡ copied (take (i + 33 - i) (drop i s)) (replicate 33 0)
+  pub equations-next : {row : List ℕ} → i < n → n ≤ length rows → n ≤ 32 → length s ≡ rootLimit → row ≡ copied (take (i + 33 - i) (drop i s)) (replicate 33 0)
       → take (i + 1) (set rows i row) ++ windows (i + 1) (n - (i + 1)) s ≡ t
   unfolding windows
   equations-next {row} h e k l er =
@@ -329,12 +329,12 @@ module _ (r : ℕ) (w : List ℕ) {s : List ℕ} (es : s ≡ sums r w) (k : ℕ)
   amend-some e = rw (sym es, sym ev) e
 
 -- ---- mend
-module _ (r : ℕ) (w : List ℕ) (l : length w ≡ 255) {copy : List ℕ} (left : List ℕ) (ec : copy ≡ copied w (replicate 255 0)) (el : left ≡ amended r copy) where
+module _ (r : ℕ) (w : List ℕ) (l : length w ≡ wordBytes) {copy : List ℕ} (left : List ℕ) (ec : copy ≡ copied w (replicate wordBytes 0)) (el : left ≡ amended r copy) where
   became : left ≡ amended r w
   became =
       el ∙ ap (amended r)
-      (ec ∙ copied-fits w (replicate 255 0) (omega (arith, length-replicate {A = ℕ} 255 0))
-      ∙ ap (λ (n : ℕ). w ++ drop n (replicate 255 0)) l ∙ append-nil w)
+      (ec ∙ copied-fits w (replicate wordBytes 0) (omega (arith, length-replicate {A = ℕ} wordBytes 0))
+      ∙ ap (λ (n : ℕ). w ++ drop n (replicate wordBytes 0)) l ∙ append-nil w)
 
   pub mend-far : {n : ℕ} → n ≡ distance w left → half r < n → (Beyond, w) ≡ mended r w
   unfolding mended

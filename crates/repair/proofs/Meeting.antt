@@ -18,7 +18,7 @@ use Rattle.field.specs.Field.{alpha, add, mul, pow, inverse}
 use Rattle.field.proofs.Sum.{add-zero}
 use Rattle.field.proofs.Product.{mul-lt}
 use Rattle.parity.specs.Word.{eval, valuesFrom, onto, clean}
-use Rattle.parity.specs.Calls.{checked}
+use Rattle.parity.specs.Calls.{checked, rootLimit, wordBytes}
 use Rattle.parity.specs.declared.Checked.{Checked}
 use Rattle.parity.specs.declared.Checked.the-variants as check
 use Rattle.parity.proofs.Sums.{length-onto, bytes-onto, onto-comm, onto-twice}
@@ -37,13 +37,13 @@ use Rattle.repair.proofs.Values.{found-errors}
 -- ---- the equations are rows of 33 bytes
 bytes-sums : (r : ℕ) (w : List ℕ) → Bytes w → Bytes (sums r w)
 unfolding sums
-bytes-sums r w b = each-append IsByte (valuesFrom w 1 r) (replicate (64 - r) 0) (bytes-values w b 1 r) (each-replicate IsByte (64 - r) 0 (omega arith))
+bytes-sums r w b = each-append IsByte (valuesFrom w 1 r) (replicate (rootLimit - r) 0) (bytes-values w b 1 r) (each-replicate IsByte (rootLimit - r) 0 (omega arith))
 
-length-sums : (r : ℕ) (w : List ℕ) → r ≤ 64 → length (sums r w) ≡ 64
+length-sums : (r : ℕ) (w : List ℕ) → r ≤ rootLimit → length (sums r w) ≡ rootLimit
 unfolding sums
-length-sums r w h = length-append (valuesFrom w 1 r) _ ∙ omega (arith, length-values w 1 r, length-replicate {A = ℕ} (64 - r) 0)
+length-sums r w h = length-append (valuesFrom w 1 r) _ ∙ omega (arith, length-values w 1 r, length-replicate {A = ℕ} (rootLimit - r) 0)
 
-rows-windows : (s : List ℕ) → length s ≡ 64 → Bytes s → (m i : ℕ) → i + m ≤ 32 → Each Row (windows i m s)
+rows-windows : (s : List ℕ) → length s ≡ rootLimit → Bytes s → (m i : ℕ) → i + m ≤ 32 → Each Row (windows i m s)
 unfolding windows
 rows-windows s l b zero i h = tt
 rows-windows s l b (suc m) i h = (
@@ -71,8 +71,8 @@ unfolding valuesFrom
 same-values w e zero j h = refl
 same-values w e (suc n) j h = ap₂ _∷_ (h j (omega arith) (omega arith)) (same-values w e n (suc j) (λ k p q. h k (omega arith) (omega arith)))
 
-module _ (r : ℕ) (w : List ℕ) (b : Bytes w) (l : length w ≡ 255) (v : List ℕ) (near : Near r w v) where
-  fine : (r ≤ 64) × (length v ≡ 255) × (clean r v ≡ true)
+module _ (r : ℕ) (w : List ℕ) (b : Bytes w) (l : length w ≡ wordBytes) (v : List ℕ) (near : Near r w v) where
+  fine : (r ≤ rootLimit) × (length v ≡ wordBytes) × (clean r v ≡ true)
   fine = checked-clean r v (near .0 .1)
 
   e : List ℕ
@@ -85,7 +85,7 @@ module _ (r : ℕ) (w : List ℕ) (b : Bytes w) (l : length w ≡ 255) (v : List
   unfolding e
   bytes-e = bytes-onto w v b (near .0 .0)
 
-  length-e : length e ≡ 255
+  length-e : length e ≡ wordBytes
   unfolding e
   length-e = length-onto w v ∙ fine .1
 
@@ -96,7 +96,7 @@ module _ (r : ℕ) (w : List ℕ) (b : Bytes w) (l : length w ≡ 255) (v : List
   same-sums : sums r w ≡ sums r e
   unfolding sums e
   same-sums =
-      ap (λ (s : List ℕ). s ++ replicate (64 - r) 0)
+      ap (λ (s : List ℕ). s ++ replicate (rootLimit - r) 0)
       (same-values w (onto w v) r 1
       (λ k p q. sym (eval-add (pow alpha k) w v same-length ∙ ap (add (eval w (pow alpha k))) (clean-roots r v (fine .2) k p (omega arith)) ∙ add-zero _)))
 
@@ -107,7 +107,7 @@ module _ (r : ℕ) (w : List ℕ) (b : Bytes w) (l : length w ≡ 255) (v : List
   rows : Each Row (windows 0 (r - half r) (sums r e))
   rows = rows-windows (sums r e) (length-sums r e (fine .0)) (bytes-sums r e bytes-e) (r - half r) 0 (omega (arith, fine .0))
 
-  found : (u : List ℕ) → Answers (half r + 1) (windows 0 (r - half r) (sums r e)) u → e ≡ errors u (sums r e) 255
+  found : (u : List ℕ) → Answers (half r + 1) (windows 0 (r - half r) (sums r e)) u → e ≡ errors u (sums r e) wordBytes
   found [] a =
       absurd (not-none e bytes-e (omega (arith, length-e)) r (r - half r) (half r + 1) (omega arith) (omega (arith, fine .0)) (omega (arith, light)) a)
   found (x ∷ u) a =
@@ -123,7 +123,7 @@ module _ (r : ℕ) (w : List ℕ) (b : Bytes w) (l : length w ≡ 255) (v : List
 
 -- ---- a damaged word
 module _ (r : ℕ) (w : List ℕ) (b : Bytes w) (harmed : checked r w ≡ check.Damaged) where
-  l : length w ≡ 255
+  l : length w ≡ wordBytes
   l = checked-damaged r w harmed .1
 
   out : List ℕ

@@ -20,7 +20,7 @@ use Rattle.base.specs.Choice.{pick}
 use Rattle.base.specs.Bytes.{Bytes}
 use Rattle.base.proofs.Tests.{by-eq}
 use Rattle.parity.specs.Word.{clean}
-use Rattle.parity.specs.Calls.{checked}
+use Rattle.parity.specs.Calls.{checked, rootLimit, wordBytes}
 use Rattle.parity.specs.declared.Checked.{Checked}
 use Rattle.parity.specs.declared.Checked.the-variants as check
 use Rattle.repair.specs.declared.Mended.{Mended}
@@ -67,7 +67,7 @@ module _ (r : ℕ) (w : List ℕ) where
   determined (Refused n) (Refused k) o o′ p q = (ap Refused (same-refused n k (sym (p .0) ∙ q .0)), p .1 ∙ sym (q .1))
 
 -- ---- a word w that came of a clean word v
-module _ (r : ℕ) (v : List ℕ) (hv : CleanWord r v) (w : List ℕ) (b : Bytes w) (l : length w ≡ 255) where
+module _ (r : ℕ) (v : List ℕ) (hv : CleanWord r v) (w : List ℕ) (b : Bytes w) (l : length w ≡ wordBytes) where
   pub restored : 0 < distance v w → distance v w ≤ half r → (a : Mended) (o : List ℕ) → Promised r w a o → (a ≡ Repaired (distance v w)) × (o ≡ v)
   restored pos few a o p = by a p
     where
@@ -92,15 +92,15 @@ bytes-set (x ∷ xs) zero v h b = (h, b .1)
 bytes-set (x ∷ xs) (suc i) v h b = (b .0, bytes-set xs i v h (b .1))
 
 -- byte i of a clean word has become c
-pub one-restored : (r : ℕ) (v : List ℕ) → CleanWord r v → 2 ≤ r → (i c : ℕ) → i < 255 → c < 256 → (getD v i 0 ≡ c → ⊥)
+pub one-restored : (r : ℕ) (v : List ℕ) → CleanWord r v → 2 ≤ r → (i c : ℕ) → i < wordBytes → c < 256 → (getD v i 0 ≡ c → ⊥)
     → (a : Mended) (o : List ℕ) → Promised r (set v i c) a o → (a ≡ Repaired 1) × (o ≡ v)
 one-restored r v hv two i c hi hc n a o p =
-    let l : length v ≡ 255 = checked-clean r v (hv .1) .1 in
+    let l : length v ≡ wordBytes = checked-clean r v (hv .1) .1 in
     let d : distance v (set v i c) ≡ 1 = distance-set v i c (omega arith) n in
     let s = restored r v hv (set v i c) (bytes-set v i c hc (hv .0)) (length-set v i c ∙ l) (omega arith) (omega arith) a o p in
     (s .0 ∙ ap Repaired d, s .1)
 
-pub beyond-exactly : (r : ℕ) (w : List ℕ) → r ≤ 64 → Bytes w → length w ≡ 255 → (a : Mended) (o : List ℕ) → Promised r w a o → (a ≡ Beyond) ↔ ((v : List ℕ) → Near r w v → ⊥)
+pub beyond-exactly : (r : ℕ) (w : List ℕ) → r ≤ rootLimit → Bytes w → length w ≡ wordBytes → (a : Mended) (o : List ℕ) → Promised r w a o → (a ≡ Beyond) ↔ ((v : List ℕ) → Near r w v → ⊥)
 beyond-exactly r w h b l Clean o p = (λ e. absurd (let z : _≡_ {A = ℕ} 0 1 = cc in omega arith), λ f. absurd (f w ((b, p .0), omega (arith, distance-self w))))
 beyond-exactly r w h b l (Repaired n) o p = (λ e. absurd (let z : _≡_ {A = ℕ} 0 1 = cc in omega arith), λ f. absurd (f o (p .4)))
 beyond-exactly r w h b l Beyond o p = (λ e. p .1, λ f. refl)
@@ -139,11 +139,11 @@ left-length r w = by (checked r w)
     by check.Damaged = mended-length r w
     by (check.Refused n) = refl
 
-pub clean-left : (r : ℕ) (w : List ℕ) → r ≤ 64 → length w ≡ 255 → clean r w ≡ true → repaired r w ≡ (Clean, w)
+pub clean-left : (r : ℕ) (w : List ℕ) → r ≤ rootLimit → length w ≡ wordBytes → clean r w ≡ true → repaired r w ≡ (Clean, w)
 unfolding repaired
 clean-left r w h l e = ap (λ (c : Checked). repairedBy c r w) (checked-is r w h l ∙ ap (λ (t : Bool). pick t check.Clean check.Damaged) e)
 
-pub brought-back : (r : ℕ) (v : List ℕ) → CleanWord r v → (w : List ℕ) → Bytes w → length w ≡ 255 → distance v w ≤ half r → repaired r w .1 ≡ v
+pub brought-back : (r : ℕ) (v : List ℕ) → CleanWord r v → (w : List ℕ) → Bytes w → length w ≡ wordBytes → distance v w ≤ half r → repaired r w .1 ≡ v
 brought-back r v hv w b l few =
     by-eq (distance v w) 0
     (λ z.

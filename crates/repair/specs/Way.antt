@@ -15,7 +15,7 @@ use lib.ListN.{length, take, drop, getD, replicate}
 use Rattle.base.specs.Choice.{pick}
 use Rattle.field.specs.Field.{alpha, add, mul, pow, inverse}
 use Rattle.parity.specs.Word.{valuesFrom, scale, onto}
-use Rattle.parity.specs.Calls.{checked}
+use Rattle.parity.specs.Calls.{checked, rootLimit}
 use Rattle.parity.specs.declared.Checked.{Checked}
 use Rattle.parity.specs.declared.Checked.the-variants as check
 use Rattle.repair.specs.declared.Mended.{Mended}
@@ -40,7 +40,7 @@ dot (x ∷ xs) (y ∷ ys) = add (mul x y) (dot xs ys)
 
 -- S_1 to S_r, and zeros up to 64
 unfoldable pub sums : ℕ → List ℕ → List ℕ
-sums r w = valuesFrom w 1 r ++ replicate (64 - r) 0
+sums r w = valuesFrom w 1 r ++ replicate (rootLimit - r) 0
 
 -- m equations, from the one that begins at place i of the sums on
 unfoldable pub windows : ℕ → ℕ → List ℕ → List (List ℕ)

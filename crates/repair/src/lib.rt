@@ -2,9 +2,11 @@
 ghost use mathlib.Core.Path.{_≡_};
 ghost use Prim.Native.Nat.{_≤_};
 ghost use lib.ListN.{length};
+ghost use Rattle.parity.specs.Calls.{rootLimit, wordBytes};
 ghost use Rattle.repair.specs.Promise.{distance, Promised};
 ghost use Rattle.repair.specs.Way.{sums, amended, mended};
 use parity::Checked;
+use parity::Word;
 
 mod places;
 mod rows;
@@ -37,19 +39,19 @@ fn distance(a: &[u8], b: &[u8]) -> usize
 }
 
 // The values of a word at its r roots, with zeros behind.
-fn sums(r: usize, word: &[u8]) -> [u8; 64]
-    requires { ⌜ r ≤ 64 ⌝ }
+fn sums(r: usize, word: &[u8]) -> [u8; Word::MOST]
+    requires { ⌜ r ≤ rootLimit ⌝ }
     ensures { λ s. ⌜ s ≡ sums r (now (word .entry)) ⌝ }
 {
     let v = parity::at_roots(word);
-    let mut s = [0u8; 64];
+    let mut s = [0u8; Word::MOST];
     base::copy(&v[..r], &mut s);
     s
 }
 
 // Puts in the place of a word what it becomes by its locator.
 fn amend(r: usize, word: &mut [u8])
-    requires { ⌜ (r ≤ 64) × (length (now word) ≡ 255) ⌝ }
+    requires { ⌜ (r ≤ rootLimit) × (length (now word) ≡ wordBytes) ⌝ }
     ensures { λ _. ⌜ now (word .exit) ≡ amended r (now (word .entry)) ⌝ }
 {
     let s = sums(r, word);
@@ -64,10 +66,10 @@ fn amend(r: usize, word: &mut [u8])
 
 // Repairs a damaged word: what it becomes is taken where it is near and clean.
 fn mend(r: usize, word: &mut [u8]) -> Mended
-    requires { ⌜ (r ≤ 64) × (length (now word) ≡ 255) ⌝ }
+    requires { ⌜ (r ≤ rootLimit) × (length (now word) ≡ wordBytes) ⌝ }
     ensures { λ a. ⌜ (a, now (word .exit)) ≡ mended r (now (word .entry)) ⌝ }
 {
-    let mut left = [0u8; 255];
+    let mut left = [0u8; Word::LENGTH];
     base::copy(word, &mut left);
     amend(r, &mut left);
     let n = distance(word, &left);

@@ -3,6 +3,7 @@ ghost use mathlib.Core.Path.{_≡_};
 ghost use mathlib.Core.List.{map};
 ghost use Prim.Native.Nat.{_+_, _≤_};
 ghost use lib.ListN.{length, take};
+ghost use Rattle.parity.specs.Calls.{rootLimit};
 ghost use Rattle.repair.specs.Way.{dot, windows, pivot, normal, reduced, extended, solve, locator};
 
 // A solution: the first n numbers of v. There is none where n is 0.
@@ -27,7 +28,7 @@ pub fn dot(u: &[u8], row: &[u8]) -> u8
 
 // The n equations of the sums s, each a row that begins one further on; zeros behind them.
 fn equations(n: usize, s: &[u8]) -> [[u8; 33]; 32]
-    requires { ⌜ (n ≤ 32) × (length (now s) ≡ 64) ⌝ }
+    requires { ⌜ (n ≤ 32) × (length (now s) ≡ rootLimit) ⌝ }
     ensures { λ m. ⌜ take n m ≡ windows 0 n (now (s .entry)) ⌝ }
 {
     let zeros = [0u8; 33];
@@ -128,7 +129,7 @@ fn solve(n: usize, rows: &mut [[u8; 33]]) -> Found
 
 // The locator of a word with r parity bytes and the sums s.
 pub fn locator(r: usize, s: &[u8]) -> Found
-    requires { ⌜ (r ≤ 64) × (length (now s) ≡ 64) ⌝ }
+    requires { ⌜ (r ≤ rootLimit) × (length (now s) ≡ rootLimit) ⌝ }
     ensures { λ f. ⌜ (f .n ≤ 33) × (length (f .v) ≡ 33) × (take (f .n) (f .v) ≡ locator r (now (s .entry))) ⌝ }
 {
     let h = r / 2;

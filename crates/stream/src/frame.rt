@@ -66,9 +66,6 @@ fn store(recv: &mut [u8], at: usize, bytes: &[u8]) -> usize
 }
 
 impl Frame {
-    /// The flag, which stands between frames.
-    pub const FLAG: u8 = Packet::FLAG;
-
     /// Raw bytes stored, at most.
     pub const RAW: usize = Packet::RAW;
 

@@ -1,19 +1,20 @@
 -- `interleaver::put_back` meets its contract. The invariant: each byte passed stands in its cell.
 use mathlib.Core.Path.{_≡_, _∙_}
-use Prim.Native.Nat.{ℕ, _≤_, _<_, _-_}
+use Prim.Native.Nat.{ℕ, _≤_, _<_, _-_, _*_}
 use native.Mathlib.Omega.{arith}
 use lib.ListN.{length, getD, length-set, length-replicate}
 use borrow.Author.Count.{below-none}
 use borrow.Author.Needs.{needs}
-use Rattle.interleaver.specs.Places.{cell}
+use Rattle.interleaver.specs.Places.{width, cell}
 use Rattle.interleaver.specs.Private.{Placed}
 use Rattle.interleaver.proofs.Steps.{first-placed, placed-below, placed-cell, put-more}
 use Rattle.interleaver.proofs.put_back.Statement.{statement}
 use Rattle.interleaver.proofs.put_back.Tie as tie
+use Rattle.interleaver.specs.Matrix.{depthLimit}
 
 abbrev Inv-loop : tie.InvT-loop
 Inv-loop depth bytes cells₀ at₀ i₀ cells at i =
-    (i ≤ length bytes) × (length cells ≡ 16320) × ((j : ℕ) → j < i → getD cells (cell depth j) 0 ≡ getD bytes j 0) × (Placed depth at) × (at .i ≡ i)
+    (i ≤ length bytes) × (length cells ≡ depthLimit * width) × ((j : ℕ) → j < i → getD cells (cell depth j) 0 ≡ getD bytes j 0) × (Placed depth at) × (at .i ≡ i)
 
 abbrev μ-loop : tie.MeasureT-loop
 μ-loop depth bytes cells₀ at₀ i₀ cells at i = length bytes - i
@@ -23,7 +24,7 @@ put-back-spec =
     tie.close
     (tie.spec Inv-loop μ-loop
     (search needs)
-    (λ c. (search needs, length-replicate {A = ℕ} 16320 0, below-none _, rw (c .first .ensures) (first-placed _), rw (c .first .ensures)))
+    (λ c. (search needs, length-replicate {A = ℕ} (depthLimit * width) 0, below-none _, rw (c .first .ensures) (first-placed _), rw (c .first .ensures)))
     (λ c κs. omega (arith, placed-below _ _ (c .before .loop .inv .3) (omega arith), c .before .loop .inv .3 .is-column))
     (search needs)
     (search needs)

@@ -3,12 +3,14 @@ use native.Mathlib.Omega.{arith}
 use mathlib.Core.Path.{_≡_}
 use lib.ListN.{length}
 use borrow.Author.Needs.{needs}
+use Rattle.packet.specs.Contents.{rawLimit}
+use Rattle.channel.specs.Sender.{wordBytes}
 use Rattle.listing.proofs.main.Statement.{statement}
 use Rattle.listing.proofs.main.Tie as tie
 
 abbrev Inv-loop : tie.InvT-loop
 Inv-loop recv₀ word₀ piece₀ out₀ recording₀ reads₀ t₀ recv word piece out recording reads =
-    (8205 ≡ length recv) × (255 ≡ length word) × (65536 ≡ length piece) × (65536 ≡ length out)
+    (rawLimit ≡ length recv) × (wordBytes ≡ length word) × (65536 ≡ length piece) × (65536 ≡ length out)
 
 abbrev μ-loop : tie.MeasureT-loop
 μ-loop recv₀ word₀ piece₀ out₀ recording₀ reads₀ t₀ recv word piece out recording reads = reads

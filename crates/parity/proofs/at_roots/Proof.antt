@@ -9,9 +9,10 @@ use Rattle.parity.proofs.Roots.{values-none}
 use Rattle.parity.proofs.Loops.{at-roots-next, at-roots-done}
 use Rattle.parity.proofs.at_roots.Statement.{statement}
 use Rattle.parity.proofs.at_roots.Tie as tie
+use Rattle.parity.specs.Calls.{rootLimit}
 
 abbrev Inv-loop : tie.InvT-loop
-Inv-loop word p v₀ i₀ v i = (i ≤ length word) × (v ≡ valuesFrom (take i word) 1 64)
+Inv-loop word p v₀ i₀ v i = (i ≤ length word) × (v ≡ valuesFrom (take i word) 1 rootLimit)
 
 abbrev μ-loop : tie.MeasureT-loop
 μ-loop word p v₀ i₀ v i = length word - i
@@ -21,7 +22,7 @@ at-roots-spec =
     tie.close
     (tie.spec Inv-loop μ-loop
     (search needs)
-    (λ c. (omega arith, values-none 1 64))
+    (λ c. (omega arith, values-none 1 rootLimit))
     (search needs)
     (search needs)
     (search needs)

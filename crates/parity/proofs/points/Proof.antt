@@ -10,12 +10,13 @@ use Rattle.parity.specs.Private.{points}
 use Rattle.parity.proofs.Loops.{points-next, points-done}
 use Rattle.parity.proofs.points.Statement.{statement}
 use Rattle.parity.proofs.points.Tie as tie
+use Rattle.parity.specs.Calls.{rootLimit}
 
 abbrev Inv-loop : tie.InvT-loop
-Inv-loop p₀ x₀ j₀ p x j = (j ≤ 64) × (length p ≡ 64) × (take j p ++ points x (64 - j) ≡ points alpha 64)
+Inv-loop p₀ x₀ j₀ p x j = (j ≤ rootLimit) × (length p ≡ rootLimit) × (take j p ++ points x (rootLimit - j) ≡ points alpha rootLimit)
 
 abbrev μ-loop : tie.MeasureT-loop
-μ-loop p₀ x₀ j₀ p x j = 64 - j
+μ-loop p₀ x₀ j₀ p x j = rootLimit - j
 
 pub points-spec : {M : Type 1} → statement M
 points-spec =

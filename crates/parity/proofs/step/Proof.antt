@@ -9,12 +9,13 @@ use Rattle.parity.specs.Private.{stepped}
 use Rattle.parity.proofs.Loops.{step-next, step-done}
 use Rattle.parity.proofs.step.Statement.{statement}
 use Rattle.parity.proofs.step.Tie as tie
+use Rattle.parity.specs.Calls.{rootLimit}
 
 abbrev Inv-loop : tie.InvT-loop
-Inv-loop c p next₀ j₀ next j = (j ≤ 64) × (length next ≡ 64) × (take j next ++ stepped c (drop j p) (drop j next) ≡ stepped c p next₀)
+Inv-loop c p next₀ j₀ next j = (j ≤ rootLimit) × (length next ≡ rootLimit) × (take j next ++ stepped c (drop j p) (drop j next) ≡ stepped c p next₀)
 
 abbrev μ-loop : tie.MeasureT-loop
-μ-loop c p next₀ j₀ next j = 64 - j
+μ-loop c p next₀ j₀ next j = rootLimit - j
 
 pub step-spec : {M : Type 1} → statement M
 step-spec =
