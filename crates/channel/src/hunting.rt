@@ -2,7 +2,7 @@
 ghost use mathlib.Core.Path.{_≡_};
 ghost use Rattle.channel.specs.Channel.{shift, isMarker, zeros};
 ghost use Rattle.channel.specs.Private.{shifts, hunted};
-use crate::block::Block;
+use crate::receiver::Receiver;
 
 /// Hunting: the last four bytes, the oldest first.
 pub struct Hunting {
@@ -49,7 +49,7 @@ impl Hunting {
     pub(crate) fn at_marker(self) -> bool
         ensures { λ r. ⌜ r ≡ isMarker self ⌝ }
     {
-        let m = Block::MARKER;
+        let m = Receiver::MARKER;
         if self.d == m[3] {
             if self.c == m[2] {
                 if self.b == m[1] {

@@ -38,6 +38,12 @@ pub struct Receiver {
 }
 
 impl Receiver {
+    /// The flag between frames.
+    pub const FLAG: u8 = Frame::FLAG;
+
+    /// The marker before each word.
+    pub const MARKER: [u8; 4] = Block::MARKER;
+
     /// Bytes that the receive buffer needs.
     pub const RAW: usize = Frame::RAW;
 

@@ -56,7 +56,7 @@ fn store(recv: &mut [u8], at: usize, bytes: &[u8]) -> usize
 {
     let mut i: usize = 0;
     while i < bytes.len() {
-        if bytes[i] == Packet::FLAG {
+        if bytes[i] == Frame::FLAG {
             return i;
         }
         recv[at + i] = bytes[i];
@@ -66,6 +66,9 @@ fn store(recv: &mut [u8], at: usize, bytes: &[u8]) -> usize
 }
 
 impl Frame {
+    /// The flag, which stands between frames.
+    pub const FLAG: u8 = Packet::FLAG;
+
     /// Raw bytes stored, at most.
     pub const RAW: usize = Packet::RAW;
 
@@ -132,9 +135,9 @@ impl Frame {
             if k < n {
                 return k;
             }
-            return n + base::up_to(&bytes[n..], Packet::FLAG);
+            return n + base::up_to(&bytes[n..], Frame::FLAG);
         }
-        base::up_to(bytes, Packet::FLAG)
+        base::up_to(bytes, Frame::FLAG)
     }
 
     // Whether a flag closes a frame here.
