@@ -4,8 +4,8 @@
 -- none-owed                         of a reader that never owes a move: it fits that
 -- hear-hand, hear-eat, hear-end     one move of a call, as a loop makes it
 -- cut, cut-ends, ..-first..         every way of cutting yields the answers and the final state of the uncut string, and comes to its end
--- cut-guarded, cut-guarded-ends     the same of a call that looks at its state first
--- yields-all, yields-first          .. both together; with a word half handed on too
+-- yields-within, ..-first-within    both of a call that looks first, where it is safe for the bytes that may still come
+-- yields-all, yields-first          .. where that is a fact of the state alone; with a word half handed on too
 -- yields-so                         .. and in other words
 use Prim.Native.Nat.{ℕ, zero, suc, _+_, _≤_, zero-le, suc-le-suc}
 use native.Mathlib.Nat.{zero-add, suc-add, add-assoc}
@@ -14,7 +14,7 @@ use mathlib.Core.Path.{_≡_, refl, sym, _∙_, ap, subst}
 use mathlib.Core.List.{List, [], _∷_, _++_, nil≢cons, cons≢nil, head-eq-of-cons-eq, tail-eq-of-cons-eq}
 use mathlib.Core.Option.{Option, some, none, Option·none-ne-some}
 use mathlib.Core.Logic.{_↔_}
-use lib.ListN.{length, drop}
+use lib.ListN.{length, drop, length-append}
 use Rattle.base.specs.Calls.{joined, tell, andThen, unless, oneMore, after, With, owesNone, Reads, ReadsAll, Yields}
 use Rattle.base.specs.Calls.Reads.{more, answer}
 use Rattle.base.specs.Calls.ReadsAll.{done, piece}
@@ -266,7 +266,64 @@ module _ {S A : Type 0} (pend : S → ℕ) (hand : S → Option A × S) (eat : S
     pub cut-first-ends : (p : List ℕ) (ps : List (List ℕ)) (s : S) → ReadsAll hear s (p ∷ ps) (all s (joined (p ∷ ps)) .0) (all s (joined (p ∷ ps)) .1)
     cut-first-ends p ps s = rw (all-append s p (joined ps)) (piece (ends s p) (cut-ends ps (all s p .1) (settled s p)))
 
-    -- A guarded call: one that is the bare call wherever `Inv` holds, which no move breaks.
+    -- A guarded call: it is the bare call wherever the state is safe for the bytes that may still come, and behind it the state is safe for
+    -- those that are left.
+    module _ (Safe : S → ℕ → Type 0) (call : S → List ℕ → Option A × ℕ × S)
+        (fewer : (s : S) (n k : ℕ) → Safe s (n + k) → Safe s k)
+        (agrees : (s : S) (bs : List ℕ) (k : ℕ) → Safe s (length bs + k) → call s bs ≡ hear s bs)
+        (behind : (s : S) (bs : List ℕ) (k : ℕ) → Safe s (length bs + k) → Safe (hear s bs .2) (length (drop (hear s bs .1) bs) + k)) where
+      left : (s : S) (bs : List ℕ) (k : ℕ) (r : Option A × ℕ × S) → Safe s (length bs + k) → hear s bs ≡ r → Safe (r .2) (length (drop (r .1) bs) + k)
+      left s bs k r i e = subst (λ (q : Option A × ℕ × S). Safe (q .2) (length (drop (q .1) bs) + k)) e (behind s bs k i)
+
+      guarded : {s : S} {bs : List ℕ} {xs : List A} {t : S} (k : ℕ) → Safe s (length bs + k) → Reads call s bs xs t → Reads hear s bs xs t × Safe t k
+      guarded {s} {bs} k i (more n {t = t} e) =
+          let h : hear s bs ≡ (none, n, t) = sym (agrees s bs k i) ∙ e in
+          (more n h, fewer t (length (drop n bs)) k (left s bs k (none, n, t) i h))
+      guarded {s} {bs} k i (answer {a = a} n {t = t} e r) =
+          let h : hear s bs ≡ (some a, n, t) = sym (agrees s bs k i) ∙ e in
+          let j = guarded k (left s bs k (some a, n, t) i h) r in
+          (answer n h (j .0), j .1)
+
+      bare : {s : S} {bs : List ℕ} {xs : List A} {t : S} (k : ℕ) → Safe s (length bs + k) → Reads hear s bs xs t → Reads call s bs xs t × Safe t k
+      bare {s} {bs} k i (more n {t = t} e) =
+          (more n (agrees s bs k i ∙ e), fewer t (length (drop n bs)) k (left s bs k (none, n, t) i e))
+      bare {s} {bs} k i (answer {a = a} n {t = t} e r) =
+          let j = bare k (left s bs k (some a, n, t) i e) r in
+          (answer n (agrees s bs k i ∙ e) (j .0), j .1)
+
+      -- a piece, with the others behind it
+      parted : (s : S) (p : List ℕ) (ps : List (List ℕ)) → Safe s (length (joined (p ∷ ps))) → Safe s (length p + length (joined ps))
+      parted s p ps i = subst (Safe s) (length-append p (joined ps)) i
+
+      guarded-all : {s : S} {ps : List (List ℕ)} {xs : List A} {t : S} → Safe s (length (joined ps)) → ReadsAll call s ps xs t → ReadsAll hear s ps xs t
+      guarded-all i done = done
+      guarded-all {s} i (piece {p = p} {ps = ps} r rs) =
+          let j = guarded (length (joined ps)) (parted s p ps i) r in
+          piece (j .0) (guarded-all (j .1) rs)
+
+      bare-all : {s : S} {ps : List (List ℕ)} {xs : List A} {t : S} → Safe s (length (joined ps)) → ReadsAll hear s ps xs t → ReadsAll call s ps xs t
+      bare-all i done = done
+      bare-all {s} i (piece {p = p} {ps = ps} r rs) =
+          let j = bare (length (joined ps)) (parted s p ps i) r in
+          piece (j .0) (bare-all (j .1) rs)
+
+      -- every way of cutting comes to its end, and yields that, where nothing is owed ..
+      pub yields-within : (s : S) → pend s ≡ 0 → (ps : List (List ℕ)) → Safe s (length (joined ps))
+          → Yields call s ps λ xs t. (xs, t) ≡ all s (joined ps)
+      yields-within s h ps i = record {
+        ends = (all s (joined ps) .0, all s (joined ps) .1, bare-all i (cut-ends ps s h));
+        always = λ xs t r. cut h (guarded-all i r);
+      }
+
+      -- .. and from every state, where there is a piece
+      pub yields-first-within : (s : S) (p : List ℕ) (ps : List (List ℕ)) → Safe s (length (joined (p ∷ ps)))
+          → Yields call s (p ∷ ps) λ xs t. (xs, t) ≡ all s (joined (p ∷ ps))
+      yields-first-within s p ps i = record {
+        ends = (all s (joined (p ∷ ps)) .0, all s (joined (p ∷ ps)) .1, bare-all i (cut-first-ends p ps s));
+        always = λ xs t r. cut-first (guarded-all i r);
+      }
+
+    -- The same where what is safe is a fact of the state alone, `Inv`, which no move breaks.
     module _ (Inv : S → Type 0)
         (inv-hand : (s : S) (n : ℕ) → pend s ≡ suc n → Inv s → Inv (hand s .1))
         (inv-eat : (s : S) (b : ℕ) → pend s ≡ 0 → Inv s → Inv (eat s b .1)) where
@@ -290,50 +347,13 @@ module _ {S A : Type 0} (pend : S → ℕ) (hand : S → Option A × S) (eat : S
       inv-hear s bs i = inv-first bs (inv-wait bs) (pend s) s refl i
 
       module _ (call : S → List ℕ → Option A × ℕ × S) (agrees : (s : S) (bs : List ℕ) → Inv s → call s bs ≡ hear s bs) where
-        keeps : (s : S) (bs : List ℕ) (r : Option A × ℕ × S) → Inv s → hear s bs ≡ r → Inv (r .2)
-        keeps s bs r i e = subst (λ (q : Option A × ℕ × S). Inv (q .2)) e (inv-hear s bs i)
-
-        guarded : {s : S} {bs : List ℕ} {xs : List A} {t : S} → Inv s → Reads call s bs xs t → Reads hear s bs xs t × Inv t
-        guarded {s} {bs} i (more n {t = t} e) = (more n (sym (agrees s bs i) ∙ e), keeps s bs (none, n, t) i (sym (agrees s bs i) ∙ e))
-        guarded {s} {bs} i (answer {a = a} n {t = t} e r) =
-            let h : hear s bs ≡ (some a, n, t) = sym (agrees s bs i) ∙ e in
-            let j = guarded (keeps s bs (some a, n, t) i h) r in
-            (answer n h (j .0), j .1)
-
-        bare : {s : S} {bs : List ℕ} {xs : List A} {t : S} → Inv s → Reads hear s bs xs t → Reads call s bs xs t × Inv t
-        bare {s} {bs} i (more n {t = t} e) = (more n (agrees s bs i ∙ e), keeps s bs (none, n, t) i e)
-        bare {s} {bs} i (answer {a = a} n {t = t} e r) =
-            let j = bare (keeps s bs (some a, n, t) i e) r in
-            (answer n (agrees s bs i ∙ e) (j .0), j .1)
-
-        guarded-all : {s : S} {ps : List (List ℕ)} {xs : List A} {t : S} → Inv s → ReadsAll call s ps xs t → ReadsAll hear s ps xs t
-        guarded-all i done = done
-        guarded-all i (piece r rs) = let j = guarded i r in piece (j .0) (guarded-all (j .1) rs)
-
-        bare-all : {s : S} {ps : List (List ℕ)} {xs : List A} {t : S} → Inv s → ReadsAll hear s ps xs t → ReadsAll call s ps xs t
-        bare-all i done = done
-        bare-all i (piece r rs) = let j = bare i r in piece (j .0) (bare-all (j .1) rs)
-
-        -- the same of the guarded call
-        pub cut-guarded : {s : S} {ps : List (List ℕ)} {xs : List A} {t : S} → pend s ≡ 0 → Inv s → ReadsAll call s ps xs t → (xs, t) ≡ all s (joined ps)
-        cut-guarded h i r = cut h (guarded-all i r)
-
-        pub cut-guarded-ends : (ps : List (List ℕ)) (s : S) → pend s ≡ 0 → Inv s → ReadsAll call s ps (all s (joined ps) .0) (all s (joined ps) .1)
-        cut-guarded-ends ps s h i = bare-all i (cut-ends ps s h)
-
-        -- .. both together, where nothing is owed ..
         pub yields-all : (s : S) → pend s ≡ 0 → Inv s → (ps : List (List ℕ)) → Yields call s ps λ xs t. (xs, t) ≡ all s (joined ps)
-        yields-all s h i ps = record {
-          ends = (all s (joined ps) .0, all s (joined ps) .1, cut-guarded-ends ps s h i);
-          always = λ xs t r. cut-guarded h i r;
-        }
+        yields-all s h i ps =
+            yields-within (λ t n. Inv t) call (λ t n k j. j) (λ t bs k j. agrees t bs j) (λ t bs k j. inv-hear t bs j) s h ps i
 
-        -- .. and from every state, where there is a piece
         pub yields-first : (s : S) → Inv s → (p : List ℕ) (ps : List (List ℕ)) → Yields call s (p ∷ ps) λ xs t. (xs, t) ≡ all s (joined (p ∷ ps))
-        yields-first s i p ps = record {
-          ends = (all s (joined (p ∷ ps)) .0, all s (joined (p ∷ ps)) .1, bare-all i (cut-first-ends p ps s));
-          always = λ xs t r. cut-first (guarded-all i r);
-        }
+        yields-first s i p ps =
+            yields-first-within (λ t n. Inv t) call (λ t n k j. j) (λ t bs k j. agrees t bs j) (λ t bs k j. inv-hear t bs j) s p ps i
 
 -- what each run yields may be said in other words
 pub yields-so : {S A : Type 0} {call : S → List ℕ → Option A × ℕ × S} {s : S} {ps : List (List ℕ)} {P Q : List A → S → Type 0}
