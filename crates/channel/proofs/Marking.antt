@@ -13,7 +13,7 @@ use lib.Seq.{take-append-le, drop-append-le, length-take-le}
 use Rattle.packet.specs.Escape.{flag}
 use Rattle.parity.specs.Word.{remainder}
 use Rattle.parity.proofs.Division.{length-remainder}
-use Rattle.channel.specs.Sender.{marker, wordOf, framed, fillers, filled, cutUp, marked, wholeBytes, wholes, restOf, blockBytes, messageBytes, wordBytes}
+use Rattle.channel.specs.Sender.{marker, wordOf, framed, fillers, filled, cutUp, marked, wholeBytes, wholes, restOf, blockBytes, messageBytes, parityBytes, wordBytes}
 
 framed-append : (us vs : List (List ℕ)) → framed (map wordOf (us ++ vs)) ≡ framed (map wordOf us) ++ framed (map wordOf vs)
 framed-append [] vs = refl
@@ -57,7 +57,7 @@ module _ (q : ℕ) (a : List ℕ) (h : length a ≡ messageBytes * q) where
       ∙ ap (λ (l : List ℕ). l ++ marked b) (sym marked-whole)
 
 word-length : (m : List ℕ) → length m ≡ messageBytes → length (wordOf m) ≡ wordBytes
-word-length m h = omega (arith, length-append m (remainder 32 m), length-remainder 32 m)
+word-length m h = omega (arith, length-append m (remainder parityBytes m), length-remainder parityBytes m)
 
 framed-length : (q : ℕ) (a : List ℕ) → length a ≡ messageBytes * q → length (framed (map wordOf (cutUp q a))) ≡ blockBytes * q
 framed-length zero a h = refl
