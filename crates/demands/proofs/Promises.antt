@@ -348,7 +348,7 @@ pub field-inverse-means : Means field-inverse.Statement.statement field-inverse.
 field-inverse-means = (λ M. field-inverse.Met.met, λ κs a. tt, λ κs a z ws. (λ p. p, λ p. p))
 
 pub parity-at-roots-means : Means parity-at-roots.Statement.statement parity-at-roots.Kinds.ps parity-at-roots.Kinds.r parity-at-roots.Reads.Asked parity-at-roots.Reads.Learnt
-    λ κs word v. v ≡ atRoots (now word)
+    λ κs r word v. v ≡ atRoots r (now word)
 parity-at-roots-means = (λ M. parity-at-roots.Met.met, λ κs a. tt, λ κs a z ws. (λ p. p, λ p. p))
 
 pub parity-subtract-means : Means parity-subtract.Statement.statement parity-subtract.Kinds.ps parity-subtract.Kinds.r parity-subtract.Reads.Asked parity-subtract.Reads.Learnt

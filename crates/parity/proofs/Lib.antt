@@ -4,6 +4,9 @@ pub mod Roots
 pub mod Generator
 pub mod Division
 pub mod Clean
+pub mod Packed
+pub mod Residue
+pub mod Laid
 pub mod Loops
 pub mod Refusing
 pub mod Numbers

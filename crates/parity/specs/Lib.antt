@@ -1,3 +1,4 @@
 pub mod Word
 pub mod Calls
 pub mod Private
+pub mod Lanes

@@ -2,14 +2,16 @@
 ghost use mathlib.Core.Path.{_≡_};
 ghost use mathlib.Core.List.{_∷_, _++_};
 ghost use Prim.Native.Nat.{_+_, _-_, _≤_};
-ghost use lib.ListN.{length, drop, replicate};
+ghost use lib.ListN.{length, take, drop, replicate};
 ghost use Rattle.base.specs.Written.{copied, outcome};
 ghost use Rattle.field.specs.Field.{alpha};
-ghost use Rattle.parity.specs.Word.{clean, scale, onto, generator, divide, remainder};
+ghost use Rattle.parity.specs.Word.{valuesFrom, clean, scale, onto, generator, divide, remainder};
 ghost use Rattle.parity.specs.Calls.{wordBytes, rootLimit, atRoots, checked, made};
-ghost use Rattle.parity.specs.Private.{points, stepped};
+ghost use Rattle.parity.specs.Private.{atAll, points, stepped};
 use base::Refusal;
 use base::Written;
+
+mod lanes;
 
 /// What the check of a word finds.
 pub enum Checked {
@@ -59,9 +61,9 @@ fn step(c: u8, p: [u8; Word::MOST], v: [u8; Word::MOST]) -> [u8; Word::MOST]
     next
 }
 
-/// The values of a word at alpha, alpha^2, .. alpha^64: at all roots that it may have.
-pub fn at_roots(word: &[u8]) -> [u8; Word::MOST]
-    ensures { λ v. ⌜ v ≡ atRoots (now (word .entry)) ⌝ }
+// The values of a word at alpha, alpha^2, .. alpha^64: at all roots that it may have.
+fn at_all(word: &[u8]) -> [u8; Word::MOST]
+    ensures { λ v. ⌜ v ≡ atAll (now (word .entry)) ⌝ }
 {
     let p = points();
     let mut v = [0u8; Word::MOST];
@@ -74,12 +76,38 @@ pub fn at_roots(word: &[u8]) -> [u8; Word::MOST]
     v
 }
 
+// Values of which the first r are those of a word at its roots: with 32 roots they are had from what division leaves of it.
+fn at_first(r: usize, word: &[u8]) -> [u8; Word::MOST]
+    requires { ⌜ r ≤ rootLimit ⌝ }
+    ensures { λ v. ⌜ take r v ≡ valuesFrom (now (word .entry)) 1 r ⌝ }
+{
+    if r == lanes::ROOTS {
+        let left = lanes::left(word);
+        return at_all(&left);
+    }
+    at_all(word)
+}
+
+/// The values of a word at its r roots, at most 64, and zeros behind them.
+pub fn at_roots(r: usize, word: &[u8]) -> [u8; Word::MOST]
+    ensures { λ v. ⌜ v ≡ atRoots r (now (word .entry)) ⌝ }
+{
+    let n = base::least(r, Word::MOST);
+    let first = at_first(n, word);
+    let mut v = [0u8; Word::MOST];
+    base::copy(&first[..n], &mut v);
+    v
+}
+
 // Whether a word is zero at the roots 1 to r.
 fn zero_at(r: usize, word: &[u8]) -> bool
     requires { ⌜ r ≤ rootLimit ⌝ }
     ensures { λ b. ⌜ b ≡ clean r (now (word .entry)) ⌝ }
 {
-    let v = at_roots(word);
+    if r == lanes::ROOTS {
+        return lanes::is_clean(word);
+    }
+    let v = at_all(word);
     let mut j: usize = 0;
     while j < r {
         if v[j] != 0 {
@@ -169,11 +197,16 @@ fn put_parity(r: usize, message: &[u8], out: &mut [u8])
     requires { ⌜ length (now message) ≡ wordBytes - r ⌝ }
     ensures { λ _. ⌜ now (out .exit) ≡ copied (remainder r (now (message .entry))) (now (out .entry)) ⌝ }
 {
+    let mut p = [0u8; Word::LENGTH];
+    base::copy(message, &mut p);
+    if r == lanes::ROOTS {
+        let left = lanes::left(&p);
+        base::copy(&left, out);
+        return;
+    }
     let n = Word::LENGTH - r;
     let end = r + 1;
     let g = generate(r);
-    let mut p = [0u8; Word::LENGTH];
-    base::copy(message, &mut p);
     reduce(n, &g[1..end], &mut p);
     base::copy(&p[n..], out);
 }

@@ -1,7 +1,7 @@
 -- A turn and the end of each loop, on the lists that it works on; and what the calls of a function leave together.
 use mathlib.Core.Path.{_≡_, refl, sym, ap, ap₂, _∙_, subst}
 use mathlib.Core.List.{List, [], _∷_, _++_, append-assoc, append-nil, map}
-use Prim.Native.Nat.{ℕ, zero, suc, _+_, _-_, _≤_, _<_}
+use Prim.Native.Nat.{ℕ, zero, suc, _+_, _-_, _≤_, _<_, min}
 use native.Mathlib.Nat.{le-refl, le-antisymm, suc-inj, pos-of-ne-zero}
 use native.Mathlib.Nat.{add-zero as plus-zero, add-assoc as nat-add-assoc, zero-add as nat-zero-add}
 use native.Mathlib.Numerals.{add-one}
@@ -23,8 +23,6 @@ use Rattle.parity.specs.Calls.{atRoots, checked, rootLimit, wordBytes}
 use Rattle.parity.specs.declared.Checked.{Checked}
 use Rattle.parity.specs.declared.Checked.the-variants as check
 use Rattle.parity.proofs.Sums.{length-onto}
-use Rattle.parity.proofs.Roots.{length-values, values-front}
-use Rattle.parity.proofs.Loops.{drop-replicate}
 use Rattle.repair.specs.declared.Mended.{Mended}
 use Rattle.repair.specs.declared.Mended.the-variants.{Repaired, Beyond}
 use Rattle.repair.specs.Promise.{distance, half, Promised}
@@ -49,16 +47,13 @@ module _ (n i : ℕ) (a b : List ℕ) {t : ℕ} (inv : n + distance (drop i a) (
   unfolding distance
   distance-done h = sym (plus-zero n) ∙ rw (drop-of-length-le a h) at inv
 
--- ---- sums
-pub sums-are : (r : ℕ) (w : List ℕ) {v s : List ℕ} → r ≤ rootLimit → v ≡ atRoots w → s ≡ copied (take r v) (replicate rootLimit 0) → s ≡ sums r w
+-- ---- sums: of a word with at most 64 roots they are its values there
+pub sums-are : (r : ℕ) (w : List ℕ) {s : List ℕ} → r ≤ rootLimit → s ≡ atRoots r w → s ≡ sums r w
 unfolding sums
-sums-are r w {v} h ev es =
-    es ∙ ap (λ (t : List ℕ). copied t (replicate rootLimit 0)) front
-    ∙ copied-fits (valuesFrom w 1 r) (replicate rootLimit 0) (omega (arith, length-values w 1 r, length-replicate {A = ℕ} rootLimit 0))
-    ∙ ap (λ (t : List ℕ). valuesFrom w 1 r ++ t) (ap (λ (n : ℕ). drop n (replicate rootLimit 0)) (length-values w 1 r) ∙ drop-replicate r rootLimit)
+sums-are r w h e = e ∙ ap (λ (n : ℕ). valuesFrom w 1 n ++ replicate (rootLimit - r) 0) least
   where
-    front : take r v ≡ valuesFrom w 1 r
-    front = ap (take r) ev ∙ values-front w 1 rootLimit r h
+    least : min r rootLimit ≡ r
+    least = omega arith
 
 -- ---- dot
 module _ (a i : ℕ) (u row : List ℕ) {d : ℕ} (inv : add a (dot (drop i u) (drop i row)) ≡ d) where

@@ -4,7 +4,7 @@ ghost use Prim.Native.Nat.{_≤_};
 ghost use lib.ListN.{length};
 ghost use Rattle.parity.specs.Calls.{rootLimit, wordBytes};
 ghost use Rattle.repair.specs.Promise.{distance, Promised};
-ghost use Rattle.repair.specs.Way.{sums, amended, mended};
+ghost use Rattle.repair.specs.Way.{amended, mended};
 use parity::Checked;
 use parity::Word;
 
@@ -38,23 +38,12 @@ fn distance(a: &[u8], b: &[u8]) -> usize
     n
 }
 
-// The values of a word at its r roots, with zeros behind.
-fn sums(r: usize, word: &[u8]) -> [u8; Word::MOST]
-    requires { ⌜ r ≤ rootLimit ⌝ }
-    ensures { λ s. ⌜ s ≡ sums r (now (word .entry)) ⌝ }
-{
-    let v = parity::at_roots(word);
-    let mut s = [0u8; Word::MOST];
-    base::copy(&v[..r], &mut s);
-    s
-}
-
 // Puts in the place of a word what it becomes by its locator.
 fn amend(r: usize, word: &mut [u8])
     requires { ⌜ (r ≤ rootLimit) × (length (now word) ≡ wordBytes) ⌝ }
     ensures { λ _. ⌜ now (word .exit) ≡ amended r (now (word .entry)) ⌝ }
 {
-    let s = sums(r, word);
+    let s = parity::at_roots(r, word);
     let locator = rows::locator(r, &s);
     let k = locator.n;
     if k == 0 {

@@ -1,35 +1,20 @@
--- `parity::at_roots` meets its contract. The invariant: v is the values of the bytes passed.
-use mathlib.Core.Path.{_≡_}
-use Prim.Native.Nat.{_-_, _≤_}
+-- `parity::at_roots` meets its contract: the first values, copied over zeros.
+use mathlib.Core.Path.{sym}
 use native.Mathlib.Omega.{arith}
-use lib.ListN.{length, take}
+use lib.Seq.{length-take-le}
 use borrow.Author.Needs.{needs}
-use Rattle.parity.specs.Word.{valuesFrom}
-use Rattle.parity.proofs.Roots.{values-none}
-use Rattle.parity.proofs.Loops.{at-roots-next, at-roots-done}
+use Rattle.parity.proofs.Loops.{roots-are}
 use Rattle.parity.proofs.at_roots.Statement.{statement}
 use Rattle.parity.proofs.at_roots.Tie as tie
-use Rattle.parity.specs.Calls.{rootLimit}
-
-abbrev Inv-loop : tie.InvT-loop
-Inv-loop word p v₀ i₀ v i = (i ≤ length word) × (v ≡ valuesFrom (take i word) 1 rootLimit)
-
-abbrev μ-loop : tie.MeasureT-loop
-μ-loop word p v₀ i₀ v i = length word - i
 
 pub at-roots-spec : {M : Type 1} → statement M
 at-roots-spec =
     tie.close
-    (tie.spec Inv-loop μ-loop
-    (search needs)
-    (λ c. (omega arith, values-none 1 rootLimit))
+    (tie.spec
     (search needs)
     (search needs)
     (search needs)
-    (omega arith)
-    (λ c.
-    let turn = c .before .before in (
-      omega arith,
-      at-roots-next _ _ (turn .before .loop .inv .1) (turn .loop-test .taken) (turn .before .before .points .ensures) (c .step .ensures),
-    ))
-    (λ c. at-roots-done _ _ (c .before .loop .inv .1) (c .loop-test .left)))
+    (λ c. sym (length-take-le _ _ (omega arith)))
+    (search needs)
+    (search needs)
+    (λ c. roots-are _ _ _ _ (c .before .before .before .before .before .least .ensures) (c .before .before .before .before .at-first .ensures) (c .before .copy .ensures)))

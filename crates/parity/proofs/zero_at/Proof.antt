@@ -20,13 +20,15 @@ zero-at-spec =
     tie.close
     (tie.spec Inv-loop μ-loop
     (search needs)
+    (λ c. rw (c .before .if1 .taken) (c .is-clean .ensures))
+    (search needs)
     (λ c. unfold clean in (omega arith, refl))
     (omega arith)
-    (λ c. clean-fails _ _ (c .before .before .before .at-roots .ensures) (omega arith) _ (omega arith) (c .if1 .taken))
+    (λ c. clean-fails _ _ (c .before .before .before .at-all .ensures) (omega arith) _ (omega arith) (c .if2 .taken))
     (omega arith)
     (omega arith)
     (λ c. (
       omega arith,
-      clean-next _ _ (c .before .before .before .at-roots .ensures) (omega arith) (c .if1 .left) (c .before .before .loop .inv .1),
+      clean-next _ _ (c .before .before .before .at-all .ensures) (omega arith) (c .if2 .left) (c .before .before .loop .inv .1),
     ))
     (λ c. clean-done _ _ _ (c .before .loop .inv .0) (omega arith) (c .before .loop .inv .1)))

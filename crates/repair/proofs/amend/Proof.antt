@@ -3,7 +3,7 @@ use mathlib.Core.Path.{sym}
 use native.Mathlib.Omega.{arith}
 use lib.Seq.{length-take-le}
 use borrow.Author.Needs.{needs}
-use Rattle.repair.proofs.Loops.{amend-none, amend-some}
+use Rattle.repair.proofs.Loops.{sums-are, amend-none, amend-some}
 use Rattle.repair.proofs.amend.Statement.{statement}
 use Rattle.repair.proofs.amend.Tie as tie
 
@@ -15,7 +15,7 @@ amend-spec =
     (search needs)
     (search needs)
     (search needs)
-    (λ c. let f = c .before .locator in amend-none (c .before .before .before .before .before .before .args .r) (c .before .before .before .before .before .before .args .word .now) (c .before .before .before .sums .ensures) (f .result .n) (f .result .v) (f .ensures .2) (c .if1 .taken))
+    (λ c. let f = c .before .locator in amend-none (c .before .before .before .before .before .before .args .r) (c .before .before .before .before .before .before .args .word .now) (sums-are _ _ (omega arith) (c .before .before .before .at-roots .ensures)) (f .result .n) (f .result .v) (f .ensures .2) (c .if1 .taken))
     (search needs)
     (λ c. let f = c .before .before .before .locator in sym (length-take-le (f .result .n) (f .result .v) (omega (arith, f .ensures .0, f .ensures .1))))
     (search needs)
@@ -26,4 +26,4 @@ amend-spec =
     (search needs)
     (λ c.
     let f = c .before .before .before .before .before .before .before .before .locator in
-    amend-some (c .before .before .before .before .before .before .before .before .before .before .before .before .before .args .r) (c .before .before .before .before .before .before .before .before .before .before .before .before .before .args .word .now) (c .before .before .before .before .before .before .before .before .before .before .sums .ensures) (f .result .n) (f .result .v) (f .ensures .2) (c .before .before .add .ensures)))
+    amend-some (c .before .before .before .before .before .before .before .before .before .before .before .before .before .args .r) (c .before .before .before .before .before .before .before .before .before .before .before .before .before .args .word .now) (sums-are _ _ (omega arith) (c .before .before .before .before .before .before .before .before .before .before .at-roots .ensures)) (f .result .n) (f .result .v) (f .ensures .2) (c .before .before .add .ensures)))

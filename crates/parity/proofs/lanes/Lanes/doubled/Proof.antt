@@ -1,0 +1,13 @@
+-- `parity::lanes::Lanes::doubled` meets its contract, lane by lane.
+use borrow.Author.Needs.{needs}
+use Rattle.parity.proofs.Laid.{laid-doubled}
+use Rattle.parity.proofs.lanes.Lanes.doubled.Statement.{statement}
+use Rattle.parity.proofs.lanes.Lanes.doubled.Tie as tie
+
+pub doubled-spec : {M : Type 1} → statement M
+doubled-spec =
+    tie.close
+    (tie.spec (search needs) (search needs) (search needs) (search needs)
+    (λ c.
+    laid-doubled (c .before .before .before .before .args .self) _
+    (c .before .before .before .double-eight .ensures) (c .before .before .double-eight2 .ensures) (c .before .double-eight3 .ensures) (c .double-eight4 .ensures)))

@@ -1,0 +1,197 @@
+//! Division by the generator for 32 roots: what is left lies in four numbers of eight bytes, and changes by one step a byte.
+ghost use mathlib.Core.Path.{_≡_};
+ghost use mathlib.Core.List.{[], _∷_, _++_, map};
+ghost use Prim.Native.Nat.{_<_};
+ghost use lib.ListN.{drop, getD, replicate};
+ghost use Rattle.field.specs.Field.{double};
+ghost use Rattle.parity.specs.Word.{clean, onto, generator};
+ghost use Rattle.parity.specs.Lanes.{laneRoots, bytesOf, laid, Multiples, begun, residue, isZero};
+
+// 32 coefficients, the highest first: eight in a number.
+struct Lanes {
+    a: u64,
+    b: u64,
+    c: u64,
+    d: u64,
+}
+
+// Its roots, and the bytes that it leaves.
+pub const ROOTS: usize = 32;
+
+// The low seven bits of each of eight bytes.
+const LOWS: u64 = 0x7F7F7F7F7F7F7F7F;
+// The lowest bit of each.
+const ONES: u64 = 0x0101010101010101;
+// The polynomial without x^8.
+const FOLD: u64 = (field::POLYNOMIAL % 256) as u64;
+// Seven bytes are numbers below this one.
+const TOP: u64 = 0x100000000000000;
+
+fn wide(x: u8) -> u64
+    ensures { λ r. ⌜ r ≡ x ⌝ }
+{
+    x as u64
+}
+
+// Eight bytes doubled in the field, side by side.
+fn double_eight(x: u64) -> u64
+    ensures { λ r. ⌜ bytesOf 8 r ≡ map double (bytesOf 8 x) ⌝ }
+{
+    let low = x & LOWS;
+    let high = x / 128 & ONES;
+    (low * 2) ^ (high * FOLD)
+}
+
+impl Lanes {
+    fn none() -> Self
+        ensures { λ r. ⌜ laid r ≡ replicate laneRoots 0 ⌝ }
+    {
+        Lanes {
+            a: 0,
+            b: 0,
+            c: 0,
+            d: 0,
+        }
+    }
+
+    // The generator, its leading 1 aside.
+    fn generator() -> Self
+        ensures { λ r. ⌜ laid r ≡ drop 1 (generator laneRoots) ⌝ }
+    {
+        Lanes {
+            a: 0xE81DBD328EF6E80F,
+            b: 0x2B52A4EE019E0D77,
+            c: 0x9EE086E3D2A3326B,
+            d: 0x281B68FD18EFD82D,
+        }
+    }
+
+    fn doubled(self) -> Self
+        ensures { λ r. ⌜ laid r ≡ map double (laid self) ⌝ }
+    {
+        Lanes {
+            a: double_eight(self.a),
+            b: double_eight(self.b),
+            c: double_eight(self.c),
+            d: double_eight(self.d),
+        }
+    }
+
+    fn plus(self, o: Lanes) -> Self
+        ensures { λ r. ⌜ laid r ≡ onto (laid self) (laid o) ⌝ }
+    {
+        Lanes {
+            a: self.a ^ o.a,
+            b: self.b ^ o.b,
+            c: self.c ^ o.c,
+            d: self.d ^ o.d,
+        }
+    }
+
+    // The first byte goes, and x comes behind.
+    fn shifted(self, x: u8) -> Self
+        ensures { λ r. ⌜ laid r ≡ drop 1 (laid self) ++ x ∷ [] ⌝ }
+    {
+        let w = wide(x);
+        Lanes {
+            a: self.a % TOP * 256 + self.b / TOP,
+            b: self.b % TOP * 256 + self.c / TOP,
+            c: self.c % TOP * 256 + self.d / TOP,
+            d: self.d % TOP * 256 + w,
+        }
+    }
+
+    fn first(self) -> usize
+        ensures { λ r. ⌜ (r ≡ getD (laid self) 0 0) × (r < 256) ⌝ }
+    {
+        (self.a / TOP) as usize
+    }
+
+    fn is_zero(self) -> bool
+        ensures { λ r. ⌜ r ≡ isZero (laid self) ⌝ }
+    {
+        if self.a != 0 {
+            return false;
+        }
+        if self.b != 0 {
+            return false;
+        }
+        if self.c != 0 {
+            return false;
+        }
+        self.d == 0
+    }
+}
+
+// The products with 0, 1, .. 15: twice each, and one more.
+fn multiples(l: Lanes) -> [Lanes; 16]
+    ensures { λ m. ⌜ Multiples m (laid l) ⌝ }
+{
+    let mut m = [Lanes::none(); 16];
+    m[1] = l;
+    let mut i: usize = 1;
+    while i < 8 {
+        let half = m[i];
+        let even = half.doubled();
+        let at = i * 2;
+        m[at] = even;
+        m[at + 1] = even.plus(l);
+        i += 1;
+    }
+    m
+}
+
+// The first 32 bytes, or as many as there are, behind zeros: nothing is taken away from them yet.
+fn begun(bytes: &[u8]) -> Lanes
+    ensures { λ l. ⌜ laid l ≡ begun (now (bytes .entry)) ⌝ }
+{
+    let n = base::least(ROOTS, bytes.len());
+    let mut l = Lanes::none();
+    let mut i: usize = 0;
+    while i < n {
+        l = l.shifted(bytes[i]);
+        i += 1;
+    }
+    l
+}
+
+// What is left of bytes when they are divided by the generator. A byte's product is that of its low half and that of its high half.
+fn residue(bytes: &[u8]) -> Lanes
+    ensures { λ l. ⌜ laid l ≡ residue laneRoots (now (bytes .entry)) ⌝ }
+{
+    let low = multiples(Lanes::generator());
+    let eighth = low[8];
+    let high = multiples(eighth.doubled());
+    let mut l = begun(bytes);
+    let mut i = base::least(ROOTS, bytes.len());
+    while i < bytes.len() {
+        let f = l.first();
+        let lower = low[f % 16];
+        let upper = high[f / 16];
+        l = l.shifted(bytes[i]).plus(lower).plus(upper);
+        i += 1;
+    }
+    l
+}
+
+// Whether a word is clean: nothing is left of it.
+pub fn is_clean(word: &[u8]) -> bool
+    ensures { λ b. ⌜ b ≡ clean laneRoots (now (word .entry)) ⌝ }
+{
+    residue(word).is_zero()
+}
+
+// What is left, byte by byte.
+pub fn left(bytes: &[u8]) -> [u8; ROOTS]
+    ensures { λ l. ⌜ l ≡ residue laneRoots (now (bytes .entry)) ⌝ }
+{
+    let mut rest = residue(bytes);
+    let mut l = [0u8; ROOTS];
+    let mut i: usize = 0;
+    while i < ROOTS {
+        l[i] = rest.first() as u8;
+        rest = rest.shifted(0);
+        i += 1;
+    }
+    l
+}
