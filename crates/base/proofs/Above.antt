@@ -1,6 +1,6 @@
 -- A reader above another one: the bytes of the lower are bytes of the upper, or moves that it owes.
--- Along   some of the lower's bytes lie ahead of the upper, each with a fact of it and its place
--- above   the upper's call begins with the lower's call on them
+-- Along                 some of the lower's bytes lie ahead of the upper, each with a fact of it and its place
+-- above                 the upper's call begins with the lower's call on them
 -- hear-seen, all-seen   the upper is the lower under other names: a call, and all answers
 use Prim.Native.Nat.{ℕ, suc}
 use mathlib.Core.Path.{_≡_, refl, sym, _∙_, ap}
@@ -15,7 +15,8 @@ Along next Here p [] = Unit {0}
 Along next Here p (b ∷ bs) = Here p b × Along next Here (next p b) bs
 
 -- `call p s bs` is the upper's call at a place, with the lower's state, where these bytes of the lower lie ahead; `onward p bs r` is that
--- call by what the lower's call made of them: its answer, or what follows the bytes taken; `later` is a call a byte of the lower later.
+-- call by what the lower's call made of them: with its answer, or with what follows the bytes taken; `later` counts a byte of the lower
+-- that was taken before a call.
 module _ {S A P X : Type 0} (pend : S → ℕ) (hand : S → Option A × S) (eat : S → ℕ → Option A × S)
     (hand-one : (s : S) (n : ℕ) → pend s ≡ suc n → pend (hand s .1) ≡ n)
     (next : P → ℕ → P) (Here : P → ℕ → Type 0) (call : P → S → List ℕ → X) (onward : P → List ℕ → Option A × ℕ × S → X) (later : X → X)

@@ -1,9 +1,9 @@
 -- Laws of reading by calls, proved once for any reader whose `hand` makes one of the owed moves.
+-- hear-hand, -eat, -end, all-..     one move of a call, as a loop makes it, and of a whole string
+-- hear-by, all-by                   what holds at the end, and over each move, holds of a call, and of all answers
 -- law                               the law of a call: its answer is the first, and the others are had from its state and the bytes left
--- all-by, hear-by                   what holds at the end, and over each move, holds of all answers, and of a call
 -- fits, more-iff                    "more wanted" exactly when all bytes are taken and no answer is owed
 -- none-owed                         of a reader that never owes a move: it fits that
--- hear-hand, hear-eat, hear-end     one move of a call, as a loop makes it
 -- cut, cut-ends, ..-first..         every way of cutting yields the answers and the final state of the uncut string, and comes to its end
 -- yields-within, ..-first-within    both of a call that looks first, where it is safe for the bytes that may still come
 -- yields-all, yields-first          .. where that is a fact of the state alone; with a word half handed on too

@@ -5,7 +5,7 @@
 -- wanting      "more wanted" exactly when no answer is owed; then all bytes are taken, and no move is owed
 use Prim.Native.Nat.{ℕ, zero, suc}
 use native.Mathlib.Omega.{arith}
-use mathlib.Core.Path.{_≡_, refl, sym, _∙_, ap, subst}
+use mathlib.Core.Path.{_≡_, refl, sym, _∙_, ap}
 use mathlib.Core.List.{List, [], _∷_, _++_, cons≢nil}
 use mathlib.Core.Option.{Option, some, none, Option·none-ne-some}
 use mathlib.Core.Logic.{_↔_}

@@ -41,14 +41,15 @@ no-more c o = hear-end owed handOn eatByte hand-one c o
 
 -- ---- a stored word's rest
 module _ (f : Hunting) (m : ℕ) (k bs : List ℕ) where
-  -- the call behind what the frame reader made of it
+  -- the call with h message bytes handed on, unless the frame reader has answered
   abbrev from : ℕ → Option Told → Held → Option Event × ℕ × Board
   from h o g = unless (asEvent o) 0 (lockedWith f wordBytes h m g k) (hearOn (lockedWith f wordBytes h m g k) bs)
 
+  -- the same behind what it made of the bytes from the h-th on
   abbrev pub onward : ℕ → Option Told × ℕ × Held → Option Event × ℕ × Board
   onward h r = from (h + r .1) (r .0) (r .2)
 
-  -- message bytes of the word, in their order
+  -- this message byte of the word is b
   abbrev Stored : ℕ → ℕ → Type 0
   Stored h b = (h < messageBytes) × (getD k h 0 ≡ b)
 
@@ -57,18 +58,14 @@ module _ (f : Hunting) (m : ℕ) (k bs : List ℕ) where
   stored (suc n) h e l =
       subst (λ v. Along (λ i b. suc i) Stored h (take (suc n) v)) (sym (drop-cons k h 0 (omega arith))) ((omega arith, refl), stored n (suc h) (omega arith) l)
 
-  stored-one : (h : ℕ) (g : Held) (b : ℕ) (xs : List ℕ) → owesNone g ≡ 0 → Stored h b
-      → hearOn (lockedWith f wordBytes h m g k) bs ≡ onward h (takeByte g b .0, 1, takeByte g b .1)
-  stored-one h g b xs e w =
-      let o : owed (lockedWith f wordBytes h m g k) ≡ suc (messageBytes - suc h) = omega (arith, w .0) in
-      hear-hand owed handOn eatByte hand-one (lockedWith f wordBytes h m g k) (messageBytes - suc h) bs o
-      ∙ (λ i. from (sym (add-one h) i) (takeByte g (w .1 i) .0) (takeByte g (w .1 i) .1))
-
   pub hand-run : (n h : ℕ) (g : Held) → h + n ≡ messageBytes → messageBytes ≤ length k → hearOn (lockedWith f wordBytes h m g k) bs ≡ onward h (readOn g (take n (drop h k)))
   hand-run n h g e l =
       above owesNone handsNone takeByte none-owed (λ i b. suc i) Stored (λ i c xs. hearOn (lockedWith f wordBytes i m c k) bs) (λ i xs. onward i) (λ x. x)
       (λ i xs c j. hearOn (lockedWith f wordBytes (add-zero i j) m c k) bs)
-      (λ i b xs r. let q : i + suc (r .1) ≡ suc i + r .1 = omega arith in ap (λ j. from j (r .0) (r .2)) q) (λ i c q xs z. absurd (omega (arith, z))) stored-one
+      (λ i b xs r. let q : i + suc (r .1) ≡ suc i + r .1 = omega arith in ap (λ j. from j (r .0) (r .2)) q) (λ i c q xs z. absurd (omega (arith, z)))
+      (λ i c b xs z w.
+      hear-hand owed handOn eatByte hand-one (lockedWith f wordBytes i m c k) (messageBytes - suc i) bs (omega (arith, w .0))
+      ∙ (λ j. from (sym (add-one i) j) (takeByte c (w .1 j) .0) (takeByte c (w .1 j) .1)))
       g (take n (drop h k)) h (stored n h e l)
 
 -- ---- marker bytes

@@ -1,9 +1,9 @@
 -- What the ear hears is what the receiver hears, or of a plain stream the frame reader.
--- ear-hand-one, deck-hand-one   a move that is owed leaves one less
--- channel-hear, plain-hear   of one call
--- channel-all, plain-all     of a whole byte string
+-- ear-hand-one, deck-hand-one                       a move that is owed leaves one less
+-- channel-hear, plain-hear                          of one call
+-- channel-all, plain-all                            of a whole byte string
 -- listen-on, listen-off, listen-more, listen-said   as the code hears it
-use Prim.Native.Nat.{ℕ, zero, suc, _≤_}
+use Prim.Native.Nat.{ℕ, suc, _≤_}
 use native.Mathlib.Omega.{arith}
 use mathlib.Core.Path.{_≡_, refl, sym, _∙_, ap, subst}
 use mathlib.Core.Bool.{Bool, true, false}
