@@ -1,8 +1,9 @@
 -- Laws of reading by calls, proved once for any reader whose `hand` makes one of the owed moves.
+-- hear-hand, -eat, -end, all-..     one move of a call, as a loop makes it, and of a whole string
+-- hear-by, all-by                   what holds at the end, and over each move, holds of a call, and of all answers
 -- law                               the law of a call: its answer is the first, and the others are had from its state and the bytes left
 -- fits, more-iff                    "more wanted" exactly when all bytes are taken and no answer is owed
 -- none-owed                         of a reader that never owes a move: it fits that
--- hear-hand, hear-eat, hear-end     one move of a call, as a loop makes it
 -- cut, cut-ends, ..-first..         every way of cutting yields the answers and the final state of the uncut string, and comes to its end
 -- yields-within, ..-first-within    both of a call that looks first, where it is safe for the bytes that may still come
 -- yields-all, yields-first          .. where that is a fact of the state alone; with a word half handed on too
@@ -30,6 +31,9 @@ after-none r = λ i. (r .0, sym (zero-add (r .1)) i, r .2)
 
 pub after-one : {A S : Type 0} (n : ℕ) (r : Option A × ℕ × S) → oneMore (after n r) ≡ after (suc n) r
 after-one n r = λ i. (r .0, sym (suc-add n (r .1)) i, r .2)
+
+pub one-after : {A S : Type 0} (r : Option A × ℕ × S) → oneMore r ≡ after 1 r
+one-after r = ap oneMore (after-none r) ∙ after-one 0 r
 
 pub after-more : {A S : Type 0} (n : ℕ) (r : Option A × ℕ × S) → after n (oneMore r) ≡ after (n + 1) r
 after-more n r = let e : n + suc (r .1) ≡ n + 1 + r .1 = omega arith in λ i. (r .0, e i, r .2)
@@ -76,35 +80,75 @@ module _ {S A : Type 0} (pend : S → ℕ) (hand : S → Option A × S) (eat : S
 
   -- `hand` makes one of the owed moves
   module _ (hand-one : (s : S) (n : ℕ) → pend s ≡ suc n → pend (hand s .1) ≡ n) where
-    told-hand : (o : Option A) (t : S) (r : Option A × ℕ × S) (bs : List ℕ) (x : List A × S)
-        → x ≡ all t bs → x ≡ told r bs → tell o x ≡ told (unless o 0 t r) bs
-    told-hand none t r bs x e f = f
-    told-hand (some a) t r bs x e f = ap (tell (some a)) e
+    -- ---- by each move: an owed one, a byte where nothing is owed, and the end where nothing is left
+    pub all-hand : (s : S) (n : ℕ) (bs : List ℕ) → pend s ≡ suc n → all s bs ≡ tell (hand s .0) (all (hand s .1) bs)
+    all-hand s n bs e = ap (λ m. drain m s (rest bs)) e ∙ ap (λ m. tell (hand s .0) (drain m (hand s .1) (rest bs))) (sym (hand-one s n e))
+
+    pub all-eat : (s : S) (b : ℕ) (bs : List ℕ) → pend s ≡ 0 → all s (b ∷ bs) ≡ tell (eat s b .0) (all (eat s b .1) bs)
+    all-eat s b bs e = ap (λ m. drain m s (rest (b ∷ bs))) e
+
+    pub all-end : (s : S) → pend s ≡ 0 → all s [] ≡ ([], s)
+    all-end s e = ap (λ m. drain m s (rest [])) e
+
+    pub hear-hand : (s : S) (n : ℕ) (bs : List ℕ) → pend s ≡ suc n → hear s bs ≡ unless (hand s .0) 0 (hand s .1) (hear (hand s .1) bs)
+    hear-hand s n bs e = ap (λ m. first m s (wait bs)) e ∙ ap (λ m. unless (hand s .0) 0 (hand s .1) (first m (hand s .1) (wait bs))) (sym (hand-one s n e))
+
+    pub hear-eat : (s : S) (b : ℕ) (bs : List ℕ) → pend s ≡ 0 → hear s (b ∷ bs) ≡ unless (eat s b .0) 1 (eat s b .1) (oneMore (hear (eat s b .1) bs))
+    hear-eat s b bs e = ap (λ m. first m s (wait (b ∷ bs))) e
+
+    pub hear-end : (s : S) → pend s ≡ 0 → hear s [] ≡ (none, 0, s)
+    hear-end s e = ap (λ m. first m s (wait [])) e
+
+    -- what holds at the end, and over each move, holds of all answers ..
+    module _ (Q : S → List ℕ → List A × S → Type 0) (at-end : (s : S) → pend s ≡ 0 → Q s [] ([], s))
+        (by-hand : (s : S) (n : ℕ) (bs : List ℕ) (x : List A × S) → pend s ≡ suc n → Q (hand s .1) bs x → Q s bs (tell (hand s .0) x))
+        (by-eat : (s : S) (b : ℕ) (bs : List ℕ) (x : List A × S) → pend s ≡ 0 → Q (eat s b .1) bs x → Q s (b ∷ bs) (tell (eat s b .0) x)) where
+      by-drain : (bs : List ℕ) (k : (s : S) → pend s ≡ 0 → Q s bs (rest bs s)) (n : ℕ) (s : S) → pend s ≡ n → Q s bs (drain n s (rest bs))
+      by-drain bs k zero s e = k s e
+      by-drain bs k (suc n) s e = by-hand s n bs (drain n (hand s .1) (rest bs)) e (by-drain bs k n (hand s .1) (hand-one s n e))
+
+      by-rest : (bs : List ℕ) (s : S) → pend s ≡ 0 → Q s bs (rest bs s)
+      by-rest [] s e = at-end s e
+      by-rest (b ∷ bs) s e = by-eat s b bs (all (eat s b .1) bs) e (by-drain bs (by-rest bs) (pend (eat s b .1)) (eat s b .1) refl)
+
+      pub all-by : (s : S) (bs : List ℕ) → Q s bs (all s bs)
+      all-by s bs = by-drain bs (by-rest bs) (pend s) s refl
+
+    -- .. and of a call
+    module _ (Q : S → List ℕ → Option A × ℕ × S → Type 0) (at-end : (s : S) → pend s ≡ 0 → Q s [] (none, 0, s))
+        (by-hand : (s : S) (n : ℕ) (bs : List ℕ) (r : Option A × ℕ × S) → pend s ≡ suc n → Q (hand s .1) bs r → Q s bs (unless (hand s .0) 0 (hand s .1) r))
+        (by-eat : (s : S) (b : ℕ) (bs : List ℕ) (r : Option A × ℕ × S) → pend s ≡ 0 → Q (eat s b .1) bs r
+        → Q s (b ∷ bs) (unless (eat s b .0) 1 (eat s b .1) (oneMore r))) where
+      by-first : (bs : List ℕ) (k : (s : S) → pend s ≡ 0 → Q s bs (wait bs s)) (n : ℕ) (s : S) → pend s ≡ n → Q s bs (first n s (wait bs))
+      by-first bs k zero s e = k s e
+      by-first bs k (suc n) s e = by-hand s n bs (first n (hand s .1) (wait bs)) e (by-first bs k n (hand s .1) (hand-one s n e))
+
+      by-wait : (bs : List ℕ) (s : S) → pend s ≡ 0 → Q s bs (wait bs s)
+      by-wait [] s e = at-end s e
+      by-wait (b ∷ bs) s e = by-eat s b bs (hear (eat s b .1) bs) e (by-first bs (by-wait bs) (pend (eat s b .1)) (eat s b .1) refl)
+
+      pub hear-by : (s : S) (bs : List ℕ) → Q s bs (hear s bs)
+      hear-by s bs = by-first bs (by-wait bs) (pend s) s refl
+
+    -- ---- the law of a call
+    told-hand : (o : Option A) (t : S) (r : Option A × ℕ × S) (bs : List ℕ) → all t bs ≡ told r bs → tell o (all t bs) ≡ told (unless o 0 t r) bs
+    told-hand none t r bs e = e
+    told-hand (some a) t r bs e = refl
 
     told-more : (o : Option A) (n : ℕ) (t : S) (b : ℕ) (bs : List ℕ) → toldBy o n t bs ≡ toldBy o (suc n) t (b ∷ bs)
     told-more none n t b bs = refl
     told-more (some a) n t b bs = refl
 
-    told-eat : (o : Option A) (t : S) (r : Option A × ℕ × S) (b : ℕ) (bs : List ℕ) (x : List A × S)
-        → x ≡ all t bs → x ≡ told r bs → tell o x ≡ told (unless o 1 t (oneMore r)) (b ∷ bs)
-    told-eat none t r b bs x e f = f ∙ told-more (r .0) (r .1) (r .2) b bs
-    told-eat (some a) t r b bs x e f = ap (tell (some a)) e
-
-    law-first : (bs : List ℕ) (k : (s : S) → rest bs s ≡ told (wait bs s) bs)
-        (n : ℕ) (s : S) → pend s ≡ n → drain n s (rest bs) ≡ told (first n s (wait bs)) bs
-    law-first bs k zero s h = k s
-    law-first bs k (suc n) s h =
-        let e : pend (hand s .1) ≡ n = hand-one s n h in
-        told-hand (hand s .0) (hand s .1) (first n (hand s .1) (wait bs)) bs (drain n (hand s .1) (rest bs)) (rw e refl) (law-first bs k n (hand s .1) e)
-
-    law-wait : (bs : List ℕ) (s : S) → rest bs s ≡ told (wait bs s) bs
-    law-wait [] s = refl
-    law-wait (b ∷ bs) s =
-        told-eat (eat s b .0) (eat s b .1) (hear (eat s b .1) bs) b bs (all (eat s b .1) bs) refl
-        (law-first bs (law-wait bs) (pend (eat s b .1)) (eat s b .1) refl)
+    told-eat : (o : Option A) (t : S) (r : Option A × ℕ × S) (b : ℕ) (bs : List ℕ)
+        → all t bs ≡ told r bs → tell o (all t bs) ≡ told (unless o 1 t (oneMore r)) (b ∷ bs)
+    told-eat none t r b bs e = e ∙ told-more (r .0) (r .1) (r .2) b bs
+    told-eat (some a) t r b bs e = refl
 
     pub law : (s : S) (bs : List ℕ) → all s bs ≡ told (hear s bs) bs
-    law s bs = law-first bs (law-wait bs) (pend s) s refl
+    law =
+        hear-by (λ s bs r. all s bs ≡ told r bs) all-end
+        (λ s n bs r e q. all-hand s n bs e ∙ told-hand (hand s .0) (hand s .1) r bs q)
+        (λ s b bs r e q. all-eat s b bs e ∙ told-eat (eat s b .0) (eat s b .1) r b bs q)
 
     -- "more wanted" is said exactly when every byte is taken and nothing is owed; an answer leaves the bytes behind those taken
     abbrev pub FitsBy : Option A → ℕ → S → List ℕ → Type 0
@@ -126,30 +170,10 @@ module _ {S A : Type 0} (pend : S → ℕ) (hand : S → Option A × S) (eat : S
     fits-eat none t r b bs f = fits-more (r .0) (r .1) (r .2) b bs f
     fits-eat (some a) t r b bs f = suc-le-suc zero-le
 
-    fits-first : (bs : List ℕ) (k : (s : S) → pend s ≡ 0 → Fits (wait bs s) bs) (n : ℕ) (s : S) → pend s ≡ n → Fits (first n s (wait bs)) bs
-    fits-first bs k zero s h = k s h
-    fits-first bs k (suc n) s h =
-        fits-hand (hand s .0) (hand s .1) (first n (hand s .1) (wait bs)) bs (fits-first bs k n (hand s .1) (hand-one s n h))
-
-    fits-wait : (bs : List ℕ) (s : S) → pend s ≡ 0 → Fits (wait bs s) bs
-    fits-wait [] s h = (refl, h)
-    fits-wait (b ∷ bs) s h =
-        fits-eat (eat s b .0) (eat s b .1) (hear (eat s b .1) bs) b bs (fits-first bs (fits-wait bs) (pend (eat s b .1)) (eat s b .1) refl)
-
     pub fits : (s : S) (bs : List ℕ) → Fits (hear s bs) bs
-    fits s bs = fits-first bs (fits-wait bs) (pend s) s refl
-
-    -- one move of a call: an owed one ..
-    pub hear-hand : (s : S) (n : ℕ) (bs : List ℕ) → pend s ≡ suc n → hear s bs ≡ unless (hand s .0) 0 (hand s .1) (hear (hand s .1) bs)
-    hear-hand s n bs e = ap (λ m. first m s (wait bs)) e ∙ ap (λ m. unless (hand s .0) 0 (hand s .1) (first m (hand s .1) (wait bs))) (sym (hand-one s n e))
-
-    -- .. a byte, where nothing is owed ..
-    pub hear-eat : (s : S) (b : ℕ) (bs : List ℕ) → pend s ≡ 0 → hear s (b ∷ bs) ≡ unless (eat s b .0) 1 (eat s b .1) (oneMore (hear (eat s b .1) bs))
-    hear-eat s b bs e = ap (λ m. first m s (wait (b ∷ bs))) e
-
-    -- .. and the end, where nothing is left
-    pub hear-end : (s : S) → pend s ≡ 0 → hear s [] ≡ (none, 0, s)
-    hear-end s e = ap (λ m. first m s (wait [])) e
+    fits =
+        hear-by (λ s bs r. Fits r bs) (λ s e. (refl, e)) (λ s n bs r e q. fits-hand (hand s .0) (hand s .1) r bs q)
+        (λ s b bs r e q. fits-eat (eat s b .0) (eat s b .1) r b bs q)
 
     -- "more wanted" exactly when no answer is owed
     none-told : (o : Option A) (n : ℕ) (s : S) (bs : List ℕ) → o ≡ none → toldBy o n s bs .0 ≡ []
@@ -172,38 +196,19 @@ module _ {S A : Type 0} (pend : S → ℕ) (hand : S → Option A × S) (eat : S
       with-unless none n t r q w = w
       with-unless (some a) n t r q w = q
 
-      with-first : (bs : List ℕ) (k : (s : S) → With Q (wait bs s .0) (wait bs s .2)) (n : ℕ) (s : S) → With Q (first n s (wait bs) .0) (first n s (wait bs) .2)
-      with-first bs k zero s = k s
-      with-first bs k (suc n) s = with-unless (hand s .0) 0 (hand s .1) (first n (hand s .1) (wait bs)) (q-hand s) (with-first bs k n (hand s .1))
-
-      with-wait : (bs : List ℕ) (s : S) → With Q (wait bs s .0) (wait bs s .2)
-      with-wait [] s = tt
-      with-wait (b ∷ bs) s =
-          with-unless (eat s b .0) 1 (eat s b .1) (oneMore (hear (eat s b .1) bs)) (q-eat s b) (with-first bs (with-wait bs) (pend (eat s b .1)) (eat s b .1))
-
       pub with-hear : (s : S) (bs : List ℕ) → With Q (hear s bs .0) (hear s bs .2)
-      with-hear s bs = with-first bs (with-wait bs) (pend s) s
+      with-hear =
+          hear-by (λ s bs r. With Q (r .0) (r .2)) (λ s e. tt) (λ s n bs r e w. with-unless (hand s .0) 0 (hand s .1) r (q-hand s) w)
+          (λ s b bs r e w. with-unless (eat s b .0) 1 (eat s b .1) (oneMore r) (q-eat s b) w)
 
     -- where all has been read nothing is owed
-    settled-drain : (bs : List ℕ) (k : (s : S) → pend s ≡ 0 → pend (rest bs s .1) ≡ 0) (n : ℕ) (s : S) → pend s ≡ n → pend (drain n s (rest bs) .1) ≡ 0
-    settled-drain bs k zero s h = k s h
-    settled-drain bs k (suc n) s h = tell-end (hand s .0) (drain n (hand s .1) (rest bs)) (settled-drain bs k n (hand s .1) (hand-one s n h))
-      where
-        tell-end : (o : Option A) (r : List A × S) → pend (r .1) ≡ 0 → pend (tell o r .1) ≡ 0
-        tell-end none r e = e
-        tell-end (some a) r e = e
-
-    settled-tell : (o : Option A) (r : List A × S) → pend (r .1) ≡ 0 → pend (tell o r .1) ≡ 0
-    settled-tell none r e = e
-    settled-tell (some a) r e = e
-
-    settled-rest : (bs : List ℕ) (s : S) → pend s ≡ 0 → pend (rest bs s .1) ≡ 0
-    settled-rest [] s h = h
-    settled-rest (b ∷ bs) s h =
-        settled-tell (eat s b .0) (all (eat s b .1) bs) (settled-drain bs (settled-rest bs) (pend (eat s b .1)) (eat s b .1) refl)
+    settled-tell : (o : Option A) (x : List A × S) → pend (x .1) ≡ 0 → pend (tell o x .1) ≡ 0
+    settled-tell none x e = e
+    settled-tell (some a) x e = e
 
     pub settled : (s : S) (bs : List ℕ) → pend (all s bs .1) ≡ 0
-    settled s bs = settled-drain bs (settled-rest bs) (pend s) s refl
+    settled =
+        all-by (λ s bs x. pend (x .1) ≡ 0) (λ s e. e) (λ s n bs x e q. settled-tell (hand s .0) x q) (λ s b bs x e q. settled-tell (eat s b .0) x q)
 
     -- whatever the calls yield is what the piece means ..
     pub reads-all : {s : S} {bs : List ℕ} {xs : List A} {t : S} → Reads hear s bs xs t → all s bs ≡ (xs, t)
@@ -225,21 +230,11 @@ module _ {S A : Type 0} (pend : S → ℕ) (hand : S → Option A × S) (eat : S
     ends s bs = ends-by (all s bs .0) (all s bs .1) s bs (hear s bs) refl (sym (law s bs))
 
     -- a string is read one part after the other
-    append-drain : (bs cs : List ℕ) (k : (s : S) → pend s ≡ 0 → rest (bs ++ cs) s ≡ andThen (rest bs s) (λ t. all t cs))
-        (n : ℕ) (s : S) → pend s ≡ n → drain n s (rest (bs ++ cs)) ≡ andThen (drain n s (rest bs)) (λ t. all t cs)
-    append-drain bs cs k zero s h = k s h
-    append-drain bs cs k (suc n) s h =
-        ap (tell (hand s .0)) (append-drain bs cs k n (hand s .1) (hand-one s n h))
-        ∙ sym (tell-then (hand s .0) (drain n (hand s .1) (rest bs)) (λ t. all t cs))
-
-    append-rest : (bs cs : List ℕ) (s : S) → pend s ≡ 0 → rest (bs ++ cs) s ≡ andThen (rest bs s) (λ t. all t cs)
-    append-rest [] cs s h = rw h refl
-    append-rest (b ∷ bs) cs s h =
-        ap (tell (eat s b .0)) (append-drain bs cs (append-rest bs cs) (pend (eat s b .1)) (eat s b .1) refl)
-        ∙ sym (tell-then (eat s b .0) (all (eat s b .1) bs) (λ t. all t cs))
-
     pub all-append : (s : S) (bs cs : List ℕ) → all s (bs ++ cs) ≡ andThen (all s bs) (λ t. all t cs)
-    all-append s bs cs = append-drain bs cs (append-rest bs cs) (pend s) s refl
+    all-append s bs cs =
+        all-by (λ t ds x. all t (ds ++ cs) ≡ andThen x (λ u. all u cs)) (λ t e. refl)
+        (λ t n ds x e q. all-hand t n (ds ++ cs) e ∙ ap (tell (hand t .0)) q ∙ sym (tell-then (hand t .0) x (λ u. all u cs)))
+        (λ t b ds x e q. all-eat t b (ds ++ cs) e ∙ ap (tell (eat t b .0)) q ∙ sym (tell-then (eat t b .0) x (λ u. all u cs))) s bs
 
     -- a piece, and then the others: behind it nothing is owed
     settled-piece : {s : S} {p : List ℕ} {xs : List A} {t : S} → Reads hear s p xs t → pend t ≡ 0
@@ -331,20 +326,11 @@ module _ {S A : Type 0} (pend : S → ℕ) (hand : S → Option A × S) (eat : S
       inv-unless none n t r i j = j
       inv-unless (some a) n t r i j = i
 
-      inv-first : (bs : List ℕ) (k : (s : S) → pend s ≡ 0 → Inv s → Inv (wait bs s .2)) (n : ℕ) (s : S) → pend s ≡ n → Inv s → Inv (first n s (wait bs) .2)
-      inv-first bs k zero s h i = k s h i
-      inv-first bs k (suc n) s h i =
-          inv-unless (hand s .0) 0 (hand s .1) (first n (hand s .1) (wait bs)) (inv-hand s n h i)
-          (inv-first bs k n (hand s .1) (hand-one s n h) (inv-hand s n h i))
-
-      inv-wait : (bs : List ℕ) (s : S) → pend s ≡ 0 → Inv s → Inv (wait bs s .2)
-      inv-wait [] s h i = i
-      inv-wait (b ∷ bs) s h i =
-          inv-unless (eat s b .0) 1 (eat s b .1) (oneMore (hear (eat s b .1) bs)) (inv-eat s b h i)
-          (inv-first bs (inv-wait bs) (pend (eat s b .1)) (eat s b .1) refl (inv-eat s b h i))
-
       pub inv-hear : (s : S) (bs : List ℕ) → Inv s → Inv (hear s bs .2)
-      inv-hear s bs i = inv-first bs (inv-wait bs) (pend s) s refl i
+      inv-hear =
+          hear-by (λ s bs r. Inv s → Inv (r .2)) (λ s e i. i)
+          (λ s n bs r e q i. inv-unless (hand s .0) 0 (hand s .1) r (inv-hand s n e i) (q (inv-hand s n e i)))
+          (λ s b bs r e q i. inv-unless (eat s b .0) 1 (eat s b .1) (oneMore r) (inv-eat s b e i) (q (inv-eat s b e i)))
 
       module _ (call : S → List ℕ → Option A × ℕ × S) (agrees : (s : S) (bs : List ℕ) → Inv s → call s bs ≡ hear s bs) where
         pub yields-all : (s : S) → pend s ≡ 0 → Inv s → (ps : List (List ℕ)) → Yields call s ps λ xs t. (xs, t) ≡ all s (joined ps)

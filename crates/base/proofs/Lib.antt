@@ -9,6 +9,7 @@ pub mod Writing
 pub mod Laid
 pub mod Cycle
 pub mod Calls
+pub mod Above
 pub mod Stopping
 pub mod Determining
 pub mod Determined

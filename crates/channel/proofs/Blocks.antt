@@ -15,7 +15,7 @@ use Rattle.base.specs.Calls.{andThen}
 use Rattle.stream.specs.Reader.{Reading, waiting, reads}
 use Rattle.channel.specs.declared.hunting.Hunting.{Hunting}
 use Rattle.channel.specs.Sender.{marker, framed}
-use Rattle.channel.specs.Channel.{condition, mend, Event, said, block, lost, message, isMarker, zeros, Chan, hunting, inMark, freshChannel, hunt, whole, compared, hears, answers}
+use Rattle.channel.specs.Channel.{condition, mend, Event, said, block, lost, message, shift, isMarker, zeros, Chan, hunting, inMark, freshChannel, hunt, whole, compared, hears, answers}
 use Rattle.channel.specs.Channel.{IsWord, wordsGive, FirstMarker}
 use Rattle.channel.specs.Called.{EveryCut, boardOf, inUse}
 use Rattle.channel.proofs.Streaming.{hears-append, theMarker, wholes, behindWords, is-marker, received}
@@ -51,9 +51,9 @@ module _ (a b c d : ℕ) (cs : List ℕ) where
   behind-four : isMarker last ≡ false → hears freshChannel (a ∷ b ∷ c ∷ d ∷ cs) ≡ hears (hunting last) cs
   unfolding last
   behind-four e =
-      ap (λ t. hears (hunt t (record { a = 0; b = 0; c = 0; d = a })) (b ∷ c ∷ d ∷ cs)) (no (eqb a 0x42))
-      ∙ ap (λ t. hears (hunt t (record { a = 0; b = 0; c = a; d = b })) (c ∷ d ∷ cs)) (ap (λ u. eqb b 0x42 && u) (no (eqb a 0xE2)) ∙ no (eqb b 0x42))
-      ∙ ap (λ t. hears (hunt t (record { a = 0; b = a; c = b; d = c })) (d ∷ cs))
+      ap (λ t. hears (hunt t (shift zeros a)) (b ∷ c ∷ d ∷ cs)) (no (eqb a 0x42))
+      ∙ ap (λ t. hears (hunt t (shift (shift zeros a) b)) (c ∷ d ∷ cs)) (ap (λ u. eqb b 0x42 && u) (no (eqb a 0xE2)) ∙ no (eqb b 0x42))
+      ∙ ap (λ t. hears (hunt t (shift (shift (shift zeros a) b) c)) (d ∷ cs))
       (ap (λ u. eqb c 0x42 && u) (ap (λ u. eqb b 0xE2 && u) (no (eqb a 0x3A)) ∙ no (eqb b 0xE2)) ∙ no (eqb c 0x42))
       ∙ ap (λ t. hears (hunt t last) cs) e
 

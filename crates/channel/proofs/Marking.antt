@@ -3,7 +3,7 @@
 -- marked-length      259 bytes for each whole message
 -- wholes-length, rest-short, wholes-rest   the whole messages among bytes, and the rest
 -- marked-rest        whole messages may go out first
-use Prim.Native.Nat.{ℕ, zero, suc, _+_, _*_, _/_, _≤_}
+use Prim.Native.Nat.{ℕ, zero, suc, _+_, _*_, _/_, _<_}
 use native.Mathlib.Omega.{arith}
 use native.Mathlib.Nat.{suc-add, zero-add}
 use mathlib.Core.Path.{_≡_, refl, sym, _∙_, ap}
@@ -75,7 +75,7 @@ module _ (bs : List ℕ) where
   pub wholes-length : length (wholes bs) ≡ messageBytes * (length bs / messageBytes)
   wholes-length = length-take-le (wholeBytes (length bs)) bs (omega arith) ∙ omega arith
 
-  pub rest-short : length (restOf bs) ≤ 222
+  pub rest-short : length (restOf bs) < messageBytes
   rest-short = omega (arith, length-drop (wholeBytes (length bs)) bs)
 
   pub wholes-rest : wholes bs ++ restOf bs ≡ bs

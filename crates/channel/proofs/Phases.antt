@@ -7,7 +7,7 @@ use Prim.Native.Nat.{ℕ, zero, suc, _+_, _-_, _≤_, _<_}
 use native.Mathlib.Omega.{arith}
 use native.Mathlib.Numerals.{add-one}
 use native.Mathlib.Nat.{add-zero}
-use mathlib.Core.Path.{_≡_, refl, sym, _∙_, ap}
+use mathlib.Core.Path.{_≡_, refl, sym, _∙_, ap, subst}
 use mathlib.Core.Bool.{Bool, true, false}
 use mathlib.Core.List.{List, [], _∷_, _++_, append-nil}
 use mathlib.Core.Option.{Option, some, none}
@@ -16,8 +16,9 @@ use lib.Seq.{drop-cons, append-snoc, take-at, set-append-seam}
 use lib.Dec.{ltb}
 use borrow.Author.Tests.{lt-ltb, le-ltb, ne-eqb}
 use Rattle.base.specs.Choice.{pick}
-use Rattle.base.specs.Calls.{unless, oneMore, after}
-use Rattle.base.proofs.Calls.{after-none, after-one, hear-hand, hear-eat, hear-end}
+use Rattle.base.specs.Calls.{unless, oneMore, after, owesNone, handsNone}
+use Rattle.base.proofs.Calls.{after-one, one-after, none-owed, hear-hand, hear-eat, hear-end}
+use Rattle.base.proofs.Above.{Along, above}
 use Rattle.packet.specs.Frame.{Told}
 use Rattle.stream.specs.declared.frame.Frame.{Frame}
 use Rattle.stream.specs.Called.{Held, held, takeByte, readOn}
@@ -38,30 +39,34 @@ eat-one c b bs o = hear-eat owed handOn eatByte hand-one c b bs o
 no-more : (c : Board) → owed c ≡ 0 → hearOn c [] ≡ (none, 0, c)
 no-more c o = hear-end owed handOn eatByte hand-one c o
 
-one-later : (r : Option Event × ℕ × Board) → oneMore r ≡ after 1 r
-one-later r = ap oneMore (after-none r) ∙ after-one 0 r
-
 -- ---- a stored word's rest
 module _ (f : Hunting) (m : ℕ) (k bs : List ℕ) where
-  -- the call behind what the frame reader made of it
-  abbrev pub onward : ℕ → Option Told × ℕ × Held → Option Event × ℕ × Board
-  onward h r = unless (asEvent (r .0)) 0 (lockedWith f wordBytes (h + r .1) m (r .2) k) (hearOn (lockedWith f wordBytes (h + r .1) m (r .2) k) bs)
+  -- the call with h message bytes handed on, unless the frame reader has answered
+  abbrev from : ℕ → Option Told → Held → Option Event × ℕ × Board
+  from h o g = unless (asEvent o) 0 (lockedWith f wordBytes h m g k) (hearOn (lockedWith f wordBytes h m g k) bs)
 
-  onward-one : (h : ℕ) (o : Option Told) (g : Held) (r : Option Told × ℕ × Held) {x : Option Event × ℕ × Board} → x ≡ onward (suc h) r
-      → unless (asEvent o) 0 (lockedWith f wordBytes (suc h) m g k) x ≡ onward h (unless o 1 g (oneMore r))
-  onward-one h none g r e =
-      let n : suc h + r .1 ≡ h + suc (r .1) = omega arith in
-      e ∙ (λ i. unless (asEvent (r .0)) 0 (lockedWith f wordBytes (n i) m (r .2) k) (hearOn (lockedWith f wordBytes (n i) m (r .2) k) bs))
-  onward-one h (some a) g r e = λ i. (asEvent (some a), 0, lockedWith f wordBytes (sym (add-one h) i) m g k)
+  -- the same behind what it made of the bytes from the h-th on
+  abbrev pub onward : ℕ → Option Told × ℕ × Held → Option Event × ℕ × Board
+  onward h r = from (h + r .1) (r .0) (r .2)
+
+  -- this message byte of the word is b
+  abbrev Stored : ℕ → ℕ → Type 0
+  Stored h b = (h < messageBytes) × (getD k h 0 ≡ b)
+
+  stored : (n h : ℕ) → h + n ≡ messageBytes → messageBytes ≤ length k → Along (λ i b. suc i) Stored h (take n (drop h k))
+  stored zero h e l = tt
+  stored (suc n) h e l =
+      subst (λ v. Along (λ i b. suc i) Stored h (take (suc n) v)) (sym (drop-cons k h 0 (omega arith))) ((omega arith, refl), stored n (suc h) (omega arith) l)
 
   pub hand-run : (n h : ℕ) (g : Held) → h + n ≡ messageBytes → messageBytes ≤ length k → hearOn (lockedWith f wordBytes h m g k) bs ≡ onward h (readOn g (take n (drop h k)))
-  hand-run zero h g e l = λ i. hearOn (lockedWith f wordBytes (sym (add-zero h) i) m g k) bs
-  hand-run (suc n) h g e l =
-      let o : owed (lockedWith f wordBytes h m g k) ≡ suc n = omega arith in
-      let t = takeByte g (getD k h 0) in
-      hear-hand owed handOn eatByte hand-one (lockedWith f wordBytes h m g k) n bs o
-      ∙ onward-one h (t .0) (t .1) (readOn (t .1) (take n (drop (suc h) k))) (hand-run n (suc h) (t .1) (omega arith) l)
-      ∙ ap (λ v. onward h (readOn g (take (suc n) v))) (sym (drop-cons k h 0 (omega arith)))
+  hand-run n h g e l =
+      above owesNone handsNone takeByte none-owed (λ i b. suc i) Stored (λ i c xs. hearOn (lockedWith f wordBytes i m c k) bs) (λ i xs. onward i) (λ x. x)
+      (λ i xs c j. hearOn (lockedWith f wordBytes (add-zero i j) m c k) bs)
+      (λ i b xs r. let q : i + suc (r .1) ≡ suc i + r .1 = omega arith in ap (λ j. from j (r .0) (r .2)) q) (λ i c q xs z. absurd (omega (arith, z)))
+      (λ i c b xs z w.
+      hear-hand owed handOn eatByte hand-one (lockedWith f wordBytes i m c k) (messageBytes - suc i) bs (omega (arith, w .0))
+      ∙ (λ j. from (sym (add-one i) j) (takeByte c (w .1 j) .0) (takeByte c (w .1 j) .1)))
+      g (take n (drop h k)) h (stored n h e l)
 
 -- ---- marker bytes
 module _ (h : ℕ) (g : Held) (k : List ℕ) (none-left : messageBytes - h ≡ 0) where
@@ -106,7 +111,7 @@ module _ (h : ℕ) (g : Held) (k : List ℕ) (none-left : messageBytes - h ≡ 0
           → unless (compareOn t (shift f b) (lockedWith f wordBytes h m g k) .0) 1 (compareOn t (shift f b) (lockedWith f wordBytes h m g k) .1)
           (oneMore (hearOn (compareOn t (shift f b) (lockedWith f wordBytes h m g k) .1) bs))
           ≡ behindFour bs 1 (comparedOn t (shift f b))
-      last true = one-later (hearOn (lockedWith (shift f b) 0 0 0 g k) bs)
+      last true = one-after (hearOn (lockedWith (shift f b) 0 0 0 g k) bs)
       last false = refl
   mark-four b (c ∷ v) f m bs e =
       mark-one true f m b (c ∷ v ++ bs) (lt-ltb (suc m) 4 (omega arith))
@@ -131,7 +136,7 @@ module _ (lk : Locked) (g : Frame) (l k : List ℕ) where
       → oneMore (hearOn (huntOn t f (huntingAt e)) bs)
       ≡ huntedOn (b ∷ bs) (pick t (record { found = true; taken = 1; hunting = f }) (later x) .found)
       (pick t (record { found = true; taken = 1; hunting = f }) (later x) .taken) (pick t (record { found = true; taken = 1; hunting = f }) (later x) .hunting)
-  hunted-by true e f b bs x p = one-later (hearOn (lockedWith f 0 0 0 (held g l) k) bs)
+  hunted-by true e f b bs x p = one-after (hearOn (lockedWith f 0 0 0 (held g l) k) bs)
   hunted-by false e f b bs x p =
       ap oneMore p ∙ hunted-later b bs (x .found) (x .taken) (x .hunting)
 

@@ -54,12 +54,7 @@ impl Receiver {
     pub fn fresh() -> Self
         ensures { λ r. ⌜ r ≡ freshReceiver ⌝ }
     {
-        Receiver {
-            locked: false,
-            hunting: Hunting::fresh(),
-            lock: Locked::fresh(),
-            frame: Frame::fresh(),
-        }
+        Receiver::lost_at(Hunting::fresh())
     }
 
     /// Whether the buffers are as long as the receiver asks.
@@ -163,7 +158,7 @@ impl Receiver {
         }
     }
 
-    // Lock is lost: any open packet is dropped.
+    // Hunting anew, as where lock is lost: any open packet is dropped.
     fn lost_at(hunting: Hunting) -> Self
         ensures { λ r. ⌜ r ≡ record { locked = false; hunting = hunting; lock = counts 0 0 0; frame = freshReceiver .frame } ⌝ }
     {

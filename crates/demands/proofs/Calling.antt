@@ -25,7 +25,7 @@ use Rattle.channel.proofs.Cutting.{hand-one, hear-agrees, hear-law}
 use Rattle.base.proofs.Stopping.{stops, blind, owed-first, wanting}
 use Rattle.tape.specs.Deck.{Deck, deckOwes, deckHand, deckEat, deckAll, deckHear}
 use Rattle.tape.specs.Called.{far, tapeCall}
-use Rattle.tape.proofs.Turn.{deck-hand-one}
+use Rattle.tape.proofs.Ears.{deck-hand-one}
 use Rattle.tape.proofs.Kept.{hear-kept}
 use Rattle.tape.proofs.Next.{tape-agrees}
 
@@ -48,7 +48,7 @@ hear-stops c bs e n d = go (sound (c .st)) (roomy (c .recv) (c .word))
     go : (s r : Bool) → hearBy s r c bs ≡ (some e, suc n, d) → hearAll c (take n bs) .0 ≡ []
     go false r h = absurd (none-behind _ e n c d h)
     go true false h = absurd (none-behind _ e n c d h)
-    go true true h = stops owed handOn eatByte c bs e n d h
+    go true true h = stops owed handOn eatByte hand-one c bs e n d h
 
 -- .. and whatever stands behind it makes no difference
 pub hear-blind : (c : Board) (bs : List ℕ) (e : Event) (n : ℕ) (d : Board) → hearCall c bs ≡ (some e, n, d)
@@ -58,7 +58,7 @@ hear-blind c bs e n d h cs = go (sound (c .st)) (roomy (c .recv) (c .word)) h
     go : (s r : Bool) → hearBy s r c bs ≡ (some e, n, d) → hearBy s r c (take n bs ++ cs) ≡ (some e, n, d)
     go false r h = h
     go true false h = h
-    go true true h = blind owed handOn eatByte cs c bs e n d h
+    go true true h = blind owed handOn eatByte hand-one cs c bs e n d h
 
 -- "the rest of a stored word is handed on before any new byte is taken": a call begins as a call on no bytes does, and goes on to the bytes
 -- where that gives no answer
@@ -92,7 +92,7 @@ read-stops h bs t n g = go (soundFrame (h .st)) (leb rawLimit (length (h .recv))
     go : (s r : Bool) → readBy s r h bs ≡ (some t, suc n, g) → readAll h (take n bs) .0 ≡ []
     go false r e = absurd (none-behind _ t n h g e)
     go true false e = absurd (none-behind _ t n h g e)
-    go true true e = stops owesNone handsNone takeByte h bs t n g e
+    go true true e = stops owesNone handsNone takeByte none-owed h bs t n g e
 
 pub read-blind : (h : Held) (bs : List ℕ) (t : Told) (n : ℕ) (g : Held) → readCall h bs ≡ (some t, n, g)
     → (cs : List ℕ) → readCall h (take n bs ++ cs) ≡ (some t, n, g)
@@ -101,7 +101,7 @@ read-blind h bs t n g e cs = go (soundFrame (h .st)) (leb rawLimit (length (h .r
     go : (s r : Bool) → readBy s r h bs ≡ (some t, n, g) → readBy s r h (take n bs ++ cs) ≡ (some t, n, g)
     go false r e = e
     go true false e = e
-    go true true e = blind owesNone handsNone takeByte cs h bs t n g e
+    go true true e = blind owesNone handsNone takeByte none-owed cs h bs t n g e
 
 pub read-wanting : (h : Held) → FineFrame h → (bs : List ℕ) → (readCall h bs .0 ≡ none) ↔ ((readCall h bs .1 ≡ length bs) × (readAll h bs .0 ≡ []))
 read-wanting h f bs =
@@ -117,12 +117,12 @@ module _ (m : Deck) (f : Fine (m .ear .board)) (bs : List ℕ) (o : m .spot .off
       (ap (λ (x : List Event × Deck). x .0) l, ap (λ (x : List Event × Deck). x .1) l)
 
   pub next-stops : (e : Event) (n : ℕ) (d : Deck) → tapeCall m bs ≡ (some e, suc n, d) → deckAll m (take n bs) .0 ≡ []
-  next-stops e n d h = stops deckOwes deckHand deckEat m bs e n d (sym (tape-agrees m bs f o) ∙ h)
+  next-stops e n d h = stops deckOwes deckHand deckEat deck-hand-one m bs e n d (sym (tape-agrees m bs f o) ∙ h)
 
   pub next-blind : (e : Event) (n : ℕ) (d : Deck) → tapeCall m bs ≡ (some e, n, d)
       → (cs : List ℕ) → m .spot .offset + length (take n bs ++ cs) ≤ far → tapeCall m (take n bs ++ cs) ≡ (some e, n, d)
   next-blind e n d h cs p =
-      tape-agrees m (take n bs ++ cs) f p ∙ blind deckOwes deckHand deckEat cs m bs e n d (sym (tape-agrees m bs f o) ∙ h)
+      tape-agrees m (take n bs ++ cs) f p ∙ blind deckOwes deckHand deckEat deck-hand-one cs m bs e n d (sym (tape-agrees m bs f o) ∙ h)
 
   pub next-owed : tapeCall m bs ≡ unless (tapeCall m [] .0) 0 (tapeCall m [] .2) (tapeCall (tapeCall m [] .2) bs)
   next-owed =

@@ -25,7 +25,7 @@ use Rattle.listed.specs.declared.Spot.{Spot}
 use Rattle.listed.specs.Apart.{inStream}
 use Rattle.tape.specs.Deck.{eatBy, earHand, earEat, Deck, deckOwes, deckHand, byteBy, deckEat, deckHear}
 use Rattle.tape.specs.Called.{far, nearSpot, tapeBy, tapeCall}
-use Rattle.tape.proofs.Turn.{deck-hand-one}
+use Rattle.tape.proofs.Ears.{deck-hand-one}
 use Rattle.recording.specs.declared.recording.Totals.{Totals}
 use Rattle.recording.specs.declared.recording.Wants.the-variants.{Refused}
 use Rattle.recording.specs.Printed.{printed, nearTotals, near, takesBy, takes}

@@ -22,7 +22,7 @@ use Rattle.channel.specs.Called.{sound, roomy}
 use Rattle.channel.specs.declared.answer.Answer.{Answer}
 use Rattle.listed.specs.Lines.{line, longest}
 use Rattle.tape.specs.Deck.{Deck, deckOwes, deckHand, deckEat, deckHear}
-use Rattle.tape.proofs.Turn.{deck-hand-one}
+use Rattle.tape.proofs.Ears.{deck-hand-one}
 use Rattle.recording.specs.declared.recording.Totals.{Totals}
 use Rattle.recording.specs.declared.recording.Took.{Took}
 use Rattle.recording.specs.Printed.{Printed, print, counted, onAnswer, near, takesBy, takes, TookIs}

@@ -116,7 +116,7 @@ hold-fits (accepted p) at hold h k =
     let x : List ℕ = bs ++ drop (length bs) hold in
     let l : length x ≡ length bs + (length hold - length bs) = length-append bs (drop (length bs) hold) ∙ ap (λ (n : ℕ). length bs + n) (length-drop (length bs) hold) in
     let s : length r ≤ length x = omega (arith, length-drop (length bs / messageBytes * messageBytes) bs) in
-    (rest-short bs, omega (arith, ap length (copied-fits r x s), length-append r (drop (length r) x), length-drop (length r) x))
+    (omega (arith, rest-short bs), omega (arith, ap length (copied-fits r x s), length-append r (drop (length r) x), length-drop (length r) x))
 
 fine-ended : (d : Desk) → Fine d → Fine (ended d .1)
 fine-ended d f =

@@ -31,7 +31,7 @@ use Rattle.listed.specs.Lines.{given, line, lines, isPacket, isRefusal, isDamag
 use Rattle.lines.proofs.Short.{line-some, end-short, wrong-short}
 use Rattle.tape.specs.Deck.{Ear, ear, owesBy, earOwes, earHand, earEat, Deck, deck, fresh, deckOwes, deckHand, deckEat, deckAll, deckHear}
 use Rattle.tape.specs.Called.{far}
-use Rattle.tape.proofs.Turn.{deck-hand-one}
+use Rattle.tape.proofs.Ears.{deck-hand-one}
 use Rattle.tape.proofs.Kept.{FineDeck, Kept, hear-kept}
 use Rattle.tape.proofs.Means.{earAll, means-start, fresh-owes}
 use Rattle.recording.specs.declared.recording.Totals.{Totals}

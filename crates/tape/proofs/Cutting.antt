@@ -10,7 +10,7 @@ use Rattle.base.specs.Calls.{joined, Yields}
 use Rattle.base.proofs.Calls.{yields-within}
 use Rattle.tape.specs.Deck.{Deck, deckOwes, deckHand, deckEat, deckAll, deckHear}
 use Rattle.tape.specs.Called.{far, tapeCall}
-use Rattle.tape.proofs.Turn.{deck-hand-one}
+use Rattle.tape.proofs.Ears.{deck-hand-one}
 use Rattle.tape.proofs.Kept.{FineDeck, Kept, hear-kept}
 use Rattle.tape.proofs.Next.{tape-agrees}
 

@@ -1,8 +1,9 @@
 -- What the ear hears is what the receiver hears, or of a plain stream the frame reader.
--- channel-hear, plain-hear   of one call
--- channel-all, plain-all     of a whole byte string
+-- ear-hand-one, deck-hand-one                       a move that is owed leaves one less
+-- channel-hear, plain-hear                          of one call
+-- channel-all, plain-all                            of a whole byte string
 -- listen-on, listen-off, listen-more, listen-said   as the code hears it
-use Prim.Native.Nat.{ℕ, zero, suc, _≤_}
+use Prim.Native.Nat.{ℕ, suc, _≤_}
 use native.Mathlib.Omega.{arith}
 use mathlib.Core.Path.{_≡_, refl, sym, _∙_, ap, subst}
 use mathlib.Core.Bool.{Bool, true, false}
@@ -11,9 +12,9 @@ use mathlib.Core.Option.{Option, some, none}
 use lib.ListN.{length}
 use lib.Dec.{leb}
 use borrow.Author.Tests.{leb-true}
-use Rattle.base.specs.Calls.{tell, unless, oneMore, owesNone, handsNone}
-use Rattle.base.specs.Calls as calls
+use Rattle.base.specs.Calls.{owesNone, handsNone, all}
 use Rattle.base.proofs.Calls.{none-owed}
+use Rattle.base.proofs.Above.{hear-seen, all-seen}
 use Rattle.base.proofs.Tests.{and-parts}
 use Rattle.packet.specs.Contents.{rawLimit}
 use Rattle.packet.specs.Frame.{Told}
@@ -32,75 +33,20 @@ use Rattle.channel.specs.declared.answer.Answer.{Answer}
 use Rattle.channel.specs.declared.answer.Answer.the-variants.{More, Said}
 use Rattle.channel.proofs.Fine.{fine-of}
 use Rattle.channel.proofs.Cutting.{hand-one, hear-agrees}
-use Rattle.tape.specs.Deck.{Ear, ear, withHeld, owesBy, earOwes, earHand, earEat}
+use Rattle.tape.specs.Deck.{Ear, ear, withHeld, owesBy, earOwes, earHand, earEat, Deck, deckOwes, deckHand}
 use Rattle.tape.specs.Private.{earHear, EarIs, PlainIs}
 
--- a reader that is another one, seen through f and g
-module _ {S T A B : Type 0} (pend : S → ℕ) (hand : S → Option A × S) (eat : S → ℕ → Option A × S)
-    (pend′ : T → ℕ) (hand′ : T → Option B × T) (eat′ : T → ℕ → Option B × T)
-    (f : S → T) (g : A → B) (h : Option A → Option B) (l : List A → List B)
-    (h-none : h none ≡ none) (h-some : (a : A) → h (some a) ≡ some (g a)) (l-none : l [] ≡ []) (l-some : (a : A) (xs : List A) → l (a ∷ xs) ≡ g a ∷ l xs)
-    (same-pend : (s : S) → pend′ (f s) ≡ pend s) (same-hand : (s : S) (n : ℕ) → pend s ≡ suc n → hand′ (f s) ≡ (h (hand s .0), f (hand s .1)))
-    (same-eat : (s : S) (b : ℕ) → eat′ (f s) b ≡ (h (eat s b .0), f (eat s b .1)))
-    (hand-one : (s : S) (n : ℕ) → pend s ≡ suc n → pend (hand s .1) ≡ n) where
-  abbrev seen : Option A × ℕ × S → Option B × ℕ × T
-  seen r = (h (r .0), r .1, f (r .2))
+-- a move that is owed leaves one less
+hand-one-by : (t : Bool) (c : Board) (n : ℕ) → owesBy t c ≡ suc n → owesBy t (handOn c .1) ≡ n
+hand-one-by true c n e = hand-one c n e
+hand-one-by false c n e = absurd (omega arith)
 
-  abbrev seenAll : List A × S → List B × T
-  seenAll r = (l (r .0), f (r .1))
+pub ear-hand-one : (d : Ear) (n : ℕ) → earOwes d ≡ suc n → earOwes (earHand d .1) ≡ n
+unfolding earOwes earHand
+ear-hand-one d n e = hand-one-by (d .channel) (d .board) n e
 
-  unless-seen : (o : Option A) (n : ℕ) (t : S) (r : Option A × ℕ × S) → unless (h o) n (f t) (seen r) ≡ seen (unless o n t r)
-  unless-seen none n t r = ap (λ x. unless x n (f t) (seen r)) h-none
-  unless-seen (some a) n t r = ap (λ x. unless x n (f t) (seen r)) (h-some a) ∙ (λ i. (sym (h-some a) i, n, f t))
-
-  tell-seen : (o : Option A) (r : List A × S) → tell (h o) (seenAll r) ≡ seenAll (tell o r)
-  tell-seen none r = ap (λ x. tell x (seenAll r)) h-none
-  tell-seen (some a) r = ap (λ x. tell x (seenAll r)) (h-some a) ∙ (λ i. (sym (l-some a (r .0)) i, f (r .1)))
-
-  first-seen : (k : S → Option A × ℕ × S) (k′ : T → Option B × ℕ × T) → ((s : S) → k′ (f s) ≡ seen (k s))
-      → (n : ℕ) (s : S) → pend s ≡ n → calls.first pend′ hand′ eat′ n (f s) k′ ≡ seen (calls.first pend hand eat n s k)
-  first-seen k k′ e zero s z = e s
-  first-seen k k′ e (suc n) s z =
-      ap (λ x. unless (x .0) 0 (x .1) (calls.first pend′ hand′ eat′ n (x .1) k′)) (same-hand s n z)
-      ∙ ap (unless (h (hand s .0)) 0 (f (hand s .1))) (first-seen k k′ e n (hand s .1) (hand-one s n z))
-      ∙ unless-seen (hand s .0) 0 (hand s .1) (calls.first pend hand eat n (hand s .1) k)
-
-  drain-seen : (k : S → List A × S) (k′ : T → List B × T) → ((s : S) → k′ (f s) ≡ seenAll (k s))
-      → (n : ℕ) (s : S) → pend s ≡ n → calls.drain pend′ hand′ eat′ n (f s) k′ ≡ seenAll (calls.drain pend hand eat n s k)
-  drain-seen k k′ e zero s z = e s
-  drain-seen k k′ e (suc n) s z =
-      ap (λ x. tell (x .0) (calls.drain pend′ hand′ eat′ n (x .1) k′)) (same-hand s n z)
-      ∙ ap (tell (h (hand s .0))) (drain-seen k k′ e n (hand s .1) (hand-one s n z))
-      ∙ tell-seen (hand s .0) (calls.drain pend hand eat n (hand s .1) k)
-
-  wait-seen : (bs : List ℕ) (s : S) → calls.wait pend′ hand′ eat′ bs (f s) ≡ seen (calls.wait pend hand eat bs s)
-  wait-seen [] s = λ i. (sym h-none i, 0, f s)
-  wait-seen (b ∷ bs) s =
-      let t : S = eat s b .1 in
-      ap (λ x. unless (x .0) 1 (x .1) (oneMore (calls.hear pend′ hand′ eat′ (x .1) bs))) (same-eat s b)
-      ∙ ap (λ n. unless (h (eat s b .0)) 1 (f t) (oneMore (calls.first pend′ hand′ eat′ n (f t) (calls.wait pend′ hand′ eat′ bs)))) (same-pend t)
-      ∙ ap (λ r. unless (h (eat s b .0)) 1 (f t) (oneMore r))
-      (first-seen (calls.wait pend hand eat bs) (calls.wait pend′ hand′ eat′ bs) (wait-seen bs) (pend t) t refl)
-      ∙ unless-seen (eat s b .0) 1 t (oneMore (calls.hear pend hand eat t bs))
-
-  rest-seen : (bs : List ℕ) (s : S) → calls.rest pend′ hand′ eat′ bs (f s) ≡ seenAll (calls.rest pend hand eat bs s)
-  rest-seen [] s = λ i. (sym l-none i, f s)
-  rest-seen (b ∷ bs) s =
-      let t : S = eat s b .1 in
-      ap (λ x. tell (x .0) (calls.all pend′ hand′ eat′ (x .1) bs)) (same-eat s b)
-      ∙ ap (λ n. tell (h (eat s b .0)) (calls.drain pend′ hand′ eat′ n (f t) (calls.rest pend′ hand′ eat′ bs))) (same-pend t)
-      ∙ ap (tell (h (eat s b .0))) (drain-seen (calls.rest pend hand eat bs) (calls.rest pend′ hand′ eat′ bs) (rest-seen bs) (pend t) t refl)
-      ∙ tell-seen (eat s b .0) (calls.all pend hand eat t bs)
-
-  pub hear-seen : (s : S) (bs : List ℕ) → calls.hear pend′ hand′ eat′ (f s) bs ≡ seen (calls.hear pend hand eat s bs)
-  hear-seen s bs =
-      ap (λ n. calls.first pend′ hand′ eat′ n (f s) (calls.wait pend′ hand′ eat′ bs)) (same-pend s)
-      ∙ first-seen (calls.wait pend hand eat bs) (calls.wait pend′ hand′ eat′ bs) (wait-seen bs) (pend s) s refl
-
-  pub all-seen : (s : S) (bs : List ℕ) → calls.all pend′ hand′ eat′ (f s) bs ≡ seenAll (calls.all pend hand eat s bs)
-  all-seen s bs =
-      ap (λ n. calls.drain pend′ hand′ eat′ n (f s) (calls.rest pend′ hand′ eat′ bs)) (same-pend s)
-      ∙ drain-seen (calls.rest pend hand eat bs) (calls.rest pend′ hand′ eat′ bs) (rest-seen bs) (pend s) s refl
+pub deck-hand-one : (m : Deck) (n : ℕ) → deckOwes m ≡ suc n → deckOwes (deckHand m .1) ≡ n
+deck-hand-one m n e = ear-hand-one (m .ear) n e
 
 -- ---- the opportunistic channel
 abbrev onChannel : Board → Ear
@@ -120,13 +66,13 @@ channel-eat c b = refl
 
 pub channel-hear : (c : Board) (bs : List ℕ) → earHear (ear true c) bs ≡ (hearOn c bs .0, hearOn c bs .1, ear true (hearOn c bs .2))
 channel-hear c bs =
-    hear-seen owed handOn eatByte earOwes earHand earEat onChannel (λ a. a) (λ o. o) (λ l. l) refl (λ a. refl) refl (λ a xs. refl)
-    channel-pend channel-hand channel-eat hand-one c bs
+    hear-seen owed handOn eatByte hand-one earOwes earHand earEat ear-hand-one onChannel (λ a. a) (λ o. o) (λ l. l) refl (λ a. refl) refl (λ a xs. refl)
+    channel-pend channel-hand channel-eat c bs
 
-pub channel-all : (c : Board) (bs : List ℕ) → calls.all earOwes earHand earEat (ear true c) bs ≡ (hearAll c bs .0, ear true (hearAll c bs .1))
+pub channel-all : (c : Board) (bs : List ℕ) → all earOwes earHand earEat (ear true c) bs ≡ (hearAll c bs .0, ear true (hearAll c bs .1))
 channel-all c bs =
-    all-seen owed handOn eatByte earOwes earHand earEat onChannel (λ a. a) (λ o. o) (λ l. l) refl (λ a. refl) refl (λ a xs. refl)
-    channel-pend channel-hand channel-eat hand-one c bs
+    all-seen owed handOn eatByte hand-one earOwes earHand earEat ear-hand-one onChannel (λ a. a) (λ o. o) (λ l. l) refl (λ a. refl) refl (λ a xs. refl)
+    channel-pend channel-hand channel-eat c bs
 
 -- ---- a plain stream
 module _ (c : Board) where
@@ -147,14 +93,14 @@ module _ (c : Board) where
   pub plain-hear : (bs : List ℕ)
       → earHear (ear false c) bs ≡ (asEvent (readOn (heldIn c) bs .0), readOn (heldIn c) bs .1, ear false (withHeld c (readOn (heldIn c) bs .2)))
   plain-hear bs =
-      hear-seen owesNone handsNone takeByte earOwes earHand earEat plain said asEvent (map said) refl (λ a. refl) refl (λ a xs. refl)
-      plain-pend plain-hand plain-eat none-owed (heldIn c) bs
+      hear-seen owesNone handsNone takeByte none-owed earOwes earHand earEat ear-hand-one plain said asEvent (map said) refl (λ a. refl) refl (λ a xs. refl)
+      plain-pend plain-hand plain-eat (heldIn c) bs
 
   pub plain-all : (bs : List ℕ)
-      → calls.all earOwes earHand earEat (ear false c) bs ≡ (map said (readAll (heldIn c) bs .0), ear false (withHeld c (readAll (heldIn c) bs .1)))
+      → all earOwes earHand earEat (ear false c) bs ≡ (map said (readAll (heldIn c) bs .0), ear false (withHeld c (readAll (heldIn c) bs .1)))
   plain-all bs =
-      all-seen owesNone handsNone takeByte earOwes earHand earEat plain said asEvent (map said) refl (λ a. refl) refl (λ a xs. refl)
-      plain-pend plain-hand plain-eat none-owed (heldIn c) bs
+      all-seen owesNone handsNone takeByte none-owed earOwes earHand earEat ear-hand-one plain said asEvent (map said) refl (λ a. refl) refl (λ a xs. refl)
+      plain-pend plain-hand plain-eat (heldIn c) bs
 
 -- ---- as the code hears it
 pub listen-channel : (c : Board) (bs : List ℕ) {r : Hearing} {l k : List ℕ} → sound (c .st) ≡ true → roomy (c .recv) (c .word) ≡ true
@@ -224,12 +170,3 @@ module _ (s : Receiver) (bs l : List ℕ) {read : Read} {l′ : List ℕ} (fine 
 
   pub listen-said : (j : Judged) → read .heard ≡ Says j → PlainIs s l bs (record { answer = Said j; taken = read .taken; receiver = kept }) l′
   listen-said j e = listen-plain (Said j) (heard-said (readOn (held (s .frame) l) bs .0) j (sym says ∙ e))
-
--- a move that is owed leaves one less
-hand-one-by : (t : Bool) (c : Board) (n : ℕ) → owesBy t c ≡ suc n → owesBy t (handOn c .1) ≡ n
-hand-one-by true c n e = hand-one c n e
-hand-one-by false c n e = absurd (omega arith)
-
-pub ear-hand-one : (d : Ear) (n : ℕ) → earOwes d ≡ suc n → earOwes (earHand d .1) ≡ n
-unfolding earOwes earHand
-ear-hand-one d n e = hand-one-by (d .channel) (d .board) n e

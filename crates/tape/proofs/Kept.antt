@@ -2,20 +2,21 @@
 -- bytes taken.
 -- FineDeck          the ear passes 10 and 11
 -- Kept, hear-kept   that, of a call
-use Prim.Native.Nat.{ℕ, zero, suc, _+_, _≤_}
+use Prim.Native.Nat.{ℕ, _+_, _≤_}
 use native.Mathlib.Omega.{arith}
 use mathlib.Core.Path.{_≡_}
 use mathlib.Core.Bool.{Bool, true, false}
 use mathlib.Core.List.{List, [], _∷_}
 use mathlib.Core.Option.{Option, some, none}
 use lib.ListN.{length}
-use Rattle.base.specs.Calls.{unless, oneMore, first, wait}
-use Rattle.base.proofs.Calls.{FitsBy, fits, inv-hear}
+use Rattle.base.specs.Calls.{unless, oneMore}
+use Rattle.base.proofs.Calls.{hear-by, FitsBy, fits, inv-hear}
 use Rattle.channel.specs.Channel.{Event}
 use Rattle.listed.specs.Apart.{inStream}
 use Rattle.tape.specs.Deck.{Deck, deckOwes, deckHand, byteBy, deckEat, deckHear}
+use Rattle.tape.proofs.Ears.{deck-hand-one}
 use Rattle.tape.proofs.Spots.{next-near}
-use Rattle.tape.proofs.Turn.{deck-hand-one, FineEar, fine-ear-hand, fine-ear-eat}
+use Rattle.tape.proofs.Turn.{FineEar, fine-ear-hand, fine-ear-eat}
 
 -- the ear passes refusals 10 and 11
 abbrev pub FineDeck : Deck → Type 0
@@ -42,20 +43,13 @@ unless-near : (o : Option Event) (n : ℕ) (k m : Deck) (r : Option Event × ℕ
 unless-near none n k m r h j = j
 unless-near (some a) n k m r h j = h
 
-first-near : (bs : List ℕ) → ((m : Deck) → NearBy m (wait deckOwes deckHand deckEat bs m))
-    → (n : ℕ) (m : Deck) → NearBy m (first deckOwes deckHand deckEat n m (wait deckOwes deckHand deckEat bs))
-first-near bs k zero m = k m
-first-near bs k (suc n) m =
-    unless-near (deckHand m .0) 0 (deckHand m .1) m (first deckOwes deckHand deckEat n (deckHand m .1) (wait deckOwes deckHand deckEat bs)) (omega arith)
-    (first-near bs k n (deckHand m .1))
-
-wait-near : (bs : List ℕ) (m : Deck) → NearBy m (wait deckOwes deckHand deckEat bs m)
-wait-near [] m = omega arith
-wait-near (b ∷ bs) m =
-    let t : Deck = deckEat m b .1 in
-    let h : t .spot .offset ≤ m .spot .offset + 1 = byte-near (inStream (m .spot .place) (m .spot .count)) m b in
-    let g = first-near bs (wait-near bs) (deckOwes t) t in
-    unless-near (deckEat m b .0) 1 t m (oneMore (deckHear t bs)) h (omega arith)
+hear-near : (m : Deck) (bs : List ℕ) → NearBy m (deckHear m bs)
+hear-near =
+    hear-by deckOwes deckHand deckEat deck-hand-one (λ m bs r. NearBy m r) (λ m e. omega arith)
+    (λ m n bs r e h. unless-near (deckHand m .0) 0 (deckHand m .1) m r (omega arith) h)
+    (λ m b bs r e h.
+    let g : deckEat m b .1 .spot .offset ≤ m .spot .offset + 1 = byte-near (inStream (m .spot .place) (m .spot .count)) m b in
+    unless-near (deckEat m b .0) 1 (deckEat m b .1) m (oneMore r) g (omega arith))
 
 pub hear-kept : (m : Deck) (bs : List ℕ) → FineDeck m → Kept m bs (deckHear m bs .1) (deckHear m bs .2)
 hear-kept m bs i = record {
@@ -63,7 +57,7 @@ hear-kept m bs i = record {
       inv-hear deckOwes deckHand deckEat deck-hand-one FineDeck (λ k n e j. fine-ear-hand (k .ear) n e j)
       (λ k b e j. byte-fine (inStream (k .spot .place) (k .spot .count)) k b e j) m bs i;
   within = most-fits (deckHear m bs .0) (fits deckOwes deckHand deckEat deck-hand-one m bs);
-  near = first-near bs (wait-near bs) (deckOwes m) m;
+  near = hear-near m bs;
 }
   where
     most-fits : (o : Option Event) → FitsBy deckOwes deckHand deckEat deck-hand-one o (deckHear m bs .1) (deckHear m bs .2) bs → deckHear m bs .1 ≤ length bs

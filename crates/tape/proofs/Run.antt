@@ -5,7 +5,7 @@
 -- run-none        where there is none, the byte is no stream byte
 use Prim.Native.Nat.{ℕ, zero, suc, _+_, _-_, _≤_, _<_, min}
 use native.Mathlib.Omega.{arith}
-use native.Mathlib.Nat.{suc-add, add-zero}
+use native.Mathlib.Nat.{add-zero}
 use mathlib.Core.Path.{_≡_, refl, sym, _∙_, ap, subst}
 use mathlib.Core.Bool.{Bool, true, false}
 use mathlib.Core.List.{List, [], _∷_, _++_}
@@ -13,8 +13,9 @@ use mathlib.Core.Option.{Option, some, none}
 use lib.ListN.{length, take, drop}
 use borrow.Author.Tests.{lt-ltb, le-ltb, ne-eqb}
 use Rattle.base.specs.Choice.{pick}
-use Rattle.base.specs.Calls.{unless, oneMore, after, first, wait}
-use Rattle.base.proofs.Calls.{after-none}
+use Rattle.base.specs.Calls.{unless, oneMore, after}
+use Rattle.base.proofs.Calls.{after-none, after-one, one-after, hear-hand, hear-eat}
+use Rattle.base.proofs.Above.{Along, above}
 use Rattle.base.proofs.Tests.{by-le}
 use Rattle.channel.specs.Channel.{Event}
 use Rattle.listed.specs.declared.Place.{Place}
@@ -23,12 +24,11 @@ use Rattle.listed.specs.declared.Spot.{Spot}
 use Rattle.listed.specs.Apart.{most, nextAt, next, wrong, inStream}
 use Rattle.tape.specs.Deck.{Ear, earOwes, earHand, earEat, Deck, deck, deckOwes, deckHand, byteBy, deckEat, deckHear}
 use Rattle.tape.specs.Private.{earHear, leftAt, runOf, onTo, skipped}
-use Rattle.tape.proofs.Ears.{ear-hand-one}
+use Rattle.tape.proofs.Ears.{ear-hand-one, deck-hand-one}
 
 -- every one of these bytes is a stream byte
 abbrev pub Bodies : Spot → List ℕ → Type 0
-Bodies p [] = Unit {0}
-Bodies p (b ∷ bs) = (inStream (p .place) (p .count) ≡ true) × Bodies (next p b) bs
+Bodies = Along next (λ p b. inStream (p .place) (p .count) ≡ true)
 
 -- where the recording stands behind them
 abbrev pub skips : Spot → List ℕ → Spot
@@ -40,48 +40,28 @@ abbrev pub withRest : Spot → List ℕ → List ℕ → Option Event × ℕ × 
 withRest p xs ys r =
     unless (r .0) (r .1) (deck (skips p (take (r .1) xs)) (r .2)) (after (r .1) (deckHear (deck (skips p (take (r .1) xs)) (r .2)) (drop (r .1) xs ++ ys)))
 
-more-rest : (p : Spot) (b : ℕ) (xs ys : List ℕ) (o : Option Event) (n : ℕ) (d : Ear) → oneMore (withRest (next p b) xs ys (o, n, d)) ≡ withRest p (b ∷ xs) ys (o, suc n, d)
-more-rest p b xs ys (some a) n d = refl
-more-rest p b xs ys none n d =
-    let r = deckHear (deck (skips (next p b) (take n xs)) d) (drop n xs ++ ys) in
-    λ i. (r .0, sym (suc-add n (r .1)) i, r .2)
+module _ (ys : List ℕ) where
+  more-rest : (p : Spot) (b : ℕ) (xs : List ℕ) (r : Option Event × ℕ × Ear) → withRest p (b ∷ xs) ys (oneMore r) ≡ oneMore (withRest (next p b) xs ys r)
+  more-rest p b xs (some a, n, d) = refl
+  more-rest p b xs (none, n, d) = sym (after-one n (deckHear (deck (skips (next p b) (take n xs)) d) (drop n xs ++ ys)))
 
-byte-rest : (p : Spot) (b : ℕ) (xs ys : List ℕ) (o : Option Event) (t : Ear) (r : Option Event × ℕ × Ear) (x : Option Event × ℕ × Deck) → x ≡ withRest (next p b) xs ys r
-    → unless o 1 (deck (next p b) t) (oneMore x) ≡ withRest p (b ∷ xs) ys (unless o 1 t (oneMore r))
-byte-rest p b xs ys (some a) t r x e = refl
-byte-rest p b xs ys none t r x e = ap oneMore e ∙ more-rest p b xs ys (r .0) (r .1) (r .2)
+  hand-rest : (p : Spot) (d : Ear) (n : ℕ) (xs : List ℕ) → earOwes d ≡ suc n → deckHear (deck p d) (xs ++ ys) ≡ withRest p xs ys (earHand d .0, 0, earHand d .1)
+  hand-rest p d n xs e =
+      hear-hand deckOwes deckHand deckEat deck-hand-one (deck p d) n (xs ++ ys) e
+      ∙ ap (unless (earHand d .0) 0 (deck p (earHand d .1))) (after-none (deckHear (deck p (earHand d .1)) (xs ++ ys)))
 
-hand-rest : (p : Spot) (xs ys : List ℕ) (o : Option Event) (t : Ear) (r : Option Event × ℕ × Ear) (x : Option Event × ℕ × Deck) → x ≡ withRest p xs ys r
-    → unless o 0 (deck p t) x ≡ withRest p xs ys (unless o 0 t r)
-hand-rest p xs ys (some a) t r x e = refl
-hand-rest p xs ys none t r x e = e
-
-abbrev deckFirst : ℕ → Deck → (Deck → Option Event × ℕ × Deck) → Option Event × ℕ × Deck
-deckFirst = first deckOwes deckHand deckEat
-
-abbrev deckWait : List ℕ → Deck → Option Event × ℕ × Deck
-deckWait = wait deckOwes deckHand deckEat
-
-abbrev earWait : List ℕ → Ear → Option Event × ℕ × Ear
-earWait = wait earOwes earHand earEat
-
-first-rest : (p : Spot) (xs ys : List ℕ) (k : (d : Ear) → earOwes d ≡ 0 → deckWait (xs ++ ys) (deck p d) ≡ withRest p xs ys (earWait xs d))
-    (n : ℕ) (d : Ear) → earOwes d ≡ n → deckFirst n (deck p d) (deckWait (xs ++ ys)) ≡ withRest p xs ys (first earOwes earHand earEat n d (earWait xs))
-first-rest p xs ys k zero d h = k d h
-first-rest p xs ys k (suc n) d h =
-    hand-rest p xs ys (earHand d .0) (earHand d .1) (first earOwes earHand earEat n (earHand d .1) (earWait xs)) (deckFirst n (deck p (earHand d .1)) (deckWait (xs ++ ys)))
-    (first-rest p xs ys k n (earHand d .1) (ear-hand-one d n h))
-
-wait-rest : (xs ys : List ℕ) (p : Spot) → Bodies p xs → (d : Ear) → earOwes d ≡ 0 → deckWait (xs ++ ys) (deck p d) ≡ withRest p xs ys (earWait xs d)
-wait-rest [] ys p g d h = ap (λ n. deckFirst n (deck p d) (deckWait ys)) (sym h) ∙ after-none (deckHear (deck p d) ys)
-wait-rest (b ∷ xs) ys p g d h =
-    ap (λ (c : Bool). let r = byteBy c (deck p d) b in unless (r .0) 1 (r .1) (oneMore (deckFirst (deckOwes (r .1)) (r .1) (deckWait (xs ++ ys))))) (g .0)
-    ∙ byte-rest p b xs ys (earEat d b .0) (earEat d b .1) (earHear (earEat d b .1) xs) (deckHear (deck (next p b) (earEat d b .1)) (xs ++ ys))
-    (first-rest (next p b) xs ys (wait-rest xs ys (next p b) (g .1)) (earOwes (earEat d b .1)) (earEat d b .1) refl)
+  byte-rest : (p : Spot) (d : Ear) (b : ℕ) (xs : List ℕ) → earOwes d ≡ 0 → inStream (p .place) (p .count) ≡ true
+      → deckHear (deck p d) (b ∷ xs ++ ys) ≡ withRest p (b ∷ xs) ys (earEat d b .0, 1, earEat d b .1)
+  byte-rest p d b xs e h =
+      hear-eat deckOwes deckHand deckEat deck-hand-one (deck p d) b (xs ++ ys) e
+      ∙ ap (λ (c : Bool). let r = byteBy c (deck p d) b in unless (r .0) 1 (r .1) (oneMore (deckHear (r .1) (xs ++ ys)))) h
+      ∙ ap (unless (earEat d b .0) 1 (deck (next p b) (earEat d b .1))) (one-after (deckHear (deck (next p b) (earEat d b .1)) (xs ++ ys)))
 
 -- a call on a recording's bytes begins with a call on the run of stream bytes that lies there
 pub run-first : (xs ys : List ℕ) (p : Spot) (d : Ear) → Bodies p xs → deckHear (deck p d) (xs ++ ys) ≡ withRest p xs ys (earHear d xs)
-run-first xs ys p d g = first-rest p xs ys (wait-rest xs ys p g) (earOwes d) d refl
+run-first xs ys p d =
+    above earOwes earHand earEat ear-hand-one next (λ q b. inStream (q .place) (q .count) ≡ true) (λ q c bs. deckHear (deck q c) (bs ++ ys))
+    (λ q bs. withRest q bs ys) oneMore (λ q bs c. sym (after-none (deckHear (deck q c) (bs ++ ys)))) (more-rest ys) (hand-rest ys) (byte-rest ys) d xs p
 
 -- ---- the run that the code takes
 abbrev inside : ℕ → ℕ → ℕ → Spot

@@ -1,5 +1,4 @@
 -- One turn of a call on a recording's bytes, as the code makes it: the ear's call on a run of stream bytes, or a byte that is none.
--- deck-hand-one            a move that is owed leaves one less
 -- FineEar, fine-hear       the ear passes refusals 10 and 11, and still does behind a call
 -- skip-fine                what counting a run asks
 -- turn-out, turn-end       an answer ends the call, and so does the end of the bytes
@@ -14,7 +13,7 @@ use mathlib.Core.Option.{Option, some, none}
 use lib.ListN.{length, take, drop, getD, take-append-drop, drop-of-length-le}
 use lib.Seq.{length-take-le, drop-append-le, drop-cons}
 use Rattle.base.specs.Calls.{unless, oneMore, after}
-use Rattle.base.proofs.Calls.{after-none, FitsBy, Fits, fits, inv-hear, hear-eat, hear-end}
+use Rattle.base.proofs.Calls.{after-none, one-after, FitsBy, Fits, fits, inv-hear, hear-eat, hear-end}
 use Rattle.stream.proofs.Fine.{fine-take}
 use Rattle.channel.specs.Channel.{Event, said, block, lost}
 use Rattle.channel.specs.Called.{Board, board, heldIn, sound, roomy, answered, handOn, Fine}
@@ -27,13 +26,9 @@ use Rattle.tape.specs.declared.tape.Tape.{Tape}
 use Rattle.tape.specs.Deck.{Ear, ear, owesBy, eatBy, earOwes, earHand, earEat, Deck, deck, deckOwes, deckHand, byteBy, deckEat, deckHear}
 use Rattle.tape.specs.Called.{far, deckOf, isMore}
 use Rattle.tape.specs.Private.{earHear, runOf, skipped, EarIs, headed, CallIs, Stays}
-use Rattle.tape.proofs.Ears.{ear-hand-one}
+use Rattle.tape.proofs.Ears.{ear-hand-one, deck-hand-one}
 use Rattle.tape.proofs.Spots.{next-near}
 use Rattle.tape.proofs.Run.{skips, withRest, run-first, run-fits, run-none, skip-none}
-
--- a move that is owed leaves one less
-pub deck-hand-one : (m : Deck) (n : ℕ) → deckOwes m ≡ suc n → deckOwes (deckHand m .1) ≡ n
-deck-hand-one m n h = ear-hand-one (m .ear) n h
 
 -- ---- refusals 10 and 11
 abbrev pub FineEar : Ear → Type 0
@@ -59,9 +54,6 @@ fine-hear : (d : Ear) (bs : List ℕ) → FineEar d → FineEar (earHear d bs .2
 fine-hear d bs i = inv-hear earOwes earHand earEat ear-hand-one FineEar fine-ear-hand fine-ear-eat d bs i
 
 -- ---- a turn
-one-after : (r : Option Event × ℕ × Deck) → oneMore r ≡ after 1 r
-one-after r = let e : suc (r .1) ≡ 1 + r .1 = omega arith in λ i. (r .0, e i, r .2)
-
 -- "more wanted" is told exactly where there is no answer
 pub more-none : (o : Option Event) → isMore (answered o) ≡ true → o ≡ none
 more-none none e = refl

@@ -1,5 +1,5 @@
 -- `Receiver::fresh` meets its contract.
-use mathlib.Core.Bool.{false}
+use mathlib.Core.Path.{refl}
 use borrow.Author.Needs.{needs}
 use Rattle.channel.proofs.receiver.Receiver.fresh.Statement.{statement}
 use Rattle.channel.proofs.receiver.Receiver.fresh.Tie as tie
@@ -10,5 +10,4 @@ fresh-spec =
     (tie.spec
     (search needs)
     (search needs)
-    (search needs)
-    (λ c. λ i. record { locked = false; hunting = c .before .before .fresh .ensures i; lock = c .before .fresh2 .ensures i; frame = c .fresh3 .ensures i }))
+    (λ c. rw (c .lost-at .ensures, c .before .fresh .ensures) refl))
