@@ -1,13 +1,13 @@
 -- Four numbers as 32 bytes: what each function of `Lanes` leaves, and a turn of each loop.
 -- laid-plus, laid-doubled, laid-shifted, laid-first, laid-zero   sum, double, shift, the first byte, the test
 -- Upto, upto-..    the products with 0, 1, .., two more a turn
--- fed-turn         a byte more of a division
+-- tables-are, product-turn, beyond-is, twice-turn   the products of a byte's halves; a byte's product by its halves; two bytes more of a division
 -- left-..          the bytes handed out
 -- begun-..         the first bytes laid down
 use mathlib.Core.Path.{_≡_, refl, sym, ap, ap₂, _∙_}
 use mathlib.Core.Bool.{_&&_}
 use mathlib.Core.List.{List, [], _∷_, _++_, map, map-append, append-assoc, append-nil}
-use Prim.Native.Nat.{ℕ, zero, suc, _+_, _-_, _*_, _/_, _%_, _≤_, _<_, min}
+use Prim.Native.Nat.{ℕ, zero, suc, _+_, _-_, _*_, _/_, _%_, _≤_, _<_}
 use native.Mathlib.Numerals.{add-one}
 use native.Mathlib.Omega.{arith}
 use lib.Bits.{bitXor}
@@ -23,13 +23,17 @@ use Rattle.field.specs.Field.{alpha, add, double, shiftAdd, mul}
 use Rattle.field.proofs.Sum.{add-comm, parts}
 use Rattle.field.proofs.Product.{add-mul, mul-assoc, one-mul, double-is, mul-lt}
 use Rattle.parity.specs.Word.{scale, onto}
-use Rattle.parity.specs.Lanes.{laneRoots, bytesOf, laid, begun, isZero, nothing, Multiples}
+use Rattle.parity.specs.Lanes.{laneRoots, below, bytesOf, laid, isZero, nothing, Multiples, Tables, fed}
 use Rattle.parity.specs.declared.lanes.Lanes.{Lanes}
 use Rattle.parity.proofs.Sums.{length-scale, length-onto, onto-append, onto-comm, onto-assoc}
+use Rattle.parity.proofs.Generator.{length-generator, generator-monic}
 use Rattle.parity.proofs.Packed.{length-bytes, bytes-bytes, bytes-xor, bytes-behind, bytes-first, bytes-zero, zero-append, size}
-use Rattle.parity.proofs.Residue.{fed, scale-zero}
+use Rattle.parity.proofs.Residue.{length-fed, scale-zero, scale-add, scale-scale, fed-twice}
 
--- seven bytes, and eight, are numbers below these
+-- six bytes, seven and eight are numbers below these
+abbrev six : ℕ
+six = 0x1000000000000
+
 abbrev seven : ℕ
 seven = 0x100000000000000
 
@@ -121,6 +125,35 @@ first-of x h = bytes-first 7 x ∙ ap (λ (q : ℕ). q ∷ bytesOf 7 (x % seven)
     small : x / seven % 256 ≡ x / seven
     small = omega arith
 
+first-two : (x : ℕ) → x < eight → bytesOf 8 x ≡ x / six / 256 ∷ x / six % 256 ∷ bytesOf 6 (x % six)
+unfolding size
+first-two x h = bytes-first 7 x ∙ ap₂ (λ (q : ℕ) (l : List ℕ). q ∷ l) small (bytes-first 6 (x % seven) ∙ ap₂ (λ (q r : ℕ). q ∷ bytesOf 6 r) next last)
+  where
+    small : x / seven % 256 ≡ x / six / 256
+    small = omega arith
+
+    next : x % seven / six % 256 ≡ x / six % 256
+    next = omega arith
+
+    last : x % seven % six ≡ x % six
+    last = omega arith
+
+-- two bytes behind the others
+two-behind : (q p : ℕ) → p < 65536 → bytesOf 8 (q * 65536 + p) ≡ bytesOf 6 q ++ p / 256 ∷ p % 256 ∷ []
+two-behind q p h =
+    ap (bytesOf 8) split ∙ bytes-behind 7 (q * 256 + p / 256) (p % 256) (omega arith)
+    ∙ ap (λ (l : List ℕ). l ++ p % 256 ∷ []) (bytes-behind 6 q (p / 256) (omega arith)) ∙ append-assoc (bytesOf 6 q) (p / 256 ∷ []) (p % 256 ∷ [])
+  where
+    split : q * 65536 + p ≡ (q * 256 + p / 256) * 256 + p % 256
+    split = omega arith
+
+moved-two : (p q r s : List ℕ) (b b′ c c′ d d′ x y : ℕ)
+    → (p ++ b ∷ b′ ∷ []) ++ (q ++ c ∷ c′ ∷ []) ++ (r ++ d ∷ d′ ∷ []) ++ (s ++ x ∷ y ∷ []) ≡ p ++ (b ∷ b′ ∷ q) ++ (c ∷ c′ ∷ r) ++ (d ∷ d′ ∷ s) ++ x ∷ y ∷ []
+moved-two p q r s b b′ c c′ d d′ x y = simp append-assoc
+
+high-two : (x : ℕ) → x < eight → x / six < 65536
+high-two x h = omega arith
+
 moved : (p q r s : List ℕ) (b c d x : ℕ) → (p ++ b ∷ []) ++ (q ++ c ∷ []) ++ (r ++ d ∷ []) ++ (s ++ x ∷ []) ≡ p ++ (b ∷ q) ++ (c ∷ r) ++ (d ∷ s) ++ x ∷ []
 moved p q r s b c d x = simp append-assoc
 
@@ -147,6 +180,33 @@ module _ (l : Lanes) (ha : l .a < eight) (hb : l .b < eight) (hc : l .c < eight)
       ∙ moved (bytesOf 7 (l .a % seven)) (bytesOf 7 (l .b % seven)) (bytesOf 7 (l .c % seven)) (bytesOf 7 (l .d % seven)) (l .b / seven) (l .c / seven) (l .d / seven) x
       ∙ sym (ap (λ (t : List ℕ). drop 1 t ++ x ∷ []) split)
 
+  abbrev one-two : ℕ → List ℕ
+  one-two x = x / six / 256 ∷ x / six % 256 ∷ bytesOf 6 (x % six)
+
+  split-two : laid l ≡ one-two (l .a) ++ one-two (l .b) ++ one-two (l .c) ++ one-two (l .d)
+  unfolding laid
+  split-two = λ i. first-two (l .a) ha i ++ first-two (l .b) hb i ++ first-two (l .c) hc i ++ first-two (l .d) hd i
+
+  pub laid-second : l .a / six % 256 ≡ getD (laid l) 1 0
+  laid-second = sym (ap (λ (t : List ℕ). getD t 1 0) split-two)
+
+  pub laid-twice : (x y : ℕ) {w : ℕ} → x < 256 → y < 256 → w ≡ x * 256 + y
+      → laid (record { a = l .a % six * 65536 + l .b / six; b = l .b % six * 65536 + l .c / six; c = l .c % six * 65536 + l .d / six; d = l .d % six * 65536 + w })
+      ≡ drop 2 (laid l) ++ x ∷ y ∷ []
+  unfolding laid
+  laid-twice x y {w} hx hy e =
+      (λ i.
+      two-behind (l .a % six) (l .b / six) (high-two (l .b) hb) i ++ two-behind (l .b % six) (l .c / six) (high-two (l .c) hc) i
+      ++ two-behind (l .c % six) (l .d / six) (high-two (l .d) hd) i ++ (two-behind (l .d % six) w (omega arith) ∙ ap₂ (λ (p q : ℕ). bytesOf 6 (l .d % six) ++ p ∷ q ∷ []) is-x is-y) i)
+      ∙ moved-two (bytesOf 6 (l .a % six)) (bytesOf 6 (l .b % six)) (bytesOf 6 (l .c % six)) (bytesOf 6 (l .d % six)) (l .b / six / 256) (l .b / six % 256) (l .c / six / 256) (l .c / six % 256) (l .d / six / 256) (l .d / six % 256) x y
+      ∙ sym (ap (λ (t : List ℕ). drop 2 t ++ x ∷ y ∷ []) split-two)
+    where
+      is-x : w / 256 ≡ x
+      is-x = omega arith
+
+      is-y : w % 256 ≡ y
+      is-y = omega arith
+
   pub laid-zero : isZero (laid l) ≡ (((eqb (l .a) 0 && eqb (l .b) 0) && eqb (l .c) 0) && eqb (l .d) 0)
   unfolding laid size
   laid-zero =
@@ -163,17 +223,13 @@ joins x y h = record { fits = within (x % seven) (y / seven) (omega arith) (high
     within : (p q : ℕ) → p < seven → q < 256 → p * 256 + q < eight
     within p q hp hq = omega arith
 
+pub joins-two : (x y : ℕ) → y < eight → Fits w64 (x % six * 65536 + y / six)
+joins-two x y h = record { fits = within (x % six) (y / six) (omega arith) (high-two y h) }
+  where
+    within : (p q : ℕ) → p < six → q < 65536 → p * 65536 + q < eight
+    within p q hp hq = omega arith
+
 -- ---- multiples
-scale-add : (a b : ℕ) (g : List ℕ) → scale (add a b) g ≡ onto (scale a g) (scale b g)
-unfolding scale onto
-scale-add a b [] = refl
-scale-add a b (x ∷ g) = ap₂ _∷_ (add-mul a b x) (scale-add a b g)
-
-scale-scale : (a b : ℕ) (g : List ℕ) → scale a (scale b g) ≡ scale (mul a b) g
-unfolding scale
-scale-scale a b [] = refl
-scale-scale a b (x ∷ g) = ap₂ _∷_ (sym (mul-assoc a b x)) (scale-scale a b g)
-
 scale-one : (g : List ℕ) → Bytes g → scale 1 g ≡ g
 unfolding scale
 scale-one [] h = refl
@@ -226,52 +282,69 @@ upto-more i m l even odd h p u ee eo = (length-set (set m (i * 2) even) (i * 2 +
         (λ e. rw e (ap laid (getD-set-same m (i * 2) even nothing (omega (arith, u .0))) ∙ is-even))
         (λ o. ap laid (getD-set-other m (i * 2) j even nothing o) ∙ u .1 j (omega arith)))
 
--- ---- a byte more of a division
+-- ---- tables
+pub tables-are : (g : List ℕ) (k e : Lanes) (low high : List Lanes) → laid k ≡ g → Multiples low (laid k) → laid e ≡ map double (laid (getD low 8 nothing)) → Multiples high (laid e) → Tables low high g
+tables-are g k e low high ek hl he hh = (below-sixteen, λ i h. hh i h ∙ ap (scale i) sixteenth)
+  where
+    below-sixteen : Multiples low g
+    below-sixteen i h = hl i h ∙ ap (scale i) ek
+
+    sixteenth : laid e ≡ scale 16 g
+    sixteenth = he ∙ ap (map double) (below-sixteen 8 (omega arith)) ∙ scale-double 8 g ∙ ap (λ (n : ℕ). scale n g) (twice 8 (omega arith))
+
 halves : (f : ℕ) → add (f % 16) (f / 16 * 16) ≡ f
 halves f = add-comm (f % 16) (f / 16 * 16) ∙ sym (parts f 4)
 
--- low has the products of k, high those of sixteen times k
-module _ (k e : Lanes) (low high : List Lanes) {d : List ℕ} (hk : laid k ≡ d) (hl : Multiples low (laid k)) (he : laid e ≡ map double (laid (getD low 8 nothing))) (hh : Multiples high (laid e)) where
-  abbrev g : List ℕ
-  g = laid k
+-- a byte's product by its halves
+pub product-turn : (g : List ℕ) (low high : List Lanes) → length g ≡ laneRoots → Tables low high g → (s t u : Lanes) (f : ℕ) → f < 256
+    → laid t ≡ onto (laid s) (laid (getD low (f % 16) nothing)) → laid u ≡ onto (laid t) (laid (getD high (f / 16) nothing)) → laid u ≡ onto (scale f g) (laid s)
+product-turn g low high n tables s t u f hf et eu = eu ∙ ap₂ onto (et ∙ ap (onto (laid s)) lower) upper ∙ sums
+  where
+    lo : List ℕ
+    lo = scale (f % 16) g
 
-  sixteenth : laid e ≡ scale 16 g
-  sixteenth = he ∙ ap (map double) (hl 8 (omega arith)) ∙ scale-double 8 g ∙ ap (λ (n : ℕ). scale n g) (twice 8 (omega arith))
+    hi : List ℕ
+    hi = scale (f / 16 * 16) g
 
-  pub fed-turn : (l s t u : Lanes) (f x : ℕ) → f ≡ getD (laid l) 0 0 → f < 256 → laid s ≡ drop 1 (laid l) ++ x ∷ []
-      → laid t ≡ onto (laid s) (laid (getD low (f % 16) nothing)) → laid u ≡ onto (laid t) (laid (getD high (f / 16) nothing)) → laid u ≡ fed d (laid l) x
-  unfolding fed
-  fed-turn l s t u f x ef hf es et eu =
-      eu ∙ ap₂ onto (et ∙ ap (onto (laid s)) lower) upper ∙ sums ∙ ap₂ (λ (n : ℕ) (v : List ℕ). onto (scale n g) v) ef es ∙ ap (λ (v : List ℕ). fed v (laid l) x) hk
-    where
-      lo : List ℕ
-      lo = scale (f % 16) g
+    lower : laid (getD low (f % 16) nothing) ≡ lo
+    lower = tables .0 (f % 16) (omega arith)
 
-      hi : List ℕ
-      hi = scale (f / 16 * 16) g
+    upper : laid (getD high (f / 16) nothing) ≡ hi
+    upper = tables .1 (f / 16) (omega arith) ∙ scale-scale (f / 16) 16 g ∙ ap (λ (n : ℕ). scale n g) (sixteen (f / 16) (omega arith))
 
-      lower : laid (getD low (f % 16) nothing) ≡ lo
-      lower = hl (f % 16) (omega arith)
+    long-lo : length lo ≡ laneRoots
+    long-lo = length-scale _ g ∙ n
 
-      upper : laid (getD high (f / 16) nothing) ≡ hi
-      upper =
-          hh (f / 16) (omega arith) ∙ ap (scale (f / 16)) sixteenth ∙ scale-scale (f / 16) 16 g ∙ ap (λ (n : ℕ). scale n g) (sixteen (f / 16) (omega arith))
+    long-hi : length hi ≡ laneRoots
+    long-hi = length-scale _ g ∙ n
 
-      long-lo : length lo ≡ laneRoots
-      long-lo = length-scale _ g ∙ length-laid k
+    sums : onto (onto (laid s) lo) hi ≡ onto (scale f g) (laid s)
+    sums =
+        onto-comm (onto (laid s) lo) hi (length-onto (laid s) lo ∙ long-lo ∙ sym long-hi)
+        ∙ ap (onto hi) (onto-comm (laid s) lo (length-laid s ∙ sym long-lo))
+        ∙ sym (onto-assoc hi lo (laid s) (omega (arith, long-lo, long-hi)))
+        ∙ ap (λ (v : List ℕ). onto v (laid s)) (onto-comm hi lo (long-hi ∙ sym long-lo) ∙ sym (scale-add (f % 16) (f / 16 * 16) g) ∙ ap (λ (n : ℕ). scale n g) (halves f))
 
-      long-hi : length hi ≡ laneRoots
-      long-hi = length-scale _ g ∙ length-laid k
+pub length-below : length below ≡ laneRoots
+length-below = omega (arith, ap length (generator-monic laneRoots), length-generator laneRoots)
 
-      long-s : length (laid s) ≡ laneRoots
-      long-s = length-laid s
+pub length-beyond : length (fed below below 0) ≡ laneRoots
+length-beyond = length-fed below below 0 refl (omega (arith, length-below)) ∙ length-below
 
-      sums : onto (onto (laid s) lo) hi ≡ onto (scale f g) (laid s)
-      sums =
-          onto-comm (onto (laid s) lo) hi (length-onto (laid s) lo ∙ long-lo ∙ sym long-hi)
-          ∙ ap (onto hi) (onto-comm (laid s) lo (long-s ∙ sym long-lo))
-          ∙ sym (onto-assoc hi lo (laid s) (omega (arith, long-lo, long-hi)))
-          ∙ ap (λ (v : List ℕ). onto v (laid s)) (onto-comm hi lo (long-hi ∙ sym long-lo) ∙ sym (scale-add (f % 16) (f / 16 * 16) g) ∙ ap (λ (n : ℕ). scale n g) (halves f))
+pub beyond-is : (k s u : Lanes) (f : ℕ) → laid k ≡ below → f ≡ getD (laid k) 0 0 → laid s ≡ drop 1 (laid k) ++ 0 ∷ [] → laid u ≡ onto (scale f below) (laid s) → laid u ≡ fed below below 0
+unfolding fed
+beyond-is k s u f ek ef es eu =
+    eu ∙ ap₂ (λ (n : ℕ) (v : List ℕ). onto (scale n below) v) (ef ∙ ap (λ (v : List ℕ). getD v 0 0) ek) (es ∙ ap (λ (v : List ℕ). drop 1 v ++ 0 ∷ []) ek)
+
+-- two bytes more of a division
+pub twice-turn : (g xs : List ℕ) (f s x y : ℕ) {v ys : List ℕ} → length g ≡ laneRoots → length xs ≡ laneRoots → f ≡ getD xs 0 0 → s ≡ getD xs 1 0
+    → v ≡ onto (scale s g) (drop 2 xs ++ x ∷ y ∷ []) → ys ≡ onto (scale f (fed g g 0)) v → ys ≡ fed g (fed g xs x) y
+twice-turn [] xs f s x y n m ef es ev ey = absurd (omega arith)
+twice-turn (a ∷ g) [] f s x y n m ef es ev ey = absurd (omega arith)
+twice-turn (a ∷ g) (c ∷ []) f s x y n m ef es ev ey = absurd (omega arith)
+twice-turn (a ∷ g) (c ∷ d ∷ xs) f s x y n m ef es ev ey =
+    ey ∙ ap₂ (λ (p : ℕ) (w : List ℕ). onto (scale p (fed (a ∷ g) (a ∷ g) 0)) w) ef (ev ∙ ap (λ (p : ℕ). onto (scale p (a ∷ g)) (xs ++ x ∷ y ∷ [])) es)
+    ∙ sym (fed-twice a g c d xs x y (omega arith))
 
 -- ---- the bytes handed out one by one: i of them stand in l, the others are the first of xs
 module _ (i : ℕ) (l xs : List ℕ) (n : length l ≡ laneRoots) {t : List ℕ} (inv : take i l ++ take (laneRoots - i) xs ≡ t) where
@@ -307,9 +380,3 @@ begun-next i xs w h l ex ey =
   where
     more : laneRoots - i ≡ suc (laneRoots - (i + 1))
     more = omega arith
-
-pub begun-done : (i n : ℕ) (w : List ℕ) {xs : List ℕ} → n ≡ min laneRoots (length w) → i ≤ n → n ≤ i → xs ≡ replicate (laneRoots - i) 0 ++ take i w → xs ≡ begun w
-begun-done i n w en h k e = e ∙ ap (λ (m : ℕ). replicate (laneRoots - m) 0 ++ take m w) same
-  where
-    same : i ≡ min laneRoots (length w)
-    same = omega arith

@@ -1,13 +1,14 @@
 -- What long division by the generator leaves of bytes.
--- fed, fedAll, residue-fed   the division, a byte at a time
+-- fedAll, fed-start, fed-next, fed-done   the division byte by byte: its beginning, a turn of two, its end
+-- fed-twice                  two steps at once
 -- residue-value              it has the value of the bytes at every root
 -- residue-clean              of a word nothing is left exactly where it is clean
 -- residue-parity             of a message with zeros behind it the parity is left
 use mathlib.Core.Path.{_≡_, refl, sym, ap, ap₂, _∙_}
 use mathlib.Core.Bool.{Bool, true, false}
 use mathlib.Core.List.{List, [], _∷_, _++_, append-assoc, append-nil}
-use Prim.Native.Nat.{ℕ, zero, suc, _+_, _-_, _≤_, _<_, min}
-use native.Mathlib.Nat.{sub-zero}
+use Prim.Native.Nat.{ℕ, zero, suc, _+_, _-_, _≤_, _<_}
+use native.Mathlib.Nat.{sub-zero, suc-inj}
 use native.Mathlib.Omega.{arith}
 use lib.Dec.{eqb}
 use lib.ListN.{length, take, drop, getD, replicate, length-append, length-replicate}
@@ -19,25 +20,22 @@ use Rattle.base.proofs.Lists.{next, over}
 use Rattle.base.proofs.Tests.{and-parts}
 use Rattle.field.specs.Field.{alpha, add, mul, pow}
 use Rattle.field.proofs.Sum.{zero-add}
-use Rattle.field.proofs.Product.{mul-zero, zero-mul}
+use Rattle.field.proofs.Product.{add-mul, mul-add, mul-assoc, mul-zero, zero-mul}
 use Rattle.parity.specs.Word.{horner, eval, valuesFrom, scale, onto, generator, divide, remainder, clean}
-use Rattle.parity.specs.Lanes.{laneRoots, begun, residue, isZero}
-use Rattle.parity.proofs.Sums.{length-scale, length-onto, onto-append, zeros-onto, product, length-product}
+use Rattle.parity.specs.Lanes.{laneRoots, below, fed, residue, isZero}
+use Rattle.parity.proofs.Sums.{length-scale, length-onto, onto-assoc, onto-comm, onto-append, zeros-onto, product, length-product}
 use Rattle.parity.proofs.Values.{horner-append, eval-add, eval-zeros, eval-product}
 use Rattle.parity.proofs.Generator.{length-generator, generator-monic, generator-root}
 use Rattle.parity.proofs.Division.{divide-step, quotient, length-divide, bytes-divide, length-quotient, bytes-quotient, divide-whole}
 use Rattle.parity.proofs.Clean.{roots-clean, clean-roots, zeros}
 
 -- ---- a byte at a time
--- one step of division by 1 ∷ g: the first place goes, its multiple of g is taken away, and a byte comes behind
-unfoldable pub fed : List ℕ → List ℕ → ℕ → List ℕ
-fed g xs x = onto (scale (getD xs 0 0) g) (drop 1 xs ++ x ∷ [])
-
+-- the bytes one after the other
 unfoldable pub fedAll : List ℕ → List ℕ → List ℕ → List ℕ
 fedAll g xs [] = xs
 fedAll g xs (b ∷ bs) = fedAll g (fed g xs b) bs
 
-length-fed : (g xs : List ℕ) (x : ℕ) → length xs ≡ length g → 0 < length g → length (fed g xs x) ≡ length g
+pub length-fed : (g xs : List ℕ) (x : ℕ) → length xs ≡ length g → 0 < length g → length (fed g xs x) ≡ length g
 unfolding fed
 length-fed g [] x l h = absurd (omega arith)
 length-fed g (c ∷ xs) x l h = length-onto (scale c g) (xs ++ x ∷ []) ∙ length-append xs (x ∷ []) ∙ omega arith
@@ -82,19 +80,73 @@ fed-begun g k (suc n) w h l =
     more : k - n ≡ suc (k - suc n)
     more = omega arith
 
--- the division goes on behind the first bytes
-pub fed-start : (w : List ℕ) (i : ℕ) {xs : List ℕ} → i ≡ min laneRoots (length w) → xs ≡ begun w → fedAll (drop 1 (generator laneRoots)) xs (drop i w) ≡ fedAll (drop 1 (generator laneRoots)) (replicate laneRoots 0) w
-fed-start w i ei ex = ap₂ (λ (v : List ℕ) (n : ℕ). fedAll (drop 1 (generator laneRoots)) v (drop n w)) ex ei ∙ fed-begun (drop 1 (generator laneRoots)) laneRoots (min laneRoots (length w)) w (omega arith) (omega arith)
-
--- a turn of the loop over the bytes w, and its end
+-- a turn of the loop over the bytes w, two of them, and its end
 module _ (g xs w : List ℕ) (i : ℕ) {t : List ℕ} (inv : fedAll g xs (drop i w) ≡ t) where
-  pub fed-next : i < length w → {ys : List ℕ} → ys ≡ fed g xs (getD w i 0) → fedAll g ys (drop (i + 1) w) ≡ t
+  pub fed-next : i + 1 < length w → {ys : List ℕ} → ys ≡ fed g (fed g xs (getD w i 0)) (getD w (i + 1) 0) → fedAll g ys (drop (i + 2) w) ≡ t
   unfolding fedAll
-  fed-next h e = ap (λ (zs : List ℕ). fedAll g zs (drop (i + 1) w)) e ∙ ap (fedAll g xs) (sym (next w i h)) ∙ inv
+  fed-next h e =
+      ap (λ (zs : List ℕ). fedAll g zs (drop (i + 2) w)) e
+      ∙ sym (ap (fedAll g xs) (next w i (omega arith) ∙ ap (λ (v : List ℕ). getD w i 0 ∷ v) (next w (i + 1) h ∙ ap (λ (n : ℕ). getD w (i + 1) 0 ∷ drop n w) more)))
+      ∙ inv
+    where
+      more : i + 1 + 1 ≡ i + 2
+      more = omega arith
 
   pub fed-done : length w ≤ i → xs ≡ t
   unfolding fedAll
   fed-done h = ap (fedAll g xs) (sym (over w i h)) ∙ inv
+
+-- ---- two steps at once
+pub scale-add : (a b : ℕ) (g : List ℕ) → scale (add a b) g ≡ onto (scale a g) (scale b g)
+unfolding scale onto
+scale-add a b [] = refl
+scale-add a b (x ∷ g) = ap₂ _∷_ (add-mul a b x) (scale-add a b g)
+
+pub scale-scale : (a b : ℕ) (g : List ℕ) → scale a (scale b g) ≡ scale (mul a b) g
+unfolding scale
+scale-scale a b [] = refl
+scale-scale a b (x ∷ g) = ap₂ _∷_ (sym (mul-assoc a b x)) (scale-scale a b g)
+
+scale-onto : (a : ℕ) (p q : List ℕ) → length p ≡ length q → scale a (onto p q) ≡ onto (scale a p) (scale a q)
+unfolding scale onto
+scale-onto a [] [] l = refl
+scale-onto a [] (y ∷ q) l = absurd (omega arith)
+scale-onto a (x ∷ p) [] l = absurd (omega arith)
+scale-onto a (x ∷ p) (y ∷ q) l = ap₂ _∷_ (mul-add a x y) (scale-onto a p q (suc-inj l))
+
+scale-behind : (a : ℕ) (p : List ℕ) → scale a (p ++ 0 ∷ []) ≡ scale a p ++ 0 ∷ []
+unfolding scale
+scale-behind a [] = ap (λ (x : ℕ). x ∷ []) (mul-zero a)
+scale-behind a (x ∷ p) = ap (λ (l : List ℕ). mul a x ∷ l) (scale-behind a p)
+
+onto-swap : (p q s : List ℕ) → length p ≡ length q → onto p (onto q s) ≡ onto q (onto p s)
+onto-swap p q s l = sym (onto-assoc p q s (omega arith)) ∙ ap (λ (v : List ℕ). onto v s) (onto-comm p q l) ∙ onto-assoc q p s (omega arith)
+
+-- the second place's multiple of g, and the first one's of what g itself leaves a step further
+module _ (g₀ : ℕ) (g : List ℕ) (c d : ℕ) (xs : List ℕ) (x y : ℕ) (l : length xs + 1 ≡ length g) where
+  abbrev divisor : List ℕ
+  divisor = g₀ ∷ g
+
+  abbrev both : List ℕ
+  both = xs ++ x ∷ y ∷ []
+
+  behind : onto (scale c g) (xs ++ x ∷ []) ++ y ∷ [] ≡ onto (scale c (g ++ 0 ∷ [])) both
+  unfolding onto
+  behind =
+      sym
+      (ap₂ onto (scale-behind c g) (sym (append-assoc xs (x ∷ []) (y ∷ [])))
+      ∙ onto-append (scale c g) (0 ∷ []) (xs ++ x ∷ []) (y ∷ []) (omega (arith, length-scale c g, length-append xs (x ∷ [])))
+      ∙ ap (λ (z : ℕ). onto (scale c g) (xs ++ x ∷ []) ++ z ∷ []) (zero-add y))
+
+  pub fed-twice : fed divisor (fed divisor (c ∷ d ∷ xs) x) y ≡ onto (scale c (fed divisor divisor 0)) (onto (scale d divisor) both)
+  unfolding fed scale onto
+  fed-twice =
+      ap₂ onto (scale-add (mul c g₀) d divisor) behind
+      ∙ onto-assoc (scale (mul c g₀) divisor) (scale d divisor) (onto (scale c (g ++ 0 ∷ [])) both) (omega (arith, length-scale (mul c g₀) divisor, length-scale d divisor))
+      ∙ ap (onto (scale (mul c g₀) divisor)) (onto-swap (scale d divisor) (scale c (g ++ 0 ∷ [])) both (omega (arith, length-scale d divisor, length-scale c (g ++ 0 ∷ []), length-append g (0 ∷ []))))
+      ∙ sym
+      (ap (λ (v : List ℕ). onto v (onto (scale d divisor) both)) (scale-onto c (scale g₀ divisor) (g ++ 0 ∷ []) (omega (arith, length-scale g₀ divisor, length-append g (0 ∷ []))) ∙ ap (λ (v : List ℕ). onto v (scale c (g ++ 0 ∷ []))) (scale-scale c g₀ divisor))
+      ∙ onto-assoc (scale (mul c g₀) divisor) (scale c (g ++ 0 ∷ [])) (onto (scale d divisor) both) (omega (arith, length-scale (mul c g₀) divisor, length-scale c (g ++ 0 ∷ []), length-append g (0 ∷ []))))
 
 -- ---- values stay
 zeros-before : (a n : ℕ) (p : List ℕ) → eval (replicate n 0 ++ p) a ≡ eval p a
@@ -166,7 +218,7 @@ module _ (r : ℕ) (w : List ℕ) where
   unfolding residue
   is = ap (λ (d : List ℕ). divide (length w) d (replicate r 0 ++ w)) (generator-monic r)
 
-  pub residue-fed : 0 < r → fedAll g (replicate r 0) w ≡ residue r w
+  residue-fed : 0 < r → fedAll g (replicate r 0) w ≡ residue r w
   residue-fed h = fed-divide g (replicate r 0) w (length-replicate r 0 ∙ sym long-g) (omega (arith, long-g)) ∙ sym is
 
   pub length-residue : length (residue r w) ≡ r
@@ -193,6 +245,10 @@ module _ (r : ℕ) (w : List ℕ) where
 
         nothing : clean r w ≡ true → residue r w ≡ replicate r 0
         nothing c = zeros r k (residue r w) length-residue bytes-residue (λ j p q. residue-value j p q ∙ clean-roots r w c j p q)
+
+-- the division begins with the first n bytes laid down behind zeros
+pub fed-start : (w : List ℕ) (n : ℕ) {xs : List ℕ} → n ≤ laneRoots → n ≤ length w → xs ≡ replicate (laneRoots - n) 0 ++ take n w → fedAll below xs (drop n w) ≡ residue laneRoots w
+fed-start w n h k e = ap (λ (v : List ℕ). fedAll below v (drop n w)) e ∙ fed-begun below laneRoots n w h k ∙ residue-fed laneRoots w (omega arith)
 
 -- the values at the first n roots, from any of them on
 pub residue-values : (r : ℕ) (w : List ℕ) → Bytes w → (n j : ℕ) → 0 < j → j + n ≤ suc r → valuesFrom (residue r w) j n ≡ valuesFrom w j n

@@ -1,11 +1,11 @@
 //! Division by the generator for 32 roots: what is left lies in four numbers of eight bytes, and changes by one step a byte.
 ghost use mathlib.Core.Path.{_≡_};
 ghost use mathlib.Core.List.{[], _∷_, _++_, map};
-ghost use Prim.Native.Nat.{_<_};
-ghost use lib.ListN.{drop, getD, replicate};
+ghost use Prim.Native.Nat.{_-_, _%_, _≤_, _<_};
+ghost use lib.ListN.{length, take, drop, getD, replicate};
 ghost use Rattle.field.specs.Field.{double};
-ghost use Rattle.parity.specs.Word.{clean, onto, generator};
-ghost use Rattle.parity.specs.Lanes.{laneRoots, bytesOf, laid, Multiples, begun, residue, isZero};
+ghost use Rattle.parity.specs.Word.{clean, onto};
+ghost use Rattle.parity.specs.Lanes.{laneRoots, below, bytesOf, laid, Multiples, Tables, fed, residue, isZero};
 
 // 32 coefficients, the highest first: eight in a number.
 struct Lanes {
@@ -24,8 +24,10 @@ const LOWS: u64 = 0x7F7F7F7F7F7F7F7F;
 const ONES: u64 = 0x0101010101010101;
 // The polynomial without x^8.
 const FOLD: u64 = (field::POLYNOMIAL % 256) as u64;
-// Seven bytes are numbers below this one.
-const TOP: u64 = 0x100000000000000;
+// Seven bytes are numbers below the first of these, six below the second.
+const SEVEN: u64 = 0x100000000000000;
+
+const SIX: u64 = 0x1000000000000;
 
 fn wide(x: u8) -> u64
     ensures { λ r. ⌜ r ≡ x ⌝ }
@@ -56,7 +58,7 @@ impl Lanes {
 
     // The generator, its leading 1 aside.
     fn generator() -> Self
-        ensures { λ r. ⌜ laid r ≡ drop 1 (generator laneRoots) ⌝ }
+        ensures { λ r. ⌜ laid r ≡ below ⌝ }
     {
         Lanes {
             a: 0xE81DBD328EF6E80F,
@@ -94,17 +96,36 @@ impl Lanes {
     {
         let w = wide(x);
         Lanes {
-            a: self.a % TOP * 256 + self.b / TOP,
-            b: self.b % TOP * 256 + self.c / TOP,
-            c: self.c % TOP * 256 + self.d / TOP,
-            d: self.d % TOP * 256 + w,
+            a: self.a % SEVEN * 256 + self.b / SEVEN,
+            b: self.b % SEVEN * 256 + self.c / SEVEN,
+            c: self.c % SEVEN * 256 + self.d / SEVEN,
+            d: self.d % SEVEN * 256 + w,
+        }
+    }
+
+    // The first two bytes go, and x and y come behind.
+    fn shifted_twice(self, x: u8, y: u8) -> Self
+        ensures { λ r. ⌜ laid r ≡ drop 2 (laid self) ++ x ∷ y ∷ [] ⌝ }
+    {
+        let w = wide(x) * 256 + wide(y);
+        Lanes {
+            a: self.a % SIX * 65536 + self.b / SIX,
+            b: self.b % SIX * 65536 + self.c / SIX,
+            c: self.c % SIX * 65536 + self.d / SIX,
+            d: self.d % SIX * 65536 + w,
         }
     }
 
     fn first(self) -> usize
         ensures { λ r. ⌜ (r ≡ getD (laid self) 0 0) × (r < 256) ⌝ }
     {
-        (self.a / TOP) as usize
+        (self.a / SEVEN) as usize
+    }
+
+    fn second(self) -> usize
+        ensures { λ r. ⌜ (r ≡ getD (laid self) 1 0) × (r < 256) ⌝ }
+    {
+        (self.a / SIX % 256) as usize
     }
 
     fn is_zero(self) -> bool
@@ -141,11 +162,33 @@ fn multiples(l: Lanes) -> [Lanes; 16]
     m
 }
 
-// The first 32 bytes, or as many as there are, behind zeros: nothing is taken away from them yet.
-fn begun(bytes: &[u8]) -> Lanes
-    ensures { λ l. ⌜ laid l ≡ begun (now (bytes .entry)) ⌝ }
+// One step behind the generator itself: what a byte is worth that stands before the first.
+fn beyond(low: [Lanes; 16], high: [Lanes; 16]) -> Lanes
+    requires { ⌜ Tables low high below ⌝ }
+    ensures { λ r. ⌜ laid r ≡ fed below below 0 ⌝ }
 {
-    let n = base::least(ROOTS, bytes.len());
+    let g = Lanes::generator();
+    let f = g.first();
+    let lower = low[f % 16];
+    let upper = high[f / 16];
+    g.shifted(0).plus(lower).plus(upper)
+}
+
+// How many bytes are laid down before the division begins: 32 or one fewer, so that the others are pairs; of fewer bytes all.
+fn head(n: usize) -> usize
+    ensures { λ k. ⌜ (k ≤ laneRoots) × (k ≤ n) × ((n - k) % 2 ≡ 0) ⌝ }
+{
+    if n < ROOTS {
+        return n;
+    }
+    ROOTS - n % 2
+}
+
+// The first n bytes, behind zeros: nothing is taken away from them yet.
+fn begun(n: usize, bytes: &[u8]) -> Lanes
+    requires { ⌜ (n ≤ laneRoots) × (n ≤ length (now bytes)) ⌝ }
+    ensures { λ l. ⌜ laid l ≡ replicate (laneRoots - n) 0 ++ take n (now (bytes .entry)) ⌝ }
+{
     let mut l = Lanes::none();
     let mut i: usize = 0;
     while i < n {
@@ -155,23 +198,45 @@ fn begun(bytes: &[u8]) -> Lanes
     l
 }
 
-// What is left of bytes when they are divided by the generator. A byte's product is that of its low half and that of its high half.
+// Two bytes a turn. A byte's product is that of its low half and that of its high half: of the second byte in the first two tables, of the
+// first one, which stands a place further up, in the others.
+fn divided(
+    low: [Lanes; 16],
+    high: [Lanes; 16],
+    low2: [Lanes; 16],
+    high2: [Lanes; 16],
+    bytes: &[u8],
+) -> Lanes
+    requires { ⌜ Tables low high below × Tables low2 high2 (fed below below 0) ⌝ }
+    ensures { λ l. ⌜ laid l ≡ residue laneRoots (now (bytes .entry)) ⌝ }
+{
+    let mut i = head(bytes.len());
+    let mut l = begun(i, bytes);
+    while i < bytes.len() {
+        let f = l.first();
+        let s = l.second();
+        let a = low[s % 16];
+        let b = high[s / 16];
+        let c = low2[f % 16];
+        let d = high2[f / 16];
+        let e = l.shifted_twice(bytes[i], bytes[i + 1]);
+        l = e.plus(a).plus(b).plus(c).plus(d);
+        i += 2;
+    }
+    l
+}
+
+// What is left of bytes when they are divided by the generator.
 fn residue(bytes: &[u8]) -> Lanes
     ensures { λ l. ⌜ laid l ≡ residue laneRoots (now (bytes .entry)) ⌝ }
 {
     let low = multiples(Lanes::generator());
     let eighth = low[8];
     let high = multiples(eighth.doubled());
-    let mut l = begun(bytes);
-    let mut i = base::least(ROOTS, bytes.len());
-    while i < bytes.len() {
-        let f = l.first();
-        let lower = low[f % 16];
-        let upper = high[f / 16];
-        l = l.shifted(bytes[i]).plus(lower).plus(upper);
-        i += 1;
-    }
-    l
+    let low2 = multiples(beyond(low, high));
+    let eighth2 = low2[8];
+    let high2 = multiples(eighth2.doubled());
+    divided(low, high, low2, high2, bytes)
 }
 
 // Whether a word is clean: nothing is left of it.

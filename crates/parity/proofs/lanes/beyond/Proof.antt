@@ -1,0 +1,26 @@
+-- `parity::lanes::beyond` meets its contract: a step of the division, with the generator in the lanes.
+use borrow.Author.Needs.{needs}
+use Rattle.parity.specs.Lanes.{below}
+use Rattle.parity.proofs.Laid.{length-below, product-turn, beyond-is}
+use Rattle.parity.proofs.lanes.beyond.Statement.{statement}
+use Rattle.parity.proofs.lanes.beyond.Tie as tie
+
+pub beyond-spec : {M : Type 1} → statement M
+beyond-spec =
+    tie.close
+    (tie.spec
+    (search needs)
+    (search needs)
+    (search needs)
+    (search needs)
+    (search needs)
+    (search needs)
+    (search needs)
+    (search needs)
+    (search needs)
+    (λ c.
+    let first = c .before .before .before .before .before in
+    let start = c .before .before .before .before .before .before .before in
+    beyond-is _ (c .before .before .shifted .result) (c .plus2 .result) _ (first .before .generator .ensures) (first .first .ensures .0) (c .before .before .shifted .ensures)
+    (product-turn below (start .args .t1) (start .args .t2) length-below (start .pre) (c .before .before .shifted .result) (c .before .plus .result) (c .plus2 .result) _
+    (first .first .ensures .1) (c .before .plus .ensures) (c .plus2 .ensures))))

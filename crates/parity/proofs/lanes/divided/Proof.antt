@@ -1,0 +1,70 @@
+-- `parity::lanes::divided` meets its contract. The invariant: what is left of the bytes still to come, pairs of them, behind what the lanes
+-- hold, is what is left of all.
+use mathlib.Core.Path.{_≡_, ap, _∙_}
+use Prim.Native.Nat.{_-_, _%_, _≤_, _<_}
+use native.Mathlib.Omega.{arith}
+use lib.ListN.{length, drop}
+use borrow.Author.Needs.{needs}
+use Rattle.parity.specs.Word.{scale, onto}
+use Rattle.parity.specs.Lanes.{laneRoots, below, laid, fed, residue}
+use Rattle.parity.proofs.Residue.{fedAll, fed-start, fed-next, fed-done}
+use Rattle.parity.proofs.Laid.{length-laid, length-below, length-beyond, product-turn, twice-turn}
+use Rattle.parity.proofs.lanes.divided.Statement.{statement}
+use Rattle.parity.proofs.lanes.divided.Tie as tie
+
+abbrev Inv-loop : tie.InvT-loop
+Inv-loop bytes low high low2 high2 i₀ l₀ i l = (i ≤ length bytes) × ((length bytes - i) % 2 ≡ 0) × (length bytes < 0x10000000000000000) × (fedAll below (laid l) (drop i bytes) ≡ residue laneRoots bytes)
+
+abbrev μ-loop : tie.MeasureT-loop
+μ-loop bytes low high low2 high2 i₀ l₀ i l = length bytes - i
+
+pub divided-spec : {M : Type 1} → statement M
+divided-spec =
+    tie.close
+    (tie.spec Inv-loop μ-loop
+    (search needs)
+    (search needs)
+    (λ c.
+    let n = c .before .head .ensures in
+    (n .1, n .2, omega arith, fed-start _ _ (n .0) (n .1) (c .begun .ensures)))
+    (search needs)
+    (search needs)
+    (search needs)
+    (search needs)
+    (search needs)
+    (search needs)
+    (search needs)
+    (search needs)
+    (search needs)
+    (search needs)
+    (search needs)
+    (omega arith)
+    (omega arith)
+    (search needs)
+    (search needs)
+    (search needs)
+    (search needs)
+    (search needs)
+    (λ c. let at = c .before .before .before .before .before .before .before .before .before .before .before .before .before .before .loop .inv in omega (arith, c .before .before .before .before .before .before .before .before .before .before .before .before .before .loop-test .taken, at .0, at .1, at .2))
+    (λ c. let at = c .before .before .before .before .before .before .before .before .before .before .before .before .before .before .loop .inv in omega (arith, c .before .before .before .before .before .before .before .before .before .before .before .before .before .loop-test .taken, at .0, at .1))
+    (λ c.
+    let at = c .before .before .before .before .before .before .before .before .before .before .before .before .before .before in
+    let first = c .before .before .before .before .before .before .before .before .before .before .before .before in
+    let second = c .before .before .before .before .before .before .before .before .before .before .before in
+    let start = at .before .before .before .before in
+    let two = c .before .before .before .before in
+    let l = at .loop .l in
+    let one = product-turn below (start .args .t1) (start .args .t2) length-below (start .pre .0) (two .shifted-twice .result) (c .before .before .before .plus .result) (c .before .before .plus2 .result) (second .second .result)
+    (second .second .ensures .1) (c .before .before .before .plus .ensures) (c .before .before .plus2 .ensures) in
+    let other = product-turn (fed below below 0) (start .args .t3) (start .args .t4) length-beyond (start .pre .1) (c .before .before .plus2 .result) (c .before .plus3 .result) (c .plus4 .result) (first .first .result)
+    (first .first .ensures .1) (c .before .plus3 .ensures) (c .plus4 .ensures) in
+    let turned = twice-turn below (laid l) (first .first .result) (second .second .result) _ _ length-below (length-laid l) (first .first .ensures .0) (second .second .ensures .0)
+    (one ∙ ap (onto (scale (second .second .result) below)) (two .shifted-twice .ensures)) other in
+    let taken = c .before .before .before .before .before .before .before .before .before .before .before .before .before .loop-test .taken in
+    let inv = at .loop .inv in (
+      omega (arith, taken, inv .0, inv .1),
+      omega (arith, taken, inv .0, inv .1),
+      inv .2,
+      fed-next below (laid l) (start .args .bytes .now) (at .loop .i) (inv .3) (omega (arith, taken, inv .0, inv .1)) turned,
+    ))
+    (λ c. fed-done _ _ _ _ (c .before .loop .inv .3) (c .loop-test .left)))
