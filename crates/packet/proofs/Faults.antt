@@ -1,5 +1,5 @@
 -- What the escapes of raw bytes are, in the words of refusals 2 and 3.
--- broken-is      the place told is the one that `BrokenAt` says
+-- broken-there, broken-is   the place told is the one that `BrokenAt` says, and that one is told
 -- scan-says      unfinished: the last raw byte is 7D; wrong: it is not, and `BrokenAt`; right: neither
 -- closed-broken, judge-broken   a frame is refused with 3 and a place exactly where `BrokenAt` says
 use mathlib.Core.Path.{_≡_, refl, sym, ap, subst, _∙_}
@@ -64,7 +64,7 @@ followed-found : (raw : List ℕ) → Followed raw → wrongAt raw ≢ 0
 followed-found raw (xs, ys, b, e, p, q) z =
     wrong-found (xs ++ 0x7D ∷ []) ys b 0 0 (λ k. no-zero k) (last-end 0 xs) (is-wrong b p q) (sym (ap wrongAt (e ∙ cut xs ys b)) ∙ z)
 
-broken-there : (raw : List ℕ) → wrongAt raw ≢ 0 → BrokenAt raw (wrongAt raw)
+pub broken-there : (raw : List ℕ) → wrongAt raw ≢ 0 → BrokenAt raw (wrongAt raw)
 broken-there raw h =
     let w = wrong-there raw 0 0 h in
     let s = split-last (w .xs) (w .behind) in
