@@ -1,7 +1,8 @@
 -- The place that the state remembers, and the place that is told at the closing flag: what is told is judged from the stored bytes, and in
 -- every run both are the same.
 -- remembered-is     of raw bytes: told with 3 and a place exactly where that place is remembered, but for 1 and 2, which come first
--- remembered-told   of every byte string, however cut: where a flag behind it is told with 3 and a place, the state has that place
+-- held-told         of the reader with its buffer: where the next byte is a flag, and told with 3 and a place, the state has that place
+-- remembered-told   .. behind every byte string, however cut
 use Prim.Native.Nat.{ℕ, _≤_}
 use native.Mathlib.Omega.{arith}
 use mathlib.Core.Path.{_≡_, sym, _∙_, ap, subst}
@@ -39,12 +40,12 @@ closed-so waiting j n e = let z : _≡_ {A = ℕ} 0 1 = cc in absurd (omega arit
 closed-so (inside []) j n e = let z : _≡_ {A = ℕ} 0 1 = cc in absurd (omega arith)
 closed-so (inside (r ∷ rs)) j n e = let t : judge (r ∷ rs) ≡ broken n = cc in remembered-is (r ∷ rs) j n .0 t .3
 
+pub held-told : (r : Reading) (j : List ℕ) → rawLimit ≤ length (heldOf r j .recv) → (n : ℕ) → takeByte (heldOf r j) flag .0 ≡ some (broken n) → heldOf r j .st .place ≡ n
+held-told r j room n t = closed-so r j n (sym (ap (λ (x : Option Told × Held). x .0) (shown-byte r j flag room .1)) ∙ t)
+
 pub remembered-told : (bs : List ℕ) → EveryCut bs λ ts d. (n : ℕ) → takeByte d flag .0 ≡ some (broken n) → d .st .place ≡ n
 remembered-told bs =
     every-cut-reads bs λ recv room ts d e.
     let s = shown-plain bs waiting recv room in
     let is : d ≡ heldOf (reads waiting bs .1) (s .0) = ap (λ (x : List Told × Held). x .1) (e ∙ s .1) in
-    subst (λ (h : Held). (n : ℕ) → takeByte h flag .0 ≡ some (broken n) → h .st .place ≡ n) (sym is)
-    λ n t.
-    closed-so (reads waiting bs .1) (s .0) n
-    (sym (ap (λ (x : Option Told × Held). x .0) (shown-byte (reads waiting bs .1) (s .0) flag (s .2) .1)) ∙ t)
+    subst (λ (h : Held). (n : ℕ) → takeByte h flag .0 ≡ some (broken n) → h .st .place ≡ n) (sym is) (held-told (reads waiting bs .1) (s .0) (s .2))
