@@ -1,8 +1,8 @@
 -- Laws of the place of the first wrong byte behind 7D (`wrongFrom`): p is the byte before the bytes, `at` the place of the first of them.
+-- wrong-here     a wrong byte behind 7D is told by its own place
 -- wrong-append   over two lists one after the other: what a piece adds to what is known
 -- wrong-within   it lies within the bytes looked at
--- wrong-there    a place told is that of a wrong byte behind 7D, and before it there is none
--- wrong-here, wrong-found   where there is one, a place is told
+-- wrong-there, wrong-found   a place told is that of a wrong byte behind 7D, and before it there is none; where there is one, a place is told
 -- wrong-before   a byte before them that is no 7D is as none
 use mathlib.Core.Path.{_≡_, refl, sym, ap, _∙_}
 use mathlib.Core.Bool.{Bool, true, false, not, _&&_, false≢true}
@@ -17,6 +17,11 @@ use borrow.Author.Tests.{eq-eqb, ne-eqb, eqb-true, eqb-false}
 use Rattle.base.specs.Choice.{pick}
 use Rattle.base.proofs.Tests.{and-parts}
 use Rattle.packet.specs.Escape.{right, wrongFrom, last}
+
+-- a wrong byte behind 7D is told, whatever stands behind it
+pub wrong-here : (p at b : ℕ) (ys : List ℕ) → p ≡ 0x7D → right b ≡ false → wrongFrom p at (b ∷ ys) ≡ at
+unfolding wrongFrom
+wrong-here p at b ys e r = rw (eq-eqb p 0x7D e, r) refl
 
 pub wrong-append : (xs ys : List ℕ) (p at : ℕ) → (p ≡ 0x7D → at ≢ 0)
     → wrongFrom p at (xs ++ ys) ≡ pick (eqb (wrongFrom p at xs) 0) (wrongFrom (last p xs) (at + length xs) ys) (wrongFrom p at xs)
@@ -94,10 +99,6 @@ wrong-there (b ∷ bs) p at h = go (eqb p 0x7D && not (right b)) refl (wrong-the
         }
 
 -- ---- and the other way round
-pub wrong-here : (p at b : ℕ) (ys : List ℕ) → p ≡ 0x7D → right b ≡ false → wrongFrom p at (b ∷ ys) ≡ at
-unfolding wrongFrom
-wrong-here p at b ys e r = rw (eq-eqb p 0x7D e, r) refl
-
 nothing-last : {p : ℕ} → last p [] ≡ 0x7D → p ≡ 0x7D
 unfolding last
 nothing-last e = e
