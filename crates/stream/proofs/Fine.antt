@@ -19,15 +19,15 @@ use Rattle.stream.specs.declared.frame.Frame.{Frame}
 use Rattle.stream.specs.Called.{Held, held, begun, placeLimit, lastRaw, store, shut, takeBy, takeByte, sound, Fine}
 use Rattle.stream.proofs.Places.{noticed-within}
 
-pub fine-is : (h : Held) → Fine h → sound (h .st) ≡ true
-fine-is h f =
-    rw (eq-eqb (h .st .stored) (min (h .st .raw) rawLimit) (f .stored), le-leb (h .st .raw) (suc rawLimit) (f .raw), le-leb (h .st .place) placeLimit (f .place)) refl
-
 pub fine-of : (f : Frame) (l : List ℕ) → sound f ≡ true → rawLimit ≤ length l → Fine (held f l)
 fine-of f l s h =
     let p = and-parts (eqb (f .stored) (min (f .raw) rawLimit)) (leb (f .raw) (suc rawLimit) && leb (f .place) placeLimit) s in
     let q = and-parts (leb (f .raw) (suc rawLimit)) (leb (f .place) placeLimit) (p .1) in
     record { stored = eqb-true _ _ (p .0); raw = leb-true _ _ (q .0); place = leb-true _ _ (q .1); room = h }
+
+pub fine-is : (h : Held) → Fine h → sound (h .st) ≡ true
+fine-is h f =
+    rw (eq-eqb (h .st .stored) (min (h .st .raw) rawLimit) (f .stored), le-leb (h .st .raw) (suc rawLimit) (f .raw), le-leb (h .st .place) placeLimit (f .place)) refl
 
 -- the tests one after the other, as the code makes them
 module _ (f : Frame) where

@@ -1,4 +1,5 @@
 -- Laws of the place that the state remembers.
+-- noticed-kept                                 a place that is known stays
 -- noticed-none, noticed-more, noticed-within   no byte more, a byte before others, and the limit that it keeps
 -- before-some, before-stored, before-last      the byte before a place
 -- looked-kept, looked-new                      the call that looks, where a place is known and where none is
@@ -26,9 +27,14 @@ use Rattle.stream.specs.declared.frame.Frame.{Frame}
 
 -- ---- what is noticed
 module _ (place p at : ℕ) where
+  -- a place that is known stays ..
+  pub noticed-kept : (bs : List ℕ) → place ≢ 0 → noticed place p at bs ≡ place
+  noticed-kept bs n = simp (ne-eqb place 0 n)
+
+  -- .. and no byte more changes nothing
   pub noticed-none : noticed place p at [] ≡ place
   unfolding wrongFrom
-  noticed-none = by-eq place 0 (λ e. simp (eq-eqb place 0 e) (sym e)) (λ n. simp (ne-eqb place 0 n))
+  noticed-none = by-eq place 0 (λ e. simp (eq-eqb place 0 e) (sym e)) (noticed-kept [])
 
   -- a byte, and the bytes behind it
   pub noticed-more : (b : ℕ) (bs : List ℕ) → (p ≡ 0x7D → at ≢ 0) → noticed (noticed place p at (b ∷ [])) b (suc at) bs ≡ noticed place p at (b ∷ bs)
@@ -85,7 +91,7 @@ before-last (x ∷ xs) j =
 -- ---- the call that looks
 module _ (f : Frame) (l : List ℕ) (from : ℕ) where
   pub looked-kept : f .place ≢ 0 → f ≡ looked f l from
-  looked-kept n = ap (placed f) (sym (ap (λ (t : Bool). pick t (wrongBehind from (take (f .stored) l)) (f .place)) (ne-eqb (f .place) 0 n)))
+  looked-kept n = ap (placed f) (sym (noticed-kept (f .place) (byteBefore from (take (f .stored) l)) from (drop from (take (f .stored) l)) n))
 
   pub looked-new : {w : ℕ} → f .place ≡ 0 → w ≡ wrongBehind from (take (f .stored) l) → placed f w ≡ looked f l from
   looked-new e p = ap (placed f) (p ∙ sym (ap (λ (t : Bool). pick t (wrongBehind from (take (f .stored) l)) (f .place)) (eq-eqb (f .place) 0 e)))
