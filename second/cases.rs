@@ -1,7 +1,7 @@
 //! Cases for the comparison: how they are written, which are asked, and what the second program answers.
 //! crates/answers/src/main.rt has the form of a case and of an answer, crates/pieces/src that of an answer in pieces.
 
-use crate::packet::{Delivery, RAW_LIMIT};
+use crate::packet::{Fault, Frame, FLAG, RAW_LIMIT};
 use crate::parity::WORD;
 use crate::repair::altered;
 use crate::stream::Reader;
@@ -76,11 +76,12 @@ impl Case {
     /// A stream read in pieces, the receive buffer lent.
     fn stream_in_pieces(&self, buffer: &mut [u8]) -> Vec<u8> {
         let mut told = Vec::new();
-        let mut reader = reader_in(self.number);
-        let mut at = 0;
-        let (mut end, mut seed) = stream::piece_length(self.number & 0x7FFFFFFF, self.bytes.len());
+        let pair = |i: usize| u16::from_le_bytes([self.bytes[i], self.bytes[i + 1]]) as usize;
+        let bytes = &self.bytes[4..];
+        let mut reader = reader_in(self.number, pair(0));
+        let (mut at, mut end, mut seed) = (0, pair(2).min(bytes.len()), self.number & 0x7FFFFFFF);
         loop {
-            let result = reader.call(buffer, &self.bytes[at..end]);
+            let result = reader.call(buffer, &bytes[at..end]);
             let taken = result.map_or(0, |(_, taken)| taken);
             at += taken;
             push_all(&mut told, &[taken as u64, result.map_or_else(refusal, |(answer, _)| answer.map_or(0, frame_number))]);
@@ -88,21 +89,21 @@ impl Case {
                 Err(_) => break,
                 Ok((Some(Ok(packet)), _)) => told.extend(&buffer[5..5 + packet.payload_length]),
                 Ok((Some(Err(_)), _)) => {}
-                Ok((None, _)) if end == self.bytes.len() => break,
+                Ok((None, _)) if end == bytes.len() => break,
                 Ok((None, _)) => {
-                    let (length, next) = stream::piece_length(seed, self.bytes.len() - at);
+                    let (length, next) = stream::piece_length(seed, bytes.len() - at);
                     (end, seed) = (at + length, next);
                 }
             }
         }
-        push_all(&mut told, &[!reader.waits as u64, reader.raw as u64, reader.stored as u64]);
+        push_all(&mut told, &[!reader.waits as u64, reader.raw as u64, reader.stored as u64, reader.broken as u64]);
         told
     }
 }
 
-/// The reader in the number of a case.
-pub fn reader_in(number: u64) -> Reader {
-    Reader { waits: number >> 31 & 1 == 0, raw: (number >> 32) as usize & 0xFFFF, stored: (number >> 48) as usize }
+/// The reader in the number of a case, with the place that stands beside it.
+pub fn reader_in(number: u64, broken: usize) -> Reader {
+    Reader { waits: number >> 31 & 1 == 0, raw: (number >> 32) as usize & 0xFFFF, stored: (number >> 48) as usize, broken }
 }
 
 /// The same the other way round.
@@ -110,8 +111,16 @@ pub fn reader_number(reader: &Reader) -> u64 {
     (!reader.waits as u64) << 31 | (reader.raw as u64) << 32 | (reader.stored as u64) << 48
 }
 
-pub fn frame_number(result: Result<Delivery, u8>) -> u64 {
-    result.map_or_else(refusal, |p| p.port as u64 | (p.sequence as u64) << 16 | (p.payload_length as u64) << 32 | 1 << 56)
+pub fn frame_number(result: Frame) -> u64 {
+    result.map_or_else(fault_number, |p| p.port as u64 | (p.sequence as u64) << 16 | (p.payload_length as u64) << 32 | 1 << 56)
+}
+
+/// A broken escape has its place above its number.
+fn fault_number(fault: Fault) -> u64 {
+    match fault {
+        Fault::Number(n) => refusal(n),
+        Fault::BrokenEscape(place) => refusal(3) | (place as u64) << 32,
+    }
 }
 
 pub fn refusal(n: u8) -> u64 {
@@ -188,6 +197,7 @@ pub fn all(seed: u64) -> Vec<Case> {
     packets(&mut random, &mut cases);
     frames(&mut random, &mut cases);
     streams(&mut random, &mut cases);
+    broken_escapes(&mut cases);
     channel_cases::all(&mut random, &mut cases);
     listing_cases::all(&mut random, &mut cases);
     cases
@@ -418,11 +428,59 @@ fn streams(random: &mut Random, cases: &mut Vec<Case>) {
         }
         bytes.truncate(60000);
         let seed = if random.below(3) == 0 { 0 } else { 1 + random.next() % 0x7FFFFFFE };
+        let first = if seed == 0 { bytes.len() } else { random.below(300) };
         let raw = [0, 0, 0, 1, 7, RAW_LIMIT - 1, RAW_LIMIT, RAW_LIMIT + 1, RAW_LIMIT + 2, random.below(RAW_LIMIT + 95)][random.below(10)];
         let stored = if random.below(12) == 0 { random.below(RAW_LIMIT + 95) } else { raw.min(RAW_LIMIT) };
-        let flagged = random.below(2);
+        let flagged = random.below(2) == 1;
+        let broken = any_place(random, raw);
         let space = if i % 40 == 0 { RAW_LIMIT - 1 } else { RAW_LIMIT + random.below(3) * 50 };
-        let number = if i % 2 == 0 { seed } else { seed | (flagged as u64) << 31 | (raw as u64) << 32 | (stored as u64) << 48 };
-        cases.push(Case { asked: b'S', number, space: space as u16, bytes });
+        let reader = if i % 2 == 0 { Reader::new() } else { Reader { waits: !flagged, raw, stored, broken } };
+        cases.push(stream_case(&reader, first, seed, space, &bytes));
+    }
+}
+
+/// A stream to be read: the state, the length of the first piece, how the rest is cut, the receive buffer's length and the bytes.
+fn stream_case(reader: &Reader, first: usize, seed: u64, space: usize, stream: &[u8]) -> Case {
+    let mut bytes = Vec::new();
+    bytes.extend((reader.broken as u16).to_le_bytes());
+    bytes.extend((first as u16).to_le_bytes());
+    bytes.extend(stream);
+    Case { asked: b'S', number: seed | reader_number(reader), space: space as u16, bytes }
+}
+
+/// A remembered place: mostly none, else at, before or beyond the raw count, at its limit, or beyond it.
+pub fn any_place(random: &mut Random, raw: usize) -> usize {
+    let some = [1, raw, raw + 1, raw.saturating_sub(1), RAW_LIMIT - 2, RAW_LIMIT - 1, RAW_LIMIT, 65535, random.below(RAW_LIMIT)];
+    if random.below(2) == 0 { 0 } else { some[random.below(some.len())] }
+}
+
+/// Escapes that break: every beginning of some frames, cut at every place; then frames at the raw limit with the fault at their end, cut
+/// around it. What is remembered is told where the frame is still open, and what is answered where it is closed.
+fn broken_escapes(cases: &mut Vec<Case>) {
+    for raw in [
+        &[0x41, 0x7D, 0x21, 0x7D, 0x22][..],
+        &[0x7D, 0x5E, 0x7D, 0x7D, 0x5E, 0x41],
+        &[0x7D, 0x5D, 0x5D, 0x7D, 0x5E, 0x00],
+        &[0x41, 0x7D, 0x7D],
+        &[0x7D, 0x41, 0x7D],
+        &[0x7D, 0x7D, 0x7D, 0x7D],
+        &[0x5E, 0x5D, 0x41],
+    ] {
+        let bytes = [&[FLAG], raw, &[FLAG, 0x7D], raw, &[FLAG]].concat();
+        for end in 0..=bytes.len() {
+            for first in 0..=end {
+                cases.push(stream_case(&Reader::new(), first, 0, RAW_LIMIT, &bytes[..end]));
+            }
+        }
+    }
+    for n in [RAW_LIMIT - 1, RAW_LIMIT, RAW_LIMIT + 1, RAW_LIMIT + 2] {
+        for fault in [[0x7D, 0x21], [0x7D, 0x7D], [0x7D, 0x5E], [0x41, 0x7D]] {
+            let frame = [&[FLAG][..], &vec![0x41; n - 2], &fault, &[FLAG]].concat();
+            for end in [n, n + 1, n + 2] {
+                for first in n - 3..=end {
+                    cases.push(stream_case(&Reader::new(), first, 0, RAW_LIMIT, &frame[..end]));
+                }
+            }
+        }
     }
 }

@@ -1,6 +1,6 @@
 //! The opportunistic channel, sender and receiver, byte by byte, as the paper has it.
 
-use crate::packet::{Delivery, FLAG, RAW_LIMIT};
+use crate::packet::{Frame, FLAG, RAW_LIMIT};
 use crate::parity::{self, WORD};
 use crate::repair;
 use crate::stream::Reader;
@@ -32,7 +32,7 @@ pub fn in_blocks(stream: &[u8], space: usize) -> Result<Vec<u8>, u8> {
 
 #[derive(Clone, Copy)]
 pub enum Answer {
-    Frame(Result<Delivery, u8>),
+    Frame(Frame),
     /// A whole word: in how many places it was repaired, 0 of a clean one; none: it is beyond repair.
     Block(Option<usize>),
     LockLost,

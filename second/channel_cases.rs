@@ -28,7 +28,7 @@ impl Run {
         let r = self.receiver;
         let mut bytes = vec![r.locked as u8];
         bytes.extend(r.hunted);
-        for n in [r.word_bytes, r.message_bytes, r.marker_bytes, self.first, self.word.len()] {
+        for n in [r.word_bytes, r.message_bytes, r.marker_bytes, self.first, self.word.len(), r.reader.broken] {
             bytes.extend((n as u16).to_le_bytes());
         }
         bytes.extend(self.word);
@@ -46,9 +46,9 @@ pub fn channel_in_pieces(number: u64, bytes: &[u8], buffer: &mut [u8]) -> Vec<u8
         word_bytes: pair(5),
         message_bytes: pair(7),
         marker_bytes: pair(9),
-        reader: cases::reader_in(number),
+        reader: cases::reader_in(number, pair(15)),
     };
-    let (word, stream) = bytes[15..].split_at(pair(13));
+    let (word, stream) = bytes[17..].split_at(pair(13));
     let mut word = word.to_vec();
     let (mut at, mut end, mut seed) = (0, pair(11).min(stream.len()), number & 0x7FFFFFFF);
     let mut told = Vec::new();
@@ -75,7 +75,7 @@ pub fn channel_in_pieces(number: u64, bytes: &[u8], buffer: &mut [u8]) -> Vec<u8
 
 /// The state's numbers and the hunted bytes.
 fn state_numbers(r: &Receiver, told: &mut Vec<u8>) {
-    let counts = [r.word_bytes, r.message_bytes, r.marker_bytes, !r.reader.waits as usize, r.reader.raw, r.reader.stored];
+    let counts = [r.word_bytes, r.message_bytes, r.marker_bytes, !r.reader.waits as usize, r.reader.raw, r.reader.stored, r.reader.broken];
     cases::push_all(told, &[r.locked as u64]);
     cases::push_all(told, &counts.map(|n| n as u64));
     cases::push_all(told, &r.hunted.map(u64::from));
@@ -105,6 +105,7 @@ pub fn all(random: &mut Random, cases: &mut Vec<Case>) {
     word_in_two(random, &mut runs);
     buffers(random, &mut runs);
     longest(random, &mut runs);
+    broken_escape(&mut runs);
     cases.extend(runs.into_iter().map(Run::case));
 }
 
@@ -355,7 +356,7 @@ fn any(random: &mut Random) -> Receiver {
         word_bytes: count(random, &[0, 1, WORD - 2, WORD - 1, WORD, WORD, WORD, WORD, part], &[WORD + 1, BLOCK, 65535]),
         message_bytes: count(random, &[0, 1, MESSAGE - 2, MESSAGE - 1, MESSAGE, MESSAGE, few], &[MESSAGE + 1, WORD, 65535]),
         marker_bytes,
-        reader: Reader { waits: random.below(2) == 0, raw, stored },
+        reader: Reader { waits: random.below(2) == 0, raw, stored, broken: cases::any_place(random, raw) },
     }
 }
 
@@ -393,7 +394,7 @@ fn word_in_two(random: &mut Random, runs: &mut Vec<Run>) {
         word.resize(WORD + i % 3, 0x33);
         let mut receiver = any(random);
         (receiver.locked, receiver.word_bytes) = (true, there);
-        receiver.reader = Reader { waits: i % 2 == 1, raw: 0, stored: 0 };
+        receiver.reader = Reader { waits: i % 2 == 1, raw: 0, stored: 0, broken: 0 };
         runs.push(cut(random, Run { receiver, word, ..Run::whole(bytes) }));
     }
 }
@@ -429,6 +430,19 @@ fn longest(random: &mut Random, runs: &mut Vec<Run>) {
             alter(random, &mut bytes[at + 4..at + BLOCK], places);
             runs.push(cut(random, Run::whole(bytes.clone())));
             runs.push(cut_as(2, random, Run::whole(bytes)));
+        }
+    }
+}
+
+/// An escape that breaks over the end of a word: 7D is the last byte of a message, and the byte behind it the first of the next one. The
+/// frame is closed or not, lock is kept or lost, and the blocks are cut at every place.
+fn broken_escape(runs: &mut Vec<Run>) {
+    let message = [&[FLAG; MESSAGE - 2][..], &[0x41, 0x7D, 0x21, 0x42, FLAG]].concat();
+    let blocks = channel::in_blocks(&message, usize::MAX).unwrap();
+    let open = channel::in_blocks(&[&message[..MESSAGE + 2], &[0x43; MESSAGE - 2]].concat(), usize::MAX).unwrap();
+    for bytes in [blocks, open.clone(), [&open[..], &[0; 4]].concat()] {
+        for first in 0..=bytes.len() {
+            runs.push(Run { first, ..Run::whole(bytes.clone()) });
         }
     }
 }

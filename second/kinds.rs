@@ -33,7 +33,7 @@ fn add_kinds(recording: &[u8], counts: &mut BTreeMap<String, usize>) {
     for line in text.lines() {
         match line.as_bytes()[0] {
             b'P' => kinds.extend(["P".to_string(), format!("class {}", &line[line.len() - 1..]), format!("P behind {block}")]),
-            b'R' => kinds.extend(["R".to_string(), line.to_string()]),
+            b'R' => kinds.extend(["R".to_string(), line[..3].to_string()]),
             b'B' => {
                 block = match line {
                     "B 0" => "B clean",

@@ -3,7 +3,7 @@
 
 use crate::channel::{BLOCK, MARKER, MESSAGE, ROOTS};
 use crate::fcs;
-use crate::packet::{self, Delivery, ESCAPE, FLAG, PAYLOAD_LIMIT, RAW_LIMIT};
+use crate::packet::{self, Delivery, Fault, Frame, ESCAPE, FLAG, PAYLOAD_LIMIT, RAW_LIMIT};
 use crate::parity::{self, WORD};
 use crate::repair;
 use std::io::{ErrorKind, Read, Write};
@@ -144,16 +144,19 @@ struct Page {
 }
 
 impl Page {
-    fn frame(&mut self, result: Result<Delivery, u8>) {
+    fn frame(&mut self, result: Frame) {
         match result {
             Ok(Delivery { port, sequence, payload_length }) => {
                 self.totals[0] += 1;
                 let letter = packet::class_letter(port).expect("a port that may be used");
                 self.print_line(b'P', &[port as u64, sequence as u64, payload_length as u64], &[b' ', letter]);
             }
-            Err(n) => {
+            Err(fault) => {
                 self.totals[1] += 1;
-                self.print_line(b'R', &[n as u64], b"");
+                match fault {
+                    Fault::Number(n) => self.print_line(b'R', &[n as u64], b""),
+                    Fault::BrokenEscape(place) => self.print_line(b'R', &[3, place as u64], b""),
+                }
             }
         }
     }
@@ -340,15 +343,15 @@ impl Frames {
 }
 
 /// What comes of a frame's raw bytes: a packet, or the first refusal that applies. A frame without escapes is its own contents.
-pub fn delivery(raw: &[u8], unescaped: &mut Vec<u8>) -> Result<Delivery, u8> {
+pub fn delivery(raw: &[u8], unescaped: &mut Vec<u8>) -> Frame {
     if raw.len() > RAW_LIMIT {
-        return Err(1);
+        return Err(Fault::Number(1));
     }
     if raw.last() == Some(&ESCAPE) {
-        return Err(2);
+        return Err(Fault::Number(2));
     }
     if !raw.contains(&ESCAPE) {
-        return delivery_of_contents(raw);
+        return Ok(delivery_of_contents(raw)?);
     }
     unescaped.clear();
     let mut rest = raw;
@@ -357,12 +360,12 @@ pub fn delivery(raw: &[u8], unescaped: &mut Vec<u8>) -> Result<Delivery, u8> {
         unescaped.push(match rest[n + 1] {
             0x5E => 0x7E,
             0x5D => 0x7D,
-            _ => return Err(3),
+            _ => return Err(Fault::BrokenEscape(raw.len() - rest.len() + n + 1)),
         });
         rest = &rest[n + 2..];
     }
     unescaped.extend(rest);
-    delivery_of_contents(unescaped)
+    Ok(delivery_of_contents(unescaped)?)
 }
 
 fn delivery_of_contents(bytes: &[u8]) -> Result<Delivery, u8> {

@@ -15,6 +15,31 @@ pub struct Delivery {
     pub payload_length: usize,
 }
 
+/// Why a frame is refused: a number of the paper; with 3, which raw byte broke an escape, counted from 0 behind the opening flag.
+#[derive(Clone, Copy, Debug, PartialEq)]
+pub enum Fault {
+    Number(u8),
+    BrokenEscape(usize),
+}
+
+impl Fault {
+    pub fn number(self) -> u8 {
+        match self {
+            Fault::Number(n) => n,
+            Fault::BrokenEscape(_) => 3,
+        }
+    }
+}
+
+impl From<u8> for Fault {
+    fn from(n: u8) -> Self {
+        Fault::Number(n)
+    }
+}
+
+/// What comes of a closed frame.
+pub type Frame = Result<Delivery, Fault>;
+
 /// The letter of a port's class; none where the port may not be used.
 pub fn class_letter(port: u16) -> Option<u8> {
     const RANGES: [(u8, u16, u16); 9] = [
@@ -43,18 +68,18 @@ pub fn escape(bytes: &[u8]) -> Vec<u8> {
 }
 
 /// Escapes undone, or refusal 2 or 3.
-fn unescape(raw: &[u8]) -> Result<Vec<u8>, u8> {
+fn unescape(raw: &[u8]) -> Result<Vec<u8>, Fault> {
     if raw.last() == Some(&ESCAPE) {
-        return Err(2);
+        return Err(Fault::Number(2));
     }
     let mut bytes = Vec::new();
-    let mut raw = raw.iter();
-    while let Some(b) = raw.next() {
+    let mut raw = raw.iter().enumerate();
+    while let Some((_, b)) = raw.next() {
         bytes.push(match b {
-            0x7D => match raw.next() {
-                Some(0x5E) => 0x7E,
-                Some(0x5D) => 0x7D,
-                _ => return Err(3),
+            0x7D => match raw.next().expect("the last byte is no 7D") {
+                (_, 0x5E) => 0x7E,
+                (_, 0x5D) => 0x7D,
+                (place, _) => return Err(Fault::BrokenEscape(place)),
             },
             _ => *b,
         });
@@ -85,23 +110,23 @@ fn in_contents(bytes: &[u8]) -> Result<Delivery, u8> {
 }
 
 /// A closing flag: a frame of so many raw bytes stands at the start of the receive buffer, and its escapes are undone there.
-pub fn closing_flag(buffer: &mut [u8], raw: usize) -> Result<Delivery, u8> {
+pub fn closing_flag(buffer: &mut [u8], raw: usize) -> Frame {
     if raw > RAW_LIMIT {
-        return Err(1);
+        return Err(Fault::Number(1));
     }
     let there = raw.min(buffer.len());
     let bytes = unescape(&buffer[..there])?;
     buffer[..bytes.len()].copy_from_slice(&bytes);
-    in_contents(&bytes)
+    Ok(in_contents(&bytes)?)
 }
 
 /// The same as a call of its own, with the refusals of every receiving call before it.
-pub fn frame_call(buffer: &mut [u8], raw: usize) -> Result<Delivery, u8> {
+pub fn frame_call(buffer: &mut [u8], raw: usize) -> Frame {
     if raw > RAW_LIMIT + 1 {
-        return Err(10);
+        return Err(Fault::Number(10));
     }
     if buffer.len() < RAW_LIMIT {
-        return Err(11);
+        return Err(Fault::Number(11));
     }
     closing_flag(buffer, raw)
 }

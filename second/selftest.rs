@@ -6,7 +6,7 @@ use crate::channel::{self, Answer, Receiver, BLOCK, MESSAGE, ROOTS};
 use crate::channel_cases::alter;
 use crate::listing::Scribe;
 use crate::listing_cases::{any, recorded, small, OPPORTUNISTIC, PAPER, PLAIN};
-use crate::packet::{self, ESCAPE, FLAG, RAW_LIMIT};
+use crate::packet::{self, Fault, ESCAPE, FLAG, RAW_LIMIT};
 use crate::parity::{self, WORD};
 use crate::stream::{self, Reader};
 use crate::{fcs, interleaver, listing, repair};
@@ -15,6 +15,7 @@ pub fn run(seed: u64) {
     let mut random = Random::new(seed);
     numbers();
     edges();
+    places();
     slips();
     println!("the paper's numbers, its case, edges and slips: held");
     checks(&mut random);
@@ -46,7 +47,7 @@ fn numbers() {
     assert_eq!(lines_for(PLAIN, &[0x7E, 0x7E]), "", "(e)");
     assert_eq!(lines_for(PLAIN, &[0x7E, 0x00, 0x7E]), "R 4\n", "(f)");
     assert_eq!(lines_for(PLAIN, &[0x7E, 0x21, 0x7D, 0x7E]), "R 2\n", "(g)");
-    assert_eq!(lines_for(PLAIN, &[0x7E, 0x7D, 0x21, 0x7E]), "R 3\n", "(h)");
+    assert_eq!(lines_for(PLAIN, &[0x7E, 0x7D, 0x21, 0x7E]), "R 3 1\n", "(h), and the place");
     assert_eq!(parity::times(0x80, 2), 0x1D, "(i)");
     assert_eq!(parity::times(2, 0x8E), 1, "(j)");
     let ending_in_one = |n: usize| [vec![0; n - 1], vec![1]].concat();
@@ -65,7 +66,44 @@ fn sent(payload: &[u8]) -> Result<(), u8> {
 }
 
 fn read(raw: &[u8]) -> Result<usize, u8> {
-    both_deliveries(raw).map(|packet| packet.payload_length)
+    both_deliveries(raw).map(|packet| packet.payload_length).map_err(Fault::number)
+}
+
+/// The place that refusal 3 tells.
+fn broken_at(raw: &[u8]) -> Option<usize> {
+    match both_deliveries(raw) {
+        Err(Fault::BrokenEscape(place)) => Some(place),
+        _ => None,
+    }
+}
+
+/// The place that a reader has remembered behind these raw bytes, read in two pieces.
+fn remembered(raw: &[u8], first: usize) -> usize {
+    let (mut reader, mut buffer) = (Reader::new(), vec![0; RAW_LIMIT]);
+    let bytes = [&[FLAG][..], raw].concat();
+    for piece in [&bytes[..first], &bytes[first..]] {
+        reader.call(&mut buffer, piece).expect("a buffer that passes");
+    }
+    reader.broken
+}
+
+/// Where an escape breaks: the first wrong byte counts, a second 7D is one, 2 comes before 3, and past the limit no byte is looked at.
+fn places() {
+    assert_eq!(broken_at(&[0x41, 0x7D, 0x21, 0x7D, 0x22]), Some(2));
+    assert_eq!(broken_at(&[0x7D, 0x5E, 0x7D, 0x7D, 0x5E]), Some(3));
+    assert_eq!(broken_at(&[0x7D, 0x21, 0x7D]), None);
+    for first in 0..=4 {
+        assert_eq!(remembered(&[0x7D, 0x21, 0x7D], first), 1);
+        assert_eq!(remembered(&[0x7D, 0x5D, 0x7D], first), 0);
+        assert_eq!(remembered(&[0x7D, 0x7D, 0x5E], first), 1);
+    }
+    for (n, place) in [(RAW_LIMIT - 1, Some(RAW_LIMIT - 2)), (RAW_LIMIT, Some(RAW_LIMIT - 1)), (RAW_LIMIT + 1, None)] {
+        let raw = [&vec![0x41; n - 2][..], &[0x7D, 0x21]].concat();
+        assert_eq!(broken_at(&raw), place);
+        assert_eq!([remembered(&raw, n), remembered(&raw, 0)], [place.unwrap_or(0); 2]);
+    }
+    assert!(Reader { broken: RAW_LIMIT - 1, ..Reader::new() }.within_limits());
+    assert!(!Reader { broken: RAW_LIMIT, ..Reader::new() }.within_limits());
 }
 
 /// The edges that the paper names, sending and reading.
@@ -178,7 +216,7 @@ fn words(random: &mut Random) -> usize {
 }
 
 /// What comes of a frame, by both ways.
-fn both_deliveries(raw: &[u8]) -> Result<packet::Delivery, u8> {
+fn both_deliveries(raw: &[u8]) -> packet::Frame {
     let quick = listing::delivery(raw, &mut Vec::new());
     assert_eq!(quick, packet::closing_flag(&mut raw.to_vec(), raw.len()));
     quick
@@ -190,7 +228,7 @@ fn frames(random: &mut Random) -> usize {
     for mut raw in cases::raws(random) {
         for _ in 0..3 {
             if !raw.is_empty() {
-                given[both_deliveries(&raw).err().unwrap_or(0) as usize] += 1;
+                given[both_deliveries(&raw).map_or_else(Fault::number, |_| 0) as usize] += 1;
                 let at = random.below(raw.len());
                 raw[at] ^= 1 << random.below(8);
             }
@@ -281,7 +319,8 @@ impl Plain {
                 Some(Answer::Block(None)) => "B X".to_string(),
                 Some(Answer::Block(Some(places))) => format!("B {places}"),
                 Some(Answer::LockLost) => "L".to_string(),
-                Some(Answer::Frame(Err(n))) => format!("R {n}"),
+                Some(Answer::Frame(Err(Fault::Number(n)))) => format!("R {n}"),
+                Some(Answer::Frame(Err(Fault::BrokenEscape(place)))) => format!("R 3 {place}"),
                 Some(Answer::Frame(Ok(p))) => {
                     let letter = packet::class_letter(p.port).unwrap() as char;
                     format!("P {} {} {} {letter}", p.port, p.sequence, p.payload_length)

@@ -1,35 +1,41 @@
 //! The plain stream's reader, byte by byte, as the paper has it.
 
-use crate::packet::{self, Delivery, FLAG, RAW_LIMIT};
+use crate::packet::{self, Frame, ESCAPE, FLAG, RAW_LIMIT};
 
 pub struct Reader {
     /// No flag was met yet, or none since lock was lost.
     pub waits: bool,
     pub raw: usize,
     pub stored: usize,
+    /// Which of the stored bytes broke an escape first; 0: none has (before the first byte there is no 7D).
+    pub broken: usize,
 }
 
 impl Reader {
     pub fn new() -> Self {
-        Reader { waits: true, raw: 0, stored: 0 }
+        Reader { waits: true, raw: 0, stored: 0, broken: 0 }
     }
 
     /// Whether no count is beyond its limit.
     pub fn within_limits(&self) -> bool {
-        self.stored == self.raw.min(RAW_LIMIT) && self.raw <= RAW_LIMIT + 1
+        self.stored == self.raw.min(RAW_LIMIT) && self.raw <= RAW_LIMIT + 1 && self.broken < RAW_LIMIT
     }
 
     /// Takes one byte; an answer where it closes a frame.
-    pub fn byte(&mut self, buffer: &mut [u8], byte: u8) -> Option<Result<Delivery, u8>> {
+    pub fn byte(&mut self, buffer: &mut [u8], byte: u8) -> Option<Frame> {
         if byte == FLAG {
             let closes = !self.waits && self.raw > 0;
             let raw = self.raw;
-            *self = Reader { waits: false, raw: 0, stored: 0 };
+            *self = Reader { waits: false, raw: 0, stored: 0, broken: 0 };
             return closes.then(|| packet::closing_flag(buffer, raw));
         }
         if !self.waits {
             if self.raw < RAW_LIMIT {
                 buffer[self.raw] = byte;
+                let escaped = self.raw > 0 && buffer[self.raw - 1] == ESCAPE;
+                if self.broken == 0 && escaped && !matches!(byte, 0x5E | 0x5D) {
+                    self.broken = self.raw;
+                }
             }
             self.raw = (self.raw + 1).min(RAW_LIMIT + 1);
             self.stored = self.raw.min(RAW_LIMIT);
@@ -38,7 +44,7 @@ impl Reader {
     }
 
     /// One call: its answer (none: more wanted) and the bytes taken, or the number of a call refusal.
-    pub fn call(&mut self, buffer: &mut [u8], piece: &[u8]) -> Result<(Option<Result<Delivery, u8>>, usize), u8> {
+    pub fn call(&mut self, buffer: &mut [u8], piece: &[u8]) -> Result<(Option<Frame>, usize), u8> {
         if !self.within_limits() {
             return Err(10);
         }

@@ -4,6 +4,7 @@
 //! A case: what is asked (a letter), a number (8 bytes), how many bytes are lent as output and how many follow (2 bytes each),
 //! and those that follow. An answer: a number (8 bytes), and all bytes of the output. Numbers stand low byte first; the output
 //! is lent filled with 0xA5; a refusal n is told as 65,536 + n.
+use base::Refusal;
 use base::Written;
 use fcs::Register;
 use packet::Class;
@@ -167,7 +168,7 @@ fn mended(m: Mended) -> u64 {
     }
 }
 
-// A packet: port, sequence, length, and 1 above them.
+// A packet: port, sequence, length, and 1 above them; a broken escape: its place above the number.
 fn judged(j: Judged) -> u64 {
     match j {
         Judged::Packet(d) => sum(
@@ -176,6 +177,7 @@ fn judged(j: Judged) -> u64 {
             d.length as u64 % 0x1000000,
         ),
         Judged::Refused(n) => refused(n),
+        Judged::Broken(place) => refused(Refusal::ESCAPE) | (place as u64 % 65536) << 32,
     }
 }
 

@@ -2,23 +2,29 @@
 -- two things together (`EveryCut`): the calls come to their end, and what they yield.
 -- every-cut                                       the answers and the final state of the uncut string
 -- same-cut                                        .. from the same buffers, to the last byte of both
+-- remembered-told                                 the place remembered is the one that a closing flag would tell
 -- delivers                                        a whole marked stream delivers the sent packets, and nothing else
 -- earlier-answers, later-answers, other-blocks    one block altered harms no other
 use Prim.Native.Nat.{ℕ, _≤_}
-use mathlib.Core.Path.{_≡_, refl, sym, _∙_, ap}
+use native.Mathlib.Omega.{arith}
+use mathlib.Core.Path.{_≡_, refl, sym, _∙_, ap, subst}
 use mathlib.Core.List.{List, [], _∷_, _++_, map}
+use mathlib.Core.Option.{some}
 use lib.ListN.{length, replicate}
 use Rattle.base.specs.Bytes.{Each}
 use Rattle.base.specs.Calls.{joined, Yields}
 use Rattle.base.proofs.Calls.{yields-so}
 use Rattle.packet.specs.Escape.{flag}
 use Rattle.packet.specs.Contents.{rawLimit, Packet}
+use Rattle.packet.specs.Frame.{broken}
 use Rattle.stream.specs.Reader.{waiting, reads}
+use Rattle.stream.specs.Called.{takeByte}
+use Rattle.stream.proofs.Remembered.{held-told}
 use Rattle.stream.specs.Sender.{Accepted, delivered, openedFrom}
 use Rattle.channel.specs.Sender.{wordBytes, framed, sentWords, sent}
-use Rattle.channel.specs.Channel.{condition, Event, frames, blocks, losses, freshChannel, hears, answers, IsWord, carried, FirstMarker}
+use Rattle.channel.specs.Channel.{condition, Event, Chan, hunting, inWord, inMark, frames, blocks, losses, freshChannel, hears, answers, IsWord, carried, FirstMarker}
 use Rattle.channel.specs.declared.answer.Condition.the-variants.{Clean as clean}
-use Rattle.channel.specs.Called.{Board, board, freshReceiver, hearCall, hearAll, EveryCut, boardOf, inUse}
+use Rattle.channel.specs.Called.{Board, board, heldIn, freshReceiver, hearCall, hearAll, EveryCut, boardOf, inUse}
 use Rattle.channel.proofs.Fine.{fine-fresh}
 use Rattle.channel.proofs.Cutting.{hear-settled}
 use Rattle.channel.proofs.Shown.{shown-all, in-use}
@@ -51,6 +57,21 @@ every-cut bs recv word r w pieces cut =
     let e : _≡_ {A = List Event × Board} (es, d) (hears freshChannel bs .0, boardOf (hears freshChannel bs .1) (s .0) (s .1)) =
     x ∙ ap (hearAll (board freshReceiver recv word)) cut ∙ s .2 in
     (ap (λ q. q .0) e, ap (λ q. inUse (q .1)) e ∙ in-use (hears freshChannel bs .1) (s .0) (s .1) (s .3))
+
+-- behind every byte string, however cut: where the next message byte is a flag, and told with 3 and a place, the state has that place
+held-told-in : (a : Chan) (j k : List ℕ) → rawLimit ≤ length (boardOf a j k .recv) → (n : ℕ)
+    → takeByte (heldIn (boardOf a j k)) flag .0 ≡ some (broken n) → boardOf a j k .st .frame .place ≡ n
+held-told-in (hunting f) j k room n t = let z : _≡_ {A = ℕ} 0 1 = cc in absurd (omega arith)
+held-told-in (inWord f w r) j k room n t = held-told r j room n t
+held-told-in (inMark f w m r) j k room n t = held-told r j room n t
+
+pub remembered-told : (bs : List ℕ) → EveryCut bs λ es d. (n : ℕ) → takeByte (heldIn d) flag .0 ≡ some (broken n) → d .st .frame .place ≡ n
+remembered-told bs recv word r w pieces cut =
+    let s = shown-all bs freshChannel recv word tt (r, w) in
+    yields-so (heard recv word r w pieces) λ es d x.
+    let is : d ≡ boardOf (hears freshChannel bs .1) (s .0) (s .1) = ap (λ q. q .1) (x ∙ ap (hearAll (board freshReceiver recv word)) cut ∙ s .2) in
+    subst (λ (c : Board). (n : ℕ) → takeByte (heldIn c) flag .0 ≡ some (broken n) → c .st .frame .place ≡ n) (sym is)
+    (held-told-in (hears freshChannel bs .1) (s .0) (s .1) (s .4 .0))
 
 -- let a fresh receiver hear stray bytes and then a sender's whole marked stream, the marker first appearing where that stream begins:
 -- it delivers the sent packets once each, in order, and nothing else; every block is clean, and no lock is lost

@@ -53,7 +53,7 @@ fine-roomy c i = rw (le-leb rawLimit (length (c .recv)) (i .frame .room), le-leb
 
 fine-hunting : (f : Hunting) (l k : List ℕ) → rawLimit ≤ length l → wordBytes ≤ length k → Fine (huntingWith f l k)
 fine-hunting f l k a b = record {
-  frame = record { stored = refl; raw = omega arith; room = a };
+  frame = record { stored = refl; raw = omega arith; place = omega arith; room = a };
   word = omega arith;
   marker = omega arith;
   handed = omega arith;

@@ -19,7 +19,7 @@ pub fresh : freshReceiver ≡ record {
   locked = false;
   hunting = record { a = 0; b = 0; c = 0; d = 0 };
   lock = record { word = 0; handed = 0; marker = 0 };
-  frame = record { opened = false; raw = 0; stored = 0 };
+  frame = record { opened = false; raw = 0; stored = 0; place = 0 };
 }
 fresh = refl
 

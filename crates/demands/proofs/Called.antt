@@ -6,7 +6,7 @@
 -- Given, read-given, hear-given   the numbers that are given
 use Prim.Native.Nat.{ℕ, suc, _≤_, _<_, min}
 use native.Mathlib.Omega.{arith}
-use mathlib.Core.Path.{_≡_, refl, sym, subst}
+use mathlib.Core.Path.{_≡_, refl, sym, ap, subst, _∙_}
 use mathlib.Core.Bool.{Bool, true, false, _&&_}
 use mathlib.Core.Logic.{_⊎_, _↔_, ⊎-elim}
 use mathlib.Core.Logic._⊎_.{inl, inr}
@@ -20,8 +20,8 @@ use Rattle.base.proofs.Calls.{none-owed, with-hear}
 use Rattle.base.proofs.Tests.{and-parts}
 use Rattle.packet.specs.Contents.{rawLimit}
 use Rattle.packet.specs.Escape.{flag}
-use Rattle.packet.specs.Frame.{Told, refusal}
-use Rattle.stream.specs.Called.{Held, shut, takeBy, takeByte, readOn, readBy, readCall, sound as soundFrame}
+use Rattle.packet.specs.Frame.{Told, packet, refusal, broken}
+use Rattle.stream.specs.Called.{Held, placeLimit, shut, takeBy, takeByte, readOn, readBy, readCall, sound as soundFrame}
 use Rattle.stream.specs.declared.frame.Frame.{Frame}
 use Rattle.channel.specs.Channel.{Event, said, block, lost, isMarker, shift}
 use Rattle.channel.specs.Called.{Board, heldIn, wordOn, compareOn, markOn, eatBy, eatByte, owed, asEvent, handOn, soundLock, sound, roomy, hearOn, hearBy, hearCall}
@@ -31,7 +31,7 @@ use Rattle.channel.specs.declared.locked.Locked.{Locked}
 use Rattle.channel.specs.declared.receiver.Receiver.{Receiver}
 use Rattle.channel.proofs.Cutting.{hand-one}
 use Rattle.demands.specs.Table.{Exact}
-use Rattle.demands.specs.Refusals.{FrameBeyond, Beyond, Short, ByRead, ByHear}
+use Rattle.demands.specs.Refusals.{FrameBeyond, Beyond, Short, ByFrame, ByRead, ByHear}
 use Rattle.demands.proofs.Rows.{applies, over, passed}
 use Rattle.demands.proofs.Frames.{Small, small}
 
@@ -46,12 +46,15 @@ not-most a b e h = let k : a ≤ b = leb-true a b e in omega arith
 -- ---- 10 and 11, as facts
 frame-beyond : (f : Frame) → soundFrame f ≡ false → FrameBeyond f
 frame-beyond f e =
-    ⊎-elim (λ h. inl (eqb-false _ _ h)) (λ h. inr (leb-false _ _ h)) (not-both (eqb (f .stored) (min (f .raw) rawLimit)) (leb (f .raw) (suc rawLimit)) e)
+    ⊎-elim (λ h. inl (eqb-false _ _ h))
+    (λ h. inr (⊎-elim (λ k. inl (leb-false _ _ k)) (λ k. inr (leb-false _ _ k)) (not-both (leb (f .raw) (suc rawLimit)) (leb (f .place) placeLimit) h)))
+    (not-both (eqb (f .stored) (min (f .raw) rawLimit)) (leb (f .raw) (suc rawLimit) && leb (f .place) placeLimit) e)
 
 frame-within : (f : Frame) → soundFrame f ≡ true → FrameBeyond f → ⊥
 frame-within f e =
-    let p = and-parts (eqb (f .stored) (min (f .raw) rawLimit)) (leb (f .raw) (suc rawLimit)) e in
-    ⊎-elim (λ h. h (eqb-true _ _ (p .0))) (λ h. not-most _ _ (p .1) h)
+    let p = and-parts (eqb (f .stored) (min (f .raw) rawLimit)) (leb (f .raw) (suc rawLimit) && leb (f .place) placeLimit) e in
+    let q = and-parts (leb (f .raw) (suc rawLimit)) (leb (f .place) placeLimit) (p .1) in
+    ⊎-elim (λ h. h (eqb-true _ _ (p .0))) (⊎-elim (λ h. not-most _ _ (q .0) h) (λ h. not-most _ _ (q .1) h))
 
 lock-beyond : (l : Locked) → soundLock l ≡ false → (wordBytes < l .word) ⊎ (3 < l .marker) ⊎ (messageBytes < l .handed)
 lock-beyond l e =
@@ -195,8 +198,14 @@ hear-same c bs n = go (sound (c .st)) (roomy (c .recv) (c .word))
 abbrev pub Given : ℕ → Type 0
 Given n = ((1 ≤ n) × (n ≤ 8)) ⊎ ((n ≡ 10) ⊎ (n ≡ 11))
 
-pub read-given : (h : Held) (bs : List ℕ) (n : ℕ) → readCall h bs .0 ≡ some (refusal n) → Given n
-read-given h bs n = go (soundFrame (h .st)) (leb rawLimit (length (h .recv)))
+-- an answer by its number: that of a place is 3
+pub number-given : (t : Told) (n : ℕ) → ByFrame t n → ((m : ℕ) → t ≡ refusal m → Given m) → Given n
+number-given (packet p) n e f = let z : _≡_ {A = ℕ} 0 1 = cc in absurd (omega arith)
+number-given (refusal m) n e f = let z : m ≡ n = cc in subst Given z (f m refl)
+number-given (broken m) n e f = let z : 3 ≡ n = cc in inl (omega arith, omega arith)
+
+read-refused : (h : Held) (bs : List ℕ) (n : ℕ) → readCall h bs .0 ≡ some (refusal n) → Given n
+read-refused h bs n = go (soundFrame (h .st)) (leb rawLimit (length (h .recv)))
   where
     go : (s r : Bool) → readBy s r h bs .0 ≡ some (refusal n) → Given n
     go false r e = let z : 10 ≡ n = cc in inr (inl (sym z))
@@ -204,10 +213,16 @@ read-given h bs n = go (soundFrame (h .st)) (leb rawLimit (length (h .recv)))
     go true true e =
         inl (subst (λ (o : Option Told). With SmallHeld o (readOn h bs .2)) e (with-hear owesNone handsNone takeByte none-owed SmallHeld (λ g. tt) small-byte h bs))
 
-pub hear-given : (c : Board) (bs : List ℕ) (n : ℕ) → hearCall c bs .0 ≡ some (said (refusal n)) → Given n
-hear-given c bs n = go (sound (c .st)) (roomy (c .recv) (c .word))
+pub read-given : (h : Held) (bs : List ℕ) (t : Told) (n : ℕ) → readCall h bs .0 ≡ some t → ByFrame t n → Given n
+read-given h bs t n e k = number-given t n k (λ m z. read-refused h bs m (e ∙ ap (λ (t : Told). some t) z))
+
+hear-refused : (c : Board) (bs : List ℕ) (n : ℕ) → hearCall c bs .0 ≡ some (said (refusal n)) → Given n
+hear-refused c bs n = go (sound (c .st)) (roomy (c .recv) (c .word))
   where
     go : (s r : Bool) → hearBy s r c bs .0 ≡ some (said (refusal n)) → Given n
     go false r e = let z : 10 ≡ n = cc in inr (inl (sym z))
     go true false e = let z : 11 ≡ n = cc in inr (inr (sym z))
     go true true e = inl (subst (λ (o : Option Event). With SmallEvent o (hearOn c bs .2)) e (small-hear c bs))
+
+pub hear-given : (c : Board) (bs : List ℕ) (t : Told) (n : ℕ) → hearCall c bs .0 ≡ some (said t) → ByFrame t n → Given n
+hear-given c bs t n e k = number-given t n k (λ m z. hear-refused c bs m (e ∙ ap (λ (t : Told). some (said t)) z))

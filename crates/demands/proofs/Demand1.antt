@@ -31,7 +31,7 @@ use Rattle.interleaver.proofs.Turning.{turning-keeps}
 use Rattle.packet.specs.Contents.{Packet, payloadLimit, rawLimit}
 use Rattle.packet.specs.Escape.{flag, escape, plain}
 use Rattle.packet.specs.Port.{barred}
-use Rattle.packet.specs.Frame.{refusal, closed, judging, judge}
+use Rattle.packet.specs.Frame.{Told, refusal, closed, judging, judge}
 use Rattle.packet.specs.Sender.{frameOf, writing}
 use Rattle.packet.proofs.Judging.{closed-keeps}
 use Rattle.packet.proofs.Sending.{writing-keeps}
@@ -97,13 +97,13 @@ raw-refusals = judge-exact
 
 -- the numbers that a receiving call gives are 1 to 8 of a frame, 10 and 11 of the call: 9 is not used. The buffer is measured on entry,
 -- and the raw count stops storage
-pub read-numbers : (h : Held) (bs : List ℕ) (n : ℕ) → readCall h bs .0 ≡ some (refusal n) → ((1 ≤ n) × (n ≤ 8)) ⊎ ((n ≡ 10) ⊎ (n ≡ 11))
+pub read-numbers : (h : Held) (bs : List ℕ) (t : Told) (n : ℕ) → readCall h bs .0 ≡ some t → ByFrame t n → ((1 ≤ n) × (n ≤ 8)) ⊎ ((n ≡ 10) ⊎ (n ≡ 11))
 read-numbers = read-given
 
-pub hear-numbers : (c : Board) (bs : List ℕ) (n : ℕ) → hearCall c bs .0 ≡ some (said (refusal n)) → ((1 ≤ n) × (n ≤ 8)) ⊎ ((n ≡ 10) ⊎ (n ≡ 11))
+pub hear-numbers : (c : Board) (bs : List ℕ) (t : Told) (n : ℕ) → hearCall c bs .0 ≡ some (said t) → ByFrame t n → ((1 ≤ n) × (n ≤ 8)) ⊎ ((n ≡ 10) ⊎ (n ≡ 11))
 hear-numbers = hear-given
 
-pub next-numbers : (m : Deck) (bs : List ℕ) (n : ℕ) → tapeCall m bs .0 ≡ some (said (refusal n)) → ((1 ≤ n) × (n ≤ 8)) ⊎ ((n ≡ 10) ⊎ (n ≡ 11))
+pub next-numbers : (m : Deck) (bs : List ℕ) (t : Told) (n : ℕ) → tapeCall m bs .0 ≡ some (said t) → ByFrame t n → ((1 ≤ n) × (n ≤ 8)) ⊎ ((n ≡ 10) ⊎ (n ≡ 11))
 next-numbers = next-given
 
 -- a receiving call on the plain stream
@@ -320,15 +320,15 @@ pub take-keeps-all : (m : Deck) (t : Totals) (room : ℕ) (bs : List ℕ) (n : �
 take-keeps-all = take-same
 
 -- ---- "a refused frame leaves what that paper says": refused with 1, 2 or 3, the stored raw bytes ..
-pub frame-kept : (recv : List ℕ) (m n : ℕ) → closed recv m .told ≡ refusal n → n ≤ 3 → closed recv m .recv ≡ recv
+pub frame-kept : (recv : List ℕ) (m n : ℕ) → ByFrame (closed recv m .told) n → n ≤ 3 → closed recv m .recv ≡ recv
 frame-kept = closed-keeps
 
 -- .. any other frame, delivered or refused, has its escapes undone from the buffer's start, and bytes behind the result stay ..
-pub frame-undone : (recv : List ℕ) (m : ℕ) → ((n : ℕ) → closed recv m .told ≡ refusal n → 3 < n)
+pub frame-undone : (recv : List ℕ) (m : ℕ) → ((n : ℕ) → ByFrame (closed recv m .told) n → 3 < n)
     → closed recv m .recv ≡ plain (take m recv) ++ drop (length (plain (take m recv))) recv
 frame-undone = undone
 
--- .. and the reader goes on behind the flag as after any flag: counts zero
+-- .. and the reader goes on behind the flag as after any flag: counts zero, no place remembered
 pub frame-behind : (h : Held) → takeByte h flag .1 .st ≡ begun
 frame-behind h = go (h .st .opened)
   where

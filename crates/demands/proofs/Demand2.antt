@@ -13,6 +13,7 @@
 -- Here: that they hold together. The paper's numbers are in Numbers, and what else it prints in Printed.
 -- round-trip, round-answer           a packet written and read back
 -- part-short, part-long              the part of the receive buffer that is handed out
+-- broken-place, place-told           the place that refusal 3 tells
 -- stream-trip, stream-begun, stream-appended, stream-sent, stream-filled, words-carry   a whole stream, and the calls that make it
 -- word-clean, word-only, clean-at    parity words
 -- class-letters                      classes of ports
@@ -27,7 +28,7 @@ use Prim.Native.Nat.{ℕ, suc, _+_, _-_, _*_, _/_, _%_, _≤_, _<_}
 use native.Mathlib.Omega.{arith}
 use mathlib.Core.Path.{_≡_, refl, sym, _∙_, ap}
 use mathlib.Core.Bool.{Bool, true, false}
-use mathlib.Core.Logic.{_↔_}
+use mathlib.Core.Logic.{_↔_, _≢_}
 use mathlib.Core.List.{List, [], _∷_, _++_, map, append-nil}
 use lib.ListN.{length, take, drop, getD, replicate}
 use borrow.Author.Tests.{lt-ltb, le-ltb}
@@ -42,10 +43,11 @@ use Rattle.repair.specs.Promise.{Promised}
 use Rattle.parity.proofs.Clean.{clean-roots, roots-clean, parity-clean, clean-is}
 use Rattle.interleaver.specs.Matrix.{isMatrix, interleaved, restored, turned}
 use Rattle.interleaver.proofs.Round.{passed, output-at, restored-interleaved, interleaved-restored}
-use Rattle.packet.specs.Escape.{flag}
+use Rattle.packet.specs.Escape.{flag, last, BrokenAt}
 use Rattle.packet.specs.Port.{class}
 use Rattle.packet.proofs.Classes.{from-0000, from-0401, from-5100, from-5101, from-5201, from-5208, from-5300, from-7F00, from-FF00}
-use Rattle.packet.specs.Frame.{delivery, judged, closed, part}
+use Rattle.packet.specs.Frame.{broken, delivery, judged, closed, judge, part}
+use Rattle.packet.proofs.Faults.{closed-broken, judge-broken}
 use Rattle.packet.specs.Sender.{writing}
 use Rattle.packet.specs.declared.frame.Judged.the-variants.{Packet as Delivered}
 use Rattle.stream.specs.Reader.{waiting, inside, reads}
@@ -100,6 +102,16 @@ part-short recv n h = simp (lt-ltb _ _ h)
 
 pub part-long : (recv : List ℕ) (n : ℕ) → n + 5 ≤ length recv → part recv n ≡ take n (drop 5 recv)
 part-long recv n h = simp (le-ltb _ _ h)
+
+-- ---- "escapes": "at which raw byte of the frame, counted from 0 behind the opening flag, the first wrong byte after 7D stands". Raw bytes are
+-- refused with 3 and the place n exactly where they are within the limit, do not end in 7D, and that byte stands at n ..
+pub broken-place : (raw : List ℕ) (n : ℕ) → judge raw ≡ broken n ↔ (length raw ≤ rawLimit) × (last 0 raw ≢ 0x7D) × BrokenAt raw n
+broken-place = judge-broken
+
+-- .. and so is a frame of which m raw bytes are in the receive buffer
+pub place-told : (recv : List ℕ) (m n : ℕ)
+    → closed recv m .told ≡ broken n ↔ (m ≤ rawLimit) × (last 0 (take m recv) ≢ 0x7D) × BrokenAt (take m recv) n
+place-told = closed-broken
 
 -- a whole stream of packets that the sender accepts is read as these packets, once each, in order, and nothing else
 pub stream-trip : (ps : List Packet) → Each Accepted ps → reads waiting (stream ps) ≡ (map delivered ps, inside [])

@@ -11,35 +11,39 @@
 -- no-refuser                                           a receiver that always refuses meets no law of this form
 -- every-cut, same-cut, every-payload                   cutting, on the channel
 -- plain-cut, plain-payload                             .. and on the plain stream
+-- remembered, remembered-told, plain-remembered-told   the place of a broken escape, in the final state
 -- whole-stream, plain-stream                           a sender's whole stream
 -- words-in-order, lock-kept, lock-lost                 any words behind a marker, and the bytes behind the last
 -- earlier-blocks, behind-flag, opened, other-blocks    one block altered at will
 use Prim.Native.Nat.{ℕ, _≤_, _<_}
-use mathlib.Core.Path.{_≡_, sym, _∙_, ap}
-use mathlib.Core.Logic.{_≢_}
+use native.Mathlib.Omega.{arith}
+use mathlib.Core.Path.{_≡_, sym, _∙_, ap, subst}
+use mathlib.Core.Logic.{_≢_, _↔_}
 use mathlib.Core.List.{List, [], _∷_, _++_, map, append-nil}
 use mathlib.Core.Option.{Option, some, Option·none-ne-some}
-use lib.ListN.{length, replicate}
+use lib.ListN.{length, take, replicate}
 use Rattle.base.specs.Bytes.{Each}
 use Rattle.base.specs.Calls.{With, joined, Reads, ReadsAll, Yields}
 use Rattle.base.specs.Calls.Reads.{more, answer}
 use Rattle.base.specs.Calls.ReadsAll.{piece}
 use Rattle.base.proofs.Calls.{yields-so}
 use Rattle.packet.specs.Contents.{rawLimit, Packet}
-use Rattle.packet.specs.Escape.{flag, NoFlag}
-use Rattle.packet.specs.Frame.{Told}
-use Rattle.stream.specs.Reader.{waiting, reads}
+use Rattle.packet.specs.Escape.{flag, BrokenAt, NoFlag}
+use Rattle.packet.specs.Frame.{Told, broken}
+use Rattle.packet.proofs.Faults.{broken-there, broken-is}
+use Rattle.stream.specs.Reader.{waiting, inside, reads}
 use Rattle.stream.specs.Sender.{Accepted, rawOf, framesOf, stream, delivered, openedFrom}
-use Rattle.stream.specs.Called.{Held, readCall, heldOf, inUse as plainInUse, ThereHeld, EveryCut as EveryPlainCut}
+use Rattle.stream.specs.Called.{Held, takeByte, readCall, heldOf, inUse as plainInUse, ThereHeld, EveryCut as EveryPlainCut}
 use Rattle.stream.proofs.Accepting.{clear}
 use Rattle.stream.proofs.Cutting.{every-cut-reads}
 use Rattle.stream.proofs.Shown.{shown-plain, held-use, held-st}
+use Rattle.stream.proofs.Remembered as plain
 use Rattle.stream.proofs.Delivery.{payload-held}
 use Rattle.stream.proofs.Streaming.{ignored, stream-read, opened-behind}
 use Rattle.channel.specs.Sender.{marker, wordBytes, framed, sentWords, sent}
 use Rattle.channel.specs.Channel.{condition, Event, lost, frames, blocks, losses, freshChannel, hears, answers, IsWord, carried, wordsGive, FirstMarker}
 use Rattle.channel.specs.declared.answer.Condition.the-variants.{Clean as clean}
-use Rattle.channel.specs.Called.{Board, board, freshReceiver, hearCall, EveryCut, ThereEvent, boardOf, inUse}
+use Rattle.channel.specs.Called.{Board, board, heldIn, freshReceiver, hearCall, EveryCut, ThereEvent, boardOf, inUse}
 use Rattle.channel.proofs.Demands as channel
 use Rattle.channel.proofs.Blocks as blocks-law
 use Rattle.channel.proofs.Delivery.{payload-there}
@@ -82,6 +86,22 @@ plain-cut bs = every-cut-reads bs λ recv room ts d run.
 
 pub plain-payload : (h : Held) (bs : List ℕ) → With ThereHeld (readCall h bs .0) (readCall h bs .2)
 plain-payload = payload-held
+
+-- a broken escape counts with its place, in the answers and in the final state. The raw bytes rs behind a flag are remembered with the place of
+-- their first wrong byte after 7D, of which none past the raw limit is looked at; 0 is no place ..
+pub remembered : (rs j : List ℕ) (n : ℕ) → BrokenAt (take rawLimit rs) n ↔ (n ≢ 0) × (heldOf (inside rs) j .st .place ≡ n)
+remembered rs j n = (
+  λ w. (λ z. omega (arith, z, w .6), broken-is (take rawLimit rs) n w),
+  λ r. subst (BrokenAt (take rawLimit rs)) (r .1) (broken-there (take rawLimit rs) (λ k. r .0 (sym (r .1) ∙ k))),
+)
+
+-- .. and in every run it is the place that a flag behind them would tell: on the channel ..
+pub remembered-told : (bs : List ℕ) → EveryCut bs λ es d. (n : ℕ) → takeByte (heldIn d) flag .0 ≡ some (broken n) → d .st .frame .place ≡ n
+remembered-told = channel.remembered-told
+
+-- .. and on the plain stream
+pub plain-remembered-told : (bs : List ℕ) → EveryPlainCut bs λ ts d. (n : ℕ) → takeByte d flag .0 ≡ some (broken n) → d .st .place ≡ n
+plain-remembered-told = plain.remembered-told
 
 -- ---- "let a fresh receiver hear stray bytes and then a sender's whole marked stream, the marker first appearing where that stream begins. It
 -- delivers the sent packets once each, in order, and nothing else." Every block is clean, and no lock is lost

@@ -9,6 +9,7 @@ use mathlib.Core.Path.{_≡_, refl, sym, ap, subst, _∙_}
 use mathlib.Core.Bool.{Bool, true, false}
 use mathlib.Core.Logic.{_↔_, _≢_}
 use mathlib.Core.List.{List, [], _∷_, _++_}
+use mathlib.Core.Option.{Option, some}
 use lib.Dec.{eqb, ltb, leb}
 use lib.ListN.{length, take, drop, getD}
 use lib.Seq.{take-all, getD-take}
@@ -18,11 +19,11 @@ use Rattle.fcs.specs.Fcs.{fcs}
 use Rattle.packet.specs.Port.{barred}
 use Rattle.packet.specs.Contents.{format, payloadLimit, rawLimit, word, wordAt, body, payloadOf}
 use Rattle.packet.specs.Escape.{escape, plain, scan}
-use Rattle.packet.specs.Frame.{Told, packet, refusal, kept, judgeBody, judgeContents, closedBy, closed, judging, judge}
+use Rattle.packet.specs.Frame.{Told, packet, refusal, broken, number, kept, judgeBody, judgeContents, closedBy, closed, judging, judge}
 use Rattle.packet.specs.declared.escape.Escapes.{Escapes}
 use Rattle.packet.specs.declared.escape.Escapes.the-variants.{Right, Unfinished, Wrong}
 use Rattle.packet.proofs.Judging.{payload-body}
-use Rattle.packet.proofs.Faults.{Scanned, scan-says}
+use Rattle.packet.proofs.Faults.{Scanned, scan-says, broken-followed}
 use Rattle.demands.specs.Table.{Row, Exact}
 use Rattle.demands.specs.Refusals.{Unusable, contentsRows, frameRows, ByFrame}
 use Rattle.demands.proofs.Rows.{applies, over, row, row-not, passed, not-less, not-same, first-each}
@@ -42,7 +43,10 @@ free-is port = go (leb 0x7D00 port) refl
     go false e h u = let k : port < 0x7D00 = leb-false _ _ e in omega (arith, u .0)
 
 is : (m n : ℕ) → ByFrame (refusal m) n ↔ n ≡ m
-is m n = (λ e. let k : m ≡ n = cc in sym k, λ e i. refusal (sym e i))
+is m n = (λ e. let k : m ≡ n = cc in sym k, λ e i. some (sym e i))
+
+is-broken : (m n : ℕ) → ByFrame (broken m) n ↔ n ≡ 3
+is-broken m n = (λ e. let k : 3 ≡ n = cc in sym k, λ e i. some (sym e i))
 
 -- of format byte to last payload byte
 bodyRows : List ℕ → List Row
@@ -84,7 +88,7 @@ contents-exact cs = go (ltb (length cs) 8) refl
 by-exact : (e : Escapes) (raw recv : List ℕ) → Scanned e raw → Exact ByFrame (closedBy e raw recv .told) (frameRows raw)
 unfolding closedBy
 by-exact Unfinished raw recv s = applies ByFrame _ (is 2) s
-by-exact Wrong raw recv s = over ByFrame (s .0) (applies ByFrame _ (is 3) (s .1))
+by-exact (Wrong n) raw recv s = over ByFrame (s .0) (applies ByFrame _ (is-broken n) (broken-followed (s .1)))
 by-exact Right raw recv s = over ByFrame (s .0) (over ByFrame (s .1) (contents-exact (plain raw)))
 
 pub closed-exact : (recv : List ℕ) (m : ℕ)
@@ -126,17 +130,19 @@ judge-exact raw =
 abbrev pub Small : Told → Type 0
 Small (packet p) = Unit {0}
 Small (refusal n) = (1 ≤ n) × (n ≤ 8)
+Small (broken n) = Unit {0}
 
 small-by : (t : Told) → ((n : ℕ) → t ≡ refusal n → (1 ≤ n) × (n ≤ 8)) → Small t
 small-by (packet p) h = tt
 small-by (refusal n) h = h n refl
+small-by (broken n) h = tt
 
 pub small : (recv : List ℕ) (m : ℕ) → Small (closed recv m .told)
 small recv m =
     small-by (closed recv m .told) λ n e.
     first-each (λ k. (1 ≤ k) × (k ≤ 8)) ((1, rawLimit < m) ∷ frameRows (take m recv))
     (omega arith, (omega arith, (omega arith, (omega arith, (omega arith, (omega arith, (omega arith, (omega arith, tt)))))))) n
-    (closed-exact recv m .says n .0 e)
+    (closed-exact recv m .says n .0 (ap number e))
 
 -- ---- a refused call leaves the buffer: a frame's numbers are below 10
 pub judging-same : (recv : List ℕ) (m n : ℕ) → judging recv m .told ≡ refusal n → 10 ≤ n → judging recv m .recv ≡ recv
@@ -149,14 +155,14 @@ judging-same recv m n = go (ltb (suc rawLimit) m) (ltb (length recv) rawLimit)
     go false false e h = let k : (1 ≤ n) × (n ≤ 8) = subst Small e (small recv m) in absurd (omega (arith, k .1))
 
 -- ---- escapes undone
-pub undone : (recv : List ℕ) (m : ℕ) → ((n : ℕ) → closed recv m .told ≡ refusal n → 3 < n)
+pub undone : (recv : List ℕ) (m : ℕ) → ((n : ℕ) → ByFrame (closed recv m .told) n → 3 < n)
     → closed recv m .recv ≡ plain (take m recv) ++ drop (length (plain (take m recv))) recv
 unfolding closed closedBy
 undone recv m = go (ltb rawLimit m) (scan (take m recv))
   where
-    go : (t : Bool) (e : Escapes) → ((n : ℕ) → pick t (kept 1 recv) (closedBy e (take m recv) recv) .told ≡ refusal n → 3 < n)
+    go : (t : Bool) (e : Escapes) → ((n : ℕ) → ByFrame (pick t (kept 1 recv) (closedBy e (take m recv) recv) .told) n → 3 < n)
         → pick t (kept 1 recv) (closedBy e (take m recv) recv) .recv ≡ plain (take m recv) ++ drop (length (plain (take m recv))) recv
     go true s h = let z : 3 < 1 = h 1 refl in absurd (omega arith)
     go false Unfinished h = let z : 3 < 2 = h 2 refl in absurd (omega arith)
-    go false Wrong h = let z : 3 < 3 = h 3 refl in absurd (omega arith)
+    go false (Wrong k) h = let z : 3 < 3 = h 3 refl in absurd (omega arith)
     go false Right h = refl

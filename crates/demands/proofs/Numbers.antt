@@ -7,7 +7,7 @@ use Rattle.fcs.specs.Fcs.{fcs, register, entered}
 use Rattle.field.specs.Field.{add, double, shiftAdd, mul, pow}
 use Rattle.parity.specs.Word.{scale, onto, timesRoot, generator, divide, remainder}
 use Rattle.packet.specs.Contents.{withCheck, contents}
-use Rattle.packet.specs.Escape.{escape, escapeByte, plain, plainScan, right, last, scan}
+use Rattle.packet.specs.Escape.{escape, escapeByte, plain, wrongFrom, right, last, scan}
 use Rattle.packet.specs.Frame.{judgeBody, judgeContents, closedBy, closed, judge}
 use Rattle.packet.specs.Port.{class}
 use Rattle.listed.specs.Apart.{nextAt, inStream, apart}
@@ -17,9 +17,9 @@ use Rattle.demands.specs.Numbers.{table, wrong}
 use Rattle.demands.specs.Printed.{printed}
 
 pub numbers : wrong table ≡ []
-unfolding fcs register entered contents withCheck judge closed closedBy judgeContents judgeBody scan last plainScan right plain escape escapeByte mul shiftAdd double add pow remainder divide generator timesRoot onto scale
+unfolding fcs register entered contents withCheck judge closed closedBy judgeContents judgeBody scan last wrongFrom right plain escape escapeByte mul shiftAdd double add pow remainder divide generator timesRoot onto scale
 numbers = refl
 
 pub as-printed : wrong printed ≡ []
-unfolding fcs register entered contents withCheck escape escapeByte judge closed closedBy judgeContents judgeBody scan last plainScan right plain class told lines count endLine wrongLine decimal decimalBy heard lastLine listed listing apart inStream nextAt
+unfolding fcs register entered contents withCheck escape escapeByte judge closed closedBy judgeContents judgeBody scan last wrongFrom right plain class told lines count endLine wrongLine decimal decimalBy heard lastLine listed listing apart inStream nextAt
 as-printed = refl

@@ -20,11 +20,11 @@ use Rattle.parity.specs.Word.{onto, scale}
 use Rattle.parity.specs.Calls.{atRoots, made, checked}
 use Rattle.repair.specs.Promise.{Promised}
 use Rattle.interleaver.specs.Matrix.{turning}
-use Rattle.packet.specs.Escape.{flag}
-use Rattle.packet.specs.Frame.{Told, packet, refusal, judged, judging, part}
+use Rattle.packet.specs.Escape.{flag, wrongBehind}
+use Rattle.packet.specs.Frame.{Told, packet, refusal, broken, judged, judging, part}
 use Rattle.packet.specs.Contents.{Packet}
 use Rattle.packet.specs.declared.frame.Judged.{Judged}
-use Rattle.packet.specs.declared.frame.Judged.the-variants.{Packet as Delivered, Refused}
+use Rattle.packet.specs.declared.frame.Judged.the-variants.{Packet as Delivered, Refused, Broken}
 use Rattle.packet.specs.Port.{class}
 use Rattle.packet.specs.Sender.{writing}
 use Rattle.stream.specs.Sender.{appending}
@@ -61,6 +61,7 @@ use Rattle.stream.proofs.frame.Frame.read as stream-read
 use Rattle.stream.proofs.frame.Frame.sound as stream-sound
 use Rattle.stream.proofs.payload as stream-payload
 use Rattle.packet.proofs.judge as packet-judge
+use Rattle.packet.proofs.wrong_behind as packet-wrong-behind
 use Rattle.packet.proofs.class_of as packet-class-of
 use Rattle.parity.proofs.make as parity-make
 use Rattle.parity.proofs.check as parity-check
@@ -123,7 +124,7 @@ pub channel-fresh-means : Means channel-fresh.Statement.statement channel-fresh.
       locked = false;
       hunting = record { a = 0; b = 0; c = 0; d = 0 };
       lock = record { word = 0; handed = 0; marker = 0 };
-      frame = record { opened = false; raw = 0; stored = 0 };
+      frame = record { opened = false; raw = 0; stored = 0; place = 0 };
     }
 channel-fresh-means = (λ M. channel-fresh.Met.met, λ κs a. tt, λ κs a z ws. (λ p. p, λ p. p))
 
@@ -143,7 +144,8 @@ channel-has-room-means = (λ M. channel-has-room.Met.met, λ κs a. tt, λ κs a
 -- what a frame is told to be, and what a call answers, in the code's words
 pub judged-is : (p : Packet) (n : ℕ)
     → (judged (packet p) ≡ Delivered (record { port = p .port; sequence = p .sequence; length = length (p .payload) })) × (judged (refusal n) ≡ Refused n)
-judged-is p n = (refl, refl)
+    × (judged (broken n) ≡ Broken n)
+judged-is p n = (refl, refl, refl)
 
 pub answered-is : (t : Told) (c : Condition)
     → (answered none ≡ More) × (answered (some (said t)) ≡ Said (judged t)) × (answered (some (block c)) ≡ Block c) × (answered (some lost) ≡ LockLost)
@@ -151,7 +153,7 @@ answered-is t c = (refl, refl, refl, refl)
 
 -- ---- .. and of the plain stream
 pub stream-fresh-means : Means stream-fresh.Statement.statement stream-fresh.Kinds.ps stream-fresh.Kinds.r stream-fresh.Reads.Asked stream-fresh.Reads.Learnt
-    λ κs r. r ≡ record { opened = false; raw = 0; stored = 0 }
+    λ κs r. r ≡ record { opened = false; raw = 0; stored = 0; place = 0 }
 stream-fresh-means = (λ M. stream-fresh.Met.met, λ κs a. tt, λ κs a z ws. (λ p. p, λ p. p))
 
 pub stream-read-means : Means stream-read.Statement.statement stream-read.Kinds.ps stream-read.Kinds.r stream-read.Reads.Asked stream-read.Reads.Learnt
@@ -173,6 +175,10 @@ stream-payload-means = (λ M. stream-payload.Met.met, λ κs a. tt, λ κs a z w
 pub packet-judge-means : Means packet-judge.Statement.statement packet-judge.Kinds.ps packet-judge.Kinds.r packet-judge.Reads.Asked packet-judge.Reads.Learnt
     λ κs recv raw r. (r ≡ judged (judging (now (recv .entry)) raw .told)) × (now (recv .exit) ≡ judging (now (recv .entry)) raw .recv)
 packet-judge-means = (λ M. packet-judge.Met.met, λ κs a. tt, λ κs a z ws. (λ p. p, λ p. p))
+
+pub packet-wrong-behind-means : Means packet-wrong-behind.Statement.statement packet-wrong-behind.Kinds.ps packet-wrong-behind.Kinds.r packet-wrong-behind.Reads.Asked packet-wrong-behind.Reads.Learnt
+    λ κs raw from r. r ≡ wrongBehind from (now raw)
+packet-wrong-behind-means = (λ M. packet-wrong-behind.Met.met, λ κs a. tt, λ κs a z ws. (λ p. p, λ p. p))
 
 pub packet-class-of-means : Means packet-class-of.Statement.statement packet-class-of.Kinds.ps packet-class-of.Kinds.r packet-class-of.Reads.Asked packet-class-of.Reads.Learnt
     λ κs port r. r ≡ class port
@@ -208,7 +214,7 @@ pub tape-fresh-means : Means tape-fresh.Statement.statement tape-fresh.Kinds.ps 
         locked = false;
         hunting = record { a = 0; b = 0; c = 0; d = 0 };
         lock = record { word = 0; handed = 0; marker = 0 };
-        frame = record { opened = false; raw = 0; stored = 0 };
+        frame = record { opened = false; raw = 0; stored = 0; place = 0 };
       };
     }
 tape-fresh-means = (λ M. tape-fresh.Met.met, λ κs a. tt, λ κs a z ws. (λ p. p, λ p. p))
@@ -241,7 +247,7 @@ pub recording-fresh-means : Means recording-fresh.Statement.statement recording-
           locked = false;
           hunting = record { a = 0; b = 0; c = 0; d = 0 };
           lock = record { word = 0; handed = 0; marker = 0 };
-          frame = record { opened = false; raw = 0; stored = 0 };
+          frame = record { opened = false; raw = 0; stored = 0; place = 0 };
         };
       };
       totals = record { packets = 0; refused = 0; damaged = 0; lost = 0 };

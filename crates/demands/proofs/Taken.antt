@@ -4,7 +4,7 @@
 -- next-given               the numbers that are given
 use Prim.Native.Nat.{ℕ, _-_, _≤_, _<_}
 use native.Mathlib.Omega.{arith}
-use mathlib.Core.Path.{_≡_, refl, sym, subst}
+use mathlib.Core.Path.{_≡_, refl, sym, ap, subst, _∙_}
 use mathlib.Core.Bool.{Bool, true, false, _&&_}
 use mathlib.Core.Logic.{_⊎_, _↔_, ⊎-elim}
 use mathlib.Core.Logic._⊎_.{inl, inr}
@@ -16,7 +16,7 @@ use borrow.Author.Tests.{leb-false}
 use Rattle.base.specs.Calls.{With}
 use Rattle.base.proofs.Calls.{with-hear}
 use Rattle.base.proofs.Tests.{and-parts}
-use Rattle.packet.specs.Frame.{refusal}
+use Rattle.packet.specs.Frame.{Told, refusal}
 use Rattle.stream.specs.Called.{takeByte}
 use Rattle.channel.specs.Channel.{Event, said, block, lost}
 use Rattle.channel.specs.Called.{Board, heldIn, handOn, eatByte, sound, roomy}
@@ -31,9 +31,9 @@ use Rattle.recording.specs.declared.recording.Wants.the-variants.{Refused}
 use Rattle.recording.specs.Printed.{printed, nearTotals, near, takesBy, takes}
 use Rattle.recording.proofs.Ends.{print-not}
 use Rattle.demands.specs.Table.{Exact}
-use Rattle.demands.specs.Refusals.{NextBeyond, TapeBeyond, Short, ByNext, ByTake}
+use Rattle.demands.specs.Refusals.{NextBeyond, TapeBeyond, Short, ByFrame, ByNext, ByTake}
 use Rattle.demands.proofs.Rows.{applies, over, passed}
-use Rattle.demands.proofs.Called.{not-both, not-most, beyond, within, short, long, SmallEvent, small-byte, small-as, small-eat, small-hand, event-only, Given}
+use Rattle.demands.proofs.Called.{not-both, not-most, beyond, within, short, long, SmallEvent, small-byte, small-as, small-eat, small-hand, event-only, Given, number-given}
 
 -- ---- numbers near their width
 module _ (t : Totals) (room : ℕ) where
@@ -131,14 +131,17 @@ module _ (m : Deck) (bs : List ℕ) where
       go true true false b = λ i. (b .1 i, 0, m)
       go true true true b = absurd (event-only (deckHear m bs .0) (deckHear m bs .2) n (small-heard m bs) (b .0) (b .1))
 
-  pub next-given : (n : ℕ) → tapeCall m bs .0 ≡ some (said (refusal n)) → Given n
-  next-given n = go soundly nearly roomily
+  next-refused : (n : ℕ) → tapeCall m bs .0 ≡ some (said (refusal n)) → Given n
+  next-refused n = go soundly nearly roomily
     where
       go : (s k r : Bool) → tapeBy s k r m bs .0 ≡ some (said (refusal n)) → Given n
       go false k r e = let z : 10 ≡ n = cc in inr (inl (sym z))
       go true false r e = let z : 10 ≡ n = cc in inr (inl (sym z))
       go true true false e = let z : 11 ≡ n = cc in inr (inr (sym z))
       go true true true e = inl (subst (λ (o : Option Event). With SmallEvent o (deckHear m bs .2)) e (small-heard m bs))
+
+  pub next-given : (t : Told) (n : ℕ) → tapeCall m bs .0 ≡ some (said t) → ByFrame t n → Given n
+  next-given t n e k = number-given t n k (λ i z. next-refused i (e ∙ ap (λ (t : Told). some (said t)) z))
 
 -- ---- the call where it is listed
 is-take : (m : Deck) (t : Totals) (k n : ℕ) → ByTake (printed (Refused k) m t) n ↔ n ≡ k

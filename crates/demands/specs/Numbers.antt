@@ -15,8 +15,8 @@ use Rattle.field.specs.Field.{add, double, shiftAdd, mul, pow}
 use Rattle.parity.specs.Word.{scale, onto, timesRoot, generator, divide, remainder}
 use Rattle.interleaver.specs.Places.{cell}
 use Rattle.packet.specs.Contents.{withCheck, contents}
-use Rattle.packet.specs.Escape.{escape, escapeByte, plain, plainScan, right, last, scan}
-use Rattle.packet.specs.Frame.{Told, packet, refusal, judgeContents, closedBy, closed, judge, judgeBody}
+use Rattle.packet.specs.Escape.{escape, escapeByte, plain, wrongFrom, right, last, scan}
+use Rattle.packet.specs.Frame.{Told, packet, refusal, broken, judgeContents, closedBy, closed, judge, judgeBody}
 use Rattle.stream.specs.Reader.{waiting, reads}
 
 -- a letter, what the definitions give, what the paper says
@@ -27,6 +27,7 @@ Line = ℕ × List ℕ × List ℕ
 abbrev pub inNumbers : Told → List ℕ
 inNumbers (packet p) = 0 ∷ p .port ∷ p .sequence ∷ p .payload
 inNumbers (refusal n) = n ∷ []
+inNumbers (broken n) = 3 ∷ []
 
 -- the answers of a stream from its start
 abbrev pub heard : List ℕ → List ℕ

@@ -13,11 +13,13 @@ use Rattle.fcs.specs.Fcs as check
 use Rattle.field.specs.Field as field
 use Rattle.parity.specs.Calls as parity
 use Rattle.packet.specs.Contents.{format, payloadLimit, plainLimit, rawLimit, withCheck, contents}
-use Rattle.packet.specs.Escape.{flag, escape, escapeByte, plain, plainScan, right, last, scan}
-use Rattle.packet.specs.Frame.{packet, refusal, judgeContents, judgeBody, closedBy, closed, judge}
+use Rattle.packet.specs.Escape.{flag, escape, escapeByte, plain, wrongFrom, right, last, scan}
+use Rattle.packet.specs.Frame.{Told, packet, refusal, broken, judgeContents, judgeBody, closedBy, closed, judge}
 use Rattle.packet.specs.Port.{class, barred}
 use Rattle.packet.specs.Sender.{refusing}
-use Rattle.packet.specs.declared.frame.Judged.the-variants.{Packet, Refused}
+use Rattle.packet.specs.declared.frame.Judged.the-variants.{Packet, Refused, Broken}
+use Rattle.stream.specs.Reader.{waiting, reads}
+use Rattle.stream.specs.Called.{placeLimit}
 use Rattle.channel.specs.Sender.{marker, messageBytes, parityBytes, wordBytes, blockBytes}
 use Rattle.channel.specs.Channel.{Event, said, block, lost}
 use Rattle.channel.specs.declared.answer.Condition.the-variants.{Clean, Repaired, Beyond}
@@ -59,6 +61,16 @@ unusable port = pick (barred port) 1 0
 abbrev refusalOf : List ℕ → ℕ
 refusalOf payload = refusing (record { port = 0x5100; sequence = 0; payload = payload }) (λ n. n) 0
 
+-- the place where an escape broke
+abbrev placeOf : Told → List ℕ
+placeOf (packet p) = []
+placeOf (refusal n) = []
+placeOf (broken n) = n ∷ []
+
+-- .. of each frame of a stream from its start
+abbrev places : List ℕ → List ℕ
+places bs = joined (map placeOf (reads waiting bs .0))
+
 -- the number of a row, what the definitions give, what the paper prints
 abbrev pub printed : List Line
 printed =
@@ -90,4 +102,8 @@ printed =
     (26, lineLimit ∷ heldLimit ∷ holdLimit ∷ outLimit ∷ longest ∷ far ∷ [], 8205 ∷ 222 ∷ 8428 ∷ 9583 ∷ 128 ∷ 18446744073709551615 ∷ []) ∷  -- our own limits, as docs/REFUSALS.md and docs/DECISIONS.md print them
     (27, map refusalOf (replicate 8192 0 ∷ replicate 8193 0 ∷ replicate 4096 0x7E ∷ replicate 4097 0x7E ∷ []), 0 ∷ 21 ∷ 0 ∷ 21 ∷ []) ∷  -- 8,192 plain payload bytes pass and 8,193 get 21; 4,096 bytes of 0x7E pass and 4,097 get 21
     (28, joined (map inNumbers (judge (replicate 8205 0x7D) ∷ judge (replicate 8206 0x7D) ∷ [])), 2 ∷ 1 ∷ []) ∷  -- 8,205 raw bytes are judged further and 8,206 get 1
+    (29, places (0x7E ∷ 0x7D ∷ 0x21 ∷ 0x7E ∷ 0x41 ∷ 0x7D ∷ 0x7D ∷ 0x5E ∷ 0x7D ∷ 0x22 ∷ 0x7E ∷ 0x7D ∷ 0x21 ∷ 0x7D ∷ 0x7E ∷ []), 1 ∷ 2 ∷ []) ∷  -- counted from 0 behind the opening flag, the first wrong byte after 7D: 21 at 1, the second 7D at 2; none where the last raw byte is 7D
+    (30, joined (map placeOf (judge (replicate 8203 0 ++ 0x7D ∷ 0x21 ∷ []) ∷ judge (replicate 8204 0 ++ 0x7D ∷ 0x21 ∷ []) ∷ [])), 8204 ∷ []) ∷  -- the last of 8,205 raw bytes is at 8,204; 8,206 get 1
+    (31, placeLimit ∷ [], 8204 ∷ []) ∷  -- 10 where the remembered place is above 8,204
+    (32, line (Said (Broken 105)), 82 ∷ 32 ∷ 51 ∷ 32 ∷ 49 ∷ 48 ∷ 53 ∷ 10 ∷ []) ∷  -- `R 3 n`: R 3 105
     []

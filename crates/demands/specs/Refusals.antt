@@ -16,12 +16,12 @@ use Rattle.base.specs.declared.Written.the-variants.{Refused}
 use Rattle.fcs.specs.Fcs.{fcs}
 use Rattle.packet.specs.Contents.{format, payloadLimit, rawLimit, wordAt, payloadOf}
 use Rattle.packet.specs.Escape.{escape, plain, last, Followed}
-use Rattle.packet.specs.Frame.{Told, refusal}
+use Rattle.packet.specs.Frame.{Told, refusal, number}
 use Rattle.parity.specs.declared.Checked.{Checked}
 use Rattle.parity.specs.declared.Checked.the-variants.{Refused as WordRefused}
 use Rattle.repair.specs.declared.Mended.{Mended}
 use Rattle.repair.specs.declared.Mended.the-variants.{Refused as RepairRefused}
-use Rattle.stream.specs.Called.{Held}
+use Rattle.stream.specs.Called.{Held, placeLimit}
 use Rattle.stream.specs.declared.frame.Frame.{Frame}
 use Rattle.channel.specs.Channel.{Event, said}
 use Rattle.channel.specs.Called.{Board}
@@ -56,9 +56,9 @@ frameRows raw =
     (3, Followed raw) ∷  -- 7D followed by other than 5E, 5D
     contentsRows (plain raw)
 
--- 10 of the frame reader: stored bytes other than the raw count or 8,205, whichever is less; raw count above 8,206
+-- 10 of the frame reader: stored bytes other than the raw count or 8,205, whichever is less; raw count above 8,206; remembered place above 8,204
 abbrev pub FrameBeyond : Frame → Type 0
-FrameBeyond f = (f .stored ≢ min (f .raw) rawLimit) ⊎ (suc rawLimit < f .raw)
+FrameBeyond f = (f .stored ≢ min (f .raw) rawLimit) ⊎ (suc rawLimit < f .raw) ⊎ (placeLimit < f .place)
 
 -- 10 of the channel's receiver: the same; bytes of a word above 255, marker bytes above 3, message bytes handed on above 223
 abbrev pub Beyond : Receiver → Type 0
@@ -77,9 +77,9 @@ abbrev pub TapeBeyond : Receiver → Spot → Totals → ℕ → ℕ → Type 0
 TapeBeyond s p t n room =
     Beyond s ⊎ (far - n < p .offset) ⊎ (far - room < t .packets) ⊎ (far - room < t .refused) ⊎ (far - room < t .damaged) ⊎ (far - room < t .lost)
 
--- a frame is refused by its number
+-- a frame is refused by its number, with a place or without
 abbrev pub ByFrame : Told → ℕ → Type 0
-ByFrame t n = t ≡ refusal n
+ByFrame t n = number t ≡ some n
 
 -- a call that writes is
 abbrev pub ByCall : Outcome → ℕ → Type 0

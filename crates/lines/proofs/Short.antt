@@ -8,8 +8,8 @@ use mathlib.Core.List.{List, [], _∷_, _++_}
 use lib.ListN.{length, length-append}
 use Rattle.packet.specs.Port.{class}
 use Rattle.packet.specs.declared.frame.Judged.{Judged}
-use Rattle.packet.specs.declared.frame.Judged.the-variants.{Packet, Refused}
-use Rattle.packet.specs.Frame.{packet, refusal, delivery}
+use Rattle.packet.specs.declared.frame.Judged.the-variants.{Packet, Refused, Broken}
+use Rattle.packet.specs.Frame.{packet, refusal, broken, delivery}
 use Rattle.channel.specs.Channel.{Event, said, block, lost}
 use Rattle.channel.specs.declared.answer.Condition.the-variants.{Clean, Repaired, Beyond}
 use Rattle.channel.specs.declared.answer.Answer.{Answer}
@@ -29,6 +29,10 @@ told-short (Packet d) =
     let z = item-short (d .port) 45 (32 ∷ (decimal (d .sequence) ++ 32 ∷ (decimal (d .length) ++ end))) (omega arith) in
     omega arith
 told-short (Refused n) = let x = item-short n 1 (10 ∷ []) (omega arith) in omega arith
+told-short (Broken n) =
+    let x = item-short n 1 (10 ∷ []) (omega arith) in
+    let y = item-short 3 22 (32 ∷ (decimal n ++ 10 ∷ [])) (omega arith) in
+    omega arith
 
 pub line-short : (a : Answer) → length (line a) ≤ longest
 line-short More = omega arith
@@ -42,10 +46,12 @@ told-some : (j : Judged) → 0 < length (told j)
 unfolding told
 told-some (Packet d) = omega arith
 told-some (Refused n) = omega arith
+told-some (Broken n) = omega arith
 
 pub line-some : (e : Event) → 0 < length (line (given e))
 line-some (said (packet p)) = told-some (Packet (delivery p))
 line-some (said (refusal n)) = told-some (Refused n)
+line-some (said (broken n)) = told-some (Broken n)
 line-some (block Clean) = omega arith
 line-some (block (Repaired n)) = omega arith
 line-some (block Beyond) = omega arith

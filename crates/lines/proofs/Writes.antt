@@ -1,7 +1,7 @@
 -- Lines as they are written: what stands in a buffer behind each part.
 -- laid-last, laid-two         one byte more, two bytes
 -- number-last, number-more    a number's last digit, and those before it
--- packet-put, refused-put, block-put, repaired-put, end-put, wrong-put   lines from their parts
+-- packet-put, refused-put, broken-put, block-put, repaired-put, end-put, wrong-put   lines from their parts
 -- put-taken                   the bytes put are those delivered
 use Prim.Native.Nat.{ℕ, _+_, _-_, _/_, _%_, _≤_, _<_}
 use native.Mathlib.Nat.{sub-zero}
@@ -12,7 +12,7 @@ use lib.ListN.{length, take, set}
 use Rattle.base.specs.Private.{Laid}
 use Rattle.base.proofs.Laid.{laid-append, laid-take}
 use Rattle.packet.specs.Port.{class}
-use Rattle.packet.specs.declared.frame.Judged.the-variants.{Packet, Refused}
+use Rattle.packet.specs.declared.frame.Judged.the-variants.{Packet, Refused, Broken}
 use Rattle.channel.specs.declared.answer.Condition.the-variants.{Repaired}
 use Rattle.listed.specs.Lines.{decimal, letter, told, endLine, wrongLine, longest, blockLine}
 use Rattle.lines.proofs.Digits.{wide, last-digit, more-digits, digits-short}
@@ -70,6 +70,14 @@ packet-put {l₄ = l₄} {l₅ = l₅} {d = d} {e = e} p s n k u v w x h y =
 pub refused-put : {l l₁ l₂ : List ℕ} {a b : ℕ} (n : ℕ) → Laid l 0 (82 ∷ 32 ∷ []) l₁ a → Item l₁ a n 10 l₂ b → Put l (told (Refused n)) l₂ b
 unfolding told
 refused-put n u v = (laid-append u (v .0), omega (arith, u .ends, v .1))
+
+broken-parts : (n : ℕ) → (82 ∷ 32 ∷ []) ++ (decimal 3 ++ (32 ∷ [])) ++ (decimal n ++ (10 ∷ [])) ≡ told (Broken n)
+unfolding told
+broken-parts n = simp append-assoc
+
+pub broken-put : {l l₁ l₂ l₃ : List ℕ} {a b c : ℕ} (n : ℕ) → Laid l 0 (82 ∷ 32 ∷ []) l₁ a → Item l₁ a 3 32 l₂ b → Item l₂ b n 10 l₃ c
+    → Put l (told (Broken n)) l₃ c
+broken-put n u v w = (laid-as (laid-append (laid-append u (v .0)) (w .0)) (broken-parts n), omega (arith, u .ends, v .1, w .1))
 
 pub block-put : {l l₁ l₂ : List ℕ} {a b : ℕ} (k : ℕ) → Laid l 0 (66 ∷ 32 ∷ []) l₁ a → Laid l₁ a (k ∷ 10 ∷ []) l₂ b → Put l (66 ∷ 32 ∷ k ∷ 10 ∷ []) l₂ b
 block-put k u v = (laid-append u v, omega (arith, u .ends, v .ends))

@@ -85,7 +85,7 @@ fn put_packet(text: &mut [u8], delivery: Delivery) -> usize
     put_two(text, d, letter(packet::class_of(delivery.port)), b'\n')
 }
 
-// That, or `R n`.
+// That, or `R n`, or `R 3` and the place.
 fn put_told(text: &mut [u8], judged: Judged) -> usize
     requires { ⌜ longest ≤ length (now text) ⌝ }
     ensures { λ r. ⌜ Laid (now (text .entry)) 0 (told judged) (now (text .exit)) r × (r ≤ longest) ⌝ }
@@ -95,6 +95,11 @@ fn put_told(text: &mut [u8], judged: Judged) -> usize
         Judged::Refused(n) => {
             let a = put_two(text, 0, b'R', b' ');
             put_item(text, a, n as u64, b'\n')
+        }
+        Judged::Broken(place) => {
+            let a = put_two(text, 0, b'R', b' ');
+            let b = put_item(text, a, Refusal::ESCAPE as u64, b' ');
+            put_item(text, b, place as u64, b'\n')
         }
     }
 }

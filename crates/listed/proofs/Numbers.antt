@@ -9,8 +9,8 @@ use mathlib.Core.List.{List, [], _∷_, map}
 use Rattle.fcs.specs.Fcs.{fcs, register, entered}
 use Rattle.packet.specs.Port.{class}
 use Rattle.packet.specs.declared.port.Class.the-variants.{System, Applications, M, D, Future}
-use Rattle.packet.specs.declared.frame.Judged.the-variants.{Packet, Refused}
-use Rattle.packet.specs.Escape.{escape, escapeByte, plain, plainScan, right, last, scan}
+use Rattle.packet.specs.declared.frame.Judged.the-variants.{Packet, Refused, Broken}
+use Rattle.packet.specs.Escape.{escape, escapeByte, plain, wrongFrom, right, last, scan}
 use Rattle.packet.specs.Frame.{judgeContents, closedBy, closed, judge, judgeBody}
 use Rattle.channel.specs.declared.answer.Answer.the-variants.{Said, Block, LockLost}
 use Rattle.channel.specs.declared.answer.Condition.the-variants.{Clean, Repaired, Beyond}
@@ -102,6 +102,11 @@ rows =
       0x50 ∷ 0xF5 ∷ 0x5F ∷ 0x02 ∷ 0x00 ∷ 0x7E ∷ 0x00 ∷ 0xF5 ∷ 0x5F ∷ 0x01 ∷ 0x00 ∷ 0x7E ∷ [],
       82 ∷ 32 ∷ 52 ∷ 10 ∷ 69 ∷ 32 ∷ 51 ∷ 32 ∷ 48 ∷ 32 ∷ 49 ∷ 32 ∷ 48 ∷ 32 ∷ 48 ∷ 10 ∷ [],
     ) ∷
+    -- an escape broken over two records, and 7D 7D: R 3 1 / R 3 2 / E 9 0 2 0 0
+    (
+      0x50 ∷ 0xF5 ∷ 0x5F ∷ 0x02 ∷ 0x00 ∷ 0x7E ∷ 0x7D ∷ 0xF5 ∷ 0x5F ∷ 0x06 ∷ 0x00 ∷ 0x21 ∷ 0x7E ∷ 0x41 ∷ 0x7D ∷ 0x7D ∷ 0x5E ∷ 0xF5 ∷ 0x5F ∷ 0x01 ∷ 0x00 ∷ 0x7E ∷ [],
+      82 ∷ 32 ∷ 51 ∷ 32 ∷ 49 ∷ 10 ∷ 82 ∷ 32 ∷ 51 ∷ 32 ∷ 50 ∷ 10 ∷ 69 ∷ 32 ∷ 57 ∷ 32 ∷ 48 ∷ 32 ∷ 50 ∷ 32 ∷ 48 ∷ 32 ∷ 48 ∷ 10 ∷ [],
+    ) ∷
     -- stray bytes on the channel: E 3 0 0 0 0
     (
       0x4F ∷ 0xF5 ∷ 0x5F ∷ 0x03 ∷ 0x00 ∷ 0x7E ∷ 0x00 ∷ 0x7E ∷ [],
@@ -115,14 +120,14 @@ rows =
     []
 
 pub table : map (λ (r : List ℕ × List ℕ). listing (r .0)) rows ≡ map (λ (r : List ℕ × List ℕ). r .1) rows
-unfolding listing listed lastLine heard wrongLine endLine count lines told decimal decimalBy apart inStream nextAt judge closed closedBy judgeContents judgeBody scan last plainScan right plain escape escapeByte class fcs register entered
+unfolding listing listed lastLine heard wrongLine endLine count lines told decimal decimalBy apart inStream nextAt judge closed closedBy judgeContents judgeBody scan last wrongFrom right plain escape escapeByte class fcs register entered
 table = refl
 
--- P, R, B 0, B n, B X, L, E with five different numbers, X; and the five letters
+-- P, R, R 3 with its place, B 0, B n, B X, L, E with five different numbers, X; and the five letters
 pub letters : _≡_ {A = List (List ℕ)}
-    (line (Said (Packet (record { port = 20736; sequence = 258; length = 3 }))) ∷ line (Said (Refused 4)) ∷ line (Block Clean) ∷ line (Block (Repaired 16)) ∷ line (Block Beyond) ∷ line LockLost
+    (line (Said (Packet (record { port = 20736; sequence = 258; length = 3 }))) ∷ line (Said (Refused 4)) ∷ line (Said (Broken 105)) ∷ line (Block Clean) ∷ line (Block (Repaired 16)) ∷ line (Block Beyond) ∷ line LockLost
     ∷ endLine 5 1 2 3 4 ∷ wrongLine 7 ∷ map letter (System ∷ Applications ∷ M ∷ D ∷ Future ∷ []) ∷ [])
-    ((80 ∷ 32 ∷ 50 ∷ 48 ∷ 55 ∷ 51 ∷ 54 ∷ 32 ∷ 50 ∷ 53 ∷ 56 ∷ 32 ∷ 51 ∷ 32 ∷ 77 ∷ 10 ∷ []) ∷ (82 ∷ 32 ∷ 52 ∷ 10 ∷ []) ∷ (66 ∷ 32 ∷ 48 ∷ 10 ∷ []) ∷ (66 ∷ 32 ∷ 49 ∷ 54 ∷ 10 ∷ []) ∷ (66 ∷ 32 ∷ 88 ∷ 10 ∷ []) ∷ (76 ∷ 10 ∷ [])
+    ((80 ∷ 32 ∷ 50 ∷ 48 ∷ 55 ∷ 51 ∷ 54 ∷ 32 ∷ 50 ∷ 53 ∷ 56 ∷ 32 ∷ 51 ∷ 32 ∷ 77 ∷ 10 ∷ []) ∷ (82 ∷ 32 ∷ 52 ∷ 10 ∷ []) ∷ (82 ∷ 32 ∷ 51 ∷ 32 ∷ 49 ∷ 48 ∷ 53 ∷ 10 ∷ []) ∷ (66 ∷ 32 ∷ 48 ∷ 10 ∷ []) ∷ (66 ∷ 32 ∷ 49 ∷ 54 ∷ 10 ∷ []) ∷ (66 ∷ 32 ∷ 88 ∷ 10 ∷ []) ∷ (76 ∷ 10 ∷ [])
     ∷ (69 ∷ 32 ∷ 53 ∷ 32 ∷ 49 ∷ 32 ∷ 50 ∷ 32 ∷ 51 ∷ 32 ∷ 52 ∷ 10 ∷ []) ∷ (88 ∷ 32 ∷ 55 ∷ 10 ∷ []) ∷ (83 ∷ 65 ∷ 77 ∷ 68 ∷ 70 ∷ []) ∷ [])
 unfolding told endLine wrongLine decimal decimalBy class
 letters = refl

@@ -7,7 +7,7 @@ use native.Mathlib.Omega.{arith}
 use mathlib.Core.Path.{_≡_, refl, ap}
 use mathlib.Core.List.{List, [], _∷_, map}
 use lib.ListN.{length}
-use Rattle.packet.specs.Frame.{Told, packet, refusal}
+use Rattle.packet.specs.Frame.{Told, packet, refusal, broken}
 use Rattle.stream.specs.Sender.{delivered}
 use Rattle.packet.specs.Contents.{Packet}
 use Rattle.channel.specs.Channel.{Event, said, block, lost, frames, blocks, losses}
@@ -20,6 +20,7 @@ unfolding count
 packets-counted [] = refl
 packets-counted (said (packet p) ∷ es) = omega (arith, packets-counted es)
 packets-counted (said (refusal n) ∷ es) = omega (arith, packets-counted es)
+packets-counted (said (broken n) ∷ es) = omega (arith, packets-counted es)
 packets-counted (block clean ∷ es) = omega (arith, packets-counted es)
 packets-counted (block (repaired n) ∷ es) = omega (arith, packets-counted es)
 packets-counted (block beyond ∷ es) = omega (arith, packets-counted es)
@@ -30,6 +31,7 @@ unfolding count
 refusals-counted [] = refl
 refusals-counted (said (packet p) ∷ es) = omega (arith, refusals-counted es)
 refusals-counted (said (refusal n) ∷ es) = omega (arith, refusals-counted es)
+refusals-counted (said (broken n) ∷ es) = omega (arith, refusals-counted es)
 refusals-counted (block clean ∷ es) = omega (arith, refusals-counted es)
 refusals-counted (block (repaired n) ∷ es) = omega (arith, refusals-counted es)
 refusals-counted (block beyond ∷ es) = omega (arith, refusals-counted es)
@@ -40,6 +42,7 @@ unfolding count
 damaged-counted [] = refl
 damaged-counted (said (packet p) ∷ es) = omega (arith, damaged-counted es)
 damaged-counted (said (refusal n) ∷ es) = omega (arith, damaged-counted es)
+damaged-counted (said (broken n) ∷ es) = omega (arith, damaged-counted es)
 damaged-counted (block clean ∷ es) = omega (arith, damaged-counted es)
 damaged-counted (block (repaired n) ∷ es) = omega (arith, damaged-counted es)
 damaged-counted (block beyond ∷ es) = omega (arith, damaged-counted es)
@@ -50,6 +53,7 @@ unfolding count
 lost-counted [] = refl
 lost-counted (said (packet p) ∷ es) = omega (arith, lost-counted es)
 lost-counted (said (refusal n) ∷ es) = omega (arith, lost-counted es)
+lost-counted (said (broken n) ∷ es) = omega (arith, lost-counted es)
 lost-counted (block clean ∷ es) = omega (arith, lost-counted es)
 lost-counted (block (repaired n) ∷ es) = omega (arith, lost-counted es)
 lost-counted (block beyond ∷ es) = omega (arith, lost-counted es)

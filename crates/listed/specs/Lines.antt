@@ -15,8 +15,8 @@ use Rattle.packet.specs.Port.{class}
 use Rattle.packet.specs.declared.port.Class.{Class}
 use Rattle.packet.specs.declared.port.Class.the-variants.{System, Applications, M, D, Future, Barred}
 use Rattle.packet.specs.declared.frame.Judged.{Judged}
-use Rattle.packet.specs.declared.frame.Judged.the-variants.{Packet, Refused}
-use Rattle.packet.specs.Frame.{Told, packet, refusal}
+use Rattle.packet.specs.declared.frame.Judged.the-variants.{Packet, Refused, Broken}
+use Rattle.packet.specs.Frame.{Told, packet, refusal, broken}
 use Rattle.channel.specs.Channel.{Event}
 use Rattle.listed.specs.declared.Total.{Total}
 use Rattle.listed.specs.declared.Total.the-variants.{Packets, Refusals, Damaged, Lost, Nothing}
@@ -44,11 +44,12 @@ letter D = 68
 letter Future = 70
 letter Barred = 70
 
--- `P port sequence payload-length class`, or `R n`
+-- `P port sequence payload-length class`, or `R n`; `R 3 place` where an escape broke
 unfoldable pub told : Judged → List ℕ
 told (Packet d) =
     80 ∷ 32 ∷ (decimal (d .port) ++ 32 ∷ (decimal (d .sequence) ++ 32 ∷ (decimal (d .length) ++ 32 ∷ letter (class (d .port)) ∷ 10 ∷ [])))
 told (Refused n) = 82 ∷ 32 ∷ (decimal n ++ 10 ∷ [])
+told (Broken n) = 82 ∷ 32 ∷ (decimal 3 ++ 32 ∷ (decimal n ++ 10 ∷ []))
 
 -- `B 0` clean, `B count` repaired, `B X` beyond repair
 abbrev pub blockLine : Condition → List ℕ
@@ -81,6 +82,7 @@ abbrev pub totalOf : Answer → Total
 totalOf More = Nothing
 totalOf (Said (Packet d)) = Packets
 totalOf (Said (Refused n)) = Refusals
+totalOf (Said (Broken n)) = Refusals
 totalOf (Block Clean) = Nothing
 totalOf (Block (Repaired n)) = Nothing
 totalOf (Block Beyond) = Damaged
@@ -148,12 +150,14 @@ abbrev pub packetsIn : List Told → ℕ
 packetsIn [] = 0
 packetsIn (packet p ∷ ts) = suc (packetsIn ts)
 packetsIn (refusal n ∷ ts) = packetsIn ts
+packetsIn (broken n ∷ ts) = packetsIn ts
 
 -- .. and how many are refusals
 abbrev pub refusalsIn : List Told → ℕ
 refusalsIn [] = 0
 refusalsIn (packet p ∷ ts) = refusalsIn ts
 refusalsIn (refusal n ∷ ts) = suc (refusalsIn ts)
+refusalsIn (broken n ∷ ts) = suc (refusalsIn ts)
 
 -- of the block answers: how many are beyond repair
 abbrev pub damagedIn : List Condition → ℕ

@@ -4,6 +4,8 @@ use Rattle.base.specs.Determined.{Determined}
 use Rattle.base.proofs.Determining.{same, same-answer, same-output, buffer, skip}
 use Rattle.packet.proofs.port.class_of.Kinds as class-of-kinds
 use Rattle.packet.proofs.port.class_of.Reads as class-of-reads
+use Rattle.packet.proofs.escape.wrong_behind.Kinds as wrong-behind-kinds
+use Rattle.packet.proofs.escape.wrong_behind.Reads as wrong-behind-reads
 use Rattle.packet.proofs.frame.judge.Kinds as judge-kinds
 use Rattle.packet.proofs.frame.judge.Reads as judge-reads
 use Rattle.packet.proofs.sender.write.Kinds as write-kinds
@@ -11,6 +13,9 @@ use Rattle.packet.proofs.sender.write.Reads as write-reads
 
 pub class-of-determined : Determined class-of-kinds.ps class-of-kinds.r class-of-reads.Asked class-of-reads.Learnt
 class-of-determined κs a z z′ ws ws′ pre p q = (same p q, refl)
+
+pub wrong-behind-determined : Determined wrong-behind-kinds.ps wrong-behind-kinds.r wrong-behind-reads.Asked wrong-behind-reads.Learnt
+wrong-behind-determined κs a z z′ ws ws′ pre p q = (same p q, refl)
 
 pub judge-determined : Determined judge-kinds.ps judge-kinds.r judge-reads.Asked judge-reads.Learnt
 judge-determined κs a z z′ ws ws′ pre p q = (same (p .0) (q .0), buffer (same (p .1) (q .1)) refl)

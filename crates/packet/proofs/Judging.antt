@@ -7,10 +7,12 @@
 -- judge-is                          the buffer's raw bytes alone decide
 -- length-closed                     the buffer keeps its length
 -- payload-there                     a delivered payload stands in the buffer
+-- contents-broken                   contents alone are never refused with a place
 -- closed-keeps                      refused with 1, 2 or 3, it keeps its contents
 use mathlib.Core.Path.{_≡_, refl, sym, ap, subst, _∙_}
 use mathlib.Core.Bool.{Bool, true, false}
-use mathlib.Core.List.{List, [], _++_}
+use mathlib.Core.List.{List, [], _∷_, _++_, nil≢cons}
+use mathlib.Core.Option.{some}
 use Prim.Native.Nat.{ℕ, suc, _+_, _-_, _<_, _≤_, min}
 use native.Mathlib.Omega.{arith}
 use borrow.Author.Tests.{eq-eqb, ne-eqb, lt-ltb, le-ltb, ltb-false}
@@ -24,7 +26,7 @@ use Rattle.fcs.specs.Fcs.{fcs}
 use Rattle.packet.specs.Port.{barred}
 use Rattle.packet.specs.Contents.{format, payloadLimit, rawLimit, wordAt, unpacked, body, payloadOf}
 use Rattle.packet.specs.Escape.{escape, scan, plain}
-use Rattle.packet.specs.Frame.{Told, packet, refusal, judged, Closed, kept, judgeBody, judgeContents, closedBy, closed, judging, judge, part, There}
+use Rattle.packet.specs.Frame.{Told, packet, refusal, broken, judged, number, Closed, kept, judgeBody, judgeContents, closedBy, closed, judging, judge, part, There}
 use Rattle.packet.specs.declared.escape.Escapes.{Escapes}
 use Rattle.packet.specs.declared.escape.Escapes.the-variants.{Right, Unfinished, Wrong}
 use Rattle.packet.specs.declared.frame.Judged.the-variants.{Packet as Delivered}
@@ -101,7 +103,7 @@ told-by : (e : Escapes) (raw recv recv′ : List ℕ) → closedBy e raw recv .t
 unfolding closedBy
 told-by Right raw recv recv′ = refl
 told-by Unfinished raw recv recv′ = refl
-told-by Wrong raw recv recv′ = refl
+told-by (Wrong n) raw recv recv′ = refl
 
 pub judge-is : (recv : List ℕ) (n : ℕ) → n ≤ rawLimit → n ≤ length recv → closed recv n .told ≡ judge (take n recv)
 unfolding judge
@@ -135,7 +137,7 @@ module _ (recv : List ℕ) (n : ℕ) (P : Closed → Type 0)
 length-by : (recv : List ℕ) (n : ℕ) (e : Escapes) → length (closedBy e (take n recv) recv .recv) ≡ length recv
 unfolding closedBy
 length-by recv n Unfinished = refl
-length-by recv n Wrong = refl
+length-by recv n (Wrong m) = refl
 length-by recv n Right = simp (length-append, length-drop) (omega (arith, plain-room recv n))
 
 pub length-closed : (recv : List ℕ) (n : ℕ) → length (closed recv n .recv) ≡ length recv
@@ -191,7 +193,7 @@ there-contents cs t = go (ltb (length cs) 8) (eqb (fcs (body cs)) (wordAt cs (le
 there-by : (e : Escapes) (raw recv : List ℕ) → There (closedBy e raw recv .told) (closedBy e raw recv .recv)
 unfolding closedBy
 there-by Unfinished raw recv = tt
-there-by Wrong raw recv = tt
+there-by (Wrong n) raw recv = tt
 there-by Right raw recv = there-contents (plain raw) (drop (length (plain raw)) recv)
 
 pub payload-there : (recv : List ℕ) (n : ℕ) → There (closed recv n .told) (closed recv n .recv)
@@ -201,6 +203,7 @@ payload-there recv n = by-ways recv n (λ c. There (c .told) (c .recv)) tt (λ e
 abbrev KeptBy : Told → List ℕ → List ℕ → Type 0
 KeptBy (packet p) after before = Unit {0}
 KeptBy (refusal n) after before = n ≤ 3 → after ≡ before
+KeptBy (broken n) after before = after ≡ before
 
 kept-body : (bs after before : List ℕ) → KeptBy (judgeBody bs) after before
 unfolding judgeBody
@@ -222,13 +225,22 @@ kept-contents cs after before = go (ltb (length cs) 8) (eqb (fcs (body cs)) (wor
     go false false = λ h. absurd (omega arith)
     go false true = kept-body (body cs) after before
 
+-- contents alone are never refused with a place
+pub contents-broken : (cs : List ℕ) (n : ℕ) → judgeContents cs ≡ broken n → ⊥
+contents-broken cs n e = nil≢cons (subst (λ (t : Told). KeptBy t [] (0 ∷ [])) e (kept-contents cs [] (0 ∷ [])))
+
 kept-by : (e : Escapes) (raw recv : List ℕ) → KeptBy (closedBy e raw recv .told) (closedBy e raw recv .recv) recv
 unfolding closedBy
 kept-by Unfinished raw recv = λ h. refl
-kept-by Wrong raw recv = λ h. refl
+kept-by (Wrong n) raw recv = refl
 kept-by Right raw recv = kept-contents (plain raw) (plain raw ++ drop (length (plain raw)) recv) recv
 
-pub closed-keeps : (recv : List ℕ) (raw n : ℕ) → closed recv raw .told ≡ refusal n → n ≤ 3 → closed recv raw .recv ≡ recv
-closed-keeps recv raw n e =
-    subst (λ (t : Told). KeptBy t (closed recv raw .recv) recv) e
+numbered : (t : Told) (after before : List ℕ) (n : ℕ) → KeptBy t after before → number t ≡ some n → n ≤ 3 → after ≡ before
+numbered (packet p) after before n k e h = let z : _≡_ {A = ℕ} 0 1 = cc in absurd (omega arith)
+numbered (refusal m) after before n k e h = let z : m ≡ n = cc in k (omega arith)
+numbered (broken m) after before n k e h = k
+
+pub closed-keeps : (recv : List ℕ) (raw n : ℕ) → number (closed recv raw .told) ≡ some n → n ≤ 3 → closed recv raw .recv ≡ recv
+closed-keeps recv raw n =
+    numbered (closed recv raw .told) (closed recv raw .recv) recv n
     (by-ways recv raw (λ c. KeptBy (c .told) (c .recv) recv) (λ h. refl) (λ k. kept-by k (take raw recv) recv))

@@ -2,6 +2,7 @@ pub mod Classes
 pub mod Escaping
 pub mod Runs
 pub mod Judging
+pub mod Places
 pub mod Faults
 pub mod Sending
 pub mod Round

@@ -1,13 +1,14 @@
 -- numbers           number (d) of paper 01: the contents of port 5100, sequence 0, payload 41
 -- edges, raw-edges  the paper's edges: of the payload's limit, and of the raw limit
+-- places, behind    where an escape broke: of a frame, and of the bytes from a place on
 use mathlib.Core.Path.{_≡_, refl}
-use mathlib.Core.List.{List, [], _∷_}
-use Prim.Native.Nat.{ℕ}
+use mathlib.Core.List.{List, [], _∷_, _++_}
+use Prim.Native.Nat.{ℕ, _-_}
 use lib.ListN.{replicate}
 use Rattle.fcs.specs.Fcs.{fcs, register, entered}
-use Rattle.packet.specs.Contents.{withCheck, contents}
-use Rattle.packet.specs.Escape.{escapeByte, escape, last, scan}
-use Rattle.packet.specs.Frame.{Told, refusal, closedBy, closed, judge}
+use Rattle.packet.specs.Contents.{rawLimit, withCheck, contents}
+use Rattle.packet.specs.Escape.{escapeByte, escape, right, wrongFrom, wrongBehind, last, scan}
+use Rattle.packet.specs.Frame.{Told, refusal, broken, closedBy, closed, judge}
 use Rattle.packet.specs.Sender.{refusing}
 
 pub numbers : contents (record { port = 0x5100; sequence = 0; payload = 0x41 ∷ [] }) ≡ 0x21 ∷ 0x00 ∷ 0x51 ∷ 0x00 ∷ 0x00 ∷ 0x41 ∷ 0xE4 ∷ 0xEC ∷ []
@@ -29,3 +30,17 @@ edges = refl
 pub raw-edges : _≡_ {A = List Told} (judge (replicate 8205 0x7D) ∷ judge (replicate 8206 0x7D) ∷ []) (refusal 2 ∷ refusal 1 ∷ [])
 unfolding judge closed closedBy scan last
 raw-edges = refl
+
+-- the first wrong byte counts, a second 7D is one, and where the last raw byte is 7D there is no place; the last place is one below the limit
+pub places : _≡_ {A = List Told}
+    (judge (0x7D ∷ 0x21 ∷ 0x7D ∷ 0x22 ∷ []) ∷ judge (0x7D ∷ 0x5E ∷ 0x7D ∷ 0x7D ∷ 0x5E ∷ []) ∷ judge (0x7D ∷ 0x21 ∷ 0x7D ∷ []) ∷ judge (replicate (rawLimit - 2) 0 ++ 0x7D ∷ 0x21 ∷ []) ∷ [])
+    (broken 1 ∷ broken 3 ∷ refusal 2 ∷ broken (rawLimit - 1) ∷ [])
+unfolding judge closed closedBy scan last wrongFrom right
+places = refl
+
+-- the byte before the place decides; a byte that stands before it is not looked at, and beyond the end there is none
+pub behind : _≡_ {A = List ℕ}
+    (wrongBehind 1 (0x7D ∷ 0x21 ∷ []) ∷ wrongBehind 2 (0x7D ∷ 0x21 ∷ []) ∷ wrongBehind 2 (0x7D ∷ 0x21 ∷ 0x22 ∷ []) ∷ wrongBehind 9 (0x7D ∷ []) ∷ [])
+    (1 ∷ 0 ∷ 0 ∷ 0 ∷ [])
+unfolding wrongFrom right
+behind = refl

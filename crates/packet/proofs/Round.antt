@@ -5,8 +5,9 @@
 -- round                      the round trip
 use mathlib.Core.Path.{_≡_, refl, sym, ap, _∙_}
 use mathlib.Core.Bool.{false}
+use mathlib.Core.Logic.{_≢_}
 use mathlib.Core.List.{List, [], _∷_, _++_, append-assoc, append-nil}
-use Prim.Native.Nat.{ℕ, _+_, _-_, _/_, _%_, _≤_}
+use Prim.Native.Nat.{ℕ, suc, _+_, _-_, _/_, _%_, _≤_}
 use native.Mathlib.Omega.{arith}
 use borrow.Author.Tests.{ne-eqb}
 use lib.ListN.{length, take, length-append}
@@ -14,7 +15,7 @@ use lib.Seq.{take-all, take-at, take-append-seam, getD-append-seam, getD-append-
 use Rattle.base.specs.Bytes.{Each}
 use Rattle.base.proofs.Bytes.{each-append}
 use Rattle.fcs.specs.Fcs.{fcs}
-use Rattle.packet.specs.Escape.{escape, escapeByte, plain, plainScan, scan, last, right, NoFlag}
+use Rattle.packet.specs.Escape.{escape, escapeByte, plain, wrongFrom, scannedBy, scan, last, right, NoFlag}
 use Rattle.packet.specs.Contents.{Packet, format, payloadLimit, plainLimit, contents, withCheck, packed, two, wordAt, body}
 use Rattle.packet.specs.Port.{barred}
 use Rattle.packet.specs.Frame.{Closed, packet, judge, judgeBody, judgeContents, closedBy}
@@ -35,16 +36,18 @@ unfolding escape
 plain-escape [] t = refl
 plain-escape (b ∷ bs) t = rw (append-assoc (escapeByte b) (escape bs) t, plain-byte (kind b) (escape bs ++ t), plain-escape bs t)
 
-scan-byte : {b : ℕ} → Kind b → (t : List ℕ) → plainScan (escapeByte b ++ t) ≡ plainScan t
-unfolding escapeByte plainScan right
-scan-byte flag t = refl
-scan-byte esc t = refl
-scan-byte (other n m) t = simp (ne-eqb _ _ n, ne-eqb _ _ m)
+-- no byte of escaped bytes is wrong
+escaped-byte : {b : ℕ} → Kind b → (t : List ℕ) (p at : ℕ) → p ≢ 0x7D
+    → ((q n : ℕ) → q ≢ 0x7D → wrongFrom q n t ≡ 0) → wrongFrom p at (escapeByte b ++ t) ≡ 0
+unfolding escapeByte wrongFrom right
+escaped-byte flag t p at n f = rw (ne-eqb p 0x7D n) (f 0x5E (suc (suc at)) (λ z. absurd (omega (arith, z))))
+escaped-byte esc t p at n f = rw (ne-eqb p 0x7D n) (f 0x5D (suc (suc at)) (λ z. absurd (omega (arith, z))))
+escaped-byte {b} (other k m) t p at n f = simp (ne-eqb _ _ k, ne-eqb _ _ m, ne-eqb p 0x7D n) (f b (suc at) m)
 
-pub scan-escape : (bs t : List ℕ) → plainScan (escape bs ++ t) ≡ plainScan t
-unfolding escape
-scan-escape [] t = refl
-scan-escape (b ∷ bs) t = rw (append-assoc (escapeByte b) (escape bs) t, scan-byte (kind b) (escape bs ++ t), scan-escape bs t)
+pub wrong-escape : (bs : List ℕ) (p at : ℕ) → p ≢ 0x7D → wrongFrom p at (escape bs) ≡ 0
+unfolding escape wrongFrom
+wrong-escape [] p at n = refl
+wrong-escape (b ∷ bs) p at n = escaped-byte (kind b) (escape bs) p at n (wrong-escape bs)
 
 last-append : (d : ℕ) (a b : List ℕ) → last d (a ++ b) ≡ last (last d a) b
 unfolding last
@@ -63,10 +66,9 @@ last-escape d [] n h = n h
 last-escape d (b ∷ bs) n h = last-escape (last d (escapeByte b)) bs (last-byte d (kind b)) (rw (last-append d (escapeByte b) (escape bs)) at h)
 
 pub scan-right : (bs : List ℕ) → scan (escape bs) ≡ Right
-unfolding scan plainScan
+unfolding scan
 scan-right bs =
-    let e : plainScan (escape bs) ≡ plainScan (escape bs ++ []) = rw append-nil in
-    simp (ne-eqb _ _ (last-escape 0 bs (λ z. absurd (omega arith)))) (e ∙ scan-escape bs [])
+    simp (ne-eqb _ _ (last-escape 0 bs (λ z. absurd (omega arith)))) (ap scannedBy (wrong-escape bs 0 0 (λ z. absurd (omega arith))))
 
 pub plain-undoes : (bs : List ℕ) → plain (escape bs) ≡ bs
 unfolding plain

@@ -2,8 +2,11 @@
 -- moved-none .. moved-done       the loop that moves a run
 -- found-is, found-within         the place of the 7D behind it, or the end
 -- scan-ends, scan-hands          plain reading ends behind the run, or hands over behind the 7D that follows it
+-- wrong-plain                    .. and goes on behind a right byte
+-- at-start, behind-escape, behind-other   which reading begins at a place, by the byte before it
 -- undo-ends, undo-hands          the same where escapes are undone
 use mathlib.Core.Path.{_≡_, refl, sym, ap, _∙_}
+use mathlib.Core.Logic.{_≢_}
 use Prim.Native.Nat.{ℕ, suc, _+_, _-_, _<_, _≤_}
 use mathlib.Core.List.{List, [], _∷_, _++_}
 use native.Mathlib.Nat.{add-zero}
@@ -18,10 +21,9 @@ use Rattle.base.proofs.Lists.{part-next, part-set}
 use Rattle.base.proofs.Parts.{tail-is}
 use Rattle.base.proofs.Tests.{by-eq}
 use Rattle.base.proofs.UpTo.{up-to-go, up-to-short}
-use Rattle.packet.specs.Escape.{plain, escaped, plainScan, escapedScan}
+use Rattle.packet.specs.Escape.{plain, escaped, wrongFrom, wrongBehind}
 use Rattle.packet.specs.Private.{run}
-use Rattle.packet.specs.declared.escape.Escapes.{Escapes}
-use Rattle.packet.specs.declared.escape.Escapes.the-variants.{Right}
+use Rattle.packet.proofs.Places.{wrong-before}
 
 plain-all : (bs : List ℕ) → length bs ≤ length (run bs) → plain bs ≡ run bs
 unfolding upTo plain
@@ -37,19 +39,41 @@ plain-run (b ∷ bs) h =
     by-eq b 0x7D (λ e. simp (eq-eqb b 0x7D e))
     (λ n. let k = simp (ne-eqb b 0x7D n) at h in simp (ne-eqb b 0x7D n) (ap (λ (x : List ℕ). b ∷ x) (plain-run bs (omega (arith, k)))))
 
-scan-all : (bs : List ℕ) → length bs ≤ length (run bs) → plainScan bs ≡ Right
-unfolding upTo plainScan
-scan-all [] h = refl
-scan-all (b ∷ bs) h =
-    by-eq b 0x7D (λ e. absurd (let k = simp (eq-eqb b 0x7D e) at h in omega (arith, k)))
-    (λ n. let k = simp (ne-eqb b 0x7D n) at h in simp (ne-eqb b 0x7D n) (scan-all bs (omega (arith, k))))
+pub wrong-plain : (bs : List ℕ) (p at : ℕ) → p ≢ 0x7D → wrongFrom 0 (at + 1) bs ≡ wrongFrom p (suc at) bs
+wrong-plain bs p at n = let e : at + 1 ≡ suc at = omega arith in rw e (wrong-before bs p (suc at) n)
 
-scan-run : (bs : List ℕ) → length (run bs) < length bs → plainScan bs ≡ escapedScan (drop (suc (length (run bs))) bs)
-unfolding upTo plainScan
-scan-run [] h = absurd (omega arith)
-scan-run (b ∷ bs) h =
-    by-eq b 0x7D (λ e. simp (eq-eqb b 0x7D e))
-    (λ n. let k = simp (ne-eqb b 0x7D n) at h in simp (ne-eqb b 0x7D n) (scan-run bs (omega (arith, k))))
+-- the bytes from a place on, by the byte before them
+module _ (l : List ℕ) (from : ℕ) where
+  pub at-start : from ≡ 0 → wrongFrom 0 0 (drop 0 l) ≡ wrongBehind from l
+  at-start e = simp (eq-eqb from 0 e) (ap (λ (i : ℕ). wrongFrom 0 i (drop i l)) (sym e))
+
+  pub behind-escape : from ≢ 0 → getD l (from - 1) 0 ≡ 0x7D → wrongFrom 0x7D from (drop from l) ≡ wrongBehind from l
+  behind-escape n e = simp (ne-eqb from 0 n) (ap (λ (p : ℕ). wrongFrom p from (drop from l)) (sym e))
+
+  pub behind-other : from ≢ 0 → getD l (from - 1) 0 ≢ 0x7D → wrongFrom 0 from (drop from l) ≡ wrongBehind from l
+  behind-other n m = simp (ne-eqb from 0 n) (wrong-before (drop from l) (getD l (from - 1) 0) from m)
+
+-- no 7D among the bytes: none of them is wrong ..
+wrong-all : (bs : List ℕ) (p at : ℕ) → p ≢ 0x7D → length bs ≤ length (run bs) → wrongFrom p at bs ≡ 0
+unfolding wrongFrom upTo
+wrong-all [] p at n h = refl
+wrong-all (b ∷ bs) p at n h =
+    by-eq b 0x7D (λ e. let k = simp (eq-eqb b 0x7D e) at h in absurd (omega (arith, k)))
+    (λ m. let k = simp (ne-eqb b 0x7D m) at h in rw (ne-eqb p 0x7D n) (wrong-all bs b (suc at) m (omega (arith, k))))
+
+-- .. else what stands behind the first 7D decides
+wrong-run : (bs : List ℕ) (p at : ℕ) → p ≢ 0x7D → length (run bs) < length bs
+    → wrongFrom p at bs ≡ wrongFrom 0x7D (at + suc (length (run bs))) (drop (suc (length (run bs))) bs)
+unfolding wrongFrom upTo
+wrong-run [] p at n h = absurd (omega (arith, h))
+wrong-run (b ∷ bs) p at n h =
+    by-eq b 0x7D
+    (λ e. let s : suc at ≡ at + 1 = omega arith in rw (ne-eqb p 0x7D n) (simp (eq-eqb b 0x7D e) (ap (λ (x : ℕ). wrongFrom x (suc at) bs) e ∙ ap (λ (m : ℕ). wrongFrom 0x7D m bs) s)))
+    (λ m.
+    let k = simp (ne-eqb b 0x7D m) at h in
+    let s : suc at + suc (length (run bs)) ≡ at + suc (suc (length (run bs))) = omega arith in
+    rw (ne-eqb p 0x7D n)
+    (simp (ne-eqb b 0x7D m) (wrong-run bs b (suc at) m (omega (arith, k)) ∙ ap (λ (i : ℕ). wrongFrom 0x7D i (drop (suc (length (run bs))) bs)) s)))
 
 -- ---- the loop that moves a run: i bytes are moved, and what moves the rest moves all
 abbrev pub Moved : List ℕ → ℕ → ℕ → ℕ → List ℕ → ℕ → Type 0
@@ -84,12 +108,16 @@ module _ (l : List ℕ) (at : ℕ) {i : ℕ} (e : i ≡ at + length (run (drop a
   pub found-within : at ≤ length l → i ≤ length l
   found-within h = omega (arith, up-to-short 0x7D (drop at l), length-drop at l)
 
-  pub scan-ends : i ≡ length l → Right ≡ plainScan (drop at l)
-  scan-ends h = sym (scan-all (drop at l) (omega (arith, length-drop at l)))
+  pub scan-ends : i ≡ length l → 0 ≡ wrongFrom 0 at (drop at l)
+  scan-ends h = sym (wrong-all (drop at l) 0 at (λ z. absurd (omega (arith, z))) (omega (arith, length-drop at l)))
 
-  pub scan-hands : {s : Escapes} → i < length l → s ≡ escapedScan (drop (i + 1) l) → s ≡ plainScan (drop at l)
-  scan-hands h p = p ∙ ap escapedScan here ∙ sym (scan-run (drop at l) (omega (arith, length-drop at l)))
+  pub scan-hands : {s : ℕ} → i < length l → s ≡ wrongFrom 0x7D (i + 1) (drop (i + 1) l) → s ≡ wrongFrom 0 at (drop at l)
+  scan-hands h p =
+      p ∙ (λ j. wrongFrom 0x7D (place j) (here j)) ∙ sym (wrong-run (drop at l) 0 at (λ z. absurd (omega (arith, z))) (omega (arith, length-drop at l)))
     where
+      place : i + 1 ≡ at + suc (length (run (drop at l)))
+      place = omega arith
+
       here : drop (i + 1) l ≡ drop (suc (length (run (drop at l)))) (drop at l)
       here = let k : i + 1 ≡ at + suc (length (run (drop at l))) = omega arith in rw k (sym (drop-drop (suc (length (run (drop at l)))) at l))
 

@@ -1,5 +1,5 @@
 -- A closed frame (paper 01, "Numbered refusals"): the first refusal that applies of 1 to 8, or the packet.
--- Told     what a frame is told to be, and judged, the answer that the code gives of it
+-- Told     what a frame is told to be, judged, the answer that the code gives of it, and number, the paper's number of it
 -- judgeBody, judgeContents   what is told of format byte to last payload byte, and of these with their check
 -- closed   what it is told to be, and what the receive buffer then holds
 -- judging  the same by a call, behind refusals 10 and 11
@@ -8,6 +8,7 @@
 use Prim.Native.Nat.{ℕ, suc, _+_, _-_}
 use mathlib.Core.Path.{_≡_}
 use mathlib.Core.List.{List, [], _++_}
+use mathlib.Core.Option.{Option, none, some}
 use lib.Dec.{eqb, ltb}
 use lib.ListN.{length, getD, take, drop}
 use Rattle.base.specs.Choice.{pick}
@@ -19,12 +20,13 @@ use Rattle.packet.specs.declared.escape.Escapes.{Escapes}
 use Rattle.packet.specs.declared.escape.Escapes.the-variants.{Right, Unfinished, Wrong}
 use Rattle.packet.specs.declared.frame.Delivery.{Delivery}
 use Rattle.packet.specs.declared.frame.Judged.{Judged}
-use Rattle.packet.specs.declared.frame.Judged.the-variants.{Packet as Delivered, Refused}
+use Rattle.packet.specs.declared.frame.Judged.the-variants.{Packet as Delivered, Refused, Broken}
 
--- a packet, or refused by its number
+-- a packet, or refused by its number; refused with 3, by the place of the first wrong byte behind 7D
 pub data Told : Type 0 where
   packet : Packet → Told
   refusal : ℕ → Told
+  broken : ℕ → Told
 
 -- a packet as the code's answer tells of it: of the payload the length
 abbrev pub delivery : Packet → Delivery
@@ -34,6 +36,13 @@ delivery p = record { port = p .port; sequence = p .sequence; length = length (p
 abbrev pub judged : Told → Judged
 judged (packet p) = Delivered (delivery p)
 judged (refusal n) = Refused n
+judged (broken n) = Broken n
+
+-- the paper's number of an answer; a packet has none
+abbrev pub number : Told → Option ℕ
+number (packet p) = none
+number (refusal n) = some n
+number (broken n) = some 3
 
 -- what a frame is told to be, and the receive buffer then
 pub record Closed : Type 0 where
@@ -59,10 +68,10 @@ judgeContents cs =
 abbrev pub kept : ℕ → List ℕ → Closed
 kept n recv = record { told = refusal n; recv = recv }
 
--- 2 last raw byte is 7D, 3 7D followed by other than 5E and 5D; else escapes are undone from the start, and bytes behind stay
+-- 2 last raw byte is 7D, 3 7D followed by other than 5E and 5D, with the place of the first such; else escapes are undone from the start, and bytes behind stay
 unfoldable pub closedBy : Escapes → List ℕ → List ℕ → Closed
 closedBy Unfinished raw recv = kept 2 recv
-closedBy Wrong raw recv = kept 3 recv
+closedBy (Wrong n) raw recv = record { told = broken n; recv = recv }
 closedBy Right raw recv = record { told = judgeContents (plain raw); recv = plain raw ++ drop (length (plain raw)) recv }
 
 -- n raw bytes from the start of the receive buffer: 1 more than 8,205 of them
@@ -85,3 +94,4 @@ part recv n = pick (ltb (length recv) (n + 5)) [] (take n (drop 5 recv))
 abbrev pub There : Told → List ℕ → Type 0
 There (packet p) recv = part recv (length (p .payload)) ≡ p .payload
 There (refusal n) recv = Unit {0}
+There (broken n) recv = Unit {0}

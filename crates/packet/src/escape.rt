@@ -3,7 +3,7 @@ ghost use mathlib.Core.Path.{_≡_};
 ghost use Prim.Native.Nat.{_+_, _<_, _≤_};
 ghost use lib.ListN.{length, take, drop};
 ghost use Rattle.base.specs.Private.{Laid};
-ghost use Rattle.packet.specs.Escape.{escape, escapeByte, plain, escaped, plainScan, escapedScan, scan, restored};
+ghost use Rattle.packet.specs.Escape.{escape, escapeByte, plain, escaped, wrongFrom, wrongBehind, scan, restored};
 ghost use Rattle.packet.specs.Private.{run};
 
 /// What the escapes of raw bytes are.
@@ -11,34 +11,34 @@ pub enum Escapes {
     Right,
     /// The last raw byte is 7D.
     Unfinished,
-    /// 7D is followed by something other than 5E and 5D.
-    Wrong,
+    /// 7D is followed by something other than 5E and 5D, first at this place.
+    Wrong(usize),
 }
 
-// Plain reading of raw[at..].
-fn scan_plain(raw: &[u8], at: usize) -> Escapes
+// Plain reading of raw[at..]: the place of the first wrong byte behind 7D, 0 where there is none.
+fn scan_plain(raw: &[u8], at: usize) -> usize
     requires { ⌜ at ≤ length (now raw) ⌝ }
-    ensures { λ r. ⌜ r ≡ plainScan (drop at (now (raw .entry))) ⌝ }
+    ensures { λ r. ⌜ r ≡ wrongFrom 0 at (drop at (now (raw .entry))) ⌝ }
 {
     let i = at + base::up_to(&raw[at..], 0x7D);
     if i == raw.len() {
-        return Escapes::Right;
+        return 0;
     }
     scan_escaped(raw, i + 1)
 }
 
 // Escaped reading of raw[at..], behind a 7D.
-fn scan_escaped(raw: &[u8], at: usize) -> Escapes
+fn scan_escaped(raw: &[u8], at: usize) -> usize
     requires { ⌜ at ≤ length (now raw) ⌝ }
-    ensures { λ r. ⌜ r ≡ escapedScan (drop at (now (raw .entry))) ⌝ }
+    ensures { λ r. ⌜ r ≡ wrongFrom 0x7D at (drop at (now (raw .entry))) ⌝ }
 {
     if at == raw.len() {
-        return Escapes::Unfinished;
+        return 0;
     }
     let b = raw[at];
     match b {
         0x5E | 0x5D => scan_plain(raw, at + 1),
-        _ => Escapes::Wrong,
+        _ => at,
     }
 }
 
@@ -53,7 +53,27 @@ pub fn scan(raw: &[u8]) -> Escapes
     if raw[n - 1] == 0x7D {
         return Escapes::Unfinished;
     }
-    scan_plain(raw, 0)
+    let place = scan_plain(raw, 0);
+    if place == 0 {
+        return Escapes::Right;
+    }
+    Escapes::Wrong(place)
+}
+
+/// The place of the first byte of raw[from..] that stands behind 7D and is neither 5E nor 5D; 0 where there is none.
+pub fn wrong_behind(raw: &[u8], from: usize) -> usize
+    ensures { λ r. ⌜ r ≡ wrongBehind from (now (raw .entry)) ⌝ }
+{
+    if raw.len() <= from {
+        return 0;
+    }
+    if from == 0 {
+        return scan_plain(raw, 0);
+    }
+    if raw[from - 1] == 0x7D {
+        return scan_escaped(raw, from);
+    }
+    scan_plain(raw, from)
 }
 
 // The byte that stands as b behind 7D.

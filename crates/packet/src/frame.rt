@@ -39,6 +39,8 @@ pub enum Judged {
     Packet(Delivery),
     /// Refused, by this number of the paper.
     Refused(u8),
+    /// Refused with 3: the raw byte at this place, counted from 0, is the first that stands behind 7D and is neither 5E nor 5D.
+    Broken(usize),
 }
 
 // Two bytes as a number, low first.
@@ -103,7 +105,7 @@ fn close(recv: &mut [u8], raw: usize) -> Judged
     let stored = base::least(raw, recv.len());
     match escape::scan(&recv[..stored]) {
         Escapes::Unfinished => Judged::Refused(Refusal::UNFINISHED),
-        Escapes::Wrong => Judged::Refused(Refusal::ESCAPE),
+        Escapes::Wrong(place) => Judged::Broken(place),
         Escapes::Right => {
             let n = escape::undo_plain(recv, stored, 0, 0);
             judge_contents(&recv[..n])

@@ -4,6 +4,7 @@ mod frame;
 mod port;
 mod sender;
 
+pub use escape::wrong_behind;
 pub use frame::Delivery;
 pub use frame::Judged;
 pub use frame::Packet;

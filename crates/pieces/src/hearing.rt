@@ -1,6 +1,6 @@
 //! A channel heard in pieces. The number of the case is as for a stream (reading.rt). Its bytes begin with a head: whether the
 //! receiver is locked, its four hunted bytes, then in 16 bits each the counts of word, handed on and marker, the length of the first
-//! piece and that of the word buffer. The word buffer's bytes follow, then those to be heard; the output is the receive buffer. Each
+//! piece, that of the word buffer, and the remembered place. The word buffer's bytes follow, then those to be heard; the output is the receive buffer. Each
 //! call is told as the bytes taken and its answer (0: more wanted, 1: clean, 2: beyond repair, 3: lock lost, 256 + n: repaired in n
 //! places), a delivered payload behind it; at the end the state's numbers, the hunted bytes and the word buffer.
 use crate::reading;
@@ -10,7 +10,7 @@ use channel::Hunting;
 use channel::Locked;
 use channel::Receiver;
 
-const HEAD: usize = 15;
+const HEAD: usize = 17;
 
 // Where the hearing stands: the piece that is handed in is bytes[at..end].
 struct Place {
@@ -22,14 +22,14 @@ struct Place {
 }
 
 pub fn hear(number: u64, bytes: &[u8], recv: &mut [u8]) {
-    let mut head = [0u8; 15];
+    let mut head = [0u8; 17];
     let mut word = [0u8; 300];
     base::copy(bytes, &mut head);
     lend(number, head, bytes, recv, &mut word);
 }
 
 // Lends as much of the word buffer as the head says.
-fn lend(number: u64, head: [u8; 15], bytes: &[u8], recv: &mut [u8], word: &mut [u8]) {
+fn lend(number: u64, head: [u8; 17], bytes: &[u8], recv: &mut [u8], word: &mut [u8]) {
     let size = crate::pair(head[13], head[14]);
     if word.len() < size {
         return;
@@ -37,11 +37,11 @@ fn lend(number: u64, head: [u8; 15], bytes: &[u8], recv: &mut [u8], word: &mut [
     if bytes.len() < HEAD {
         return;
     }
-    lent(number, head, &bytes[15..], recv, &mut word[0..size]);
+    lent(number, head, &bytes[17..], recv, &mut word[0..size]);
 }
 
 // Fills the word buffer and hears what follows it.
-fn lent(number: u64, head: [u8; 15], bytes: &[u8], recv: &mut [u8], word: &mut [u8]) {
+fn lent(number: u64, head: [u8; 17], bytes: &[u8], recv: &mut [u8], word: &mut [u8]) {
     let size = word.len();
     if bytes.len() < size {
         return;
@@ -57,7 +57,7 @@ fn lent(number: u64, head: [u8; 15], bytes: &[u8], recv: &mut [u8], word: &mut [
 }
 
 // The first piece, of n bytes at most.
-fn start(number: u64, head: [u8; 15], n: usize) -> Place {
+fn start(number: u64, head: [u8; 17], n: usize) -> Place {
     let hunting = Hunting {
         a: head[1],
         b: head[2],
@@ -73,7 +73,7 @@ fn start(number: u64, head: [u8; 15], n: usize) -> Place {
         locked: head[0] == 1,
         hunting,
         lock,
-        frame: reading::frame(number),
+        frame: reading::frame(number, crate::pair(head[15], head[16])),
     };
     Place {
         receiver,
@@ -109,6 +109,7 @@ fn finish(r: Receiver) {
     crate::print(frame.opened as u64);
     crate::print(frame.raw as u64);
     crate::print(frame.stored as u64);
+    crate::print(frame.place as u64);
     crate::print(hunting.a as u64);
     crate::print(hunting.b as u64);
     crate::print(hunting.c as u64);

@@ -7,6 +7,7 @@ mod hearing;
 mod listing;
 mod reading;
 
+use base::Refusal;
 use base::Written;
 use packet::Judged;
 
@@ -113,7 +114,7 @@ fn written(w: Written) -> u64 {
     }
 }
 
-// A packet: port, sequence, length, and 1 above them.
+// A packet: port, sequence, length, and 1 above them; a broken escape: its place above the number.
 fn judged(j: Judged) -> u64 {
     match j {
         Judged::Packet(d) => sum(
@@ -122,6 +123,7 @@ fn judged(j: Judged) -> u64 {
             d.length as u64 % 0x1000000,
         ),
         Judged::Refused(n) => refused(n),
+        Judged::Broken(place) => refused(Refusal::ESCAPE) | (place as u64 % 65536) << 32,
     }
 }
 

@@ -1,9 +1,12 @@
-//! A stream read in pieces. The number of the case: 31 bits that say how it is cut (0: not at all), whether the frame is open, then
-//! raw and stored count in 16 bits each; the output is the receive buffer. Each call is told as the bytes taken and its answer (0: more
-//! wanted), a delivered payload behind it; at the end the state's three numbers.
+//! A stream read in pieces. The number of the case: 31 bits that say how it is cut behind the first piece (0: not at all), whether the
+//! frame is open, then raw and stored count in 16 bits each. Its bytes begin with a head, in 16 bits each: the remembered place, and the
+//! length of the first piece. Those to be read follow; the output is the receive buffer. Each call is told as the bytes taken and its
+//! answer (0: more wanted), a delivered payload behind it; at the end the state's four numbers.
 use packet::Judged;
 use stream::Frame;
 use stream::Heard;
+
+const HEAD: usize = 4;
 
 // Where the reading stands: the piece that is handed in is bytes[at..end].
 struct Place {
@@ -20,23 +23,41 @@ pub struct Piece {
     pub end: usize,
 }
 
-// The frame state in the number of a case.
-pub fn frame(number: u64) -> Frame {
+// The frame state in the number of a case, with its place.
+pub fn frame(number: u64, place: usize) -> Frame {
     Frame {
         opened: number / 0x80000000 % 2 == 1,
         raw: (number / 0x100000000 % 65536) as usize,
         stored: (number / 0x1000000000000) as usize,
+        place,
     }
 }
 
 pub fn read(number: u64, bytes: &[u8], recv: &mut [u8]) {
-    let mut place = next_piece(frame(number), number % 0x80000000, 0, bytes.len());
+    let mut head = [0u8; 4];
+    base::copy(bytes, &mut head);
+    if bytes.len() < HEAD {
+        return;
+    }
+    let first = Place {
+        frame: frame(number, crate::pair(head[0], head[1])),
+        seed: number % 0x80000000,
+        at: 0,
+        end: base::least(crate::pair(head[2], head[3]), bytes.len() - HEAD),
+        go: true,
+    };
+    run(first, &bytes[4..], recv);
+}
+
+fn run(first: Place, bytes: &[u8], recv: &mut [u8]) {
+    let mut place = first;
     let mut calls = u64::MAX;
     while calls > 0 {
         if !place.go {
             crate::print(place.frame.opened as u64);
             crate::print(place.frame.raw as u64);
             crate::print(place.frame.stored as u64);
+            crate::print(place.frame.place as u64);
             return;
         }
         place = call(place, bytes, recv);
@@ -129,5 +150,6 @@ pub fn deliver(j: Judged, recv: &[u8]) -> bool {
     match j {
         Judged::Packet(delivery) => io::write_all(1, stream::payload(recv, delivery)),
         Judged::Refused(n) => n < 10,
+        Judged::Broken(_) => true,
     }
 }

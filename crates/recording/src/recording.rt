@@ -73,6 +73,7 @@ fn total_of_frame(judged: Judged) -> Total
     match judged {
         Judged::Packet(_) => Total::Packets,
         Judged::Refused(_) => Total::Refusals,
+        Judged::Broken(_) => Total::Refusals,
     }
 }
 

@@ -33,5 +33,5 @@ read-yields h f =
 pub every-cut-reads : (bs : List ℕ) {P : List Told → Held → Type 0}
     → ((recv : List ℕ) → rawLimit ≤ length recv → (ts : List Told) (d : Held) → (ts, d) ≡ readAll (held fresh recv) bs → P ts d) → EveryCut bs P
 every-cut-reads bs f recv r pieces cut =
-    yields-so (read-yields (held fresh recv) (record { stored = refl; raw = omega arith; room = r }) pieces)
+    yields-so (read-yields (held fresh recv) (record { stored = refl; raw = omega arith; place = omega arith; room = r }) pieces)
     λ ts d e. f recv r ts d (e ∙ ap (readAll (held fresh recv)) cut)

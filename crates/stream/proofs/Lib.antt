@@ -1,3 +1,4 @@
+pub mod Places
 pub mod Fine
 pub mod Runs
 pub mod Turning
@@ -7,5 +8,6 @@ pub mod Streaming
 pub mod Cutting
 pub mod Delivery
 pub mod Shown
+pub mod Remembered
 pub mod Numbers
 pub mod Determined

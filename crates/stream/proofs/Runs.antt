@@ -1,12 +1,12 @@
 -- Laws of runs of bytes up to a flag (what a loop over them needs: crates/base/proofs/UpTo.antt).
 -- store-more, store-done        a turn of the loop that stores, and its end
--- counted-is                    the counts behind a run
+-- counted-is, counted-room      the counts behind a run
 -- before-stops, before-rest, before-stop, no-flag-before   what stands behind a run, and what is not in it
 -- gather-found, gather-none     what the calls of `gather` leave together
 use Prim.Native.Nat.{ℕ, zero, suc, _+_, _-_, _≤_, _<_, min}
 use native.Mathlib.Omega.{arith}
-use mathlib.Core.Path.{_≡_, refl, sym, _∙_, ap, ap₂}
-use mathlib.Core.Bool.{Bool, true}
+use mathlib.Core.Path.{_≡_, refl, sym, _∙_, ap, ap₂, subst}
+use mathlib.Core.Bool.{Bool, true, false}
 use mathlib.Core.List.{List, [], _∷_, _++_, append-nil}
 use lib.ListN.{length, take, drop, getD, set, length-append}
 use lib.Seq.{sets, take-all, take-at, length-take-le}
@@ -32,15 +32,23 @@ module _ (l r : List ℕ) (at i : ℕ) {t : List ℕ} (inv : sets r (at + i) (be
 
 -- ---- the counts
 pub counted-is : (f : Frame) (n : ℕ) {k s : ℕ} → f .opened ≡ true → f .raw ≤ suc rawLimit → k ≡ min n (suc rawLimit - f .raw) → s ≡ min (f .raw + k) rawLimit
-    → _≡_ {A = Frame} (record { opened = true; raw = f .raw + k; stored = s }) (counted f n)
+    → _≡_ {A = Frame} (record { opened = true; raw = f .raw + k; stored = s; place = f .place }) (counted f n)
 counted-is f n {k} {s} o h e q =
-    (λ i. record { opened = true; raw = raw i; stored = stored i }) ∙ ap (λ (b : Bool). countedBy b f n) (sym o)
+    (λ i. record { opened = true; raw = raw i; stored = stored i; place = f .place }) ∙ ap (λ (b : Bool). countedBy b f n) (sym o)
   where
     raw : f .raw + k ≡ min (f .raw + n) (suc rawLimit)
     raw = omega arith
 
     stored : s ≡ min (f .raw + n) rawLimit
     stored = omega arith
+
+-- what is counted as stored has room
+pub counted-room : (f : Frame) (n : ℕ) {g : Frame} {room : ℕ} → g ≡ counted f n → f .stored ≡ min (f .raw) rawLimit → rawLimit ≤ room → g .stored ≤ room
+counted-room f n {g} {room} e s h = subst (λ (x : Frame). x .stored ≤ room) (sym e) (go (f .opened))
+  where
+    go : (o : Bool) → countedBy o f n .stored ≤ room
+    go true = omega arith
+    go false = omega arith
 
 -- ---- the bytes before the first flag, in parts
 pub before-found : (l : List ℕ) (n : ℕ) → length (before (take n l)) < length (take n l) → before (take n l) ≡ before l

@@ -13,16 +13,25 @@ use lib.Seq.{append-snoc, take-all, take-at, take-append-le, set-append-seam}
 use lib.Dec.{eqb, ltb}
 use borrow.Author.Tests.{ne-eqb, ltb-true, ltb-false}
 use Rattle.base.specs.Calls.{tell}
-use Rattle.packet.specs.Escape.{flag}
+use Rattle.packet.specs.Escape.{flag, wrongFrom, wrongAt, last, byteBefore}
 use Rattle.packet.specs.Contents.{rawLimit}
 use Rattle.packet.specs.Frame.{Closed, judge, closed}
+use Rattle.packet.proofs.Places.{wrong-append}
 use Rattle.packet.proofs.Judging.{closed-over, judge-long, judge-is, length-closed}
 use Rattle.stream.specs.Reader.{Reading, waiting, inside, readAt, read, reads}
-use Rattle.stream.specs.Called.{held, begun, store, shut, takeBy, takeByte, readAll, heldOf}
+use Rattle.stream.specs.Called.{held, begun, noticed, store, shut, takeBy, takeByte, readAll, heldOf}
+use Rattle.stream.proofs.Places.{before-last}
 
-in-frame : (rs j : List ℕ) (n m : ℕ) (l : List ℕ) → n ≡ min (length rs) (suc rawLimit) → m ≡ min (length rs) rawLimit → l ≡ take rawLimit rs ++ j
-    → held (record { opened = true; raw = n; stored = m }) l ≡ heldOf (inside rs) j
-in-frame rs j n m l p q r = λ i. held (record { opened = true; raw = p i; stored = q i }) (r i)
+in-frame : (rs j : List ℕ) (n m place : ℕ) (l : List ℕ) → n ≡ min (length rs) (suc rawLimit) → m ≡ min (length rs) rawLimit
+    → place ≡ wrongAt (take rawLimit rs) → l ≡ take rawLimit rs ++ j
+    → held (record { opened = true; raw = n; stored = m; place = place }) l ≡ heldOf (inside rs) j
+in-frame rs j n m place l p q w r = λ i. held (record { opened = true; raw = p i; stored = q i; place = w i }) (r i)
+
+-- a byte more behind raw bytes: what is noticed of it is the place of all
+noticed-last : (rs : List ℕ) (b : ℕ) → noticed (wrongAt rs) (last 0 rs) (length rs) (b ∷ []) ≡ wrongAt (rs ++ b ∷ [])
+noticed-last rs b =
+    let z : 0 + length rs ≡ length rs = omega arith in
+    sym (wrong-append rs (b ∷ []) 0 0 (λ e. absurd (omega (arith, e))) ∙ ap (λ (n : ℕ). noticed (wrongAt rs) (last 0 rs) n (b ∷ [])) z)
 
 -- what is shown after a byte
 Shown : Bool → Reading → List ℕ → ℕ → Type 0
@@ -43,7 +52,9 @@ shown-store true rs (x ∷ j) b e h =
     let n : length (rs ++ b ∷ []) ≡ length rs + 1 = length-append rs (b ∷ []) in
     let u : take rawLimit (rs ++ b ∷ []) ≡ rs ++ b ∷ [] = take-all rawLimit (rs ++ b ∷ []) (omega arith) in (
       j,
-      in-frame (rs ++ b ∷ []) j _ _ _ (omega arith) (omega arith)
+      in-frame (rs ++ b ∷ []) j _ _ _ _ (omega arith) (omega arith)
+          ((λ i. noticed (wrongAt (t i)) (byteBefore (m i) (t i ++ x ∷ j)) (m i) (b ∷ []))
+          ∙ (λ i. noticed (wrongAt rs) (before-last rs (x ∷ j) i) (length rs) (b ∷ [])) ∙ noticed-last rs b ∙ ap wrongAt (sym u))
           ((λ i. set (t i ++ x ∷ j) (m i) b) ∙ set-append-seam rs x j b ∙ sym (append-snoc rs b j) ∙ ap (λ y. y ++ j) (sym u)),
       omega (arith, h, length-append (take rawLimit rs) (x ∷ j), length-append (take rawLimit (rs ++ b ∷ [])) j, ap length t, ap length u),
     )
@@ -51,7 +62,7 @@ shown-store false rs j b e h =
     let l : rawLimit ≤ min (length rs) (suc rawLimit) = ltb-false _ _ e in
     let n : length (rs ++ b ∷ []) ≡ length rs + 1 = length-append rs (b ∷ []) in
     let s : take rawLimit rs ≡ take rawLimit (rs ++ b ∷ []) = sym (take-append-le rawLimit rs (b ∷ []) (omega arith)) in
-    (j, in-frame (rs ++ b ∷ []) j (suc rawLimit) rawLimit (take rawLimit rs ++ j) (omega arith) (omega arith) (ap (λ x. x ++ j) s), subst (λ x. rawLimit ≤ length (x ++ j)) s h)
+    (j, in-frame (rs ++ b ∷ []) j (suc rawLimit) rawLimit (wrongAt (take rawLimit rs)) (take rawLimit rs ++ j) (omega arith) (omega arith) (ap wrongAt s) (ap (λ x. x ++ j) s), subst (λ x. rawLimit ≤ length (x ++ j)) s h)
 
 shown-shut : (o : Bool) (x : ℕ) (xs j : List ℕ) → ltb rawLimit (min (length (x ∷ xs)) (suc rawLimit)) ≡ o → rawLimit ≤ length (take rawLimit (x ∷ xs) ++ j)
     → (k : List ℕ) × (shut false (heldOf (inside (x ∷ xs)) j) ≡ (some (judge (x ∷ xs)), held begun k)) × (rawLimit ≤ length k)
@@ -70,7 +81,7 @@ shown-shut false x xs j e h =
     (closed r n .recv, (λ i. (some ((judge-is r n l (omega arith) ∙ ap judge u) i), held begun (closed r n .recv))), rw length-closed h)
 
 shown-by : (t : Bool) (r : Reading) (j : List ℕ) (b : ℕ) → rawLimit ≤ length (heldOf r j .recv) → Shown t r j b
-unfolding Shown
+unfolding Shown wrongFrom
 shown-by true waiting j b h = (j, refl, h)
 shown-by false waiting j b h = (j, refl, h)
 shown-by true (inside []) j b h = (j, refl, h)

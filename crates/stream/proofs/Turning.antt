@@ -11,13 +11,14 @@ use mathlib.Core.Path.{_≡_, refl, sym, _∙_, ap, subst}
 use mathlib.Core.Bool.{Bool, true, false, not, _&&_, false≢true}
 use mathlib.Core.List.{List, [], _∷_, _++_}
 use mathlib.Core.Option.{Option, some, none}
-use lib.ListN.{length, take, drop, set}
+use lib.ListN.{length, take, drop, set, length-take}
 use lib.Seq.{sets, length-sets, take-nil, drop-drop}
 use lib.Dec.{eqb, ltb, leb}
 use borrow.Author.Tests.{eq-eqb, ne-eqb, ltb-true, ltb-false, le-leb, lt-leb}
 use Rattle.base.specs.Calls.{unless, oneMore, after}
 use Rattle.base.proofs.Calls.{after-none, after-one, after-more, after-after}
 use Rattle.base.proofs.Lists.{over}
+use Rattle.base.proofs.Tests.{by-le}
 use Rattle.packet.specs.Contents.{rawLimit}
 use Rattle.packet.specs.Escape.{flag, NoFlag}
 use Rattle.packet.specs.Frame.{Told, refusal, judged, Closed, closed, judging}
@@ -28,46 +29,62 @@ use Rattle.stream.specs.declared.frame.Frame.{Frame}
 use Rattle.stream.specs.declared.frame.Read.{Read}
 use Rattle.stream.specs.declared.frame.Turn.{Turn}
 use Rattle.stream.specs.declared.frame.Heard.the-variants.{More, Said}
-use Rattle.stream.specs.Called.{Held, held, begun, store, shut, takeBy, readOn, sound, readBy, readCall, readOf, ReadIs, Fine}
-use Rattle.stream.specs.Private.{before, countedBy, counted, gatheredBy, gathered, closes, TurnBy, TurnIs}
+use Rattle.stream.specs.Called.{Held, held, begun, placeLimit, noticed, lastRaw, store, shut, takeBy, readOn, sound, readBy, readCall, readOf, ReadIs, Fine}
+use Rattle.stream.specs.Private.{before, countedBy, counted, placed, looked, gatheredBy, gathered, closes, TurnBy, TurnIs}
+use Rattle.stream.proofs.Places.{noticed-none, noticed-more, noticed-within, before-some, before-stored, seenBy, looked-is}
 use Rattle.stream.proofs.Fine.{fine-is, fine-take}
 use Rattle.stream.proofs.Runs.{before-rest, before-stop, before-stops, no-flag-before}
 
 -- the state behind a run
 abbrev pub ran : Held → List ℕ → Held
-ran h xs = held (counted (h .st) (length xs)) (gathered (h .st) xs (h .recv))
+ran h xs = held (placed (counted (h .st) (length xs)) (seenBy (h .st .opened) h xs)) (gathered (h .st) xs (h .recv))
 
 -- ---- one byte more
-same-frame : {o : Bool} {r r′ s s′ : ℕ} {l l′ : List ℕ} → r ≡ r′ → s ≡ s′ → l ≡ l′
-    → held (record { opened = o; raw = r; stored = s }) l ≡ held (record { opened = o; raw = r′; stored = s′ }) l′
-same-frame {o} p q e = λ i. held (record { opened = o; raw = p i; stored = q i }) (e i)
+-- state and buffer from their parts
+abbrev parts : Bool → ℕ → ℕ → ℕ → List ℕ → Held
+parts o raw stored place recv = held (record { opened = o; raw = raw; stored = stored; place = place }) recv
 
-ran-store : (t : Bool) (raw stored : ℕ) (recv : List ℕ) (b : ℕ) (xs : List ℕ) → ltb raw rawLimit ≡ t
-    → ran (store t (held (record { opened = true; raw = raw; stored = stored }) recv) b) xs ≡ ran (held (record { opened = true; raw = raw; stored = stored }) recv) (b ∷ xs)
-ran-store true raw stored recv b xs e =
+same-parts : {o : Bool} {r r′ s s′ p p′ : ℕ} {l l′ : List ℕ} → r ≡ r′ → s ≡ s′ → p ≡ p′ → l ≡ l′ → parts o r s p l ≡ parts o r′ s′ p′ l′
+same-parts {o} r s p l = λ i. parts o (r i) (s i) (p i) (l i)
+
+ran-store : (t : Bool) (raw stored place : ℕ) (recv : List ℕ) (b : ℕ) (xs : List ℕ) → rawLimit ≤ length recv → ltb raw rawLimit ≡ t
+    → ran (store t (parts true raw stored place recv) b) xs ≡ ran (parts true raw stored place recv) (b ∷ xs)
+ran-store true raw stored place recv b xs room e =
     let l : raw < rawLimit = ltb-true _ _ e in
     let m : min raw rawLimit ≡ raw = omega arith in
     let n : min (suc raw) rawLimit ≡ suc raw = omega arith in
     let k : rawLimit - raw ≡ suc (rawLimit - suc raw) = omega arith in
-    same-frame (omega arith) (omega arith)
+    let p : ℕ = lastRaw (parts true raw stored place recv) in
+    same-parts (omega arith) (omega arith)
+    ((λ i. noticed (noticed place p raw (b ∷ [])) (before-stored raw recv b (omega arith) i) (suc raw) (take (rawLimit - n i) xs))
+    ∙ noticed-more place p raw b (take (rawLimit - suc raw) xs) (before-some raw recv)
+    ∙ sym (ap (λ (x : ℕ). noticed place p raw (take (rawLimit - x) (b ∷ xs))) m ∙ ap (λ (x : ℕ). noticed place p raw (take x (b ∷ xs))) k))
     (ap (λ (x : ℕ). sets (set recv raw b) x (take (rawLimit - x) xs)) n
     ∙ sym (ap (λ (x : ℕ). sets recv x (take (rawLimit - x) (b ∷ xs))) m ∙ ap (λ (x : ℕ). sets recv raw (take x (b ∷ xs))) k))
-ran-store false raw stored recv b xs e =
+ran-store false raw stored place recv b xs room e =
     let l : rawLimit ≤ raw = ltb-false _ _ e in
     let m : rawLimit - min raw rawLimit ≡ 0 = omega arith in
-    same-frame (omega arith) (omega arith) (sym (ap (λ (x : ℕ). sets recv (min raw rawLimit) (take x (b ∷ xs))) m))
+    let p : ℕ = lastRaw (parts true raw stored place recv) in
+    same-parts (omega arith) (omega arith)
+    (noticed-none place (lastRaw (parts true (suc rawLimit) rawLimit place recv)) (suc rawLimit)
+    ∙ sym (ap (λ (x : ℕ). noticed place p raw (take x (b ∷ xs))) m ∙ noticed-none place p raw))
+    (sym (ap (λ (x : ℕ). sets recv (min raw rawLimit) (take x (b ∷ xs))) m))
 
-ran-none : (o : Bool) (raw stored : ℕ) (recv : List ℕ) → stored ≡ min raw rawLimit → raw ≤ suc rawLimit
-    → held (record { opened = o; raw = raw; stored = stored }) recv ≡ ran (held (record { opened = o; raw = raw; stored = stored }) recv) []
-ran-none false raw stored recv s h = refl
-ran-none true raw stored recv s h =
-    same-frame (omega arith) (omega arith) (sym (ap (λ (x : List ℕ). sets recv (min raw rawLimit) x) (take-nil (rawLimit - min raw rawLimit))))
+ran-none : (o : Bool) (raw stored place : ℕ) (recv : List ℕ) → stored ≡ min raw rawLimit → raw ≤ suc rawLimit
+    → parts o raw stored place recv ≡ ran (parts o raw stored place recv) []
+ran-none false raw stored place recv s h = refl
+ran-none true raw stored place recv s h =
+    let p : ℕ = lastRaw (parts true raw stored place recv) in
+    let n : take (rawLimit - min raw rawLimit) [] ≡ [] = take-nil (rawLimit - min raw rawLimit) in
+    same-parts (omega arith) (omega arith)
+    (sym (ap (noticed place p raw) n ∙ noticed-none place p raw))
+    (sym (ap (λ (x : List ℕ). sets recv (min raw rawLimit) x) n))
 
 -- a byte that is no flag, and the run behind it
-ran-more : (o : Bool) (raw stored : ℕ) (recv : List ℕ) (b : ℕ) (xs : List ℕ)
-    → ran (takeBy false o (held (record { opened = o; raw = raw; stored = stored }) recv) b .1) xs ≡ ran (held (record { opened = o; raw = raw; stored = stored }) recv) (b ∷ xs)
-ran-more false raw stored recv b xs = refl
-ran-more true raw stored recv b xs = ran-store (ltb raw rawLimit) raw stored recv b xs refl
+ran-more : (o : Bool) (raw stored place : ℕ) (recv : List ℕ) (b : ℕ) (xs : List ℕ) → rawLimit ≤ length recv
+    → ran (takeBy false o (parts o raw stored place recv) b .1) xs ≡ ran (parts o raw stored place recv) (b ∷ xs)
+ran-more false raw stored place recv b xs room = refl
+ran-more true raw stored place recv b xs room = ran-store (ltb raw rawLimit) raw stored place recv b xs room refl
 
 -- one byte of a call, by: is it a flag
 abbrev byteOf : Bool → Held → ℕ → List ℕ → Option Told × ℕ × Held
@@ -81,12 +98,12 @@ byte-read : (h : Held) (b : ℕ) (ys : List ℕ) → (b ≡ flag → ⊥) → re
 byte-read h b ys n = ap (λ (t : Bool). byteOf t h b ys) (ne-eqb b flag n) ∙ byte-by (h .st .opened) h b _
 
 pub run-read : (xs : List ℕ) → NoFlag xs → (h : Held) → Fine h → (cs : List ℕ) → readOn h (xs ++ cs) ≡ after (length xs) (readOn (ran h xs) cs)
-run-read [] n h f cs = ap (λ (g : Held). readOn g cs) (ran-none (h .st .opened) (h .st .raw) (h .st .stored) (h .recv) (f .stored) (f .raw)) ∙ after-none _
+run-read [] n h f cs = ap (λ (g : Held). readOn g cs) (ran-none (h .st .opened) (h .st .raw) (h .st .stored) (h .st .place) (h .recv) (f .stored) (f .raw)) ∙ after-none _
 run-read (b ∷ xs) n h f cs =
     let g : Held = takeBy false (h .st .opened) h b .1 in
     let fg : Fine g = rw (ne-eqb b flag (n .0)) at (fine-take h b f) in
     byte-read h b (xs ++ cs) (n .0) ∙ ap oneMore (run-read xs (n .1) g fg cs) ∙ after-one (length xs) (readOn (ran g xs) cs)
-    ∙ ap (λ (k : Held). after (suc (length xs)) (readOn k cs)) (ran-more (h .st .opened) (h .st .raw) (h .st .stored) (h .recv) b xs)
+    ∙ ap (λ (k : Held). after (suc (length xs)) (readOn k cs)) (ran-more (h .st .opened) (h .st .raw) (h .st .stored) (h .st .place) (h .recv) b xs (f .room))
 
 -- ---- the flag behind it
 flag-read : (h : Held) (ys : List ℕ) → readOn h (flag ∷ ys) ≡ byteOf true h flag ys
@@ -117,32 +134,52 @@ pub flag-opens : (h : Held) (ys : List ℕ) → closes (h .st) ≡ false → rea
 flag-opens h ys c = flag-read h ys ∙ opens-by (h .st .opened) (eqb (h .st .raw) 0) h ys refl refl c
 
 -- a run keeps what 10 and 11 ask
-fine-by : (o : Bool) (h : Held) → Fine h → (xs : List ℕ) → Fine (held (countedBy o (h .st) (length xs)) (gatheredBy o (h .st .raw) xs (h .recv)))
-fine-by false h f xs = f
+seen-within : (h : Held) → Fine h → (xs : List ℕ) → seenBy true h xs ≤ placeLimit
+seen-within h f xs =
+    let n : ℕ = rawLimit - min (h .st .raw) rawLimit in
+    by-le (h .st .raw) rawLimit
+    (λ k. noticed-within (h .st .place) (lastRaw h) (h .st .raw) (take n xs) (f .place) (omega (arith, length-take n xs)))
+    (λ k.
+    let z : n ≡ 0 = omega arith in
+    subst (λ (m : ℕ). noticed (h .st .place) (lastRaw h) (h .st .raw) (take m xs) ≤ placeLimit) (sym z)
+    (rw (noticed-none (h .st .place) (lastRaw h) (h .st .raw)) (f .place)))
+
+fine-by : (o : Bool) (h : Held) → Fine h → (xs : List ℕ)
+    → Fine (held (placed (countedBy o (h .st) (length xs)) (seenBy o h xs)) (gatheredBy o (h .st .raw) xs (h .recv)))
+fine-by false h f xs = record { stored = f .stored; raw = f .raw; place = f .place; room = f .room }
 fine-by true h f xs = record {
   stored = omega arith;
   raw = omega arith;
+  place = seen-within h f xs;
   room = rw (length-sets (h .recv) (min (h .st .raw) rawLimit) (take (rawLimit - min (h .st .raw) rawLimit) xs)) (f .room);
 }
 
 -- ---- a turn: n bytes before the first flag of l
 module _ (h : Held) (f : Fine h) (l : List ℕ) (some-bytes : 0 < length l) {n : ℕ} {g : Frame} {k : List ℕ}
     (en : n ≡ length (before l)) (eg : g ≡ counted (h .st) n) (ek : k ≡ gathered (h .st) (before l) (h .recv)) where
-  is-ran : held g k ≡ ran h (before l)
-  is-ran = λ i. held ((eg ∙ ap (counted (h .st)) en) i) (ek i)
+  is-counted : g ≡ counted (h .st) (length (before l))
+  is-counted = eg ∙ ap (counted (h .st)) en
 
-  fine-turn : Fine (held g k)
-  fine-turn = subst Fine (sym is-ran) (fine-by (h .st .opened) h f (before l))
+  fine-turn : Fine (ran h (before l))
+  fine-turn = fine-by (h .st .opened) h f (before l)
 
   -- the call, behind the run
-  behind : readOn h l ≡ after n (readOn (held g k) (drop n l))
+  behind : readOn h l ≡ after n (readOn (ran h (before l)) (drop n l))
   behind =
       ap (readOn h) (before-rest l) ∙ run-read (before l) (no-flag-before l) h f (drop (length (before l)) l)
-      ∙ (λ i. after (sym en i) (readOn (sym is-ran i) (drop (sym en i) l)))
+      ∙ (λ i. after (sym en i) (readOn (ran h (before l)) (drop (sym en i) l)))
 
-  pub turn-end : n ≡ length l → TurnIs h l (record { done = false; heard = More; taken = n; frame = g }) k
-  turn-end e =
-      record { means = behind; some = omega arith; within = omega arith; again = fine-is (held g k) fine-turn }
+  -- the state's place counts only where the piece ends here: a flag forgets it
+  pub turn-end : {g′ : Frame} → g′ ≡ looked g k (h .st .stored) → n ≡ length l → TurnIs h l (record { done = false; heard = More; taken = n; frame = g′ }) k
+  turn-end {g′} e′ e =
+      let is : ran h (before l) ≡ held g′ k =
+      sym (λ i. held ((e′ ∙ (λ j. looked (is-counted j) (ek j) (h .st .stored)) ∙ looked-is (h .st .opened) h f (before l)) i) (ek i)) in
+      record {
+        means = behind ∙ ap (λ (x : Held). after n (readOn x (drop n l))) is;
+        some = omega arith;
+        within = omega arith;
+        again = fine-is (held g′ k) (subst Fine is fine-turn);
+      }
 
   module _ (stop : n ≡ length l → ⊥) where
     short : n < length l
@@ -155,11 +192,15 @@ module _ (h : Held) (f : Fine h) (l : List ℕ) (some-bytes : 0 < length l) {n :
         → (j ≡ judged (judging k (g .raw) .told)) × (k′ ≡ judging k (g .raw) .recv)
         → TurnIs h l (record { done = true; heard = Said j; taken = n + 1; frame = g′ }) k′
     turn-answer {j} {k′} {g′} c eb e =
-        let is = judging-is k (g .raw) (fine-turn .raw) (fine-turn .room) in
+        let r = ran h (before l) in
+        let raw : r .st .raw ≡ g .raw = ap (λ (x : Frame). x .raw) (sym is-counted) in
+        let shuts : closes (r .st) ≡ true = ap (λ (x : Frame). closes x) (sym is-counted) ∙ c in
+        let is = judging-is k (g .raw) (subst (λ (m : ℕ). m ≤ suc rawLimit) raw (fine-turn .raw)) (subst (λ (x : List ℕ). rawLimit ≤ length x) (sym ek) (fine-turn .room)) in
         let ej = e .0 ∙ ap (λ (x : Closed). judged (x .told)) is in
         let er = e .1 ∙ ap (λ (x : Closed). x .recv) is in
         let told : readOn h l ≡ (some (closed k (g .raw) .told), n + 1, held begun (closed k (g .raw) .recv)) =
-        behind ∙ ap (λ (x : List ℕ). after n (readOn (held g k) x)) at-flag ∙ ap (after n) (flag-closes (held g k) (drop (n + 1) l) c) in
+        behind ∙ ap (λ (x : List ℕ). after n (readOn r x)) at-flag ∙ ap (after n) (flag-closes r (drop (n + 1) l) shuts)
+        ∙ (λ i. (some (closed (sym ek i) (raw i) .told), n + 1, held begun (closed (sym ek i) (raw i) .recv))) in
         record {
           means = ((λ i. record { heard = Said (ej i); taken = n + 1; frame = eb i }) ∙ ap readOf (sym told), er ∙ ap (λ (x : Option Told × ℕ × Held). x .2 .recv) (sym told));
           some = omega arith;
@@ -171,7 +212,9 @@ module _ (h : Held) (f : Fine h) (l : List ℕ) (some-bytes : 0 < length l) {n :
     turn-opens {g′} c eb =
         record {
           means =
-              behind ∙ ap (λ (x : List ℕ). after n (readOn (held g k) x)) at-flag ∙ ap (after n) (flag-opens (held g k) (drop (n + 1) l) c)
+              behind ∙ ap (λ (x : List ℕ). after n (readOn (ran h (before l)) x)) at-flag
+              ∙ ap (after n) (flag-opens (ran h (before l)) (drop (n + 1) l) (ap (λ (x : Frame). closes x) (sym is-counted) ∙ c))
+              ∙ ap (λ (x : List ℕ). after n (oneMore (readOn (held begun x) (drop (n + 1) l)))) (sym ek)
               ∙ after-more n (readOn (held begun k) (drop (n + 1) l)) ∙ ap (λ (b : Frame). after (n + 1) (readOn (held b k) (drop (n + 1) l))) (sym eb);
           some = omega arith;
           within = omega (arith, short);

@@ -1,6 +1,7 @@
 -- The reader as it is called (paper 01, "Opportunistic channel" on the receive buffer and on calls): its state and the lent receive
 -- buffer go in and come back, and one call gives at most one answer.
 -- Held               state and receive buffer
+-- noticed            the place of the first wrong byte behind 7D, remembered
 -- takeByte           one byte
 -- readAll            what a byte string means: its answers, and state and buffer behind it
 -- readCall, ReadIs   one call, and that the code's results are those
@@ -9,16 +10,17 @@
 -- ThereHeld          that a delivered payload stands in the buffer
 -- inUse              the final state that counts
 -- heldOf             the state of the reader without a limit, in numbers and the buffer
-use Prim.Native.Nat.{ℕ, suc, _≤_, min}
+use Prim.Native.Nat.{ℕ, suc, _-_, _≤_, min}
 use mathlib.Core.Path.{_≡_}
 use mathlib.Core.Bool.{Bool, true, false, _&&_}
-use mathlib.Core.List.{List, _++_}
+use mathlib.Core.List.{List, [], _∷_, _++_}
 use mathlib.Core.Option.{Option, some, none}
 use lib.ListN.{length, take, set}
 use lib.Dec.{eqb, ltb, leb}
 use Rattle.base.specs.Calls.{joined, owesNone, handsNone, all, hear, Yields}
+use Rattle.base.specs.Choice.{pick}
 use Rattle.packet.specs.Contents.{rawLimit}
-use Rattle.packet.specs.Escape.{flag}
+use Rattle.packet.specs.Escape.{flag, wrongFrom, wrongAt, byteBefore}
 use Rattle.packet.specs.Frame.{Told, refusal, judged, closed, There}
 use Rattle.stream.specs.Reader.{Reading, waiting, inside}
 use Rattle.stream.specs.declared.frame.Frame.{Frame}
@@ -35,18 +37,32 @@ pub record Held : Type 0 where
 abbrev pub held : Frame → List ℕ → Held
 held f recv = record { st = f; recv = recv }
 
--- fresh: waiting for a flag, counts zero
+-- fresh: waiting for a flag, counts zero, no place remembered
 abbrev pub fresh : Frame
-fresh = record { opened = false; raw = 0; stored = 0 }
+fresh = record { opened = false; raw = 0; stored = 0; place = 0 }
 
--- behind a flag: counts zero
+-- behind a flag: counts zero, no place remembered
 abbrev pub begun : Frame
-begun = record { opened = true; raw = 0; stored = 0 }
+begun = record { opened = true; raw = 0; stored = 0; place = 0 }
 
--- a raw byte of a frame is stored, 8,205 of them at most; a raw count of 8,206 means "over"
+-- the place of the last raw byte that is stored
+abbrev pub placeLimit : ℕ
+placeLimit = rawLimit - 1
+
+-- the place remembered behind more raw bytes, the first of them at `at` and the byte p before it: the first one stays
+abbrev pub noticed : ℕ → ℕ → ℕ → List ℕ → ℕ
+noticed place p at bs = pick (eqb place 0) (wrongFrom p at bs) place
+
+-- the last raw byte, 0 where there is none
+abbrev pub lastRaw : Held → ℕ
+lastRaw h = byteBefore (h .st .raw) (h .recv)
+
+-- a raw byte of a frame is stored and looked at, 8,205 of them at most; a raw count of 8,206 means "over"
 abbrev pub store : Bool → Held → ℕ → Held
-store true h b = held (record { opened = true; raw = suc (h .st .raw); stored = suc (h .st .raw) }) (set (h .recv) (h .st .raw) b)
-store false h b = held (record { opened = true; raw = suc rawLimit; stored = rawLimit }) (h .recv)
+store true h b =
+    held (record { opened = true; raw = suc (h .st .raw); stored = suc (h .st .raw); place = noticed (h .st .place) (lastRaw h) (h .st .raw) (b ∷ []) })
+    (set (h .recv) (h .st .raw) b)
+store false h b = held (record { opened = true; raw = suc rawLimit; stored = rawLimit; place = h .st .place }) (h .recv)
 
 -- the closing flag, by: is there nothing between two flags
 abbrev pub shut : Bool → Held → Option Told × Held
@@ -72,14 +88,15 @@ readAll = all owesNone handsNone takeByte
 abbrev pub readOn : Held → List ℕ → Option Told × ℕ × Held
 readOn = hear owesNone handsNone takeByte
 
--- 10: stored bytes other than the raw count or 8,205, whichever is less; raw count above 8,206
+-- 10: stored bytes other than the raw count or 8,205, whichever is less; raw count above 8,206; remembered place above 8,204
 abbrev pub sound : Frame → Bool
-sound f = eqb (f .stored) (min (f .raw) rawLimit) && leb (f .raw) (suc rawLimit)
+sound f = eqb (f .stored) (min (f .raw) rawLimit) && (leb (f .raw) (suc rawLimit) && leb (f .place) placeLimit)
 
 -- state and buffer pass 10 and 11
 pub record Fine (h : Held) : Type 0 where
   pub stored : h .st .stored ≡ min (h .st .raw) rawLimit
   pub raw : h .st .raw ≤ suc rawLimit
+  pub place : h .st .place ≤ placeLimit
   pub room : rawLimit ≤ length (h .recv)
 
 -- by: does it pass 10, does it pass 11 (receive buffer under 8,205 bytes)
@@ -119,7 +136,10 @@ ReadIs x r l = (r ≡ readOf x) × (l ≡ x .2 .recv)
 abbrev pub inUse : Held → Frame × List ℕ
 inUse h = (h .st, take (h .st .stored) (h .recv))
 
--- the raw bytes of the reader without a limit stand at the start of the buffer, up to 8,205 of them; behind them stand the bytes j
+-- the raw bytes of the reader without a limit stand at the start of the buffer, up to 8,205 of them, and the place is theirs; behind them
+-- stand the bytes j
 abbrev pub heldOf : Reading → List ℕ → Held
 heldOf waiting j = held fresh j
-heldOf (inside rs) j = held (record { opened = true; raw = min (length rs) (suc rawLimit); stored = min (length rs) rawLimit }) (take rawLimit rs ++ j)
+heldOf (inside rs) j =
+    held (record { opened = true; raw = min (length rs) (suc rawLimit); stored = min (length rs) rawLimit; place = wrongAt (take rawLimit rs) })
+    (take rawLimit rs ++ j)

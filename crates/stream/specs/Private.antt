@@ -1,6 +1,7 @@
 -- What private functions alone are promised by: what the code does run by run, from flag to flag.
 -- before     the bytes before the first flag
--- counted    the state after n raw bytes more
+-- counted    the state's counts after n raw bytes more
+-- looked     the state after the stored bytes from a place on are looked at
 -- gathered   the receive buffer after raw bytes more
 -- TurnIs     what a run and its flag give
 use Prim.Native.Nat.{ℕ, suc, _+_, _-_, _≤_, _<_, min}
@@ -13,8 +14,8 @@ use lib.Seq.{sets}
 use Rattle.base.specs.UpTo.{upTo}
 use Rattle.base.specs.Calls.{after}
 use Rattle.packet.specs.Contents.{rawLimit}
-use Rattle.packet.specs.Escape.{flag}
-use Rattle.stream.specs.Called.{Held, held, readOn, sound, ReadIs}
+use Rattle.packet.specs.Escape.{flag, byteBefore}
+use Rattle.stream.specs.Called.{Held, held, noticed, readOn, sound, ReadIs}
 use Rattle.stream.specs.declared.frame.Frame.{Frame}
 use Rattle.stream.specs.declared.frame.Turn.{Turn}
 
@@ -25,11 +26,19 @@ before bs = upTo flag bs
 -- the raw count stops at 8,206; by: is a frame open
 abbrev pub countedBy : Bool → Frame → ℕ → Frame
 countedBy false f n = f
-countedBy true f n = record { opened = true; raw = min (f .raw + n) (suc rawLimit); stored = min (f .raw + n) rawLimit }
+countedBy true f n = record { opened = true; raw = min (f .raw + n) (suc rawLimit); stored = min (f .raw + n) rawLimit; place = f .place }
 
--- the state after n raw bytes more
+-- the state's counts after n raw bytes more
 abbrev pub counted : Frame → ℕ → Frame
 counted f n = countedBy (f .opened) f n
+
+-- .. with another place
+abbrev pub placed : Frame → ℕ → Frame
+placed f place = record { opened = f .opened; raw = f .raw; stored = f .stored; place = place }
+
+-- the stored bytes from a place on are looked at
+abbrev pub looked : Frame → List ℕ → ℕ → Frame
+looked f recv from = placed f (noticed (f .place) (byteBefore from (take (f .stored) recv)) from (drop from (take (f .stored) recv)))
 
 -- as many as the limit leaves are stored; by: is a frame open
 abbrev pub gatheredBy : Bool → ℕ → List ℕ → List ℕ → List ℕ

@@ -7,7 +7,7 @@ ghost use lib.Seq.{sets};
 ghost use Rattle.packet.specs.Contents.{rawLimit};
 ghost use Rattle.packet.specs.Frame.{part};
 ghost use Rattle.stream.specs.Called.{held, fresh, begun, readOn, readCall, sound, ReadIs};
-ghost use Rattle.stream.specs.Private.{before, counted, gathered, closes, TurnIs};
+ghost use Rattle.stream.specs.Private.{before, counted, looked, gathered, closes, TurnIs};
 use base::Refusal;
 use packet::Delivery;
 use packet::Judged;
@@ -21,6 +21,8 @@ pub struct Frame {
     pub raw: usize,
     /// How many of them are stored.
     pub stored: usize,
+    /// The place of the first wrong byte behind 7D among them; 0 where there is none.
+    pub place: usize,
 }
 
 /// What a call answers.
@@ -75,6 +77,9 @@ impl Frame {
     /// The raw count that means "over".
     pub const OVER: usize = Packet::OVER;
 
+    /// The place of the last raw byte that is stored.
+    pub const PLACE: usize = Self::RAW - 1;
+
     /// Waiting for a flag.
     pub fn fresh() -> Self
         ensures { λ r. ⌜ r ≡ fresh ⌝ }
@@ -83,6 +88,7 @@ impl Frame {
             opened: false,
             raw: 0,
             stored: 0,
+            place: 0,
         }
     }
 
@@ -94,20 +100,24 @@ impl Frame {
             opened: true,
             raw: 0,
             stored: 0,
+            place: 0,
         }
     }
 
-    /// Whether no count is beyond its limit.
+    /// Whether no count is beyond its limit, nor the place.
     pub fn sound(self) -> bool
         ensures { λ r. ⌜ r ≡ sound self ⌝ }
     {
         if self.stored != base::least(self.raw, Frame::RAW) {
             return false;
         }
-        self.raw <= Frame::OVER
+        if Frame::OVER < self.raw {
+            return false;
+        }
+        self.place <= Frame::PLACE
     }
 
-    // After n raw bytes more.
+    // Counted after n raw bytes more.
     fn counted(self, n: usize) -> Self
         requires { ⌜ self .raw ≤ suc rawLimit ⌝ }
         ensures { λ r. ⌜ r ≡ counted self n ⌝ }
@@ -118,9 +128,27 @@ impl Frame {
                 opened: true,
                 raw,
                 stored: base::least(raw, Frame::RAW),
+                place: self.place,
             };
         }
         self
+    }
+
+    // The stored bytes from a place on are looked at: the first wrong one behind 7D is remembered.
+    fn looked(self, recv: &[u8], from: usize) -> Self
+        requires { ⌜ self .stored ≤ length (now recv) ⌝ }
+        ensures { λ r. ⌜ r ≡ looked self (now (recv .entry)) from ⌝ }
+    {
+        if self.place != 0 {
+            return self;
+        }
+        let n = self.stored;
+        Frame {
+            opened: self.opened,
+            raw: self.raw,
+            stored: n,
+            place: packet::wrong_behind(&recv[0..n], from),
+        }
     }
 
     // Takes the bytes before the first flag: those of a frame are stored; how many.
@@ -162,7 +190,7 @@ impl Frame {
                 done: false,
                 heard: Heard::More,
                 taken: n,
-                frame,
+                frame: frame.looked(recv, self.stored),
             };
         }
         if frame.closes() {

@@ -32,7 +32,7 @@ close-spec =
     (search needs)
     (λ c. let l = c .before .before .before .before in let a = l .before .before .before .args in both (closed-stored (a .recv .now) (a .raw) (l .before .if1 .left) (l .least .ensures) _ (sym (c .before .before .scan .ensures) ∙ c .enum-told .given .1)))
     (search needs)
-    (λ c. let l = c .before .before .before .before in let a = l .before .before .before .args in both (closed-stored (a .recv .now) (a .raw) (l .before .if1 .left) (l .least .ensures) _ (sym (c .before .before .scan .ensures) ∙ c .enum-told2 .given .1)))
+    (λ c. let l = c .before .before .before .before .before in let a = l .before .before .before .args in both (closed-stored (a .recv .now) (a .raw) (l .before .if1 .left) (l .least .ensures) _ (sym (c .before .before .before .scan .ensures) ∙ c .before .place .given .1)))
     (search needs)
     (λ c.
     let scanned = c .before .before .before .before .before .before .before .before in
@@ -40,5 +40,5 @@ close-spec =
     let a = l .before .before .before .args in
     let u = c .before .before .before .before .undo-plain .ensures in
     let r = plain-room (a .recv .now) (l .least .result) in
-    let j = both (closed-stored (a .recv .now) (a .raw) (l .before .if1 .left) (l .least .ensures) _ (sym (scanned .scan .ensures) ∙ c .before .before .before .before .before .before .enum-told3 .given .1)) in
+    let j = both (closed-stored (a .recv .now) (a .raw) (l .before .if1 .left) (l .least .ensures) _ (sym (scanned .scan .ensures) ∙ c .before .before .before .before .before .before .enum-told2 .given .1)) in
     (c .judge-contents .ensures ∙ ap (λ (x : List ℕ). judged (judgeContents x)) (laid-take u r) ∙ j .0, laid-start u r ∙ j .1)))

@@ -1,7 +1,7 @@
--- `stream::frame::Frame::sound` meets its contract.
+-- `stream::frame::Frame::sound` meets its contract: each return by the tests that led there.
 use mathlib.Core.Path.{sym, _∙_}
 use borrow.Author.Needs.{needs}
-use borrow.Author.Tests.{eq-eqb, ne-eqb}
+use Rattle.stream.proofs.Fine.{sound-stored, sound-raw, sound-place}
 use Rattle.stream.proofs.frame.Frame.sound.Statement.{statement}
 use Rattle.stream.proofs.frame.Frame.sound.Tie as tie
 
@@ -10,5 +10,6 @@ sound-spec =
     tie.close
     (tie.spec
     (search needs)
-    (λ c. simp (ne-eqb _ _ (λ e. c .if1 .taken (e ∙ sym (c .before .before .least .ensures)))))
-    (λ c. simp (eq-eqb _ _ (c .before .if1 .left ∙ c .before .before .before .least .ensures))))
+    (λ c. sound-stored (c .before .before .before .args .self) (λ e. c .if1 .taken (e ∙ sym (c .before .before .least .ensures))))
+    (λ c. sound-raw (c .before .before .before .before .before .args .self) (c .before .before .if1 .left ∙ c .before .before .before .before .least .ensures) (c .if2 .taken))
+    (λ c. sound-place (c .before .before .before .before .before .before .args .self) (c .before .before .before .if1 .left ∙ c .before .before .before .before .before .least .ensures) (c .before .if2 .left)))

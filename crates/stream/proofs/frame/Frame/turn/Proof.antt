@@ -1,10 +1,12 @@
 -- `stream::frame::Frame::turn` meets its contract: each way by the tests that led there.
-use mathlib.Core.Path.{sym, _∙_}
+use mathlib.Core.Path.{sym, subst, _∙_}
+use Prim.Native.Nat.{ℕ, _≤_}
 use native.Mathlib.Omega.{arith}
 use borrow.Author.Needs.{needs}
+use Rattle.packet.specs.Contents.{rawLimit}
 use Rattle.stream.specs.Called.{held}
 use Rattle.stream.proofs.Fine.{fine-of}
-use Rattle.stream.proofs.Runs.{before-stops}
+use Rattle.stream.proofs.Runs.{counted-room, before-stops}
 use Rattle.stream.proofs.Turning.{turn-end, turn-answer, turn-opens}
 use Rattle.stream.proofs.frame.Frame.turn.Statement.{statement}
 use Rattle.stream.proofs.frame.Frame.turn.Tie as tie
@@ -15,13 +17,21 @@ turn-spec =
     (tie.spec
     (search needs)
     (λ c κs. let start = c .before .before .before .before .before .before in fine-of (start .args .self) (start .args .recv .now) (start .pre .0) (start .pre .1) .raw)
+    (λ c κs.
+    let counted = c .before .before in
+    let g = counted .before .before .before in
+    let start = g .before .before .before .before in
+    let a = start .args in
+    let f = fine-of (a .self) (a .recv .now) (start .pre .0) (start .pre .1) in
+    counted-room (a .self) _ (counted .counted .ensures) (f .stored) (subst (λ (n : ℕ). rawLimit ≤ n) (sym (g .gather .kept .1 .0)) (f .room)))
     (search needs)
     (λ c.
-    let g = c .before .before .before .before in
+    let counted = c .before .before .before in
+    let g = counted .before .before .before in
     let start = g .before .before .before .before in
     let a = start .args in
     turn-end (held (a .self) (a .recv .now)) (fine-of (a .self) (a .recv .now) (start .pre .0) (start .pre .1)) (a .bytes .now) (start .pre .2)
-    (g .gather .ensures .0) (c .before .counted .ensures) (g .gather .ensures .1) (c .if1 .taken))
+    (g .gather .ensures .0) (counted .counted .ensures) (g .gather .ensures .1) (c .looked .ensures) (c .before .before .if1 .taken))
     (search needs)
     (search needs)
     (λ c.
