@@ -1,5 +1,5 @@
-//! The recordings of samples/: a morning of bids on the opportunistic channel, the same morning damaged on the way, and a recording
-//! that breaks off.
+//! The recordings of samples/: a morning of bids on the opportunistic channel, the same morning damaged on the way, the same in the plain
+//! stream with two escapes broken, and a recording that breaks off.
 
 use crate::channel::{self, BLOCK};
 use crate::listing;
@@ -32,7 +32,7 @@ fn stream() -> Vec<u8> {
 }
 
 /// Each recording by name.
-fn all() -> [(&'static str, Vec<u8>); 3] {
+fn all() -> [(&'static str, Vec<u8>); 4] {
     let clean = channel::in_blocks(&stream(), usize::MAX).unwrap();
     let mut damaged = clean.clone();
     // twenty bytes around the first price, beyond repair; two digits of the last price, repaired; a marker that is lost
@@ -40,11 +40,18 @@ fn all() -> [(&'static str, Vec<u8>); 3] {
     damaged[3 * BLOCK + 4 + 27] ^= 0x02;
     damaged[3 * BLOCK + 4 + 29] ^= 0x07;
     damaged.drain(BLOCK..BLOCK + 4);
+    // the byte behind 7D, in the bid with ~ and in the bid with braces
+    let mut escapes = stream();
+    for escaped in [[0x7D, 0x5E], [0x7D, 0x5D]] {
+        let at = escapes.windows(2).position(|pair| pair == escaped).unwrap();
+        escapes[at + 1] ^= 0x01;
+    }
     let mut malformed = recorded(PLAIN, &stream(), || 250);
     malformed[1 + 2 * 254 + 1] = 0x00;
     [
         ("morning", recorded(OPPORTUNISTIC, &clean, || 96)),
         ("morning-damaged", recorded(OPPORTUNISTIC, &damaged, || 96)),
+        ("morning-escapes", recorded(PLAIN, &escapes, || 250)),
         ("malformed", malformed),
     ]
 }
