@@ -21,7 +21,7 @@ use Rattle.packet.specs.Contents.{rawLimit}
 use Rattle.packet.specs.Escape.{wrongFrom, last, byteBefore, wrongBehind}
 use Rattle.packet.proofs.Escaping.{last-at}
 use Rattle.packet.proofs.Places.{wrong-append, wrong-within}
-use Rattle.stream.specs.Called.{Held, held, noticed, lastRaw, placeLimit, Fine}
+use Rattle.stream.specs.Called.{Held, noticed, lastRaw, placeLimit, Fine}
 use Rattle.stream.specs.Private.{countedBy, placed, looked, gatheredBy}
 use Rattle.stream.specs.declared.frame.Frame.{Frame}
 

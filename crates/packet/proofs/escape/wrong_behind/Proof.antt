@@ -1,6 +1,5 @@
 -- `packet::wrong_behind` meets its contract: the byte before decides which reading begins.
 use mathlib.Core.Path.{_∙_}
-use native.Mathlib.Omega.{arith}
 use borrow.Author.Needs.{needs}
 use Rattle.base.proofs.Lists.{over}
 use Rattle.packet.specs.Escape.{wrongFrom}
