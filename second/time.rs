@@ -200,6 +200,9 @@ fn race<A: PartialEq>(job: &str, words: &[Word], run: impl Fn(&Way, &Word) -> A)
     }
     let each: Vec<String> = ways.iter().zip(&took).map(|(way, t)| format!("{} {:.2} ({t:.2} s)", way.name, t * 1e6 / words.len() as f64)).collect();
     println!("{job}, {} words, microseconds a word (seconds in all): {}", words.len(), each.join(", "));
+    // what the first of them takes beside the others
+    let ratios: Vec<String> = ways.iter().zip(&took).skip(1).map(|(way, t)| format!("{:.2} times {}", took[0] / t, way.name)).collect();
+    println!("    {}: {}", ways[0].name, ratios.join(", "));
 }
 
 fn words(n: usize, places: usize) -> Vec<Word> {

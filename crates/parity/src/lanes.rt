@@ -1,4 +1,4 @@
-//! Division by the generator for 32 roots: what is left lies in four numbers of eight bytes, and changes by one step a byte.
+//! Division by the generator for 32 roots: what is left lies in four numbers of eight bytes, and two bytes go in at a turn.
 ghost use mathlib.Core.Path.{_≡_};
 ghost use mathlib.Core.List.{[], _∷_, _++_, map};
 ghost use Prim.Native.Nat.{_-_, _%_, _≤_, _<_};
@@ -15,7 +15,7 @@ struct Lanes {
     d: u64,
 }
 
-// Its roots, and the bytes that it leaves.
+// The generator's roots, and so the bytes that are left.
 pub const ROOTS: usize = 32;
 
 // The low seven bits of each of eight bytes.
@@ -24,11 +24,12 @@ const LOWS: u64 = 0x7F7F7F7F7F7F7F7F;
 const ONES: u64 = 0x0101010101010101;
 // The polynomial without x^8.
 const FOLD: u64 = (field::POLYNOMIAL % 256) as u64;
-// Seven bytes are numbers below the first of these, six below the second.
+// Seven bytes are numbers below this one.
 const SEVEN: u64 = 0x100000000000000;
-
+// Six bytes are numbers below this one.
 const SIX: u64 = 0x1000000000000;
 
+// A byte as a number of 64 bits.
 fn wide(x: u8) -> u64
     ensures { λ r. ⌜ r ≡ x ⌝ }
 {
@@ -45,6 +46,7 @@ fn double_eight(x: u64) -> u64
 }
 
 impl Lanes {
+    // Zeros.
     fn none() -> Self
         ensures { λ r. ⌜ laid r ≡ replicate laneRoots 0 ⌝ }
     {
@@ -68,6 +70,7 @@ impl Lanes {
         }
     }
 
+    // Every byte doubled.
     fn doubled(self) -> Self
         ensures { λ r. ⌜ laid r ≡ map double (laid self) ⌝ }
     {
@@ -79,6 +82,7 @@ impl Lanes {
         }
     }
 
+    // The sum, byte by byte.
     fn plus(self, o: Lanes) -> Self
         ensures { λ r. ⌜ laid r ≡ onto (laid self) (laid o) ⌝ }
     {
@@ -116,18 +120,21 @@ impl Lanes {
         }
     }
 
+    // The first byte.
     fn first(self) -> usize
         ensures { λ r. ⌜ (r ≡ getD (laid self) 0 0) × (r < 256) ⌝ }
     {
         (self.a / SEVEN) as usize
     }
 
+    // The second byte.
     fn second(self) -> usize
         ensures { λ r. ⌜ (r ≡ getD (laid self) 1 0) × (r < 256) ⌝ }
     {
         (self.a / SIX % 256) as usize
     }
 
+    // Whether every byte is zero.
     fn is_zero(self) -> bool
         ensures { λ r. ⌜ r ≡ isZero (laid self) ⌝ }
     {
@@ -198,7 +205,7 @@ fn begun(n: usize, bytes: &[u8]) -> Lanes
     l
 }
 
-// Two bytes a turn. A byte's product is that of its low half and that of its high half: of the second byte in the first two tables, of the
+// Two bytes a turn. A byte's product is that of its low half and that of its high half: for the second byte in the first two tables, for the
 // first one, which stands a place further up, in the others.
 fn divided(
     low: [Lanes; 16],
