@@ -2,6 +2,7 @@
 -- laid-plus, laid-doubled, laid-shifted, laid-first, laid-zero   sum, double, shift, the first byte, the test
 -- Upto, upto-..    the products with 0, 1, .., two more a turn
 -- tables-are, product-turn, beyond-is, twice-turn   the products of a byte's halves; a byte's product by its halves; two bytes more of a division
+-- pair-..          the bytes left are pairs
 -- left-..          the bytes handed out
 -- begun-..         the first bytes laid down
 use mathlib.Core.Path.{_≡_, refl, sym, ap, ap₂, _∙_}
@@ -345,6 +346,13 @@ twice-turn (a ∷ g) (c ∷ []) f s x y n m ef es ev ey = absurd (omega arith)
 twice-turn (a ∷ g) (c ∷ d ∷ xs) f s x y n m ef es ev ey =
     ey ∙ ap₂ (λ (p : ℕ) (w : List ℕ). onto (scale p (fed (a ∷ g) (a ∷ g) 0)) w) ef (ev ∙ ap (λ (p : ℕ). onto (scale p (a ∷ g)) (xs ++ x ∷ y ∷ [])) es)
     ∙ sym (fed-twice a g c d xs x y (omega arith))
+
+-- ---- pairs: one is left, and behind it pairs again
+pub pair-next : (i n : ℕ) → i < n → (n - i) % 2 ≡ 0 → (i + 1 < n) × (i + 2 ≤ n) × ((n - (i + 2)) % 2 ≡ 0) × (n - (i + 2) < n - i)
+pair-next i n h e = (omega arith, omega arith, omega arith, omega arith)
+
+pub pair-fits : (i n : ℕ) → i + 2 ≤ n → n < eight → Fits w64 (i + 2)
+pair-fits i n h k = record { fits = omega arith }
 
 -- ---- the bytes handed out one by one: i of them stand in l, the others are the first of xs
 module _ (i : ℕ) (l xs : List ℕ) (n : length l ≡ laneRoots) {t : List ℕ} (inv : take i l ++ take (laneRoots - i) xs ≡ t) where
