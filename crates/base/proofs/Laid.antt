@@ -2,15 +2,20 @@
 -- laid-none, laid-more, laid-append     no byte; one before others; two runs of them
 -- laid-then                             a run, and further bytes
 -- laid-start, laid-take, laid-within    from the start on, with room: what stands there then
+-- laid-copied                           bytes copied to a part that was lent
 use mathlib.Core.Path.{_≡_, refl, sym, ap, _∙_}
-use Prim.Native.Nat.{ℕ, suc, _+_, _≤_}
-use mathlib.Core.List.{List, [], _∷_, _++_}
+use Prim.Native.Nat.{ℕ, suc, _+_, _-_, _≤_}
+use mathlib.Core.List.{List, [], _∷_, _++_, append-assoc}
 use native.Mathlib.Nat.{add-zero}
 use native.Mathlib.Numerals.{add-one}
 use native.Mathlib.Omega.{arith}
-use lib.ListN.{length, take, drop, set, length-append}
-use lib.Seq.{sets, sets-eq, take-at}
+use lib.ListN.{length, take, drop, set, length-append, length-drop}
+use lib.Seq.{sets, sets-eq, take-at, drop-drop}
+use borrow.Rule.Slice.PartMut.{putMid}
 use Rattle.base.specs.Private.{Laid}
+use Rattle.base.specs.Written.{copied}
+use Rattle.base.proofs.Parts.{tail-is, tail-put}
+use Rattle.base.proofs.Writing.{copied-fits}
 
 pub laid-none : (l : List ℕ) (at : ℕ) → Laid l at [] l at
 laid-none l at = record { ends = omega arith; holds = refl }
@@ -43,3 +48,15 @@ module _ {l bs after : List ℕ} {end : ℕ} (h : Laid l 0 bs after end) (room :
 
   pub laid-within : length after ≡ length l → end ≤ length after
   laid-within e = omega arith
+
+-- the part from `at` on was lent, and came back with the bytes copied to its start
+pub laid-copied : {l bs y : List ℕ} {at : ℕ} → at + length bs ≤ length l → y ≡ copied bs (take (length l - at) (drop at l))
+    → Laid l at bs (putMid at (length l - at) l y) (at + length bs)
+laid-copied {l} {bs} {y} {at} h e =
+    let k : length bs ≤ length (drop at l) = omega (arith, length-drop at l) in
+    record {
+      ends = refl;
+      holds = tail-put at l y
+      ∙ ap (λ (z : List ℕ). take at l ++ z) (e ∙ ap (copied bs) (tail-is at l) ∙ copied-fits bs (drop at l) k ∙ ap (λ (z : List ℕ). bs ++ z) (drop-drop (length bs) at l))
+      ∙ sym (append-assoc (take at l) bs (drop (at + length bs) l)) ∙ sym (sets-eq bs l at h);
+    }

@@ -5,7 +5,7 @@
 -- accepted-is                    an accepted line is a packet that the sender takes
 use Prim.Native.Nat.{ℕ, _+_, _-_, _≤_, _<_}
 use native.Mathlib.Omega.{arith}
-use mathlib.Core.Path.{_≡_, sym, _∙_, ap, subst}
+use mathlib.Core.Path.{_≡_, refl, sym, _∙_, ap, subst}
 use mathlib.Core.Bool.{Bool, true, false, _&&_}
 use mathlib.Core.List.{List}
 use lib.Dec.{ltb}
@@ -19,13 +19,13 @@ use Rattle.base.proofs.Lists.{drop-take}
 use Rattle.base.proofs.UpTo.{up-to-take, up-to-long}
 use Rattle.base.proofs.Tests.{by-eq, by-le, by-test}
 use Rattle.packet.specs.Port.{barred}
-use Rattle.packet.specs.Contents.{payloadLimit, Packet}
+use Rattle.packet.specs.Contents.{payloadLimit, Packet, plainPacket}
 use Rattle.packet.specs.Escape.{escape}
 use Rattle.packet.proofs.Escaping.{plain-short}
 use Rattle.packet.proofs.Round.{plain-undoes}
-use Rattle.packet.proofs.Sending.{refusing-empty, refusing-long, refusing-barred, refusing-free}
-use Rattle.stream.specs.Sender.{Accepted}
-use Rattle.bid.specs.Line.{space, past, noNumber, number, port, sequence, text, isBid, lineLimit, Verdict, noBid, refused, accepted, judged, verdict}
+use Rattle.packet.proofs.Sending.{refusing-empty, refusing-long, refusing-barred, refusing-none}
+use Rattle.packet.specs.Sender.{headFits, Accepted}
+use Rattle.bid.specs.Line.{space, past, noNumber, number, port, sequence, text, isBid, lineLimit, Verdict, noBid, refused, accepted, judged, bidOf, verdict}
 use Rattle.bid.proofs.Decimal.{number-long}
 use Rattle.bid.proofs.Reading.{bid-no-port, bid-no-sequence, bid-both}
 
@@ -45,13 +45,9 @@ module _ (p : Packet) where
       unfolding judged
       judged-barred = refusing-barred p refused (accepted p) some short
 
-      pub judged-free : barred (p .port) ≡ false → judged p ≡ accepted p
+      pub judged-free : barred (p .port) ≡ false → headFits (p .format) (p .number) (length (p .key)) ≡ true → judged p ≡ accepted p
       unfolding judged
-      judged-free = refusing-free p refused (accepted p) some short
-
--- the packet of a line
-abbrev pub bidOf : List ℕ → Packet
-bidOf l = record { port = port l; sequence = sequence l; payload = text l }
+      judged-free = refusing-none p refused (accepted p) some short
 
 pub verdict-none : (l : List ℕ) → isBid l ≡ false → verdict l ≡ noBid
 unfolding verdict
@@ -142,16 +138,17 @@ not-accepted p n e = let z : _≡_ {A = ℕ} 0 1 = cc in omega arith
 same-packet : (q p : Packet) → accepted q ≡ accepted p → q ≡ p
 same-packet q p e = cc
 
-judged-is : (q p : Packet) → judged q ≡ accepted p → q .port < 65536 → q .sequence < 65536 → Bytes (q .payload) → Accepted p
-judged-is q p e h k b =
-    by-eq (length (q .payload)) 0 (λ z. absurd (not-accepted p 20 (sym (judged-empty q z) ∙ e)))
+judged-is : (to at : ℕ) (payload : List ℕ) (p : Packet) → judged (plainPacket to at payload) ≡ accepted p → to < 65536 → at < 65536 → Bytes payload → Accepted p
+judged-is to at payload p e h k b =
+    let q = plainPacket to at payload in
+    by-eq (length payload) 0 (λ z. absurd (not-accepted p 20 (sym (judged-empty q z) ∙ e)))
     (λ z.
-    by-le (length (escape (q .payload))) payloadLimit
+    by-le (length (escape payload)) payloadLimit
     (λ s.
-    by-test (barred (q .port)) (λ t. absurd (not-accepted p 22 (sym (judged-barred q z s t) ∙ e)))
+    by-test (barred to) (λ t. absurd (not-accepted p 22 (sym (judged-barred q z s t) ∙ e)))
     (λ t.
-    subst Accepted (same-packet q p (sym (judged-free q z s t) ∙ e))
-    (record { some = z; short = s; free = t; port-fits = h; sequence-fits = k; bytes = b })))
+    subst Accepted (same-packet q p (sym (judged-free q z s t refl) ∙ e))
+    (record { some = z; short = s; free = t; fits = refl; number-fits = omega arith; key-bytes = tt; port-fits = h; sequence-fits = k; bytes = b })))
     (λ s. absurd (not-accepted p 21 (sym (judged-long q z s) ∙ e))))
 
 none-accepted : (p : Packet) → noBid ≡ accepted p → ⊥
@@ -164,5 +161,5 @@ accepted-is l p b e =
     by-le noNumber (sequence l) (λ k. absurd (none-accepted p (sym (verdict-none l (bid-no-sequence l k)) ∙ e)))
     (λ k.
     let t : isBid l ≡ true = bid-both l h k in
-    judged-is (bidOf l) p (sym (verdict-bid l t) ∙ e) h k
+    judged-is (port l) (sequence l) (text l) p (sym (verdict-bid l t) ∙ e) h k
     (each-drop IsByte (length (upTo space (past space l)) + 1) (past space l) (each-drop IsByte (length (upTo space l) + 1) l b))))

@@ -13,7 +13,7 @@ use lib.ListN.{length, drop}
 use Rattle.base.specs.Choice.{pick}
 use Rattle.base.specs.UpTo.{upTo}
 use Rattle.packet.specs.Sender.{refusing}
-use Rattle.packet.specs.Contents.{Packet, payloadLimit}
+use Rattle.packet.specs.Contents.{Packet, plainPacket, payloadLimit}
 use Rattle.bid.specs.declared.Found.{Found}
 use Rattle.bid.specs.declared.Found.the-variants.{Bid, NoBid}
 
@@ -85,9 +85,13 @@ judged p = refusing p refused (accepted p)
 abbrev pub isBid : List ℕ → Bool
 isBid l = ltb (port l) noNumber && ltb (sequence l) noNumber
 
+-- the packet of a line that is a bid: everybody may read it
+abbrev pub bidOf : List ℕ → Packet
+bidOf l = plainPacket (port l) (sequence l) (text l)
+
 -- what it says of a line: where it is a bid, of its packet
 unfoldable pub verdict : List ℕ → Verdict
-verdict l = pick (isBid l) (judged (record { port = port l; sequence = sequence l; payload = text l })) noBid
+verdict l = pick (isBid l) (judged (bidOf l)) noBid
 
 -- so many first bytes of a line decide what it is: two numbers with their spaces, and a text too long by one byte
 abbrev pub lineLimit : ℕ

@@ -20,7 +20,8 @@ use Rattle.packet.specs.Frame.{broken}
 use Rattle.stream.specs.Reader.{waiting, reads}
 use Rattle.stream.specs.Called.{takeByte}
 use Rattle.stream.proofs.Remembered.{held-told}
-use Rattle.stream.specs.Sender.{Accepted, delivered, openedFrom}
+use Rattle.packet.specs.Sender.{Accepted}
+use Rattle.stream.specs.Sender.{delivered, openedFrom}
 use Rattle.channel.specs.Sender.{wordBytes, framed, sentWords, sent}
 use Rattle.channel.specs.Channel.{condition, Event, Chan, hunting, inWord, inMark, frames, blocks, losses, freshChannel, hears, answers, IsWord, carried, FirstMarker}
 use Rattle.channel.specs.declared.answer.Condition.the-variants.{Clean as clean}

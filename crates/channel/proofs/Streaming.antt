@@ -24,7 +24,8 @@ use Rattle.parity.specs.Word.{remainder}
 use Rattle.parity.proofs.Division.{length-remainder}
 use Rattle.parity.proofs.Clean.{parity-clean}
 use Rattle.stream.specs.Reader.{Reading, waiting, read, reads}
-use Rattle.stream.specs.Sender.{Accepted, rawOf, framesOf, stream, delivered, openedFrom}
+use Rattle.packet.specs.Sender.{Accepted}
+use Rattle.stream.specs.Sender.{rawOf, framesOf, stream, delivered, openedFrom}
 use Rattle.packet.specs.Contents.{Packet}
 use Rattle.stream.proofs.Accepting.{raw-bytes}
 use Rattle.stream.proofs.Streaming.{synchronised, stream-read, from-flag}

@@ -48,10 +48,10 @@ use Rattle.packet.specs.Port.{class}
 use Rattle.packet.proofs.Classes.{from-0000, from-0401, from-5100, from-5101, from-5201, from-5208, from-5300, from-7F00, from-FF00}
 use Rattle.packet.specs.Frame.{broken, delivery, judged, closed, judge, part}
 use Rattle.packet.proofs.Faults.{closed-broken, judge-broken}
-use Rattle.packet.specs.Sender.{writing}
+use Rattle.packet.specs.Sender.{Accepted, writing}
 use Rattle.packet.specs.declared.frame.Judged.the-variants.{Packet as Delivered}
 use Rattle.stream.specs.Reader.{waiting, inside, reads}
-use Rattle.stream.specs.Sender.{Accepted, rawOf, stream, delivered, appending}
+use Rattle.stream.specs.Sender.{rawOf, stream, delivered, appending}
 use Rattle.stream.proofs.Streaming.{stream-read}
 use Rattle.stream.proofs.Sending.{begin-stream, append-stream}
 use Rattle.channel.specs.Sender.{parityBytes, wordOf, fillers, filled, messagesOf, sending, sent}

@@ -32,7 +32,8 @@ use Rattle.packet.specs.Escape.{flag, BrokenAt, NoFlag}
 use Rattle.packet.specs.Frame.{Told, broken}
 use Rattle.packet.proofs.Faults.{broken-there, broken-is}
 use Rattle.stream.specs.Reader.{waiting, inside, reads}
-use Rattle.stream.specs.Sender.{Accepted, rawOf, framesOf, stream, delivered, openedFrom}
+use Rattle.packet.specs.Sender.{Accepted}
+use Rattle.stream.specs.Sender.{rawOf, framesOf, stream, delivered, openedFrom}
 use Rattle.stream.specs.Called.{Held, takeByte, readCall, heldOf, inUse as plainInUse, ThereHeld, EveryCut as EveryPlainCut}
 use Rattle.stream.proofs.Accepting.{clear}
 use Rattle.stream.proofs.Cutting.{every-cut-reads}

@@ -15,13 +15,13 @@ use Rattle.base.specs.Calls.{joined}
 use Rattle.base.specs.declared.Written.the-variants.{Wrote}
 use Rattle.packet.specs.Escape.{flag}
 use Rattle.packet.specs.Frame.{Told, delivery, judged, closed, judge, part, There}
-use Rattle.packet.specs.Sender.{frameOf, flagged, writing}
+use Rattle.packet.specs.Sender.{Accepted, frameOf, flagged, writing}
 use Rattle.packet.specs.declared.frame.Judged.the-variants.{Packet as Delivered}
 use Rattle.packet.proofs.Judging.{judge-is, payload-there}
 use Rattle.packet.proofs.Round.{raw-fits}
 use Rattle.packet.proofs.Sending.{wrote-is}
 use Rattle.stream.specs.Reader.{inside, reads}
-use Rattle.stream.specs.Sender.{Accepted, rawOf, delivered}
+use Rattle.stream.specs.Sender.{rawOf, delivered}
 use Rattle.packet.specs.Contents.{Packet}
 use Rattle.stream.proofs.Accepting.{judged-is}
 use Rattle.stream.proofs.Streaming.{behind-read}

@@ -17,18 +17,18 @@ use Rattle.base.proofs.Lists.{drop-take}
 use Rattle.base.proofs.Tests.{by-eq, by-le, by-test}
 use Rattle.base.proofs.Writing.{copied-fits, room-wrote, room-never}
 use Rattle.packet.specs.Port.{barred}
-use Rattle.packet.specs.Contents.{payloadLimit, plainLimit, Packet}
+use Rattle.packet.specs.Contents.{payloadLimit, plainLimit, Packet, plainPacket}
 use Rattle.packet.specs.Escape.{flag, escape}
 use Rattle.packet.specs.Sender.{flagged, frameOf, writing}
-use Rattle.packet.proofs.Sending.{Wrote-is, wrote-is, write-empty, write-long, write-barred, write-free}
-use Rattle.packet.proofs.Round.{raw-fits}
+use Rattle.packet.proofs.Sending.{Wrote-is, wrote-is, write-empty, write-long, write-barred, write-frame}
+use Rattle.packet.proofs.Round.{plain-fits}
 use Rattle.stream.specs.Sender.{rawOf, appending}
 use Rattle.stream.proofs.Sending.{appending-keeps}
 use Rattle.channel.specs.Sender.{marked, sending}
-use Rattle.bid.specs.Line.{port, sequence, text, reading, Verdict, refused, accepted, judged, verdict}
+use Rattle.bid.specs.Line.{text, reading, Verdict, refused, accepted, judged, bidOf, verdict}
 use Rattle.bid.specs.declared.Found.the-variants.{Bid, NoBid}
 use Rattle.bid.proofs.Reading.{text-is, bid-found, bid-missed}
-use Rattle.bid.proofs.Verdicts.{judged-empty, judged-long, judged-barred, judged-free, bidOf, verdict-none, verdict-bid}
+use Rattle.bid.proofs.Verdicts.{judged-empty, judged-long, judged-barred, judged-free, verdict-none, verdict-bid}
 use Rattle.office.specs.declared.Answer.the-variants.{Sent, NoBid as Unread, Refused}
 use Rattle.office.specs.declared.Ended.{Ended}
 use Rattle.office.specs.Desk.{endingBy}
@@ -84,7 +84,10 @@ module _ (hold out : List ℕ) (n : ℕ) (h : n ≤ length hold) (m : n ≤ hold
     put-not f = room-never (marked (wholes bs)) out fits put f
 
 -- ---- a bid
-module _ (p : Packet) (at : ℕ) (hold : List ℕ) (small : at ≤ heldLimit) (room : holdLimit ≤ length hold) where
+module _ (port sequence : ℕ) (payload : List ℕ) (at : ℕ) (hold : List ℕ) (small : at ≤ heldLimit) (room : holdLimit ≤ length hold) where
+  abbrev p : Packet
+  p = plainPacket port sequence payload
+
   abbrev frame : List ℕ
   frame = rawOf p ++ flag ∷ []
 
@@ -110,7 +113,7 @@ module _ (p : Packet) (at : ℕ) (hold : List ℕ) (small : at ≤ heldLimit) (r
       shows = wrote-is p (drop at hold) n (sym (ap (λ (o : Outcome). o .answer) e) ∙ f)
 
       is-accepted : judged p ≡ accepted p
-      is-accepted = judged-free p (shows .some) (shows .short) (shows .free)
+      is-accepted = judged-free p (shows .some) (shows .short) (shows .free) refl
 
       long : n ≡ length frame
       unfolding frameOf flagged
@@ -118,7 +121,7 @@ module _ (p : Packet) (at : ℕ) (hold : List ℕ) (small : at ≤ heldLimit) (r
 
       frame-short : length frame ≤ suc plainLimit
       frame-short =
-          omega (arith, length-append (rawOf p) (flag ∷ []), raw-fits p (shows .some) (shows .short) (shows .free))
+          omega (arith, length-append (rawOf p) (flag ∷ []), plain-fits port sequence payload (shows .short))
 
       held-is : hold′ ≡ all ++ drop (length all) hold
       unfolding frameOf flagged
@@ -172,8 +175,8 @@ module _ (p : Packet) (at : ℕ) (hold : List ℕ) (small : at ≤ heldLimit) (r
           (λ t. by-number 22 (write-barred p (drop at hold) z s t) (judged-barred p z s t))
           (λ t.
           absurd
-          (no-room (omega (arith, behind-length, length-append (rawOf p) (flag ∷ []), raw-fits p z s t))
-          (write-free p (drop at hold) z s t))))
+          (no-room (omega (arith, behind-length, length-append (rawOf p) (flag ∷ []), plain-fits port sequence payload s))
+          (write-frame p (drop at hold) z s t refl))))
           (λ s. by-number 21 (write-long p (drop at hold) z s) (judged-long p z s)))
 
       kept-is : hold′ ≡ hold
@@ -190,13 +193,12 @@ module _ (l : List ℕ) (at : ℕ) (hold : List ℕ) where
   line-asks {p} {s} {f} e = let b = bid-found l p s f e in omega (arith, b .from)
 
   pub line-bid : (out : List ℕ) {p s f : ℕ} {hold′ out′ : List ℕ} {r : Ended} → reading l ≡ Bid p s f
-      → EndedIs (endingBy (judged (record { port = p; sequence = s; payload = take (length l - f) (drop f l) })) at hold) out r hold′ out′
+      → EndedIs (endingBy (judged (plainPacket p s (take (length l - f) (drop f l)))) at hold) out r hold′ out′
       → EndedIs (endingBy (verdict l) at hold) out r hold′ out′
   line-bid out {p} {s} {f} {hold′} {out′} {r} e x =
       let b = bid-found l p s f e in
       let t : take (length l - f) (drop f l) ≡ text l = tail-is f l ∙ ap (λ (n : ℕ). drop n l) (b .from) ∙ text-is l in
-      let g : _≡_ {A = Packet} (record { port = p; sequence = s; payload = take (length l - f) (drop f l) }) (bidOf l) =
-      λ i. record { port = b .port i; sequence = b .sequence i; payload = t i } in
+      let g : plainPacket p s (take (length l - f) (drop f l)) ≡ bidOf l = λ i. plainPacket (b .port i) (b .sequence i) (t i) in
       subst (λ (v : Verdict). EndedIs (endingBy v at hold) out r hold′ out′) (ap judged g ∙ sym (verdict-bid l (b .both))) x
 
   pub line-none : (out : List ℕ) → reading l ≡ NoBid → EndedIs (endingBy (verdict l) at hold) out (record { answer = Unread; held = at }) hold out

@@ -5,6 +5,7 @@ ghost use Prim.Native.Nat.{_+_, _-_, _≤_, min};
 ghost use lib.ListN.{length, take};
 ghost use lib.Seq.{sets};
 ghost use Rattle.base.specs.Written.{outcome};
+ghost use Rattle.packet.specs.Contents.{plainPacket};
 ghost use Rattle.bid.specs.Line.{lineLimit, judged, verdict};
 ghost use Rattle.bid.specs.Input.{numbered};
 ghost use Rattle.office.specs.declared.Answer.the-variants.{Refused};
@@ -90,7 +91,7 @@ fn send(
     out: &mut [u8],
 ) -> Ended
     requires { ⌜ (held ≤ heldLimit) × (holdLimit ≤ length (now hold)) × (outLimit ≤ length (now out)) ⌝ }
-    ensures { λ r. ⌜ EndedIs (endingBy (judged (record { port = port; sequence = sequence; payload = now (text .entry) })) held (now (hold .entry))) (now (out .entry)) r (now (hold .exit)) (now (out .exit)) ⌝ }
+    ensures { λ r. ⌜ EndedIs (endingBy (judged (plainPacket port sequence (now (text .entry)))) held (now (hold .entry))) (now (out .entry)) r (now (hold .exit)) (now (out .exit)) ⌝ }
 {
     match stream::append(hold, held, port, sequence, text) {
         Written::Wrote(n) => {

@@ -8,6 +8,8 @@ use Rattle.packet.proofs.escape.wrong_behind.Kinds as wrong-behind-kind
 use Rattle.packet.proofs.escape.wrong_behind.Reads as wrong-behind-reads
 use Rattle.packet.proofs.frame.judge.Kinds as judge-kinds
 use Rattle.packet.proofs.frame.judge.Reads as judge-reads
+use Rattle.packet.proofs.sender.write_as.Kinds as write-as-kinds
+use Rattle.packet.proofs.sender.write_as.Reads as write-as-reads
 use Rattle.packet.proofs.sender.write.Kinds as write-kinds
 use Rattle.packet.proofs.sender.write.Reads as write-reads
 
@@ -19,6 +21,9 @@ wrong-behind-determined κs a z z′ ws ws′ pre p q = (same p q, refl)
 
 pub judge-determined : Determined judge-kinds.ps judge-kinds.r judge-reads.Asked judge-reads.Learnt
 judge-determined κs a z z′ ws ws′ pre p q = (same (p .0) (q .0), buffer (same (p .1) (q .1)) refl)
+
+pub write-as-determined : Determined write-as-kinds.ps write-as-kinds.r write-as-reads.Asked write-as-reads.Learnt
+write-as-determined κs a z z′ ws ws′ pre p q = (same-answer p q, skip (skip (skip (skip (skip (skip (buffer (same-output p q) refl)))))))
 
 pub write-determined : Determined write-kinds.ps write-kinds.r write-reads.Asked write-reads.Learnt
 write-determined κs a z z′ ws ws′ pre p q = (same-answer p q, skip (skip (skip (buffer (same-output p q) refl))))

@@ -1,68 +1,151 @@
 -- Laws of a closed frame.
--- body-format .. body-told          which answer format byte to last payload byte have, by facts on numbers
+-- packet-port, packet-payload, packet-is   which answer a packet has, taken apart, by facts on numbers
+-- body-format .. body-keyed         .. format byte to last payload byte
+-- fits-.., as-.., rest-..           .. as the code tests and answers it
 -- judge-short, judge-check, judge-body   .. and contents
--- payload-body                      the payload, seen from the contents
+-- key-fits, body-ways               what a key must be, and a fact of every answer
 -- closed-over, closed-as, closed-stored   the same of the raw bytes in the receive buffer
 -- judging-is, ..-over, ..-short     the call that judges, where 10 and 11 are passed and where not
 -- judge-is                          the buffer's raw bytes alone decide
 -- length-closed                     the buffer keeps its length
--- payload-there                     a delivered payload stands in the buffer
+-- payload-there                     a delivered payload stands in the buffer, and its key
 -- contents-broken                   contents alone are never refused with a place
 -- closed-keeps                      refused with 1, 2 or 3, it keeps its contents
 use mathlib.Core.Path.{_≡_, refl, sym, ap, subst, _∙_}
-use mathlib.Core.Bool.{Bool, true, false}
-use mathlib.Core.List.{List, [], _∷_, _++_, nil≢cons}
+use mathlib.Core.Bool.{Bool, true, false, _&&_}
+use mathlib.Core.List.{List, [], _∷_, _++_, nil≢cons, append-assoc}
 use mathlib.Core.Option.{some}
 use Prim.Native.Nat.{ℕ, suc, _+_, _-_, _<_, _≤_, min}
 use native.Mathlib.Omega.{arith}
-use borrow.Author.Tests.{eq-eqb, ne-eqb, lt-ltb, le-ltb, ltb-false}
-use lib.Dec.{eqb, ltb}
-use lib.ListN.{length, getD, take, drop, length-append, length-take, length-drop}
-use lib.Seq.{take-append-le, drop-append-le, length-take-le, take-all}
+use borrow.Author.Tests.{eq-eqb, ne-eqb, lt-ltb, le-ltb, eqb-true, ltb-false, leb-true}
+use lib.Dec.{eqb, ltb, leb}
+use lib.ListN.{length, getD, take, drop, length-append, length-take, length-drop, take-append-drop}
+use lib.Seq.{take-append-le, drop-append-le, length-take-le, take-all, drop-drop}
 use Rattle.base.specs.Choice.{pick}
-use Rattle.base.proofs.Lists.{drop-take}
-use Rattle.base.proofs.Tests.{by-le}
+use Rattle.base.proofs.Parts.{tail-is}
+use Rattle.base.proofs.Tests.{by-le, and-parts}
 use Rattle.fcs.specs.Fcs.{fcs}
 use Rattle.packet.specs.Port.{barred}
-use Rattle.packet.specs.Contents.{format, payloadLimit, rawLimit, wordAt, unpacked, body, payloadOf}
+use Rattle.packet.specs.Contents.{Packet, plainFormat, keyFormat, keyLeast, keyMost, keySized, payloadLimit, rawLimit, wordAt, unpacked, keyAt, keyLength, plainly, keyed, body}
 use Rattle.packet.specs.Escape.{escape, scan, plain}
-use Rattle.packet.specs.Frame.{Told, packet, refusal, broken, judged, number, Closed, kept, judgeBody, judgeContents, closedBy, closed, judging, judge, part, There}
+use Rattle.packet.specs.Frame.{Told, packet, refusal, broken, judged, number, Closed, kept, judgePacket, keyFits, judgeBody, judgeContents, closedBy, closed, judging, judge, part, There}
 use Rattle.packet.specs.declared.escape.Escapes.{Escapes}
 use Rattle.packet.specs.declared.escape.Escapes.the-variants.{Right, Unfinished, Wrong}
-use Rattle.packet.specs.declared.frame.Judged.the-variants.{Packet as Delivered}
+use Rattle.packet.specs.declared.frame.Judged.{Judged}
+use Rattle.packet.specs.declared.frame.Judged.the-variants.{Packet as Delivered, Refused}
 use Rattle.packet.proofs.Escaping.{plain-short}
 
+-- ---- a packet, taken apart
+module _ (p : Packet) where
+  pub packet-port : barred (p .port) ≡ true → judgePacket p ≡ refusal 7
+  packet-port b = rw b
+
+  module _ (free : barred (p .port) ≡ false) where
+    pub packet-payload : payloadLimit < length (escape (p .payload)) → judgePacket p ≡ refusal 8
+    packet-payload h = rw (free, lt-ltb _ _ h)
+
+    pub packet-is : length (escape (p .payload)) ≤ payloadLimit → judgePacket p ≡ packet p
+    packet-is h = rw (free, le-ltb _ _ h)
+
+  -- a fact of what is told of it, by the ways through the definition
+  packet-ways : (P : Told → Type 0) → P (refusal 7) → P (refusal 8)
+      → (barred (p .port) ≡ false → length (escape (p .payload)) ≤ payloadLimit → P (packet p)) → P (judgePacket p)
+  packet-ways P seven eight is = go (barred (p .port)) refl (ltb payloadLimit (length (escape (p .payload)))) refl
+    where
+      go : (t : Bool) → barred (p .port) ≡ t → (u : Bool) → ltb payloadLimit (length (escape (p .payload))) ≡ u
+          → P (pick t (refusal 7) (pick u (refusal 8) (packet p)))
+      go true b u h = seven
+      go false b true h = eight
+      go false b false h = is b (ltb-false _ _ h)
+
+-- ---- format byte to last payload byte
 module _ (bs : List ℕ) where
-  pub body-format : (getD bs 0 0 ≡ format → ⊥) → judgeBody bs ≡ refusal 6
+  pub body-format : (getD bs 0 0 ≡ plainFormat → ⊥) → (getD bs 0 0 ≡ keyFormat → ⊥) → judgeBody bs ≡ refusal 6
   unfolding judgeBody
-  body-format n = simp (ne-eqb _ _ n)
+  body-format n m = simp (ne-eqb _ _ n, ne-eqb _ _ m)
 
-  module _ (same : getD bs 0 0 ≡ format) where
-    pub body-port : barred (wordAt bs 1) ≡ true → judgeBody bs ≡ refusal 7
+  pub body-plain : getD bs 0 0 ≡ plainFormat → judgeBody bs ≡ judgePacket (plainly bs)
+  unfolding judgeBody
+  body-plain e = simp (eq-eqb _ _ e)
+
+  module _ (e : getD bs 0 0 ≡ keyFormat) where
+    not-plain : eqb (getD bs 0 0) plainFormat ≡ false
+    not-plain = ne-eqb (getD bs 0 0) plainFormat (λ z. absurd (omega (arith, e, z)))
+
+    pub body-key : keyFits bs ≡ false → judgeBody bs ≡ refusal 12
     unfolding judgeBody
-    body-port b = simp (eq-eqb _ _ same, b)
+    body-key k = rw (not-plain, eq-eqb _ _ e, k)
 
-    module _ (free : barred (wordAt bs 1) ≡ false) where
-      pub body-payload : payloadLimit < length (escape (drop 5 bs)) → judgeBody bs ≡ refusal 8
-      unfolding judgeBody
-      body-payload h = simp (eq-eqb _ _ same, free, lt-ltb _ _ h)
+    pub body-keyed : keyFits bs ≡ true → judgeBody bs ≡ judgePacket (keyed bs)
+    unfolding judgeBody
+    body-keyed k = rw (not-plain, eq-eqb _ _ e, k)
 
-      pub body-packet : length (escape (drop 5 bs)) ≤ payloadLimit → judgeBody bs ≡ packet (unpacked bs)
-      unfolding judgeBody
-      body-packet h = simp (eq-eqb _ _ same, free, le-ltb _ _ h)
+-- what keyFits asks, in numbers
+pub key-fits : (bs : List ℕ) → keyFits bs ≡ true → (keyLeast ≤ keyLength bs) × (keyLength bs ≤ keyMost) × (keyAt + keyLength bs + 5 ≤ length bs)
+key-fits bs e =
+    let k = keyLength bs in
+    let p = and-parts (keySized k) (leb (keyAt + k + 5) (length bs)) e in
+    let q = and-parts (leb keyLeast k) (leb k keyMost) (p .0) in
+    (leb-true _ _ (q .0), leb-true _ _ (q .1), leb-true _ _ (p .1))
 
--- the answer of a packet: of the payload the length
-pub body-told : (bs : List ℕ) {p s n : ℕ} → p ≡ wordAt bs 1 → s ≡ wordAt bs 3 → n ≡ length bs - 5
-    → Delivered (record { port = p; sequence = s; length = n }) ≡ judged (packet (unpacked bs))
-body-told bs p s n i = Delivered (record { port = p i; sequence = s i; length = (n ∙ sym (length-drop 5 bs)) i })
+-- a packet of format 0x21 or of format 0x26 that bytes are judged to be, by where it was taken from
+pub body-ways : (bs : List ℕ) (P : Told → Type 0) → P (refusal 6) → P (refusal 12) → P (refusal 7) → P (refusal 8)
+    → (getD bs 0 0 ≡ plainFormat → barred (plainly bs .port) ≡ false → length (escape (plainly bs .payload)) ≤ payloadLimit → P (packet (plainly bs)))
+    → (getD bs 0 0 ≡ keyFormat → keyFits bs ≡ true → barred (keyed bs .port) ≡ false → length (escape (keyed bs .payload)) ≤ payloadLimit → P (packet (keyed bs)))
+    → P (judgeBody bs)
+unfolding judgeBody
+body-ways bs P six twelve seven eight plain key = go (eqb (getD bs 0 0) plainFormat) refl (eqb (getD bs 0 0) keyFormat) refl (keyFits bs) refl
+  where
+    go : (t : Bool) → eqb (getD bs 0 0) plainFormat ≡ t → (u : Bool) → eqb (getD bs 0 0) keyFormat ≡ u → (v : Bool) → keyFits bs ≡ v
+        → P (pick t (judgePacket (plainly bs)) (pick u (pick v (judgePacket (keyed bs)) (refusal 12)) (refusal 6)))
+    go true e u f v g = packet-ways (plainly bs) P seven eight (plain (eqb-true _ _ e))
+    go false e true f true g = packet-ways (keyed bs) P seven eight (key (eqb-true _ _ f) g)
+    go false e true f false g = twelve
+    go false e false f v g = six
 
--- the bytes behind the opening, as a part of those lent
-pub escaped-rest : (bs : List ℕ) {n : ℕ} → n ≡ length (escape (take (length bs - 5) (drop 5 bs))) → n ≡ length (escape (drop 5 bs))
-escaped-rest bs e = e ∙ ap (λ (l : List ℕ). length (escape l)) (take-all (length bs - 5) (drop 5 bs) (omega (arith, length-drop 5 bs)))
+-- ---- the code's tests of a key
+module _ (bs : List ℕ) {k : ℕ} (e : k ≡ keyLength bs) where
+  pub fits-sized : keySized k ≡ true → leb (keyAt + k + 5) (length bs) ≡ keyFits bs
+  fits-sized t =
+      ap (λ (m : ℕ). leb (keyAt + m + 5) (length bs)) e ∙ sym (ap (λ (u : Bool). u && leb (keyAt + keyLength bs + 5) (length bs)) (ap keySized (sym e) ∙ t))
 
--- what stands behind the opening, seen from the contents
-pub payload-body : (cs : List ℕ) → drop 5 (body cs) ≡ payloadOf cs
-payload-body cs = drop-take 5 (length cs - 2) cs
+  pub fits-not : keySized k ≡ false → false ≡ keyFits bs
+  fits-not t = sym (ap (λ (u : Bool). u && leb (keyAt + keyLength bs + 5) (length bs)) (ap keySized (sym e) ∙ t))
+
+-- ---- the code's answer, by the parts that it takes apart ..
+module _ (bs : List ℕ) {j : Judged} where
+  pub as-plain : getD bs 0 0 ≡ plainFormat → j ≡ judged (judgePacket (unpacked (getD bs 0 0) 0 [] (take (length bs - 1) (drop 1 bs)))) → j ≡ judged (judgeBody bs)
+  as-plain g e = e ∙ (λ i. judged (judgePacket (unpacked (g i) 0 [] (tail-is 1 bs i)))) ∙ ap judged (sym (body-plain bs g))
+
+  pub as-keyed : {k : ℕ} → k ≡ keyLength bs → getD bs 0 0 ≡ keyFormat → keyFits bs ≡ true
+      → j ≡ judged (judgePacket (unpacked (getD bs 0 0) (getD bs 2 0) (take (keyAt + k - keyAt) (drop keyAt bs)) (take (length bs - (keyAt + k)) (drop (keyAt + k) bs))))
+      → j ≡ judged (judgeBody bs)
+  as-keyed {k} l g f e =
+      let n : keyAt + k - keyAt ≡ keyLength bs = omega arith in
+      e ∙ (λ i. judged (judgePacket (unpacked (g i) (getD bs 2 0) (take (n i) (drop keyAt bs)) (tail-is (keyAt + k) bs i))))
+      ∙ ap (λ (m : ℕ). judged (judgePacket (unpacked keyFormat (getD bs 2 0) (take (keyLength bs) (drop keyAt bs)) (drop (keyAt + m) bs)))) l
+      ∙ ap judged (sym (body-keyed bs g f))
+
+-- .. and of what stands behind the head
+module _ (format number : ℕ) (key rest : List ℕ) {port : ℕ} {bar : Bool} (w : port ≡ wordAt rest 0) (b : bar ≡ barred port) where
+  abbrev taken : Packet
+  taken = unpacked format number key rest
+
+  pub rest-port : bar ≡ true → Refused 7 ≡ judged (judgePacket taken)
+  rest-port t = ap judged (sym (packet-port taken (ap barred (sym w) ∙ sym b ∙ t)))
+
+  module _ (t : bar ≡ false) {n : ℕ} (e : n ≡ length (escape (take (length rest - 4) (drop 4 rest)))) where
+    as-escaped : n ≡ length (escape (drop 4 rest))
+    as-escaped = e ∙ ap (λ (l : List ℕ). length (escape l)) (tail-is 4 rest)
+
+    pub rest-payload : payloadLimit < n → Refused 8 ≡ judged (judgePacket taken)
+    rest-payload h = ap judged (sym (packet-payload taken (ap barred (sym w) ∙ sym b ∙ t) (omega (arith, as-escaped))))
+
+    pub rest-packet : {k s m : ℕ} → k ≡ length key → s ≡ wordAt rest 2 → m ≡ length rest - 4 → n ≤ payloadLimit
+        → Delivered (record { format = format; number = number; key = k; port = port; sequence = s; length = m }) ≡ judged (judgePacket taken)
+    rest-packet k s m h =
+        (λ i. Delivered (record { format = format; number = number; key = k i; port = w i; sequence = s i; length = (m ∙ sym (length-drop 4 rest)) i }))
+        ∙ ap judged (sym (packet-is taken (ap barred (sym w) ∙ sym b ∙ t) (omega (arith, as-escaped))))
 
 pub judge-short : (cs : List ℕ) → length cs < 8 → judgeContents cs ≡ refusal 4
 unfolding judgeContents
@@ -158,37 +241,47 @@ module _ (recv : List ℕ) (n : ℕ) where
 pub both : {c d : Closed} → c ≡ d → (judged (d .told) ≡ judged (c .told)) × (d .recv ≡ c .recv)
 both e = (ap (λ (c : Closed). judged (c .told)) (sym e), ap (λ (c : Closed). c .recv) (sym e))
 
--- ---- a delivered payload stands in the buffer
-part-there : (cs t : List ℕ) → 8 ≤ length cs → part (cs ++ t) (length (drop 5 (body cs))) ≡ drop 5 (body cs)
-part-there cs t h =
-    let b : length (body cs) ≡ length cs - 2 = length-take-le (length cs - 2) cs (omega arith) in
-    let n : length (drop 5 (body cs)) ≡ length cs - 7 = length-drop 5 (body cs) ∙ omega (arith, b) in
-    let m : length (drop 5 (body cs)) ≡ length cs - 2 - 5 = n ∙ omega arith in
-    let k : length (cs ++ t) ≡ length cs + length t = length-append cs t in
-    ap (λ (u : Bool). pick u [] (take (length (drop 5 (body cs))) (drop 5 (cs ++ t)))) (le-ltb (length (cs ++ t)) (length (drop 5 (body cs)) + 5) (omega arith))
-    ∙ ap (take (length (drop 5 (body cs)))) (drop-append-le 5 cs t (omega arith))
-    ∙ take-append-le (length (drop 5 (body cs))) (drop 5 cs) t (omega (arith, length-drop 5 cs))
-    ∙ ap (λ (m : ℕ). take m (drop 5 cs)) m ∙ sym (payload-body cs)
+-- ---- a delivered payload stands in the buffer, and so does its key
+part-in : (at n : ℕ) (bs t : List ℕ) → at + n ≤ length bs → part at n (bs ++ t) ≡ take n (drop at bs)
+part-in at n bs t h =
+    let k : length (bs ++ t) ≡ length bs + length t = length-append bs t in
+    ap (λ (u : Bool). pick u [] (take n (drop at (bs ++ t)))) (le-ltb (length (bs ++ t)) (at + n) (omega arith))
+    ∙ ap (take n) (drop-append-le at bs t (omega arith)) ∙ take-append-le n (drop at bs) t (omega (arith, length-drop at bs))
 
-there-body : (bs recv : List ℕ) → part recv (length (drop 5 bs)) ≡ drop 5 bs → There (judgeBody bs) recv
-unfolding judgeBody
-there-body bs recv h = go (eqb (getD bs 0 0) format) (barred (wordAt bs 1)) (ltb payloadLimit (length (escape (drop 5 bs))))
+-- all that stands from a place on
+part-rest : (at : ℕ) (bs t rest : List ℕ) → at ≤ length bs → rest ≡ drop at bs → part at (length rest) (bs ++ t) ≡ rest
+part-rest at bs t rest h e =
+    part-in at (length rest) bs t (omega (arith, ap length e, length-drop at bs)) ∙ ap (take (length rest)) (sym e) ∙ take-all (length rest) rest (omega arith)
+
+there-body : (bs t : List ℕ) → 6 ≤ length bs → There (judgeBody bs) (bs ++ t)
+there-body bs t h =
+    body-ways bs (λ (told : Told). There told (bs ++ t)) tt tt tt tt
+    (λ e f s. (part-rest 5 bs t (plainly bs .payload) (omega arith) (drop-drop 4 1 bs), part-in keyAt 0 bs t (omega arith)))
+    (λ e k f s. keyed-there (key-fits bs k))
   where
-    go : (kind bar long : Bool)
-        → There (pick kind (pick bar (refusal 7) (pick long (refusal 8) (packet (unpacked bs)))) (refusal 6)) recv
-    go false b l = tt
-    go true true l = tt
-    go true false true = tt
-    go true false false = h
+    k : ℕ
+    k = keyLength bs
+
+    keyed-there : (keyLeast ≤ k) × (k ≤ keyMost) × (keyAt + k + 5 ≤ length bs) → There (packet (keyed bs)) (bs ++ t)
+    keyed-there (low, high, room) =
+        let l : length (take k (drop keyAt bs)) ≡ k = length-take-le k (drop keyAt bs) (omega (arith, length-drop keyAt bs)) in
+        rw (l, ne-eqb k 0 (λ z. absurd (omega (arith, z))))
+        (part-rest (keyAt + k + 4) bs t (keyed bs .payload) (omega arith) (drop-drop 4 (keyAt + k) bs), part-in keyAt k bs t (omega arith))
 
 there-contents : (cs t : List ℕ) → There (judgeContents cs) (cs ++ t)
 unfolding judgeContents
 there-contents cs t = go (ltb (length cs) 8) (eqb (fcs (body cs)) (wordAt cs (length cs - 2))) refl
   where
+    whole : body cs ++ (drop (length cs - 2) cs ++ t) ≡ cs ++ t
+    whole = sym (append-assoc (body cs) (drop (length cs - 2) cs) t) ∙ ap (λ (l : List ℕ). l ++ t) (take-append-drop (length cs - 2) cs)
+
     go : (short right : Bool) → ltb (length cs) 8 ≡ short → There (pick short (refusal 4) (pick right (judgeBody (body cs)) (refusal 5))) (cs ++ t)
     go true r e = tt
     go false false e = tt
-    go false true e = there-body (body cs) (cs ++ t) (part-there cs t (ltb-false _ _ e))
+    go false true e =
+        let n : 8 ≤ length cs = ltb-false _ _ e in
+        let l : length (body cs) ≡ length cs - 2 = length-take-le (length cs - 2) cs (omega arith) in
+        subst (There (judgeBody (body cs))) whole (there-body (body cs) (drop (length cs - 2) cs ++ t) (omega arith))
 
 there-by : (e : Escapes) (raw recv : List ℕ) → There (closedBy e raw recv .told) (closedBy e raw recv .recv)
 unfolding closedBy
@@ -206,15 +299,9 @@ KeptBy (refusal n) after before = n ≤ 3 → after ≡ before
 KeptBy (broken n) after before = after ≡ before
 
 kept-body : (bs after before : List ℕ) → KeptBy (judgeBody bs) after before
-unfolding judgeBody
-kept-body bs after before = go (eqb (getD bs 0 0) format) (barred (wordAt bs 1)) (ltb payloadLimit (length (escape (drop 5 bs))))
-  where
-    go : (kind bar long : Bool)
-        → KeptBy (pick kind (pick bar (refusal 7) (pick long (refusal 8) (packet (unpacked bs)))) (refusal 6)) after before
-    go false b l = λ h. absurd (omega arith)
-    go true true l = λ h. absurd (omega arith)
-    go true false true = λ h. absurd (omega arith)
-    go true false false = tt
+kept-body bs after before =
+    body-ways bs (λ (told : Told). KeptBy told after before)
+    (λ h. absurd (omega arith)) (λ h. absurd (omega arith)) (λ h. absurd (omega arith)) (λ h. absurd (omega arith)) (λ e f s. tt) (λ e k f s. tt)
 
 kept-contents : (cs after before : List ℕ) → KeptBy (judgeContents cs) after before
 unfolding judgeContents

@@ -6,5 +6,6 @@ pub mod Places
 pub mod Faults
 pub mod Sending
 pub mod Round
+pub mod Only
 pub mod Numbers
 pub mod Determined

@@ -1,28 +1,33 @@
 -- The round trip: what the sender makes of a packet that it accepts is judged to be that packet.
 -- scan-right, plain-undoes   the escapes of escaped bytes are right, and undoing them gives the bytes back
 -- no-flag                    no flag stands in escaped bytes
--- raw-fits                   a packet's raw bytes are within the limit
--- round                      the round trip
-use mathlib.Core.Path.{_≡_, refl, sym, ap, _∙_}
-use mathlib.Core.Bool.{false}
+-- by-format                  a head that fits is that of one format or of the other
+-- plain-fits, raw-fits       a packet's raw bytes are within the limit, of format 0x21 and of either
+-- packed-length              format byte to last payload byte are six bytes at least
+-- judge-contents, round      the round trip
+use mathlib.Core.Path.{_≡_, refl, sym, ap, subst, _∙_}
+use mathlib.Core.Bool.{Bool, true, false, _&&_, false≢true}
 use mathlib.Core.Logic.{_≢_}
 use mathlib.Core.List.{List, [], _∷_, _++_, append-assoc, append-nil}
 use Prim.Native.Nat.{ℕ, suc, _+_, _-_, _/_, _%_, _≤_}
 use native.Mathlib.Omega.{arith}
-use borrow.Author.Tests.{ne-eqb}
-use lib.ListN.{length, take, length-append}
-use lib.Seq.{take-all, take-at, take-append-seam, getD-append-seam, getD-append-add}
+use borrow.Author.Tests.{ne-eqb, le-leb, eqb-true, leb-true}
+use lib.Dec.{eqb, leb}
+use lib.ListN.{length, take, drop, length-append}
+use lib.Seq.{take-all, take-append-seam, drop-append-seam, getD-append-seam, getD-append-add}
 use Rattle.base.specs.Bytes.{Each}
+use Rattle.base.specs.Choice.{pick}
 use Rattle.base.proofs.Bytes.{each-append}
+use Rattle.base.proofs.Tests.{and-parts}
 use Rattle.fcs.specs.Fcs.{fcs}
 use Rattle.packet.specs.Escape.{escape, escapeByte, plain, wrongFrom, scannedBy, scan, last, right, NoFlag}
-use Rattle.packet.specs.Contents.{Packet, format, payloadLimit, plainLimit, contents, withCheck, packed, two, wordAt, body}
-use Rattle.packet.specs.Port.{barred}
-use Rattle.packet.specs.Frame.{Closed, packet, judge, judgeBody, judgeContents, closedBy}
+use Rattle.packet.specs.Contents.{Packet, plainPacket, keyPacket, plainFormat, keyFormat, keyLeast, keyMost, keySized, payloadLimit, plainLimit, rawLimit, contents, withCheck, packed, unpacked, keyed, keyAt, two, wordAt, body}
+use Rattle.packet.specs.Frame.{Closed, packet, judge, judgePacket, keyFits, judgeBody, judgeContents, closedBy}
+use Rattle.packet.specs.Sender.{headFits, Accepted}
 use Rattle.packet.specs.declared.escape.Escapes.the-variants.{Right}
 use Rattle.packet.proofs.Escaping.Kind.{flag, esc, other}
-use Rattle.packet.proofs.Escaping.{Kind, kind, escape-other, escape-append, width-most}
-use Rattle.packet.proofs.Judging.{body-packet, judge-body, closed-as}
+use Rattle.packet.proofs.Escaping.{Kind, kind, escape-other, escape-append, escape-most, width-most}
+use Rattle.packet.proofs.Judging.{packet-is, body-plain, body-keyed, judge-body, closed-as}
 
 -- ---- undoing what escaping did
 plain-byte : {b : ℕ} → Kind b → (t : List ℕ) → plain (escapeByte b ++ t) ≡ b ∷ plain t
@@ -99,50 +104,153 @@ module _ (bs : List ℕ) (n : ℕ) where
   word-behind : wordAt (bs ++ two n) (length (bs ++ two n) - 2) ≡ n
   word-behind = rw (behind, getD-append-seam bs (n % 256) (n / 256 ∷ []) 0, getD-append-add bs (two n) 1 0) (omega arith)
 
--- ---- the contents of a packet, taken apart
-module _ (p : Packet) where
-  length-contents : length (contents p) ≡ length (p .payload) + 7
-  unfolding contents withCheck
-  length-contents = simp length-append (omega arith)
+-- ---- the two formats
+no-bytes : (l : List ℕ) → length l ≡ 0 → l ≡ []
+no-bytes [] e = refl
+no-bytes (b ∷ l) e = absurd (omega (arith, e))
+
+-- a head that fits is that of one format or of the other
+pub by-format : {P : Type 0} (p : Packet) → headFits (p .format) (p .number) (length (p .key)) ≡ true
+    → (p ≡ plainPacket (p .port) (p .sequence) (p .payload) → P)
+    → (p ≡ keyPacket (p .number) (p .key) (p .port) (p .sequence) (p .payload) → keyLeast ≤ length (p .key) → length (p .key) ≤ keyMost → P) → P
+by-format {P} p h plain key = go (eqb (p .format) plainFormat) refl (eqb (p .format) keyFormat) refl h
+  where
+    k : ℕ
+    k = length (p .key)
+
+    go : (t : Bool) → eqb (p .format) plainFormat ≡ t → (u : Bool) → eqb (p .format) keyFormat ≡ u
+        → pick t (eqb k 0 && eqb (p .number) 0) (pick u (keySized k) false) ≡ true → P
+    go true a u b h =
+        let q = and-parts (eqb k 0) (eqb (p .number) 0) h in
+        let f = eqb-true _ _ a in
+        let n = eqb-true _ _ (q .1) in
+        let e = no-bytes (p .key) (eqb-true _ _ (q .0)) in
+        plain (λ i. record { format = f i; number = n i; key = e i; port = p .port; sequence = p .sequence; payload = p .payload })
+    go false a true b h =
+        let q = and-parts (leb keyLeast k) (leb k keyMost) h in
+        let f = eqb-true _ _ b in
+        key (λ i. record { format = f i; number = p .number; key = p .key; port = p .port; sequence = p .sequence; payload = p .payload }) (leb-true _ _ (q .0)) (leb-true _ _ (q .1))
+    go false a false b h = absurd (false≢true h)
+
+-- ---- format byte to last payload byte, taken apart
+module _ (port sequence : ℕ) (payload : List ℕ) where
+  -- port, sequence, payload
+  abbrev rest : List ℕ
+  rest = (two port ++ two sequence) ++ payload
+
+  apart : (format number : ℕ) (key : List ℕ)
+      → unpacked format number key rest ≡ record { format = format; number = number; key = key; port = port; sequence = sequence; payload = payload }
+  apart format number key =
+      let p : wordAt rest 0 ≡ port = omega arith in
+      let s : wordAt rest 2 ≡ sequence = omega arith in
+      λ i. record { format = format; number = number; key = key; port = p i; sequence = s i; payload = payload }
+
+  pub packed-key : (number : ℕ) (key : List ℕ) → packed (keyPacket number key port sequence payload) ≡ keyFormat ∷ length key ∷ number ∷ (key ++ rest)
+  packed-key number key = ap (λ (l : List ℕ). keyFormat ∷ length key ∷ number ∷ l) (append-assoc key (two port ++ two sequence) payload)
+
+  keyed-back : (number : ℕ) (key : List ℕ) → keyed (keyFormat ∷ length key ∷ number ∷ (key ++ rest)) ≡ keyPacket number key port sequence payload
+  keyed-back number key =
+      let e : keyAt + length key ≡ suc (suc (suc (length key))) = omega arith in
+      let r : drop (keyAt + length key) (keyFormat ∷ length key ∷ number ∷ (key ++ rest)) ≡ rest =
+      ap (λ (n : ℕ). drop n (keyFormat ∷ length key ∷ number ∷ (key ++ rest))) e ∙ drop-append-seam key rest in
+      (λ i. unpacked keyFormat number (take-append-seam key rest i) (r i)) ∙ apart keyFormat number key
+
+  keyed-fits : (number : ℕ) (key : List ℕ) → (length payload ≡ 0 → ⊥) → keyLeast ≤ length key → length key ≤ keyMost
+      → keyFits (keyFormat ∷ length key ∷ number ∷ (key ++ rest)) ≡ true
+  keyed-fits number key some low high =
+      let l : keyAt + length key + 5 ≤ length (keyFormat ∷ length key ∷ number ∷ (key ++ rest)) = omega (arith, length-append key rest, some) in
+      rw (le-leb _ _ low, le-leb _ _ high, le-leb _ _ l)
+
+-- ---- a packet that the sender accepts
+module _ (p : Packet) (a : Accepted p) where
+  judge-packed : judgeBody (packed p) ≡ packet p
+  judge-packed =
+      by-format p (a .fits)
+      (λ e. ap judgeBody (ap packed e)
+      ∙ body-plain (packed (plainPacket (p .port) (p .sequence) (p .payload))) refl
+      ∙ ap judgePacket (apart (p .port) (p .sequence) (p .payload) plainFormat 0 [] ∙ sym e) ∙ packet-is p (a .free) (a .short))
+      (λ e low high.
+      let bs : List ℕ = keyFormat ∷ length (p .key) ∷ p .number ∷ (p .key ++ rest (p .port) (p .sequence) (p .payload)) in
+      ap judgeBody (ap packed e ∙ packed-key (p .port) (p .sequence) (p .payload) (p .number) (p .key))
+      ∙ body-keyed bs refl (keyed-fits (p .port) (p .sequence) (p .payload) (p .number) (p .key) (a .some) low high)
+      ∙ ap judgePacket (keyed-back (p .port) (p .sequence) (p .payload) (p .number) (p .key) ∙ sym e) ∙ packet-is p (a .free) (a .short))
+
+  pub packed-length : 6 ≤ length (packed p)
+  packed-length =
+      by-format p (a .fits)
+      (λ e. let l : length (packed p) ≡ suc (suc (suc (suc (suc (length (p .payload)))))) = ap (λ (q : Packet). length (packed q)) e in omega (arith, a .some))
+      (λ e low high.
+      let l : length (packed p) ≡ suc (suc (suc (length (p .key ++ rest (p .port) (p .sequence) (p .payload))))) =
+      ap (λ (q : Packet). length (packed q)) e ∙ ap length (packed-key (p .port) (p .sequence) (p .payload) (p .number) (p .key)) in
+      omega (arith, length-append (p .key) (rest (p .port) (p .sequence) (p .payload))))
 
   body-contents : body (contents p) ≡ packed p
   unfolding contents withCheck
   body-contents = take-behind (packed p) (fcs (packed p))
 
-  module _ (some : length (p .payload) ≡ 0 → ⊥) (short : length (escape (p .payload)) ≤ payloadLimit) (free : barred (p .port) ≡ false) where
-    judge-packed : judgeBody (packed p) ≡ packet p
-    judge-packed =
-        let q : wordAt (packed p) 1 ≡ p .port = omega arith in
-        let s : wordAt (packed p) 3 ≡ p .sequence = omega arith in
-        body-packet (packed p) refl (rw q free) short ∙ (λ i. packet (record { port = q i; sequence = s i; payload = p .payload }))
+  pub judge-contents : judgeContents (contents p) ≡ packet p
+  unfolding contents withCheck
+  judge-contents =
+      let n = fcs (packed p) in
+      judge-body (contents p) (omega (arith, length-append (packed p) (two n), packed-length)) (ap fcs body-contents ∙ sym (word-behind (packed p) n))
+      ∙ ap judgeBody body-contents ∙ judge-packed
 
-    pub judge-contents : judgeContents (contents p) ≡ packet p
-    unfolding contents withCheck
-    judge-contents =
-        judge-body (contents p) (omega (arith, length-contents)) (ap fcs body-contents ∙ sym (word-behind (packed p) (fcs (packed p))))
-        ∙ ap judgeBody body-contents ∙ judge-packed
+-- ---- the raw bytes of a packet are within the limit
+module _ (port sequence : ℕ) (payload : List ℕ) (short : length (escape payload) ≤ payloadLimit) where
+  -- port, sequence, payload, and a check
+  rest-fits : (check : ℕ) → length (escape (rest port sequence payload ++ two check)) ≤ payloadLimit + 12
+  unfolding escape
+  rest-fits check =
+      simp (length-append, escape-append)
+      (omega (
+        arith,
+        width-most (port % 256),
+        width-most (port / 256),
+        width-most (sequence % 256),
+        width-most (sequence / 256),
+        width-most (check % 256),
+        width-most (check / 256),
+      ))
 
-    pub raw-fits : length (escape (contents p)) ≤ plainLimit
-    unfolding contents withCheck escape
-    raw-fits =
-        simp (length-append, escape-append)
-        (omega (
-          arith,
-          ap length (escape-other format (omega arith) (omega arith)),
-          width-most (p .port % 256),
-          width-most (p .port / 256),
-          width-most (p .sequence % 256),
-          width-most (p .sequence / 256),
-          width-most (fcs (packed p) % 256),
-          width-most (fcs (packed p) / 256),
-        ))
+  pub plain-fits : length (escape (contents (plainPacket port sequence payload))) ≤ plainLimit
+  unfolding contents withCheck escape
+  plain-fits =
+      let tail = rest port sequence payload ++ two (fcs (packed (plainPacket port sequence payload))) in
+      let l : length (escape (contents (plainPacket port sequence payload))) ≡ length (escapeByte plainFormat) + length (escape tail) =
+      length-append (escapeByte plainFormat) (escape tail) in
+      omega (arith, rest-fits (fcs (packed (plainPacket port sequence payload))), ap length (escape-other plainFormat (omega arith) (omega arith)))
 
-    -- the round trip
-    pub round : judge (escape (contents p)) ≡ packet p
-    unfolding judge closedBy
-    round =
-        let cs = contents p in
-        let raw = escape cs in
-        let all : take (length raw) raw ≡ raw = take-all (length raw) raw (omega arith) in
-        ap (λ (c : Closed). c .told) (closed-as raw (length raw) (omega (arith, raw-fits)) Right (ap scan all ∙ scan-right cs))
-        ∙ ap judgeContents (ap plain all ∙ plain-undoes cs) ∙ judge-contents
+  key-raw : (number : ℕ) (key : List ℕ) → length key ≤ keyMost → length (escape (contents (keyPacket number key port sequence payload))) ≤ rawLimit
+  unfolding contents withCheck escape
+  key-raw number key high =
+      simp (length-append, escape-append)
+      (omega (
+        arith,
+        ap length (escape-other keyFormat (omega arith) (omega arith)),
+        ap length (escape-other (length key) (λ z. absurd (omega (arith, z))) (λ z. absurd (omega (arith, z)))),
+        width-most number,
+        escape-most key,
+        width-most (port % 256),
+        width-most (port / 256),
+        width-most (sequence % 256),
+        width-most (sequence / 256),
+        width-most (fcs (packed (keyPacket number key port sequence payload)) % 256),
+        width-most (fcs (packed (keyPacket number key port sequence payload)) / 256),
+      ))
+
+module _ (p : Packet) (a : Accepted p) where
+  pub raw-fits : length (escape (contents p)) ≤ rawLimit
+  raw-fits =
+      by-format p (a .fits)
+      (λ e. subst (λ (q : Packet). length (escape (contents q)) ≤ rawLimit) (sym e) (omega (arith, plain-fits (p .port) (p .sequence) (p .payload) (a .short))))
+      (λ e low high. subst (λ (q : Packet). length (escape (contents q)) ≤ rawLimit) (sym e) (key-raw (p .port) (p .sequence) (p .payload) (a .short) (p .number) (p .key) high))
+
+  -- the round trip
+  pub round : judge (escape (contents p)) ≡ packet p
+  unfolding judge closedBy
+  round =
+      let cs = contents p in
+      let raw = escape cs in
+      let all : take (length raw) raw ≡ raw = take-all (length raw) raw (omega arith) in
+      ap (λ (c : Closed). c .told) (closed-as raw (length raw) raw-fits Right (ap scan all ∙ scan-right cs))
+      ∙ ap judgeContents (ap plain all ∙ plain-undoes cs) ∙ judge-contents p a

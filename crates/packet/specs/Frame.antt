@@ -1,20 +1,21 @@
--- A closed frame (paper 01, "Numbered refusals"): the first refusal that applies of 1 to 8, or the packet.
+-- A closed frame (paper 01, "Numbered refusals"; request W8): the first refusal that applies of 1 to 6, 12, 7, 8, or the packet.
 -- Told     what a frame is told to be, judged, the answer that the code gives of it, and number, the paper's number of it
 -- judgeBody, judgeContents   what is told of format byte to last payload byte, and of these with their check
 -- closed   what it is told to be, and what the receive buffer then holds
 -- judging  the same by a call, behind refusals 10 and 11
 -- judge    the same of raw bytes alone
--- part     where a delivered payload stands, and There, that it does
+-- part     a part of the receive buffer, and There, that a delivered payload and its key are such parts
 use Prim.Native.Nat.{ℕ, suc, _+_, _-_}
 use mathlib.Core.Path.{_≡_}
 use mathlib.Core.List.{List, [], _++_}
 use mathlib.Core.Option.{Option, none, some}
-use lib.Dec.{eqb, ltb}
+use mathlib.Core.Bool.{Bool, _&&_}
+use lib.Dec.{eqb, ltb, leb}
 use lib.ListN.{length, getD, take, drop}
 use Rattle.base.specs.Choice.{pick}
 use Rattle.fcs.specs.Fcs.{fcs}
 use Rattle.packet.specs.Port.{barred}
-use Rattle.packet.specs.Contents.{Packet, format, payloadLimit, rawLimit, wordAt, unpacked, body}
+use Rattle.packet.specs.Contents.{Packet, plainFormat, keyFormat, keySized, payloadLimit, rawLimit, wordAt, keyLength, keyAt, payloadAt, plainly, keyed, body}
 use Rattle.packet.specs.Escape.{escape, plain, scan}
 use Rattle.packet.specs.declared.escape.Escapes.{Escapes}
 use Rattle.packet.specs.declared.escape.Escapes.the-variants.{Right, Unfinished, Wrong}
@@ -28,9 +29,16 @@ pub data Told : Type 0 where
   refusal : ℕ → Told
   broken : ℕ → Told
 
--- a packet as the code's answer tells of it: of the payload the length
+-- a packet as the code's answer tells of it: of key and payload the lengths
 abbrev pub delivery : Packet → Delivery
-delivery p = record { port = p .port; sequence = p .sequence; length = length (p .payload) }
+delivery p = record {
+  format = p .format;
+  number = p .number;
+  key = length (p .key);
+  port = p .port;
+  sequence = p .sequence;
+  length = length (p .payload);
+}
 
 -- the code's answer
 abbrev pub judged : Told → Judged
@@ -49,14 +57,20 @@ pub record Closed : Type 0 where
   pub told : Told
   pub recv : List ℕ
 
--- format byte to last payload byte: 6 format, 7 port, 8 payload too long as escaped
+-- a packet, taken apart: 7 port, 8 payload too long as escaped
+abbrev pub judgePacket : Packet → Told
+judgePacket p = pick (barred (p .port)) (refusal 7) (pick (ltb payloadLimit (length (escape (p .payload)))) (refusal 8) (packet p))
+
+-- a key length of 2 to 32, and behind the key seven bytes at least: five of these, and the two of the check
+abbrev pub keyFits : List ℕ → Bool
+keyFits bs = keySized (keyLength bs) && leb (keyAt + keyLength bs + 5) (length bs)
+
+-- format byte to last payload byte: 6 neither format, 12 the key of format 0x26, then as above
 unfoldable pub judgeBody : List ℕ → Told
 judgeBody bs =
-    pick (eqb (getD bs 0 0) format)
-    (pick (barred (wordAt bs 1)) (refusal 7)
-    (pick (ltb payloadLimit (length (escape (drop 5 bs)))) (refusal 8)
-    (packet (unpacked bs))))
-    (refusal 6)
+    pick (eqb (getD bs 0 0) plainFormat) (judgePacket (plainly bs))
+    (pick (eqb (getD bs 0 0) keyFormat) (pick (keyFits bs) (judgePacket (keyed bs)) (refusal 12))
+    (refusal 6))
 
 -- contents: 4 fewer than 8 bytes, 5 check differs, then as above
 unfoldable pub judgeContents : List ℕ → Told
@@ -74,11 +88,11 @@ closedBy Unfinished raw recv = kept 2 recv
 closedBy (Wrong n) raw recv = record { told = broken n; recv = recv }
 closedBy Right raw recv = record { told = judgeContents (plain raw); recv = plain raw ++ drop (length (plain raw)) recv }
 
--- n raw bytes from the start of the receive buffer: 1 more than 8,205 of them
+-- n raw bytes from the start of the receive buffer: 1 more than 8,272 of them
 unfoldable pub closed : List ℕ → ℕ → Closed
 closed recv n = pick (ltb rawLimit n) (kept 1 recv) (closedBy (scan (take n recv)) (take n recv) recv)
 
--- the call that judges, behind its refusals. 10: raw count above 8,206. 11: receive buffer under 8,205 bytes
+-- the call that judges, behind its refusals. 10: raw count above 8,273. 11: receive buffer under 8,272 bytes
 abbrev pub judging : List ℕ → ℕ → Closed
 judging recv n = pick (ltb (suc rawLimit) n) (kept 10 recv) (pick (ltb (length recv) rawLimit) (kept 11 recv) (closed recv n))
 
@@ -86,12 +100,13 @@ judging recv n = pick (ltb (suc rawLimit) n) (kept 10 recv) (pick (ltb (length r
 unfoldable pub judge : List ℕ → Told
 judge raw = closed raw (length raw) .told
 
--- n payload bytes as a call of its own hands them out: without format, port, sequence and check; empty where the buffer is too short
-abbrev pub part : List ℕ → ℕ → List ℕ
-part recv n = pick (ltb (length recv) (n + 5)) [] (take n (drop 5 recv))
+-- n bytes of the receive buffer from `at` on, as a call of its own hands them out; empty where it is too short
+abbrev pub part : ℕ → ℕ → List ℕ → List ℕ
+part at n recv = pick (ltb (length recv) (at + n)) [] (take n (drop at recv))
 
--- a delivered payload is that part of the receive buffer
+-- a delivered payload is such a part, without format, key, port, sequence and check, and so is its key
 abbrev pub There : Told → List ℕ → Type 0
-There (packet p) recv = part recv (length (p .payload)) ≡ p .payload
+There (packet p) recv =
+    (part (payloadAt (length (p .key))) (length (p .payload)) recv ≡ p .payload) × (part keyAt (length (p .key)) recv ≡ p .key)
 There (refusal n) recv = Unit {0}
 There (broken n) recv = Unit {0}

@@ -2,8 +2,8 @@
 ghost use mathlib.Core.Path.{_≡_};
 ghost use Prim.Native.Nat.{_+_, _≤_, _<_};
 ghost use lib.ListN.{length};
-ghost use Rattle.packet.specs.Contents.{word, wordAt};
-ghost use Rattle.packet.specs.Frame.{judged, judgeBody, judgeContents, closed, judging};
+ghost use Rattle.packet.specs.Contents.{keySized, word, wordAt, unpacked};
+ghost use Rattle.packet.specs.Frame.{judged, judgePacket, keyFits, judgeBody, judgeContents, closed, judging};
 use crate::escape;
 use crate::escape::Escapes;
 use crate::port;
@@ -15,22 +15,38 @@ pub struct Packet;
 impl Packet {
     /// The flag, which stands between frames.
     pub const FLAG: u8 = 0x7E;
-    /// The format byte.
-    pub const FORMAT: u8 = 0x21;
-    /// Raw bytes of a frame of this format, at most.
+    /// The format byte of a packet that everybody may read.
+    pub const PLAIN_FORMAT: u8 = 0x21;
+    /// .. and of one for subscribers: it carries a key.
+    pub const KEY_FORMAT: u8 = 0x26;
+    /// Key bytes of the latter, at least.
+    pub const KEY_LEAST: usize = 2;
+    /// .. and at most.
+    pub const KEY_MOST: usize = 32;
+    /// Where its key stands: behind format byte, key length and key number.
+    pub const KEY_AT: usize = 3;
+    /// Format byte to sequence, at most.
+    pub const OPENING: usize = Self::KEY_AT + Self::KEY_MOST + 4;
+    /// Raw bytes of a packet of format 0x21, at most.
     pub const PLAIN: usize = 8205;
-    /// Raw bytes that a receiver stores, at most.
-    pub const RAW: usize = Self::PLAIN;
+    /// Raw bytes of a frame, at most, in either format.
+    pub const RAW: usize = 8272;
     /// The raw count that means "over".
     pub const OVER: usize = Self::RAW + 1;
     /// Bytes of the payload as escaped, at most.
     pub const PAYLOAD: usize = 8192;
 }
 
-/// A packet as it is told of; its payload is so many bytes of the receive buffer.
+/// A packet as it is told of; its key and its payload are parts of the receive buffer.
 pub struct Delivery {
+    pub format: u8,
+    /// The key's number; 0 in format 0x21.
+    pub number: u8,
+    /// Bytes of the key; 0 in format 0x21.
+    pub key: u8,
     pub port: u16,
     pub sequence: u16,
+    /// Bytes of the payload.
     pub length: usize,
 }
 
@@ -58,26 +74,74 @@ fn word_at(cs: &[u8], i: usize) -> u16
     word(cs[i], cs[i + 1])
 }
 
-// Judges format byte to last payload byte.
-fn judge_body(body: &[u8]) -> Judged
-    requires { ⌜ 5 ≤ length (now body) ⌝ }
-    ensures { λ r. ⌜ r ≡ judged (judgeBody (now (body .entry))) ⌝ }
+// A byte as a length.
+fn wide(b: u8) -> usize
+    ensures { λ r. ⌜ (r ≡ b) × (r < 256) ⌝ }
 {
-    if body[0] != Packet::FORMAT {
-        return Judged::Refused(Refusal::FORMAT);
+    b as usize
+}
+
+// Whether so many key bytes may stand in format 0x26.
+pub fn key_sized(k: usize) -> bool
+    ensures { λ r. ⌜ r ≡ keySized k ⌝ }
+{
+    if k < Packet::KEY_LEAST {
+        return false;
     }
-    let port = word_at(body, 1);
+    k <= Packet::KEY_MOST
+}
+
+// Whether the key of format byte to last payload byte has such a length, and enough bytes behind it.
+fn key_fits(body: &[u8]) -> bool
+    requires { ⌜ 2 ≤ length (now body) ⌝ }
+    ensures { λ r. ⌜ r ≡ keyFits (now (body .entry)) ⌝ }
+{
+    let k = wide(body[1]);
+    if key_sized(k) {
+        return Packet::KEY_AT + k + 5 <= body.len();
+    }
+    false
+}
+
+// Judges port, sequence and payload, which stand behind the head.
+fn judge_packet(format: u8, number: u8, key: &[u8], rest: &[u8]) -> Judged
+    requires { ⌜ (length (now key) < 256) × (4 ≤ length (now rest)) ⌝ }
+    ensures { λ r. ⌜ r ≡ judged (judgePacket (unpacked format number (now (key .entry)) (now (rest .entry)))) ⌝ }
+{
+    let port = word_at(rest, 0);
     if port::barred(port) {
         return Judged::Refused(Refusal::PORT);
     }
-    if Packet::PAYLOAD < escape::escaped_len(&body[5..]) {
+    if Packet::PAYLOAD < escape::escaped_len(&rest[4..]) {
         return Judged::Refused(Refusal::PAYLOAD);
     }
     Judged::Packet(Delivery {
+        format,
+        number,
+        key: key.len() as u8,
         port,
-        sequence: word_at(body, 3),
-        length: body.len() - 5,
+        sequence: word_at(rest, 2),
+        length: rest.len() - 4,
     })
+}
+
+// Judges format byte to last payload byte.
+fn judge_body(body: &[u8]) -> Judged
+    requires { ⌜ 6 ≤ length (now body) ⌝ }
+    ensures { λ r. ⌜ r ≡ judged (judgeBody (now (body .entry))) ⌝ }
+{
+    let format = body[0];
+    if format == Packet::PLAIN_FORMAT {
+        return judge_packet(format, 0, &body[0..0], &body[1..]);
+    }
+    if format != Packet::KEY_FORMAT {
+        return Judged::Refused(Refusal::FORMAT);
+    }
+    if key_fits(body) {
+        let end = Packet::KEY_AT + wide(body[1]);
+        return judge_packet(format, body[2], &body[Packet::KEY_AT..end], &body[end..]);
+    }
+    Judged::Refused(Refusal::KEY)
 }
 
 // Judges contents.

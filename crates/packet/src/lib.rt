@@ -12,3 +12,4 @@ pub use frame::judge;
 pub use port::Class;
 pub use port::class_of;
 pub use sender::write;
+pub use sender::write_as;

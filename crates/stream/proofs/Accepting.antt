@@ -3,9 +3,9 @@
 -- some-raw    they are some
 -- judged-is   judging them gives the packet back
 -- raw-bytes   they are bytes
-use Prim.Native.Nat.{ℕ, _+_, _/_, _%_, _<_}
+use Prim.Native.Nat.{ℕ, _<_}
 use native.Mathlib.Omega.{arith}
-use mathlib.Core.Path.{_≡_, sym, ap, subst}
+use mathlib.Core.Path.{_≡_, sym, ap, subst, _∙_}
 use mathlib.Core.Logic.{_≢_}
 use mathlib.Core.List.{List, [], _∷_, _++_}
 use lib.ListN.{length, length-append}
@@ -13,13 +13,14 @@ use Rattle.base.specs.Bytes.{IsByte, Bytes}
 use Rattle.base.proofs.Bytes.{each-append}
 use Rattle.fcs.specs.Fcs.{fcs}
 use Rattle.fcs.proofs.Laws.{fcs-lt}
-use Rattle.packet.specs.Contents.{contents, withCheck, packed, two}
-use Rattle.packet.specs.Escape.{escape, escapeByte, NoFlag}
+use Rattle.packet.specs.Contents.{contents, withCheck, head, opening, packed, two}
+use Rattle.packet.specs.Escape.{escape, escapeByte, plain, NoFlag}
 use Rattle.packet.specs.Frame.{judge}
 use Rattle.packet.proofs.Escaping.{Kind, kind, escape-other}
 use Rattle.packet.proofs.Escaping.Kind.{flag, esc, other}
-use Rattle.packet.proofs.Round.{no-flag, round}
-use Rattle.stream.specs.Sender.{Accepted, rawOf, delivered}
+use Rattle.packet.proofs.Round.{no-flag, plain-undoes, by-format, packed-length, round}
+use Rattle.packet.specs.Sender.{Accepted}
+use Rattle.stream.specs.Sender.{rawOf, delivered}
 use Rattle.packet.specs.Contents.{Packet}
 
 bytes-byte : {b : ℕ} → Kind b → IsByte b → Bytes (escapeByte b)
@@ -33,31 +34,31 @@ unfolding escape
 bytes-escape [] h = tt
 bytes-escape (b ∷ bs) h = each-append IsByte (escapeByte b) (escape bs) (bytes-byte (kind b) (h .0)) (bytes-escape bs (h .1))
 
-some-byte : {b : ℕ} → Kind b → 0 < length (escapeByte b)
-unfolding escapeByte
-some-byte flag = omega arith
-some-byte esc = omega arith
-some-byte (other n m) = subst (λ (l : List ℕ). 0 < length l) (sym (escape-other _ n m)) (omega arith)
-
 module _ (p : Packet) (a : Accepted p) where
   pub clear : NoFlag (rawOf p)
   clear = no-flag (contents p)
 
   pub some-raw : rawOf p ≢ []
-  unfolding contents withCheck escape
+  unfolding contents withCheck plain
   some-raw e =
-      let n : length (rawOf p) ≡ 0 = ap length e in
-      omega (arith, some-byte (kind 0x21), length-append (escapeByte 0x21) (escape (p .port % 256 ∷ p .port / 256 ∷ p .sequence % 256 ∷ p .sequence / 256 ∷ (p .payload ++ two (fcs (packed p))))))
+      let n : length (contents p) ≡ 0 = ap length (sym (plain-undoes (contents p)) ∙ ap plain e) in
+      omega (arith, length-append (packed p) (two (fcs (packed p))), packed-length p a)
 
   pub judged-is : judge (rawOf p) ≡ delivered p
-  judged-is = round p (a .some) (a .short) (a .free)
+  judged-is = round p a
 
   bytes-two : (n : ℕ) → n < 65536 → Bytes (two n)
   bytes-two n h = (omega arith, (omega arith, tt))
 
+  head-bytes : Bytes (head (p .format) (p .number) (p .key))
+  head-bytes =
+      by-format p (a .fits) (λ e. subst (λ (q : Packet). Bytes (head (q .format) (q .number) (q .key))) (sym e) (omega arith, tt))
+      (λ e low high. subst (λ (q : Packet). Bytes (head (q .format) (q .number) (q .key))) (sym e) (omega arith, (omega arith, (a .number-fits, a .key-bytes))))
+
   pub raw-bytes : Bytes (rawOf p)
   unfolding contents withCheck
   raw-bytes =
-      let front : Bytes (packed p) = (omega arith, (omega arith, (omega (arith, a .port-fits), (omega arith, (omega (arith, a .sequence-fits), a .bytes))))) in
+      let places : Bytes (two (p .port) ++ two (p .sequence)) = each-append IsByte (two (p .port)) (two (p .sequence)) (bytes-two (p .port) (a .port-fits)) (bytes-two (p .sequence) (a .sequence-fits)) in
+      let front : Bytes (packed p) = each-append IsByte (opening p) (p .payload) (each-append IsByte (head (p .format) (p .number) (p .key)) (two (p .port) ++ two (p .sequence)) head-bytes places) (a .bytes) in
       bytes-escape (contents p)
       (each-append IsByte (packed p) (two (fcs (packed p))) front (bytes-two (fcs (packed p)) (fcs-lt (packed p))))

@@ -19,7 +19,8 @@ use Rattle.base.proofs.Calls.{run-append}
 use Rattle.packet.specs.Escape.{flag, NoFlag}
 use Rattle.packet.specs.Frame.{judge}
 use Rattle.stream.specs.Reader.{Reading, waiting, inside, closing, read, reads}
-use Rattle.stream.specs.Sender.{Accepted, rawOf, framesOf, stream, delivered, openedFrom}
+use Rattle.packet.specs.Sender.{Accepted}
+use Rattle.stream.specs.Sender.{rawOf, framesOf, stream, delivered, openedFrom}
 use Rattle.packet.specs.Contents.{Packet}
 use Rattle.stream.proofs.Accepting.{clear, some-raw, judged-is}
 

@@ -7,7 +7,7 @@
 -- readCall, ReadIs   one call, and that the code's results are those
 -- EveryCut           a byte string, cut in every way
 -- Fine               states and buffers that pass 10 and 11
--- ThereHeld          that a delivered payload stands in the buffer
+-- ThereHeld          that a delivered payload stands in the buffer, and its key
 -- inUse              the final state that counts
 -- heldOf             the state of the reader without a limit, in numbers and the buffer
 use Prim.Native.Nat.{ℕ, suc, _-_, _≤_, min}
@@ -57,7 +57,7 @@ noticed place p at bs = pick (eqb place 0) (wrongFrom p at bs) place
 abbrev pub lastRaw : Held → ℕ
 lastRaw h = byteBefore (h .st .raw) (h .recv)
 
--- a raw byte of a frame is stored and looked at, 8,205 of them at most; a raw count of 8,206 means "over"
+-- a raw byte of a frame is stored and looked at, 8,272 of them at most; a raw count of 8,273 means "over"
 abbrev pub store : Bool → Held → ℕ → Held
 store true h b =
     held (record { opened = true; raw = suc (h .st .raw); stored = suc (h .st .raw); place = noticed (h .st .place) (lastRaw h) (h .st .raw) (b ∷ []) })
@@ -88,7 +88,7 @@ readAll = all owesNone handsNone takeByte
 abbrev pub readOn : Held → List ℕ → Option Told × ℕ × Held
 readOn = hear owesNone handsNone takeByte
 
--- 10: stored bytes other than the raw count or 8,205, whichever is less; raw count above 8,206; remembered place above 8,204
+-- 10: stored bytes other than the raw count or 8,272, whichever is less; raw count above 8,273; remembered place above 8,271
 abbrev pub sound : Frame → Bool
 sound f = eqb (f .stored) (min (f .raw) rawLimit) && (leb (f .raw) (suc rawLimit) && leb (f .place) placeLimit)
 
@@ -99,7 +99,7 @@ pub record Fine (h : Held) : Type 0 where
   pub place : h .st .place ≤ placeLimit
   pub room : rawLimit ≤ length (h .recv)
 
--- by: does it pass 10, does it pass 11 (receive buffer under 8,205 bytes)
+-- by: does it pass 10, does it pass 11 (receive buffer under 8,272 bytes)
 abbrev pub readBy : Bool → Bool → Held → List ℕ → Option Told × ℕ × Held
 readBy false roomy h bs = (some (refusal 10), 0, h)
 readBy true false h bs = (some (refusal 11), 0, h)
@@ -115,7 +115,7 @@ abbrev pub EveryCut : List ℕ → (List Told → Held → Type 0) → Type 0
 EveryCut bs P =
     (recv : List ℕ) → rawLimit ≤ length recv → (pieces : List (List ℕ)) → joined pieces ≡ bs → Yields readCall (held fresh recv) pieces P
 
--- a delivered payload stands in the buffer that comes back
+-- a delivered payload stands in the buffer that comes back, and its key
 abbrev pub ThereHeld : Told → Held → Type 0
 ThereHeld a h = There a (h .recv)
 
@@ -136,7 +136,7 @@ ReadIs x r l = (r ≡ readOf x) × (l ≡ x .2 .recv)
 abbrev pub inUse : Held → Frame × List ℕ
 inUse h = (h .st, take (h .st .stored) (h .recv))
 
--- the raw bytes of the reader without a limit stand at the start of the buffer, up to 8,205 of them, and the place is theirs; behind them
+-- the raw bytes of the reader without a limit stand at the start of the buffer, up to 8,272 of them, and the place is theirs; behind them
 -- stand the bytes j
 abbrev pub heldOf : Reading → List ℕ → Held
 heldOf waiting j = held fresh j

@@ -23,7 +23,7 @@ use Rattle.stream.specs.declared.frame.Turn.{Turn}
 abbrev pub before : List ℕ → List ℕ
 before bs = upTo flag bs
 
--- the raw count stops at 8,206; by: is a frame open
+-- the raw count stops at 8,273; by: is a frame open
 abbrev pub countedBy : Bool → Frame → ℕ → Frame
 countedBy false f n = f
 countedBy true f n = record { opened = true; raw = min (f .raw + n) (suc rawLimit); stored = min (f .raw + n) rawLimit; place = f .place }

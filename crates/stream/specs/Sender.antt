@@ -1,29 +1,15 @@
 -- The sender's stream (paper 01, "Packet and frame"): one flag, then each packet's escaped contents with one flag behind it.
--- Accepted           that the sender takes a packet
 -- stream             the whole stream of packets
 -- openedFrom         the packets that are opened from a flag of it on
 -- appending          what the call that appends a packet answers and leaves
-use Prim.Native.Nat.{ℕ, zero, suc, _-_, _≤_, _<_}
-use mathlib.Core.Path.{_≡_}
-use mathlib.Core.Bool.{false}
+use Prim.Native.Nat.{ℕ, zero, suc, _-_}
 use mathlib.Core.List.{List, [], _∷_, _++_}
 use lib.ListN.{length, take, drop}
-use Rattle.base.specs.Bytes.{Bytes}
 use Rattle.base.specs.Written.{Outcome, outcome}
-use Rattle.packet.specs.Port.{barred}
-use Rattle.packet.specs.Contents.{Packet, payloadLimit, contents}
+use Rattle.packet.specs.Contents.{Packet, contents}
 use Rattle.packet.specs.Escape.{flag, escape}
 use Rattle.packet.specs.Frame.{Told, packet}
 use Rattle.packet.specs.Sender.{writing}
-
--- what refusals 20, 21 and 22 ask, of numbers that fit their bytes
-pub record Accepted (p : Packet) : Type 0 where
-  pub some : length (p .payload) ≡ 0 → ⊥
-  pub short : length (escape (p .payload)) ≤ payloadLimit
-  pub free : barred (p .port) ≡ false
-  pub port-fits : p .port < 65536
-  pub sequence-fits : p .sequence < 65536
-  pub bytes : Bytes (p .payload)
 
 -- a packet's raw bytes: its escaped contents
 abbrev pub rawOf : Packet → List ℕ

@@ -4,7 +4,7 @@ ghost use mathlib.Core.Bool.{true, false};
 ghost use Prim.Native.Nat.{suc, _+_, _≤_, _<_};
 ghost use lib.ListN.{length, drop};
 ghost use lib.Seq.{sets};
-ghost use Rattle.packet.specs.Contents.{rawLimit};
+ghost use Rattle.packet.specs.Contents.{rawLimit, keyAt, payloadAt};
 ghost use Rattle.packet.specs.Frame.{part};
 ghost use Rattle.stream.specs.Called.{held, fresh, begun, readOn, readCall, sound, ReadIs};
 ghost use Rattle.stream.specs.Private.{before, counted, looked, gathered, closes, TurnIs};
@@ -260,17 +260,37 @@ impl Frame {
     }
 }
 
+// Where the payload of a packet with so many key bytes stands.
+fn payload_at(key: u8) -> usize
+    ensures { λ r. ⌜ r ≡ payloadAt key ⌝ }
+{
+    if key == 0 { 5 } else { Packet::KEY_AT + key as usize + 4 }
+}
+
+// Bytes of the receive buffer from `at` on; an empty part where it is too short to hold them.
+fn part(recv: &[u8], at: usize, length: usize) -> &[u8]
+    ensures { λ r. ⌜ now r ≡ part at length (now (recv .entry)) ⌝ }
+{
+    if recv.len() < at {
+        return &recv[..0];
+    }
+    if recv.len() - at < length {
+        return &recv[..0];
+    }
+    let end = at + length;
+    &recv[at..end]
+}
+
 /// The payload of a delivered packet, where it stands in the receive buffer; an empty part where that is too short to hold it.
 pub fn payload(recv: &[u8], delivery: Delivery) -> &[u8]
-    ensures { λ r. ⌜ now r ≡ part (now (recv .entry)) (delivery .length) ⌝ }
+    ensures { λ r. ⌜ now r ≡ part (payloadAt (delivery .key)) (delivery .length) (now (recv .entry)) ⌝ }
 {
-    let length = delivery.length;
-    if recv.len() < 5 {
-        return &recv[..0];
-    }
-    if recv.len() - 5 < length {
-        return &recv[..0];
-    }
-    let end = length + 5;
-    &recv[5..end]
+    part(recv, payload_at(delivery.key), delivery.length)
+}
+
+/// Its key, likewise; an empty part where it has none.
+pub fn key(recv: &[u8], delivery: Delivery) -> &[u8]
+    ensures { λ r. ⌜ now r ≡ part keyAt (delivery .key) (now (recv .entry)) ⌝ }
+{
+    part(recv, Packet::KEY_AT, delivery.key as usize)
 }

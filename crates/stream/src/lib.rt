@@ -5,6 +5,8 @@ mod sender;
 pub use frame::Frame;
 pub use frame::Heard;
 pub use frame::Read;
+pub use frame::key;
 pub use frame::payload;
 pub use sender::append;
+pub use sender::append_as;
 pub use sender::begin;

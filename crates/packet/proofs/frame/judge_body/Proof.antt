@@ -1,11 +1,12 @@
 -- `packet::frame::judge_body` meets its contract: each return by the tests that led there.
-use mathlib.Core.Path.{refl, ap, sym, subst, _∙_}
-use Prim.Native.Nat.{ℕ, _<_, _≤_}
+use mathlib.Core.Path.{ap, sym, _∙_}
+use Prim.Native.Nat.{_+_, _-_}
+use native.Mathlib.Omega.{arith}
+use lib.ListN.{length, drop, length-take, length-drop}
 use borrow.Author.Needs.{needs}
-use Rattle.packet.specs.Port.{barred}
-use Rattle.packet.specs.Contents.{payloadLimit}
+use Rattle.packet.specs.Contents.{keyAt}
 use Rattle.packet.specs.Frame.{judged}
-use Rattle.packet.proofs.Judging.{body-format, body-port, body-payload, body-packet, body-told, escaped-rest}
+use Rattle.packet.proofs.Judging.{body-format, body-key, key-fits, as-plain, as-keyed}
 use Rattle.packet.proofs.frame.judge_body.Statement.{statement}
 use Rattle.packet.proofs.frame.judge_body.Tie as tie
 
@@ -14,25 +15,36 @@ judge-body-spec =
     tie.close
     (tie.spec
     (search needs)
-    (λ c. ap judged (sym (body-format _ (c .if1 .taken))))
+    (search needs)
+    (search needs)
+    (search needs)
+    (search needs)
+    (search needs)
+    (search needs)
     (λ c κs. search needs)
+    (λ c. as-plain (c .before .before .before .before .before .before .args .body .now) (c .before .before .before .if1 .taken) (c .judge-packet .ensures))
+    (λ c. ap judged (sym (body-format _ (c .before .if1 .left) (c .if2 .taken))))
     (λ c κs. search needs)
+    (search needs)
+    (λ c κs. search needs)
+    (search needs)
+    (search needs)
+    (search needs)
+    (search needs)
+    (λ c. let t = c .before .before .before in let f = key-fits (t .before .before .before .before .before .before .args .body .now) (sym (t .before .key-fits .ensures) ∙ t .if3 .taken) in omega (arith, f .2, c .before .wide .ensures .0))
+    (λ c. let t = c .before .before .before .before in let f = key-fits (t .before .before .before .before .before .before .args .body .now) (sym (t .before .key-fits .ensures) ∙ t .if3 .taken) in omega (arith, f .2, c .before .before .wide .ensures .0))
+    (λ c. let t = c .before .before .before .before in let f = key-fits (t .before .before .before .before .before .before .args .body .now) (sym (t .before .key-fits .ensures) ∙ t .if3 .taken) in omega (arith, f .2, c .before .before .wide .ensures .0))
+    (search needs)
+    (λ c κs.
+    let t = c .before .before .before .before .before in
+    let bs = t .before .before .before .before .before .before .args .body .now in
+    let k = c .before .before .before .wide .result in
+    let f = key-fits bs (sym (t .before .key-fits .ensures) ∙ t .if3 .taken) in
+    (
+      omega (arith, length-take (keyAt + k - keyAt) (drop keyAt bs), c .before .before .before .wide .ensures .1),
+      omega (arith, length-take (length bs - (keyAt + k)) (drop (keyAt + k) bs), length-drop (keyAt + k) bs, f .2, c .before .before .before .wide .ensures .0),
+    ))
     (λ c.
-    let k = c .before .before .before in
-    ap judged (sym (body-port _ (k .if1 .left) (ap barred (sym (c .before .before .word-at .ensures)) ∙ sym (c .before .barred .ensures) ∙ c .if2 .taken))))
-    (search needs)
-    (search needs)
-    (search needs)
-    (λ c κs. search needs)
-    (λ c.
-    let b = c .before .before .before .before in
-    let k = b .before .before in
-    ap judged (sym (body-payload _ (k .if1 .left) (ap barred (sym (b .before .word-at .ensures)) ∙ sym (b .barred .ensures) ∙ c .before .before .before .if2 .left) (subst (λ (n : ℕ). payloadLimit < n) (escaped-rest (k .before .before .before .args .body .now) (c .before .escaped-len .ensures)) (c .if3 .taken)))))
-    (λ c κs. search needs)
-    (search needs)
-    (λ c.
-    let b = c .before .before .before .before .before in
-    let k = b .before .before in
-    let a = k .before .before .before .args in
-    body-told (a .body .now) (b .before .word-at .ensures) (c .word-at2 .ensures) refl
-    ∙ ap judged (sym (body-packet _ (k .if1 .left) (ap barred (sym (b .before .word-at .ensures)) ∙ sym (b .barred .ensures) ∙ c .before .before .before .before .if2 .left) (subst (λ (n : ℕ). n ≤ payloadLimit) (escaped-rest (a .body .now) (c .before .before .escaped-len .ensures)) (c .before .if3 .left))))))
+    let t = c .before .before .before .before .before .before in
+    as-keyed (t .before .before .before .before .before .before .args .body .now) (c .before .before .before .before .wide .ensures .0) (t .before .before .if2 .left) (sym (t .before .key-fits .ensures) ∙ t .if3 .taken) (c .judge-packet2 .ensures))
+    (λ c. ap judged (sym (body-key _ (c .before .before .if2 .left) (sym (c .before .key-fits .ensures) ∙ c .if3 .left)))))

@@ -14,4 +14,4 @@ check-of-spec =
     (search needs)
     (λ c.
     let a = c .before .before .before .before .before .before .args in
-    check-parts (a .head .now) (a .payload .now) (c .before .before .before .before .fresh .ensures) (c .before .before .feed .ensures) (c .before .feed2 .ensures) (c .check .ensures)))
+    check-parts (a .opening .now) (a .payload .now) (c .before .before .before .fresh .ensures) (c .before .before .feed .ensures) (c .before .feed2 .ensures) (c .check .ensures)))

@@ -17,12 +17,12 @@ put-frame-spec =
     (tie.spec
     (search needs)
     (search needs)
-    (λ c. omega (arith, escape-most (c .before .before .before .before .before .args .head .now)))
+    (λ c. omega (arith, escape-most (c .before .before .before .before .before .args .opening .now)))
     (search needs)
-    (λ c. let a = c .before .before .before .before .before .before .before .args in omega (arith, escape-most (a .head .now), escape-most (a .tail .now)))
+    (λ c. let a = c .before .before .before .before .before .before .before .args in omega (arith, escape-most (a .opening .now), escape-most (a .tail .now)))
     (λ c.
     let a = c .before .before .before .before .before .before .before .before .args in
-    sym (write-short (flagged (a .head .now ++ a .payload .now ++ a .tail .now)) (a .out .now) (omega (arith, framed-length (a .head .now) (a .payload .now) (a .tail .now)))))
+    sym (write-short (flagged (a .opening .now ++ a .payload .now ++ a .tail .now)) (a .out .now) (omega (arith, framed-length (a .opening .now) (a .payload .now) (a .tail .now)))))
     (search needs)
     (search needs)
     (search needs)
@@ -33,6 +33,6 @@ put-frame-spec =
     simp length-set (c .before .before .put3 .kept .0 ∙ d .put2 .kept .0 ∙ d .before .before .before .before .put .kept .0))
     (λ c.
     let d = c .before .before .before .before .before .before .before .before .before .before .before in
-    let a = d .before .before .before .before .before .before .before .before .before .before .before .args in
-    let f = laid-frame (a .head .now) (a .payload .now) (a .tail .now) (d .put .ensures) (c .before .before .before .before .before .before .before .put2 .ensures) (c .before .before .put3 .ensures) in
-    frame-fits f (omega (arith, framed-length (a .head .now) (a .payload .now) (a .tail .now)))))
+    let a = d .before .before .before .before .before .before .before .before .before .before .args in
+    let f = laid-frame (a .opening .now) (a .payload .now) (a .tail .now) (d .put .ensures) (c .before .before .before .before .before .before .before .put2 .ensures) (c .before .before .put3 .ensures) in
+    frame-fits f (omega (arith, framed-length (a .opening .now) (a .payload .now) (a .tail .now)))))

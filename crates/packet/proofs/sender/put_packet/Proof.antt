@@ -1,0 +1,46 @@
+-- `packet::sender::put_packet` meets its contract: opening, payload and check are the packet's contents.
+use mathlib.Core.Path.{ap, _∙_}
+use mathlib.Core.List.{List, []}
+use Prim.Native.Nat.{ℕ}
+use native.Mathlib.Omega.{arith}
+use borrow.Author.Needs.{needs}
+use lib.ListN.{length}
+use Rattle.base.specs.Written.{write}
+use Rattle.packet.specs.Contents.{Packet}
+use Rattle.packet.proofs.Sending.{opening-part, opening-short, opening-most, sent-parts}
+use Rattle.packet.proofs.sender.put_packet.Statement.{statement}
+use Rattle.packet.proofs.sender.put_packet.Tie as tie
+
+pub put-packet-spec : {M : Type 1} → statement M
+put-packet-spec =
+    tie.close
+    (tie.spec
+    (search needs)
+    (λ c κs. (c .before .before .before .before .pre .0, omega arith))
+    (search needs)
+    (search needs)
+    (λ c.
+    let o = c .before .before .put-opening in
+    let s = c .before .before .before .before .before .before .before in
+    omega (arith, opening-short (record { format = s .args .format; number = s .args .number; key = s .args .key .now; port = s .args .port; sequence = s .args .sequence; payload = [] }) (o .ensures) (omega arith) (s .pre .0), o .kept .0))
+    (λ c κs. search needs)
+    (λ c κs. search needs)
+    (search needs)
+    (search needs)
+    (λ c.
+    let o = c .before .before .before .before .before .before .put-opening in
+    let s = c .before .before .before .before .before .before .before .before .before .before .before in
+    omega (arith, opening-short (record { format = s .args .format; number = s .args .number; key = s .args .key .now; port = s .args .port; sequence = s .args .sequence; payload = [] }) (o .ensures) (omega arith) (s .pre .0), o .kept .0))
+    (λ c κs.
+    let o = c .before .before .before .before .before .before .before .before .before .put-opening in
+    let s = c .before .before .before .before .before .before .before .before .before .before .before .before .before .before in
+    let p : Packet = record { format = s .args .format; number = s .args .number; key = s .args .key .now; port = s .args .port; sequence = s .args .sequence; payload = [] } in
+    (omega (arith, ap length (opening-part p (o .ensures) (omega arith) (s .pre .0)), opening-most p (s .pre .0)), s .pre .1))
+    (search needs)
+    (λ c.
+    let o = c .before .before .before .before .before .before .before .before .before .before .before .before .put-opening in
+    let s = c .before .before .before .before .before .before .before .before .before .before .before .before .before .before .before .before .before in
+    let p : Packet = record { format = s .args .format; number = s .args .number; key = s .args .key .now; port = s .args .port; sequence = s .args .sequence; payload = s .args .payload .now } in
+    let e = opening-part p (o .ensures) (omega arith) (s .pre .0) in
+    c .before .before .put-frame .ensures
+    ∙ ap (λ (bs : List ℕ). write bs (s .args .out .now)) (sent-parts p _ _ _ e (c .before .before .before .before .before .before .before .two .ensures) (c .before .before .before .before .before .before .before .before .check-of .ensures))))

@@ -1,0 +1,20 @@
+-- `stream::sender::append_as` meets its contract.
+use borrow.Author.Needs.{needs}
+use Rattle.packet.specs.Sender.{writing}
+use Rattle.stream.proofs.Sending.{appended}
+use Rattle.stream.proofs.sender.append_as.Statement.{statement}
+use Rattle.stream.proofs.sender.append_as.Tie as tie
+
+pub append-as-spec : {M : Type 1} → statement M
+append-as-spec =
+    tie.close
+    (tie.spec
+    (search needs)
+    (search needs)
+    (search needs)
+    (search needs)
+    (search needs)
+    (search needs)
+    (λ c.
+    let a = c .before .before .before .before .before .before .before .before .args in
+    appended (a .at) _ (a .out .now) (c .before .before .before .before .least .ensures) (writing (record { format = a .format; number = a .number; key = a .key .now; port = a .port; sequence = a .sequence; payload = a .payload .now })) (c .before .before .write-as .ensures)))
