@@ -74,7 +74,7 @@ line-exact l = go (isBid l) refl
     none-is e b =
         ⊎-elim (λ h. not-less _ _ h (b .0)) (λ h. not-less _ _ h (b .1)) (not-both (ltb (port l) noNumber) (ltb (sequence l) noNumber) e)
 
-    go : (t : Bool) → isBid l ≡ t → Exact ByLine (pick t (judged (record { port = port l; sequence = sequence l; payload = text l })) noBid) (lineRows l)
+    go : (t : Bool) → isBid l ≡ t → Exact ByLine (pick t (judged (bidOf l)) noBid) (lineRows l)
     go true e =
         row ByLine (eqb (length (text l)) 0) (is-line 20) (λ h. (bids e, eqb-true _ _ h)) (λ h k. eqb-false _ _ h (k .1))
         (row ByLine (ltb payloadLimit (length (escape (text l)))) (is-line 21) (λ h. (bids e, ltb-true _ _ h)) (λ h k. not-less _ _ h (k .1))
