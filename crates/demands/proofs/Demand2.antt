@@ -95,8 +95,8 @@ round-trip = packet-back
 -- and the parts of the receive buffer that are handed out are its payload and its key ("the key being as many bytes as its length says")
 pub round-answer : (p : Packet) → Accepted p → (recv : List ℕ) → take (length (rawOf p)) recv ≡ rawOf p
     → (judged (closed recv (length (rawOf p)) .told) ≡ Delivered (delivery p))
-    × (part (payloadAt (length (p .key))) (length (p .payload)) (closed recv (length (rawOf p)) .recv) ≡ p .payload)
-    × (part 3 (length (p .key)) (closed recv (length (rawOf p)) .recv) ≡ p .key)
+    × ((part (payloadAt (length (p .key))) (length (p .payload)) (closed recv (length (rawOf p)) .recv) ≡ p .payload)
+    × (part 3 (length (p .key)) (closed recv (length (rawOf p)) .recv) ≡ p .key))
 round-answer = judged-back
 
 -- .. the other way too: what is delivered is a packet that the sender accepts, and its contents are what was received, escapes undone

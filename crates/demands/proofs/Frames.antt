@@ -66,7 +66,9 @@ sized-not k = go (leb keyLeast k) refl
 pub sized-is : (k : ℕ) → keySized k ≡ true → KeyBeyond k → ⊥
 sized-is k e =
     let p = and-parts (leb keyLeast k) (leb k keyMost) e in
-    ⊎-elim (λ h. omega (arith, h, leb-true _ _ (p .0))) (λ h. omega (arith, h, leb-true _ _ (p .1)))
+    let low : keyLeast ≤ k = leb-true _ _ (p .0) in
+    let high : k ≤ keyMost = leb-true _ _ (p .1) in
+    ⊎-elim (λ h. omega (arith, h)) (λ h. omega (arith, h))
 
 pub unfit-is : (p : Packet) → headFits (p .format) (p .number) (length (p .key)) ≡ false → Unfit p
 unfit-is p = go (eqb (p .format) plainFormat) refl (eqb (p .format) keyFormat) refl
@@ -142,7 +144,7 @@ module _ (cs : List ℕ) (long : 8 ≤ length cs) where
       unfit : keyFits (body cs) ≡ false → KeyBeyond (keyLength cs) ⊎ (length cs < keyAt + keyLength cs + 7)
       unfit e =
           ⊎-elim (λ h. inl (subst KeyBeyond key-same (sized-not (keyLength (body cs)) h)))
-          (λ h. inr (omega (arith, leb-false _ _ h, body-length, key-same)))
+          (λ h. let m : length (body cs) < keyAt + keyLength (body cs) + 5 = leb-false _ _ h in inr (omega (arith, body-length, key-same)))
           (not-both (keySized (keyLength (body cs))) (leb (keyAt + keyLength (body cs) + 5) (length (body cs))) e)
 
       fit : keyFits (body cs) ≡ true → KeyBeyond (keyLength cs) ⊎ (length cs < keyAt + keyLength cs + 7) → ⊥
@@ -167,7 +169,7 @@ module _ (cs : List ℕ) (long : 8 ≤ length cs) where
           applies ByFrame _ (is 6) (λ f. eqb-false _ _ e (first-same ∙ f), λ f. eqb-false _ _ g (first-same ∙ f))
 
 contents-exact : (cs : List ℕ) → Exact ByFrame (judgeContents cs) (contentsRows cs)
-unfolding judgeContents
+unfolding judgeContents bodyRows
 contents-exact cs = go (ltb (length cs) 8) refl
   where
     go : (t : Bool) → ltb (length cs) 8 ≡ t
