@@ -22,7 +22,7 @@ use Rattle.repair.specs.Promise.{Promised}
 use Rattle.interleaver.specs.Matrix.{turning}
 use Rattle.packet.specs.Escape.{flag, wrongBehind}
 use Rattle.packet.specs.Frame.{Told, packet, refusal, broken, judged, judging, part}
-use Rattle.packet.specs.Contents.{Packet, plainPacket, payloadAt}
+use Rattle.packet.specs.Contents.{Packet, packetOf, plainPacket, payloadAt}
 use Rattle.packet.specs.declared.frame.Judged.{Judged}
 use Rattle.packet.specs.declared.frame.Judged.the-variants.{Packet as Delivered, Refused, Broken}
 use Rattle.packet.specs.Port.{class}
@@ -103,7 +103,7 @@ use Rattle.base.proofs.copy as base-copy
 -- ---- the sender: a packet, a plain stream of packets, a block of the channel, a whole marked stream
 pub packet-write-as-means : Means packet-write-as.Statement.statement packet-write-as.Kinds.ps packet-write-as.Kinds.r packet-write-as.Reads.Asked packet-write-as.Reads.Learnt
     λ κs format number key port sequence payload out w.
-    outcome w (now (out .exit)) ≡ writing (record { format = format; number = number; key = now key; port = port; sequence = sequence; payload = now payload }) (now (out .entry))
+    outcome w (now (out .exit)) ≡ writing (packetOf format number (now key) port sequence (now payload)) (now (out .entry))
 packet-write-as-means = (λ M. packet-write-as.Met.met, λ κs a. tt, λ κs a z ws. (λ p. p, λ p. p))
 
 pub packet-write-means : Means packet-write.Statement.statement packet-write.Kinds.ps packet-write.Kinds.r packet-write.Reads.Asked packet-write.Reads.Learnt
@@ -116,7 +116,7 @@ stream-begin-means = (λ M. stream-begin.Met.met, λ κs a. tt, λ κs a z ws. (
 
 pub stream-append-as-means : Means stream-append-as.Statement.statement stream-append-as.Kinds.ps stream-append-as.Kinds.r stream-append-as.Reads.Asked stream-append-as.Reads.Learnt
     λ κs out at format number key port sequence payload w.
-    outcome w (now (out .exit)) ≡ appending at (record { format = format; number = number; key = now key; port = port; sequence = sequence; payload = now payload }) (now (out .entry))
+    outcome w (now (out .exit)) ≡ appending at (packetOf format number (now key) port sequence (now payload)) (now (out .entry))
 stream-append-as-means = (λ M. stream-append-as.Met.met, λ κs a. tt, λ κs a z ws. (λ p. p, λ p. p))
 
 pub stream-append-means : Means stream-append.Statement.statement stream-append.Kinds.ps stream-append.Kinds.r stream-append.Reads.Asked stream-append.Reads.Learnt

@@ -12,7 +12,7 @@ use Rattle.base.specs.Choice.{pick}
 use Rattle.fcs.specs.Fcs as check
 use Rattle.field.specs.Field as field
 use Rattle.parity.specs.Calls as parity
-use Rattle.packet.specs.Contents.{Packet, plainPacket, keyPacket, plainFormat, keyFormat, keyLeast, keyMost, payloadLimit, plainLimit, rawLimit, withCheck, contents}
+use Rattle.packet.specs.Contents.{Packet, packetOf, plainPacket, keyPacket, plainFormat, keyFormat, keyLeast, keyMost, payloadLimit, plainLimit, rawLimit, withCheck, contents}
 use Rattle.packet.specs.Escape.{flag, escape, escapeByte, plain, wrongFrom, right, last, scan}
 use Rattle.packet.specs.Frame.{Told, packet, refusal, broken, judgeContents, judgeBody, closedBy, closed, judge}
 use Rattle.packet.specs.Port.{class, barred}
@@ -73,7 +73,7 @@ paying payload = plainPacket 0x5100 0 payload
 
 -- a format, a key number and a key of so many bytes, for port 5100
 abbrev headed : ℕ → ℕ → ℕ → Packet
-headed format number k = record { format = format; number = number; key = replicate k 0xAA; port = 0x5100; sequence = 0; payload = 0x41 ∷ [] }
+headed format number k = packetOf format number (replicate k 0xAA) 0x5100 0 (0x41 ∷ [])
 
 -- the number by which contents of format 0x26 are refused that say so many key bytes, and have so many bytes behind them, with their check; 0 where they pass
 abbrev keyRefusal : ℕ → ℕ → ℕ
