@@ -18,9 +18,9 @@ use borrow.Author.Tests.{eqb-true, eqb-false, ltb-true}
 use Rattle.base.specs.Calls.{joined, Yields}
 use Rattle.base.specs.Written.{write, Keeps}
 use Rattle.base.proofs.Writing.{write-keeps}
-use Rattle.parity.specs.Word.{clean, remainder}
+use Rattle.words.specs.Word.{clean, remainder}
 use Rattle.parity.specs.Calls.{checked, made}
-use Rattle.parity.proofs.Division.{length-remainder}
+use Rattle.words.proofs.Division.{length-remainder}
 use Rattle.parity.proofs.Refusing.{made-keeps}
 use Rattle.repair.specs.declared.Mended.{Mended}
 use Rattle.repair.specs.declared.Mended.the-variants.{Refused as RepairRefused}

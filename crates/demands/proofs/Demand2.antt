@@ -5,7 +5,7 @@
 --   packets         `contents`, `class` (crates/packet/specs/Contents.antt, Port.antt), `stream` (crates/stream/specs/Sender.antt)
 --   check values    `fcs` (crates/fcs/specs/Fcs.antt)
 --   escapes         `escape`, `plain`, `scan` (crates/packet/specs/Escape.antt), and `reads` (crates/stream/specs/Reader.antt)
---   parity words    `generator`, `remainder`, `clean` (crates/parity/specs/Word.antt), over the field of crates/field/specs/Field.antt
+--   parity words    `generator`, `remainder`, `clean` (crates/words/specs/Word.antt), over the field of crates/field/specs/Field.antt
 --   interleaving    `interleaved`, `restored` (crates/interleaver/specs/Matrix.antt)
 --   markers         `marked` (crates/channel/specs/Sender.antt), and `answers` (crates/channel/specs/Channel.antt)
 --   block answers   `condition`, `mend` (crates/channel/specs/Channel.antt), by repair's promise: `Promised` (crates/repair/specs/Promise.antt)
@@ -37,10 +37,10 @@ use Rattle.base.specs.Calls.{joined, With}
 use Rattle.base.specs.Written.{write}
 use Rattle.base.proofs.Writing.{write-is}
 use Rattle.base.specs.declared.Written.the-variants.{Wrote}
-use Rattle.parity.specs.Word.{clean, remainder, Zero}
+use Rattle.words.specs.Word.{clean, remainder, Zero}
 use Rattle.repair.specs.declared.Mended.{Mended}
 use Rattle.repair.specs.Promise.{Promised}
-use Rattle.parity.proofs.Clean.{clean-roots, roots-clean, parity-clean, clean-is}
+use Rattle.words.proofs.Clean.{clean-roots, roots-clean, parity-clean, clean-is}
 use Rattle.interleaver.specs.Matrix.{isMatrix, interleaved, restored, turned}
 use Rattle.interleaver.proofs.Round.{passed, output-at, restored-interleaved, interleaved-restored}
 use Rattle.packet.specs.Escape.{flag, plain, last, BrokenAt}

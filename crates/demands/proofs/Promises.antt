@@ -16,7 +16,7 @@ use Rattle.base.specs.UpTo.{upTo}
 use Rattle.base.specs.Written.{outcome, write, copied}
 use Rattle.fcs.specs.Fcs as check
 use Rattle.field.specs.Field.{add, mul, pow, alpha, inverse}
-use Rattle.parity.specs.Word.{onto, scale}
+use Rattle.words.specs.Word.{onto, scale}
 use Rattle.parity.specs.Calls.{atRoots, made, checked}
 use Rattle.repair.specs.Promise.{Promised}
 use Rattle.interleaver.specs.Matrix.{turning}

@@ -12,7 +12,7 @@ use Rattle.base.specs.Calls.{joined}
 use Rattle.base.specs.Choice.{pick}
 use Rattle.fcs.specs.Fcs.{fcs, register, entered}
 use Rattle.field.specs.Field.{add, double, shiftAdd, mul, pow}
-use Rattle.parity.specs.Word.{scale, onto, timesRoot, generator, divide, remainder}
+use Rattle.words.specs.Word.{scale, onto, timesRoot, generator, divide, remainder}
 use Rattle.interleaver.specs.Places.{cell}
 use Rattle.packet.specs.Contents.{plainPacket, withCheck, contents}
 use Rattle.packet.specs.Escape.{escape, escapeByte, plain, wrongFrom, right, last, scan}

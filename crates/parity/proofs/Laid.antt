@@ -2,7 +2,8 @@
 -- laid-plus, laid-doubled, laid-shifted, laid-first, laid-zero   sum, double, shift, the first byte, the test
 -- Upto, upto-..    the products with 0, 1, .., two more a turn
 -- tables-are, product-turn, beyond-is, twice-turn   the products of a byte's halves; a byte's product by its halves; two bytes more of a division
--- pair-..          the bytes left are pairs
+-- pair-.., next-fits   the bytes left are pairs
+-- low-.., high-..  a byte's halves are places in a table
 -- left-..          the bytes handed out
 -- begun-..         the first bytes laid down
 use mathlib.Core.Path.{_≡_, refl, sym, ap, ap₂, _∙_}
@@ -23,13 +24,14 @@ use Rattle.base.proofs.Tests.{all-at, by-eq}
 use Rattle.field.specs.Field.{alpha, add, double, shiftAdd, mul}
 use Rattle.field.proofs.Sum.{add-comm, parts}
 use Rattle.field.proofs.Product.{add-mul, mul-assoc, one-mul, double-is, mul-lt}
-use Rattle.parity.specs.Word.{scale, onto}
-use Rattle.parity.specs.Lanes.{laneRoots, below, bytesOf, laid, isZero, nothing, Multiples, Tables, fed}
+use Rattle.words.specs.Word.{scale, onto}
+use Rattle.words.specs.Private.{laneRoots, below, bytesOf, isZero, fed}
+use Rattle.parity.specs.Lanes.{laid, nothing, Multiples, Tables}
 use Rattle.parity.specs.declared.lanes.Lanes.{Lanes}
-use Rattle.parity.proofs.Sums.{length-scale, length-onto, onto-append, onto-comm, onto-assoc}
-use Rattle.parity.proofs.Generator.{length-generator, generator-monic}
-use Rattle.parity.proofs.Packed.{length-bytes, bytes-bytes, bytes-xor, bytes-behind, bytes-first, bytes-zero, zero-append, size}
-use Rattle.parity.proofs.Residue.{length-fed, scale-zero, scale-add, scale-scale, fed-twice}
+use Rattle.words.proofs.Sums.{length-scale, length-onto, onto-append, onto-comm, onto-assoc}
+use Rattle.words.proofs.Generator.{length-generator, generator-monic}
+use Rattle.words.proofs.Packed.{length-bytes, bytes-bytes, bytes-xor, bytes-behind, bytes-first, bytes-zero, zero-append, size}
+use Rattle.words.proofs.Residue.{length-fed, scale-zero, scale-add, scale-scale, fed-twice}
 
 -- six bytes, seven and eight are numbers below these
 abbrev six : ℕ
@@ -353,6 +355,23 @@ pair-next i n h e = (omega arith, omega arith, omega arith, omega arith)
 
 pub pair-fits : (i n : ℕ) → i + 2 ≤ n → n < eight → Fits w64 (i + 2)
 pair-fits i n h k = record { fits = omega arith }
+
+pub next-fits : (i n : ℕ) → i < n → n < eight → Fits w64 (i + 1)
+next-fits i n h k = record { fits = omega arith }
+
+-- ---- a byte's halves are places in a table of sixteen, whose rows are 32 bytes
+pub low-place : (f : ℕ) → f % 16 < 16
+low-place f = omega arith
+
+pub low-fits : (f : ℕ) → Fits w64 (f % 16 * 32)
+low-fits f = record { fits = omega arith }
+
+module _ (f : ℕ) (h : f < 256) where
+  pub high-place : f / 16 < 16
+  high-place = omega arith
+
+  pub high-fits : Fits w64 (f / 16 * 32)
+  high-fits = record { fits = omega arith }
 
 -- ---- the bytes handed out one by one: i of them stand in l, the others are the first of xs
 module _ (i : ℕ) (l xs : List ℕ) (n : length l ≡ laneRoots) {t : List ℕ} (inv : take i l ++ take (laneRoots - i) xs ≡ t) where

@@ -4,8 +4,9 @@ ghost use mathlib.Core.List.{[], _∷_, _++_, map};
 ghost use Prim.Native.Nat.{_-_, _%_, _≤_, _<_};
 ghost use lib.ListN.{length, take, drop, getD, replicate};
 ghost use Rattle.field.specs.Field.{double};
-ghost use Rattle.parity.specs.Word.{clean, onto};
-ghost use Rattle.parity.specs.Lanes.{laneRoots, below, bytesOf, laid, Multiples, Tables, fed, residue, isZero};
+ghost use Rattle.words.specs.Word.{clean, onto};
+ghost use Rattle.words.specs.Private.{laneRoots, below, bytesOf, fed, residue, isZero};
+ghost use Rattle.parity.specs.Lanes.{laid, Multiples, Tables};
 
 // 32 coefficients, the highest first: eight in a number.
 struct Lanes {

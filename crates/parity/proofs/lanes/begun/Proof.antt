@@ -5,7 +5,8 @@ use Prim.Native.Nat.{ℕ, _-_, _≤_}
 use native.Mathlib.Omega.{arith}
 use lib.ListN.{take, replicate}
 use borrow.Author.Needs.{needs}
-use Rattle.parity.specs.Lanes.{laneRoots, laid}
+use Rattle.words.specs.Private.{laneRoots}
+use Rattle.parity.specs.Lanes.{laid}
 use Rattle.parity.proofs.Laid.{begun-next}
 use Rattle.parity.proofs.lanes.begun.Statement.{statement}
 use Rattle.parity.proofs.lanes.begun.Tie as tie

@@ -1,6 +1,6 @@
 -- `parity::lanes::residue` meets its contract: the tables are those of the generator, and of a step behind it.
 use borrow.Author.Needs.{needs}
-use Rattle.parity.specs.Lanes.{below, fed}
+use Rattle.words.specs.Private.{below, fed}
 use Rattle.parity.proofs.Laid.{tables-are}
 use Rattle.parity.proofs.lanes.residue.Statement.{statement}
 use Rattle.parity.proofs.lanes.residue.Tie as tie

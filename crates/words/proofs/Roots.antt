@@ -11,9 +11,9 @@ use Rattle.base.specs.Bytes.{Bytes}
 use Rattle.field.specs.Field.{alpha, add, mul, pow}
 use Rattle.field.proofs.Product.{mul-comm}
 use Rattle.field.proofs.Powers.{pow-suc}
-use Rattle.parity.specs.Word.{horner, eval, valuesFrom}
-use Rattle.parity.specs.Private.{points, stepped}
-use Rattle.parity.proofs.Values.{eval-lt, horner-append}
+use Rattle.words.specs.Word.{horner, eval, valuesFrom}
+use Rattle.words.specs.Private.{points, stepped}
+use Rattle.words.proofs.Values.{eval-lt, horner-append}
 
 pub length-values : (w : List ℕ) (j n : ℕ) → length (valuesFrom w j n) ≡ n
 unfolding valuesFrom

@@ -21,13 +21,13 @@ use Rattle.base.proofs.Tests.{and-parts}
 use Rattle.field.specs.Field.{alpha, add, mul, pow}
 use Rattle.field.proofs.Sum.{zero-add}
 use Rattle.field.proofs.Product.{add-mul, mul-add, mul-assoc, mul-zero, zero-mul}
-use Rattle.parity.specs.Word.{horner, eval, valuesFrom, scale, onto, generator, divide, remainder, clean}
-use Rattle.parity.specs.Lanes.{laneRoots, below, fed, residue, isZero}
-use Rattle.parity.proofs.Sums.{length-scale, length-onto, onto-assoc, onto-comm, onto-append, zeros-onto, product, length-product}
-use Rattle.parity.proofs.Values.{horner-append, eval-add, eval-zeros, eval-product}
-use Rattle.parity.proofs.Generator.{length-generator, generator-monic, generator-root}
-use Rattle.parity.proofs.Division.{divide-step, quotient, length-divide, bytes-divide, length-quotient, bytes-quotient, divide-whole}
-use Rattle.parity.proofs.Clean.{roots-clean, clean-roots, zeros}
+use Rattle.words.specs.Word.{horner, eval, valuesFrom, scale, onto, generator, divide, remainder, clean}
+use Rattle.words.specs.Private.{laneRoots, below, fed, residue, isZero}
+use Rattle.words.proofs.Sums.{length-scale, length-onto, onto-assoc, onto-comm, onto-append, zeros-onto, product, length-product}
+use Rattle.words.proofs.Values.{horner-append, eval-add, eval-zeros, eval-product}
+use Rattle.words.proofs.Generator.{length-generator, generator-monic, generator-root}
+use Rattle.words.proofs.Division.{divide-step, quotient, length-divide, bytes-divide, length-quotient, bytes-quotient, divide-whole}
+use Rattle.words.proofs.Clean.{roots-clean, clean-roots, zeros}
 
 -- ---- a byte at a time
 -- the bytes one after the other

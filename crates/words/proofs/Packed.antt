@@ -19,9 +19,9 @@ use Rattle.base.proofs.Bytes.{each-append}
 use Rattle.base.proofs.Tests.{all-at, by-eq}
 use Rattle.field.specs.Field.{polynomial, add, double}
 use Rattle.field.proofs.Product.{double-lt}
-use Rattle.parity.specs.Word.{onto}
-use Rattle.parity.specs.Lanes.{bytesOf, isZero}
-use Rattle.parity.proofs.Sums.{onto-append}
+use Rattle.words.specs.Word.{onto}
+use Rattle.words.specs.Private.{bytesOf, isZero}
+use Rattle.words.proofs.Sums.{onto-append}
 
 pub length-bytes : (n x : ℕ) → length (bytesOf n x) ≡ n
 unfolding bytesOf
