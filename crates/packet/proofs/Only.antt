@@ -18,7 +18,7 @@ use Rattle.base.proofs.Lists.{next, over}
 use Rattle.base.proofs.Tests.{by-eq}
 use Rattle.fcs.specs.Fcs.{fcs}
 use Rattle.packet.specs.Port.{barred}
-use Rattle.packet.specs.Contents.{Packet, plainFormat, keyFormat, keyLeast, keyMost, keyAt, payloadLimit, rawLimit, two, word, wordAt, head, packed, unpacked, plainly, keyed, withCheck, contents, body}
+use Rattle.packet.specs.Contents.{Packet, plainFormat, keyFormat, keyLeast, keyMost, keyAt, restLeast, payloadLimit, rawLimit, two, word, wordAt, head, packed, unpacked, plainly, keyed, withCheck, contents, body}
 use Rattle.packet.specs.Escape.{escape, plain, escaped, scan}
 use Rattle.packet.specs.Frame.{Told, packet, refusal, broken, kept, judgeBody, judgeContents, closedBy, closed, judge}
 use Rattle.packet.specs.Sender.{headFits, Accepted}
@@ -85,7 +85,7 @@ key-rest b k n l h =
     let e : keyAt + k ≡ suc (suc (suc k)) = omega arith in
     ap (λ (m : ℕ). take k l ++ drop m (b ∷ k ∷ n ∷ l)) e ∙ take-append-drop k l
 
-only-keyed : (bs : List ℕ) → Bytes bs → getD bs 0 0 ≡ keyFormat → (keyLeast ≤ getD bs 1 0) × (getD bs 1 0 ≤ keyMost) × (keyAt + getD bs 1 0 + 5 ≤ length bs)
+only-keyed : (bs : List ℕ) → Bytes bs → getD bs 0 0 ≡ keyFormat → (keyLeast ≤ getD bs 1 0) × (getD bs 1 0 ≤ keyMost) × (keyAt + getD bs 1 0 + restLeast ≤ length bs)
     → barred (keyed bs .port) ≡ false → length (escape (keyed bs .payload)) ≤ payloadLimit → Only (packet (keyed bs)) bs
 only-keyed [] h e k f s = absurd (omega (arith, k .0))
 only-keyed (b ∷ []) h e k f s = absurd (omega (arith, k .0))

@@ -21,7 +21,7 @@ use Rattle.base.proofs.Bytes.{each-append}
 use Rattle.base.proofs.Tests.{and-parts}
 use Rattle.fcs.specs.Fcs.{fcs}
 use Rattle.packet.specs.Escape.{escape, escapeByte, plain, wrongFrom, scannedBy, scan, last, right, NoFlag}
-use Rattle.packet.specs.Contents.{Packet, packetOf, plainPacket, keyPacket, plainFormat, keyFormat, keyLeast, keyMost, keySized, payloadLimit, plainLimit, rawLimit, contents, withCheck, packed, unpacked, keyed, keyAt, two, wordAt, body}
+use Rattle.packet.specs.Contents.{Packet, packetOf, plainPacket, keyPacket, plainFormat, keyFormat, keyLeast, keyMost, keySized, payloadLimit, plainLimit, rawLimit, contents, withCheck, packed, unpacked, keyed, keyAt, restLeast, two, wordAt, body}
 use Rattle.packet.specs.Frame.{Closed, packet, judge, judgePacket, keyFits, judgeBody, judgeContents, closedBy}
 use Rattle.packet.specs.Sender.{headFits, Accepted}
 use Rattle.packet.specs.declared.escape.Escapes.the-variants.{Right}
@@ -158,7 +158,7 @@ module _ (port sequence : ℕ) (payload : List ℕ) where
   keyed-fits : (number : ℕ) (key : List ℕ) → (length payload ≡ 0 → ⊥) → keyLeast ≤ length key → length key ≤ keyMost
       → keyFits (keyFormat ∷ length key ∷ number ∷ (key ++ rest)) ≡ true
   keyed-fits number key some low high =
-      let l : keyAt + length key + 5 ≤ length (keyFormat ∷ length key ∷ number ∷ (key ++ rest)) = omega (arith, length-append key rest, some) in
+      let l : keyAt + length key + restLeast ≤ length (keyFormat ∷ length key ∷ number ∷ (key ++ rest)) = omega (arith, length-append key rest, some) in
       rw (le-leb _ _ low, le-leb _ _ high, le-leb _ _ l)
 
 -- ---- a packet that the sender accepts

@@ -54,6 +54,10 @@ keyMost = 32
 abbrev pub keySized : ℕ → Bool
 keySized k = leb keyLeast k && leb k keyMost
 
+-- bytes behind the key, at least, before the two of the check: port, sequence, one of payload
+abbrev pub restLeast : ℕ
+restLeast = 5
+
 -- bytes of a payload as escaped, at most
 abbrev pub payloadLimit : ℕ
 payloadLimit = 8192
