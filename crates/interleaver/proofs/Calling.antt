@@ -55,29 +55,26 @@ module _ {S : Type 0} (d p : ℕ) (s : S) (r : List ℕ × S) (out : List ℕ) w
       pub output-refused : length out < length (r .0) → _≡_ {A = Outcome × S} (refused 23 out, s) (calling d p s r out)
       output-refused l = (λ i. (sym (write-short (r .0) out l) i, pick (sym (lt-ltb (length out) (length (r .0)) l) i) s (r .1))) ∙ way
 
-      pub wrote : {o : List ℕ} {t : S} → length (r .0) ≤ length out → o ≡ copied (r .0) out → t ≡ r .1
-          → _≡_ {A = Outcome × S} (outcome (Wrote (length (r .0))) o, t) (calling d p s r out)
-      wrote {o} {t} l f g =
-          (λ i. (outcome (Wrote (length (r .0))) (f i), g i))
-          ∙ (λ i. (sym (write-fits (r .0) out l) i, pick (sym (le-ltb (length out) (length (r .0)) l) i) s (r .1))) ∙ way
+      pub wrote : length (r .0) ≤ length out → _≡_ {A = Outcome × S} (outcome (Wrote (length (r .0))) (copied (r .0) out), r .1) (calling d p s r out)
+      wrote l = (λ i. (sym (write-fits (r .0) out l) i, pick (sym (le-ltb (length out) (length (r .0)) l) i) s (r .1))) ∙ way
 
 module _ {S : Type 0} (d p : ℕ) (e : S → ℕ → Option ℕ × S) (s : S) (bs out : List ℕ) (b : beyond d p ≡ false) (l : d ≤ depthLimit)
     (n : ℕ) (size : length (run (passing d e) s bs .0) ≡ n) where
   pub short : length out < n → _≡_ {A = Outcome × S} (refused 23 out, s) (calling d p s (run (passing d e) s bs) out)
   short h = output-refused d p s (run (passing d e) s bs) out b l (omega arith)
 
-  fits : {o : List ℕ} {t : S} → n ≤ length out → (r : List ℕ × S) → run (passing d e) s bs ≡ r → o ≡ copied (r .0) out → t ≡ r .1
+  fits : {o : List ℕ} {t : S} (r : List ℕ × S) → n ≤ length out → run (passing d e) s bs ≡ r → _≡_ {A = List ℕ × S} (o, t) (copied (r .0) out, r .1)
       → _≡_ {A = Outcome × S} (outcome (Wrote n) o, t) (calling d p s (run (passing d e) s bs) out)
-  fits {o} {t} h r q f g =
-      (λ i. (outcome (Wrote (sym size i)) o, t))
-      ∙ wrote d p s (run (passing d e) s bs) out b l (omega arith) (f ∙ (λ i. copied (sym q i .0) out)) (g ∙ (λ i. sym q i .1))
+  fits {o} {t} r h q f =
+      (λ i. (outcome (Wrote (sym size i)) (f i .0), f i .1)) ∙ (λ i. (outcome (Wrote (length (run (passing d e) s bs .0))) (copied (sym q i .0) out), sym q i .1))
+      ∙ wrote d p s (run (passing d e) s bs) out b l (omega arith)
 
   pub flat : {o : List ℕ} → n ≤ length out → d < 2 → o ≡ copied bs out → _≡_ {A = Outcome × S} (outcome (Wrote n) o, s) (calling d p s (run (passing d e) s bs) out)
-  flat h k f = fits h (bs, s) (passes d e k s bs) f refl
+  flat h k f = fits (bs, s) h (passes d e k s bs) (λ i. (f i, s))
 
-  pub deep : {o : List ℕ} {t : S} → n ≤ length out → 2 ≤ d → o ≡ copied (run e s bs .0) out → t ≡ run e s bs .1
+  pub deep : {o : List ℕ} {t : S} → n ≤ length out → 2 ≤ d → _≡_ {A = List ℕ × S} (o, t) (copied (run e s bs .0) out, run e s bs .1)
       → _≡_ {A = Outcome × S} (outcome (Wrote n) o, t) (calling d p s (run (passing d e) s bs) out)
-  deep h k f g = fits h (run e s bs) (deeper d e k s bs) f g
+  deep h k f = fits (run e s bs) h (deeper d e k s bs) f
 
 pub closes : (d : ℕ) (m : Matrix) (out : List ℕ) (n : ℕ) → n ≤ depthLimit * width → (d ≤ depthLimit → n ≡ closingBytes d)
     → pushing d m (take {A = ℕ} n (replicate (depthLimit * width) 0)) out ≡ closing d m out

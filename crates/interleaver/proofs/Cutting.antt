@@ -58,7 +58,7 @@ module _ {S : Type 0} (d : ℕ) (e : S → ℕ → Option ℕ × S) (at : S → 
       (λ b.
       by-le d depthLimit
       (λ l.
-      by-le (length (r .0)) (length out) (λ k. same k (wrote d (at s) s r out b l k refl refl ∙ c))
+      by-le (length (r .0)) (length out) (λ k. same k (wrote d (at s) s r out b l k ∙ c))
       (λ k. absurd (no 23 (output-refused d (at s) s r out b l k ∙ c))))
       (λ l. absurd (no 32 (depth-refused d (at s) s r out b l ∙ c))))
     where
@@ -93,7 +93,7 @@ module _ {S : Type 0} (d : ℕ) (e : S → ℕ → Option ℕ × S) (at : S → 
     goes-on s b (p ∷ ps) =
         let l : length (run e s p .0) ≤ length (lent p) = let z = fewer e s p in let y = room p in omega arith in
         let g = goes-on (run e s p .1) (stays s p b) ps in
-        (_, g .1, piece (length (run e s p .0)) (lent p) (copied (run e s p .0) (lent p)) (sym (wrote d (at s) s (run e s p) (lent p) b most l refl refl)) (g .2))
+        (_, g .1, piece (length (run e s p .0)) (lent p) (copied (run e s p .0) (lent p)) (sym (wrote d (at s) s (run e s p) (lent p) b most l)) (g .2))
 
 -- ---- the two sides
 module _ (d : ℕ) where

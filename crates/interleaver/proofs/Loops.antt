@@ -28,15 +28,12 @@ module _ (e : Matrix → ℕ → Option ℕ × Matrix) (bs : List ℕ) (i : ℕ)
   pub left-done : length bs ≤ i → (out, m) ≡ t
   left-done h = ap (λ (x : List ℕ). (sets out i (run e m x .0), run e m x .1)) (sym (drop-of-length-le bs h)) ∙ l
 
--- of e as many come as go in
-pub left-out : (e : Matrix → ℕ → Option ℕ × Matrix) (bs : List ℕ) (m : Matrix) (out : List ℕ) {o : List ℕ} {n : Matrix} → length (run e m bs .0) ≤ length out
-    → (o, n) ≡ left e bs 0 m out → (o ≡ copied (run e m bs .0) out) × (n ≡ run e m bs .1)
-left-out e bs m out h l =
-    let r : List ℕ = run e m bs .0 in (
-      ap (λ (x : List ℕ × Matrix). x .0) l ∙ sets-eq r out 0 (omega arith)
-          ∙ ap (λ (n : ℕ). r ++ drop n out) (let z : 0 + length r ≡ length r = omega arith in z) ∙ sym (copied-fits r out h),
-      ap (λ (x : List ℕ × Matrix). x .1) l,
-    )
+pub left-out : (e : Matrix → ℕ → Option ℕ × Matrix) (bs : List ℕ) (m : Matrix) (out : List ℕ) → length (run e m bs .0) ≤ length out
+    → left e bs 0 m out ≡ (copied (run e m bs .0) out, run e m bs .1)
+left-out e bs m out h =
+    let r : List ℕ = run e m bs .0 in
+    ap (λ (x : List ℕ). (x, run e m bs .1))
+    (sets-eq r out 0 (omega arith) ∙ ap (λ (n : ℕ). r ++ drop n out) (let z : 0 + length r ≡ length r = omega arith in z) ∙ sym (copied-fits r out h))
 
 module _ (d p : ℕ) (cs : List ℕ) (b : ℕ) {k q : ℕ} (e : k ≡ cell d p) (g : q ≡ next d p) where
   pub sends : sent d (matrix p cs) b ≡ (some (getD (set cs p b) k 0), matrix q (set cs p b))

@@ -23,7 +23,7 @@ use Rattle.base.proofs.Tests.{by-le}
 use Rattle.base.proofs.Writing.{copied-fits}
 use Rattle.interleaver.specs.Places.{cell}
 use Rattle.interleaver.specs.Running.{size, next, back, taken, gave, pull, beyond}
-use Rattle.interleaver.specs.Private.{left, held}
+use Rattle.interleaver.specs.Private.{left, held, given}
 use Rattle.interleaver.specs.declared.Matrix.{Matrix}
 use Rattle.interleaver.specs.declared.Back.{Back}
 use Rattle.interleaver.proofs.Turns.{each-length, each-place}
@@ -115,21 +115,19 @@ module _ (d : ℕ) (deep : 2 ≤ d) (k : Back) (bs out : List ℕ) (n : ℕ) (h 
   held-is : n ≡ pick (k .again) 0 (min (size d - 1 - k .matrix .place) (length bs))
   held-is = e ∙ held-deep d bs deep (k .again) (k .matrix .place)
 
-  pub kept-all : {f : Matrix} → length bs ≤ n → f ≡ run (taken d) (k .matrix) (take n bs) .1
-      → (out ≡ copied (run (gave d) k bs .0) out) × (back (k .again) f ≡ run (gave d) k bs .1)
+  pub kept-all : {f : Matrix} → length bs ≤ n → f ≡ run (taken d) (k .matrix) (take n bs) .1 → (out, back (k .again) f) ≡ given d k bs out
   kept-all {f} l g =
-      let r = all-held d bs n (k .again) (k .matrix) h held-is l in (
-        sym (ap (λ (x : List ℕ × Back). copied (x .0) out) r ∙ copied-fits [] out (omega arith)),
-        ap (back (k .again)) (g ∙ ap (λ (x : List ℕ). run (taken d) (k .matrix) x .1) (take-all n bs l)) ∙ sym (ap (λ (x : List ℕ × Back). x .1) r),
-      )
+      let e : f ≡ run (taken d) (k .matrix) bs .1 = g ∙ ap (λ (x : List ℕ). run (taken d) (k .matrix) x .1) (take-all n bs l) in
+      (λ i. (sym (copied-fits [] out (omega arith)) i, back (k .again) (e i)))
+      ∙ ap (λ (x : List ℕ × Back). (copied (x .0) out, x .1)) (sym (all-held d bs n (k .again) (k .matrix) h held-is l))
 
   pub kept-some : {f g : Matrix} {o : List ℕ} → n < length bs → length bs ≤ length out + n → f ≡ run (taken d) (k .matrix) (take n bs) .1
-      → (o, g) ≡ left (taken d) (take (length bs - n) (drop n bs)) 0 f out
-      → (o ≡ copied (run (gave d) k bs .0) out) × (back true g ≡ run (gave d) k bs .1)
+      → (o, g) ≡ left (taken d) (take (length bs - n) (drop n bs)) 0 f out → (o, back true g) ≡ given d k bs out
   kept-some {f} {g} {o} l room p q =
-      let r = some-given d bs n (k .again) (k .matrix) h held-is l in
-      let s : (o, g) ≡ left (taken d) (drop n bs) 0 (run (taken d) (k .matrix) (take n bs) .1) out =
-      q ∙ (λ i. left (taken d) (take-all (length bs - n) (drop n bs) (let z = length-drop n bs in omega arith) i) 0 (p i) out) in
-      let w = left-out (taken d) (drop n bs) (run (taken d) (k .matrix) (take n bs) .1) out
-      (let z = length-drop n bs in let y = each-length (size d) (cell d) (λ p w. getD (w .cells) (w .place) 0) (run (taken d) (k .matrix) (take n bs) .1) (drop n bs) in omega arith) s in
-      (w .0 ∙ sym (ap (λ (x : List ℕ × Back). copied (x .0) out) r), ap (back true) (w .1) ∙ sym (ap (λ (x : List ℕ × Back). x .1) r))
+      let m : Matrix = run (taken d) (k .matrix) (take n bs) .1 in
+      let y : length (run (taken d) m (drop n bs) .0) ≡ length (drop n bs) = each-length (size d) (cell d) (λ p w. getD (w .cells) (w .place) 0) m (drop n bs) in
+      let z : length (drop n bs) ≡ length bs - n = length-drop n bs in
+      let s : _≡_ {A = List ℕ × Matrix} (o, g) (copied (run (taken d) m (drop n bs) .0) out, run (taken d) m (drop n bs) .1) =
+      q ∙ (λ i. left (taken d) (take-all (length bs - n) (drop n bs) (omega arith) i) 0 (p i) out) ∙ left-out (taken d) (drop n bs) m out (omega arith) in
+      ap (λ (x : List ℕ × Matrix). (x .0, back true (x .1))) s
+      ∙ ap (λ (x : List ℕ × Back). (copied (x .0) out, x .1)) (sym (some-given d bs n (k .again) (k .matrix) h held-is l))

@@ -25,6 +25,6 @@ pushed-length d m bs =
     by-le 2 d (λ h. ap (λ (x : List ℕ × Matrix). length (x .0)) (deeper d (sent d) h m bs) ∙ sent-length d m bs)
     (λ h. ap (λ (x : List ℕ × Matrix). length (x .0)) (passes d (sent d) h m bs))
 
-pub sent-out : (d : ℕ) (bs : List ℕ) (m : Matrix) (out : List ℕ) {o : List ℕ} {n : Matrix} → length bs ≤ length out → (o, n) ≡ left (sent d) bs 0 m out
-    → (o ≡ copied (run (sent d) m bs .0) out) × (n ≡ run (sent d) m bs .1)
-sent-out d bs m out h l = left-out (sent d) bs m out (let z = sent-length d m bs in omega arith) l
+pub sent-out : (d : ℕ) (bs : List ℕ) (m : Matrix) (out : List ℕ) → length bs ≤ length out
+    → left (sent d) bs 0 m out ≡ (copied (run (sent d) m bs .0) out, run (sent d) m bs .1)
+sent-out d bs m out h = left-out (sent d) bs m out (let z = sent-length d m bs in omega arith)

@@ -4,11 +4,12 @@ ghost use mathlib.Core.Bool.{false};
 ghost use Prim.Native.Nat.{_+_, _*_, _≤_, _<_};
 ghost use lib.ListN.{length};
 ghost use Rattle.base.specs.Calls.{run};
-ghost use Rattle.base.specs.Written.{outcome, copied};
+ghost use Rattle.base.specs.Written.{outcome};
 ghost use Rattle.base.specs.declared.Written.the-variants.{Refused};
 ghost use Rattle.interleaver.specs.Places.{width, cell};
-ghost use Rattle.interleaver.specs.Running.{depthLimit, size, next, matrix, fresh, freshBack, sent, taken, gave, beyond, pushing, closingBytes, closing, pulling};
-ghost use Rattle.interleaver.specs.Private.{left, held};
+ghost use Rattle.interleaver.specs.Running.{depthLimit, size, next, matrix, fresh, freshBack, sent, taken};
+ghost use Rattle.interleaver.specs.Running.{beyond, pushing, closingBytes, closing, pulling};
+ghost use Rattle.interleaver.specs.Private.{left, held, Ready, given};
 use base::Refusal;
 use base::Written;
 
@@ -154,8 +155,8 @@ impl Back {
 
     // At depth 2 or more: the first `kept` bytes give none back, each other one gives one.
     fn take(self, depth: usize, bytes: &[u8], kept: usize, out: &mut [u8]) -> Self
-        requires { ⌜ (2 ≤ depth) × (depth ≤ depthLimit) × (self .matrix .place < size depth) × (kept ≡ held depth (self .again) (self .matrix .place) (length (now bytes))) × (kept ≤ length (now bytes)) × (length (now bytes) ≤ length (now out) + kept) ⌝ }
-        ensures { λ r. ⌜ (now (out .exit) ≡ copied (run (gave depth) self (now (bytes .entry)) .0) (now (out .entry))) × (r ≡ run (gave depth) self (now (bytes .entry)) .1) ⌝ }
+        requires { ⌜ Ready depth self (now bytes) (now out) kept ⌝ }
+        ensures { λ r. ⌜ (now (out .exit), r) ≡ given depth self (now (bytes .entry)) (now (out .entry)) ⌝ }
     {
         let matrix = self.matrix;
         let cells = matrix.cells;

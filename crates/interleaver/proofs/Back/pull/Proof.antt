@@ -66,6 +66,5 @@ pull-spec =
     let t = s .before .before .before .before in
     let a = t .before .before .before .before .before .args in
     let b = sym (t .before .beyond .ensures) ∙ t .if1 .left in
-    let r = c .before .before .take .ensures in
     deep (a .depth) (a .self .matrix .place) (gave (a .depth)) (a .self) (a .bytes .now) (a .out .now) b (s .before .before .before .if2 .left) (length (a .bytes .now) - n .result)
-    (pulled-length (a .depth) (a .self) (a .bytes .now) (n .result) b (n .ensures .0)) (s .before .if3 .left) (s .if4 .left) (r .0) (r .1)))
+    (pulled-length (a .depth) (a .self) (a .bytes .now) (n .result) b (n .ensures .0)) (s .before .if3 .left) (s .if4 .left) (c .before .before .take .ensures)))

@@ -54,6 +54,6 @@ push-spec =
     let s = c .before .before .before .before .before in
     let t = s .before .before .before in
     let a = t .before .before .before .before .args in
-    let r = sent-out (a .depth) (a .bytes .now) (a .self) (a .out .now) (s .before .if3 .left) (c .before .before .send .ensures) in
     deep (a .depth) (a .self .place) (sent (a .depth)) (a .self) (a .bytes .now) (a .out .now) (sym (t .before .beyond .ensures) ∙ t .if1 .left) (s .before .before .if2 .left) (length (a .bytes .now))
-    (pushed-length (a .depth) (a .self) (a .bytes .now)) (s .before .if3 .left) (s .if4 .left) (r .0) (r .1)))
+    (pushed-length (a .depth) (a .self) (a .bytes .now)) (s .before .if3 .left) (s .if4 .left)
+    (c .before .before .send .ensures ∙ sent-out (a .depth) (a .bytes .now) (a .self) (a .out .now) (s .before .if3 .left))))
