@@ -6,18 +6,22 @@ use Prim.Native.Nat.{ℕ, zero, suc}
 use mathlib.Core.Path.{_≡_, refl}
 use mathlib.Core.Bool.{false}
 use mathlib.Core.List.{List, [], _∷_, _++_, map}
-use lib.ListN.{replicate}
+use lib.ListN.{length, replicate}
 use Rattle.base.specs.Calls.{joined}
 use Rattle.base.specs.Choice.{pick}
+use Rattle.base.specs.declared.Written.{Written}
+use Rattle.base.specs.declared.Written.the-variants.{Wrote, Refused}
 use Rattle.fcs.specs.Fcs as check
 use Rattle.field.specs.Field as field
 use Rattle.parity.specs.Calls as parity
+use Rattle.interleaver.specs.Places.{width}
+use Rattle.interleaver.specs.Running as interleaver
 use Rattle.packet.specs.Contents.{format, payloadLimit, plainLimit, rawLimit, withCheck, contents}
 use Rattle.packet.specs.Escape.{flag, escape, escapeByte, plain, wrongFrom, right, last, scan}
 use Rattle.packet.specs.Frame.{Told, packet, refusal, broken, judgeContents, judgeBody, closedBy, closed, judge}
 use Rattle.packet.specs.Port.{class, barred}
 use Rattle.packet.specs.Sender.{refusing}
-use Rattle.packet.specs.declared.frame.Judged.the-variants.{Packet, Refused, Broken}
+use Rattle.packet.specs.declared.frame.Judged.the-variants.{Packet, Refused as Denied, Broken}
 use Rattle.stream.specs.Reader.{waiting, reads}
 use Rattle.stream.specs.Called.{placeLimit}
 use Rattle.channel.specs.Sender.{marker, messageBytes, parityBytes, wordBytes, blockBytes}
@@ -71,6 +75,15 @@ placeOf (broken n) = n ∷ []
 abbrev places : List ℕ → List ℕ
 places bs = joined (map placeOf (reads waiting bs .0))
 
+-- the number by which a call is refused; 0 where it writes
+abbrev numberOf : Written → ℕ
+numberOf (Wrote n) = 0
+numberOf (Refused n) = n
+
+-- .. a push of no bytes, at a depth and a place
+abbrev refusalAt : ℕ → ℕ → ℕ
+refusalAt d p = numberOf (interleaver.pushing d (interleaver.matrix p []) [] [] .0 .answer)
+
 -- the number of a row, what the definitions give, what the paper prints
 abbrev pub printed : List Line
 printed =
@@ -85,7 +98,7 @@ printed =
     (9, contents (record { port = 0x1234; sequence = 0x0102; payload = 0x41 ∷ [] }), 0x21 ∷ 0x34 ∷ 0x12 ∷ 0x02 ∷ 0x01 ∷ 0x41 ∷ 0x3F ∷ 0x8A ∷ []) ∷  -- port and sequence each two bytes, low first: port 1234, sequence 0102
     (10, heard (0x7E ∷ 0x21 ∷ 0x34 ∷ 0x12 ∷ 0x02 ∷ 0x01 ∷ 0x41 ∷ 0x3F ∷ 0x8A ∷ 0x7E ∷ []), 0 ∷ 0x1234 ∷ 0x0102 ∷ 0x41 ∷ []) ∷  -- .. and taken apart
     (11, line (Said (Packet (record { port = 0x5100; sequence = 0x0102; length = 3 }))), 80 ∷ 32 ∷ 50 ∷ 48 ∷ 55 ∷ 51 ∷ 54 ∷ 32 ∷ 50 ∷ 53 ∷ 56 ∷ 32 ∷ 51 ∷ 32 ∷ 77 ∷ 10 ∷ []) ∷  -- `P port sequence payload-length class`: P 20736 258 3 M
-    (12, line (Said (Refused 4)), 82 ∷ 32 ∷ 52 ∷ 10 ∷ []) ∷  -- `R n`: R 4
+    (12, line (Said (Denied 4)), 82 ∷ 32 ∷ 52 ∷ 10 ∷ []) ∷  -- `R n`: R 4
     (13, line (Block Clean), 66 ∷ 32 ∷ 48 ∷ 10 ∷ []) ∷  -- `B 0` clean
     (14, line (Block (Repaired 16)), 66 ∷ 32 ∷ 49 ∷ 54 ∷ 10 ∷ []) ∷  -- `B count` repaired: B 16
     (15, line (Block Beyond), 66 ∷ 32 ∷ 88 ∷ 10 ∷ []) ∷  -- `B X` beyond repair
@@ -106,4 +119,8 @@ printed =
     (30, joined (map placeOf (judge (replicate 8203 0 ++ 0x7D ∷ 0x21 ∷ []) ∷ judge (replicate 8204 0 ++ 0x7D ∷ 0x21 ∷ []) ∷ [])), 8204 ∷ []) ∷  -- the last of 8,205 raw bytes is at 8,204; 8,206 get 1
     (31, placeLimit ∷ [], 8204 ∷ []) ∷  -- 10 where the remembered place is above 8,204
     (32, line (Said (Broken 105)), 82 ∷ 32 ∷ 51 ∷ 32 ∷ 49 ∷ 48 ∷ 53 ∷ 10 ∷ []) ∷  -- `R 3 n`: R 3 105
+    (33, width ∷ interleaver.depthLimit ∷ length (interleaver.fresh .cells) ∷ [], 255 ∷ 64 ∷ 16320 ∷ []) ∷  -- D rows by 255, depth 0 to 64; a matrix holds up to 16,320 bytes
+    (34, map interleaver.closingBytes (0 ∷ 1 ∷ 2 ∷ 64 ∷ []), 0 ∷ 0 ∷ 509 ∷ 16319 ∷ []) ∷  -- the closing push: N - 1 bytes, none at depth 0 and 1
+    (35, map (refusalAt 2) (509 ∷ 510 ∷ []) ++ (map (refusalAt 64) (16319 ∷ 16320 ∷ []) ++ map (refusalAt 65) (16574 ∷ 16575 ∷ [])), 0 ∷ 10 ∷ 0 ∷ 10 ∷ 32 ∷ 10 ∷ []) ∷  -- 10 for a cell place of N or more; depth 64 passes, 65 gets 32, behind 10
+    (36, map (refusalAt 0) (0 ∷ 16320 ∷ []) ++ map (refusalAt 1) (255 ∷ 16320 ∷ []), 0 ∷ 0 ∷ 0 ∷ 0 ∷ []) ∷  -- depth 0 and 1 use no cell
     []

@@ -31,6 +31,12 @@ use Rattle.interleaver.proofs.Loops.{left-out}
 use Rattle.interleaver.proofs.Calling.{passes, deeper, below}
 
 module _ (d : ℕ) where
+  taken-length : (m : Matrix) (bs : List ℕ) → length (run (taken d) m bs .0) ≡ length bs
+  taken-length = each-length (size d) (cell d) (λ p w. getD (w .cells) (w .place) 0)
+
+  taken-place : (m : Matrix) (bs : List ℕ) → m .place < size d → run (taken d) m bs .1 .place ≡ (m .place + length bs) % size d
+  taken-place = each-place (size d) (cell d) (λ p w. getD (w .cells) (w .place) 0)
+
   -- with this byte the first pass is over (t) or not
   by : Bool → Matrix → ℕ → List ℕ → List ℕ × Back
   by t m b bs = tell (pick t (taken d m b .0) none) (run (gave d) (back t (taken d m b .1)) bs)
@@ -84,7 +90,7 @@ module _ (d : ℕ) where
         let c : drop n bs ≡ getD bs n 0 ∷ drop (suc n) bs = drop-cons bs n 0 l in
         let f : Matrix = run (taken d) m (take n bs) .1 in
         let p : f .place ≡ m .place + n =
-        each-place (size d) (cell d) (λ p w. getD (w .cells) (w .place) 0) m (take n bs) h ∙ ap (λ (x : ℕ). (m .place + x) % size d) lt
+        taken-place m (take n bs) h ∙ ap (λ (x : ℕ). (m .place + x) % size d) lt
         ∙ mod-eq-of-lt (omega arith) in
         ap (run (gave d) (back false m)) (sym (take-append-drop n bs)) ∙ run-append (gave d) (back false m) (take n bs) (drop n bs)
         ∙ ap (λ (x : List ℕ × Back). andThen x (λ t. run (gave d) t (drop n bs))) (quiet (take n bs) m (omega arith))
@@ -97,7 +103,7 @@ module _ (d : ℕ) where
         by-le (length bs) n (λ l. ap (λ (x : List ℕ × Back). length (x .0)) (all-held n a m h e l) ∙ (let z : 0 ≡ length bs - n = omega arith in z))
         (λ l.
         ap (λ (x : List ℕ × Back). length (x .0)) (some-given n a m h e l)
-        ∙ each-length (size d) (cell d) (λ p w. getD (w .cells) (w .place) 0) (run (taken d) m (take n bs) .1) (drop n bs) ∙ length-drop n bs)
+        ∙ taken-length (run (taken d) m (take n bs) .1) (drop n bs) ∙ length-drop n bs)
 
 pub pulled-length : (d : ℕ) (k : Back) (bs : List ℕ) (n : ℕ) → beyond d (k .matrix .place) ≡ false → n ≡ held d (k .again) (k .matrix .place) (length bs)
     → length (run (pull d) k bs .0) ≡ length bs - n
@@ -125,7 +131,7 @@ module _ (d : ℕ) (deep : 2 ≤ d) (k : Back) (bs out : List ℕ) (n : ℕ) (h 
       → (o, g) ≡ left (taken d) (take (length bs - n) (drop n bs)) 0 f out → (o, back true g) ≡ given d k bs out
   kept-some {f} {g} {o} l room p q =
       let m : Matrix = run (taken d) (k .matrix) (take n bs) .1 in
-      let y : length (run (taken d) m (drop n bs) .0) ≡ length (drop n bs) = each-length (size d) (cell d) (λ p w. getD (w .cells) (w .place) 0) m (drop n bs) in
+      let y : length (run (taken d) m (drop n bs) .0) ≡ length (drop n bs) = taken-length d m (drop n bs) in
       let z : length (drop n bs) ≡ length bs - n = length-drop n bs in
       let s : _≡_ {A = List ℕ × Matrix} (o, g) (copied (run (taken d) m (drop n bs) .0) out, run (taken d) m (drop n bs) .1) =
       q ∙ (λ i. left (taken d) (take-all (length bs - n) (drop n bs) (omega arith) i) 0 (p i) out) ∙ left-out (taken d) (drop n bs) m out (omega arith) in
