@@ -70,7 +70,10 @@ fn digit(b: u8) -> usize {
 }
 
 fn tens(high: usize, low: usize) -> usize {
-    if high > 9 || low > 9 {
+    if high > 9 {
+        return 100;
+    }
+    if low > 9 {
         return 100;
     }
     10 * high + low
@@ -129,17 +132,21 @@ fn pull_all(depth: usize) {
 
 // What a push wrote, to standard output.
 fn pushed(answer: Pushed, out: &[u8]) -> Sent {
+    let written = answer.written;
+    let matrix = answer.matrix;
     Sent {
-        go: put(answer.written, out),
-        matrix: answer.matrix,
+        go: put(written, out),
+        matrix,
     }
 }
 
 // What a pull wrote.
 fn pulled(answer: Pulled, out: &[u8]) -> Taken {
+    let written = answer.written;
+    let back = answer.back;
     Taken {
-        go: put(answer.written, out),
-        back: answer.back,
+        go: put(written, out),
+        back,
     }
 }
 

@@ -90,10 +90,11 @@ fn follow(
 fn respond(asked: u8, number: u64, sides: Sides, bytes: &[u8], out: &mut [u8]) -> Turn {
     fill(out);
     let told = tell(asked, number, sides, bytes, out);
+    let next = told.sides;
     print(told.number);
     Turn {
         go: io::write_all(1, out),
-        sides: told.sides,
+        sides: next,
     }
 }
 
@@ -122,17 +123,19 @@ fn tell(asked: u8, number: u64, sides: Sides, bytes: &[u8], out: &mut [u8]) -> T
 }
 
 fn pushed(p: Pushed, back: Back) -> Told {
+    let answer = p.written;
     let matrix = p.matrix;
     Told {
-        number: written(p.written),
+        number: written(answer),
         sides: Sides { matrix, back },
     }
 }
 
 fn pulled(matrix: Matrix, p: Pulled) -> Told {
+    let answer = p.written;
     let back = p.back;
     Told {
-        number: written(p.written),
+        number: written(answer),
         sides: Sides { matrix, back },
     }
 }
