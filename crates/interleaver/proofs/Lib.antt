@@ -6,5 +6,6 @@ pub mod Pushing
 pub mod Pulling
 pub mod Round
 pub mod Cutting
+pub mod Steps
 pub mod Numbers
 pub mod Determined

@@ -1,7 +1,6 @@
 -- The loops over bytes, whatever is done with each.
 -- left-next, left-done   a turn, and the end
 -- left-out               what is stored from the output's start on, with room
--- sends, takes           a turn of the code is a byte of the definition, on either side
 use mathlib.Core.Path.{_≡_, sym, ap, _∙_}
 use mathlib.Core.List.{List, _++_}
 use mathlib.Core.Option.{Option, some}
@@ -13,8 +12,6 @@ use lib.Seq.{sets, sets-eq, drop-cons}
 use Rattle.base.specs.Calls.{tell, run}
 use Rattle.base.specs.Written.{copied}
 use Rattle.base.proofs.Writing.{copied-fits}
-use Rattle.interleaver.specs.Places.{cell}
-use Rattle.interleaver.specs.Running.{next, matrix, sent, taken}
 use Rattle.interleaver.specs.Private.{left}
 use Rattle.interleaver.specs.declared.Matrix.{Matrix}
 
@@ -34,10 +31,3 @@ left-out e bs m out h =
     let r : List ℕ = run e m bs .0 in
     ap (λ (x : List ℕ). (x, run e m bs .1))
     (sets-eq r out 0 (omega arith) ∙ ap (λ (n : ℕ). r ++ drop n out) (let z : 0 + length r ≡ length r = omega arith in z) ∙ sym (copied-fits r out h))
-
-module _ (d p : ℕ) (cs : List ℕ) (b : ℕ) {k q : ℕ} (e : k ≡ cell d p) (g : q ≡ next d p) where
-  pub sends : sent d (matrix p cs) b ≡ (some (getD (set cs p b) k 0), matrix q (set cs p b))
-  sends j = (some (getD (set cs p b) (sym e j) 0), matrix (sym g j) (set cs p b))
-
-  pub takes : taken d (matrix p cs) b ≡ (some (getD (set cs k b) q 0), matrix q (set cs k b))
-  takes j = (some (getD (set cs (sym e j) b) (sym g j) 0), matrix (sym g j) (set cs (sym e j) b))

@@ -6,7 +6,8 @@ use lib.ListN.{length, length-set}
 use borrow.Author.Needs.{needs}
 use Rattle.interleaver.specs.Running.{size, matrix, taken}
 use Rattle.interleaver.specs.Private.{left}
-use Rattle.interleaver.proofs.Loops.{left-next, left-done, takes}
+use Rattle.interleaver.proofs.Loops.{left-next, left-done}
+use Rattle.interleaver.proofs.Steps.{takes}
 use Rattle.interleaver.proofs.give.Statement.{statement}
 use Rattle.interleaver.proofs.give.Tie as tie
 

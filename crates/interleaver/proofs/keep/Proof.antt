@@ -8,7 +8,8 @@ use borrow.Author.Needs.{needs}
 use Rattle.interleaver.specs.Running.{size, matrix, taken}
 use Rattle.interleaver.specs.Private.{left}
 use Rattle.interleaver.specs.declared.Matrix.{Matrix}
-use Rattle.interleaver.proofs.Loops.{left-next, left-done, takes}
+use Rattle.interleaver.proofs.Loops.{left-next, left-done}
+use Rattle.interleaver.proofs.Steps.{takes}
 use Rattle.interleaver.proofs.keep.Statement.{statement}
 use Rattle.interleaver.proofs.keep.Tie as tie
 

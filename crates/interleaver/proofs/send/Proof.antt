@@ -6,7 +6,8 @@ use lib.ListN.{length, length-set}
 use borrow.Author.Needs.{needs}
 use Rattle.interleaver.specs.Running.{size, matrix, sent}
 use Rattle.interleaver.specs.Private.{left}
-use Rattle.interleaver.proofs.Loops.{left-next, left-done, sends}
+use Rattle.interleaver.proofs.Loops.{left-next, left-done}
+use Rattle.interleaver.proofs.Steps.{sends}
 use Rattle.interleaver.proofs.send.Statement.{statement}
 use Rattle.interleaver.proofs.send.Tie as tie
 
