@@ -1,5 +1,5 @@
 //! Answers cases from standard input, one after the other, so that tests/compare can hold the code to the second program. Each asks
-//! for one call; crates/pieces has those that ask for many.
+//! for one call; crates/pieces has those that ask for many, and crates/turns those of the interleaver.
 //!
 //! A case: what is asked (a letter), a number (8 bytes), how many bytes are lent as output and how many follow (2 bytes each),
 //! and those that follow. An answer: a number (8 bytes), and all bytes of the output. Numbers stand low byte first; the output
@@ -113,8 +113,6 @@ fn tell(asked: u8, number: u64, bytes: &[u8], out: &mut [u8]) -> u64 {
         b'P' => written(parity::make(number as usize, bytes, out)),
         b'W' => checked(parity::check(number as usize, bytes)),
         b'Y' => repaired(number as usize, bytes, out),
-        b'I' => written(interleaver::interleave(number as usize, bytes, out)),
-        b'J' => written(interleaver::restore(number as usize, bytes, out)),
         b'C' => class(packet::class_of(half(number))),
         b'K' => written(packet::write(half(number), half(number / 0x10000), bytes, out)),
         b'B' => written(stream::begin(out)),
