@@ -21,8 +21,9 @@ use Rattle.interleaver.specs.Running.{depthLimit, size, matrix, fresh, s
 use Rattle.interleaver.specs.declared.Matrix.{Matrix}
 use Rattle.interleaver.specs.declared.Back.{Back}
 use Rattle.interleaver.proofs.Places.{cell-below, cell-one, cell-mod, last-written, read-at}
-use Rattle.interleaver.proofs.Turns.{each-append, each-length, each-place, each-read, untouched, kept}
+use Rattle.interleaver.proofs.Turns.{each-append, each-place, each-read, untouched, kept}
 use Rattle.interleaver.proofs.Calling.{passes, deeper}
+use Rattle.interleaver.proofs.Pushing.{sent-length}
 use Rattle.interleaver.proofs.Pulling.{rest, some-given, given-length}
 
 -- at depth 2 or more, from place 0, whatever the cells hold
@@ -128,7 +129,7 @@ module _ (d : ℕ) (deep : 2 ≤ d) (most : d ≤ depthLimit) where
   returned-length rs = ap (λ (x : List ℕ × Back). length (x .0)) (in-again rs) ∙ gave-length d deep (fresh .cells) room rs
 
   length-out : (bs : List ℕ) → length (run (push d) fresh bs .0) ≡ length bs
-  length-out bs = ap (λ (x : List ℕ × Matrix). length (x .0)) (out bs) ∙ each-length (size d) (λ p. p) (λ p m. getD (m .cells) (cell d p) 0) fresh bs
+  length-out bs = ap (λ (x : List ℕ × Matrix). length (x .0)) (out bs) ∙ sent-length d fresh bs
 
   pub delayed : (bs : List ℕ) → run (pull d) freshBack (run (push d) fresh bs .0) .0 ≡ take (length bs - (size d - 1)) bs
   delayed bs =
