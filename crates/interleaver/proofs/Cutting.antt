@@ -3,8 +3,8 @@
 -- push-goes, pull-goes   from every state that passes 10, with room for each piece, there are such calls
 -- returned-late          what has come back of pieces pushed
 -- returned-all           .. and behind the closing push
-use mathlib.Core.Path.{_≡_, refl, sym, ap, ap₂, _∙_, subst}
-use mathlib.Core.Bool.{Bool, true, false, _&&_}
+use mathlib.Core.Path.{_≡_, refl, sym, ap, _∙_, subst}
+use mathlib.Core.Bool.{Bool, false, _&&_}
 use mathlib.Core.List.{List, [], _∷_, _++_}
 use mathlib.Core.Option.{Option, some, none}
 use Prim.Native.Nat.{ℕ, suc, _+_, _-_, _≤_, _<_}
@@ -15,7 +15,6 @@ use lib.ListN.{length, take, length-replicate}
 use lib.Seq.{take-at}
 use borrow.Author.Tests.{lt-leb}
 use Rattle.base.specs.Calls.{joined, tell, andThen, run}
-use Rattle.base.specs.Choice.{pick}
 use Rattle.base.specs.Written.{Outcome, outcome, copied}
 use Rattle.base.specs.declared.Written.the-variants.{Wrote, Refused}
 use Rattle.base.proofs.Calls.{run-append}

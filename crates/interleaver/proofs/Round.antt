@@ -3,14 +3,14 @@
 -- returned-is, -told, -length           what comes back of whatever is received: byte t, where it stood, and how many
 -- delayed                               all but the last N - 1 bytes pushed have come back
 -- there-and-back                        with N - 1 bytes behind them, all have
-use mathlib.Core.Path.{_≡_, refl, sym, ap, ap₂, _∙_}
+use mathlib.Core.Path.{_≡_, refl, sym, ap, _∙_}
 use mathlib.Core.Bool.{Bool, false}
 use mathlib.Core.Logic.{_⊎_, inl, inr}
 use mathlib.Core.List.{List, [], _∷_, _++_, append-nil}
 use Prim.Native.Nat.{ℕ, suc, _+_, _-_, _*_, _%_, _≤_, _<_, min}
 use native.Mathlib.Nat.{mod-eq-of-lt, add-mod-right}
 use native.Mathlib.Omega.{arith}
-use lib.ListN.{length, getD, take, drop, replicate, length-append, length-drop, length-replicate, getD-replicate}
+use lib.ListN.{length, getD, take, drop, length-append, length-drop, length-replicate, getD-replicate}
 use lib.Seq.{getD-take, length-take-le, take-add, take-at, ext-getD}
 use borrow.Author.Tests.{lt-ltb, le-ltb}
 use Rattle.base.specs.Calls.{run}
@@ -24,7 +24,7 @@ use Rattle.interleaver.proofs.Places.{cell-below, cell-one, cell-mod, l
 use Rattle.interleaver.proofs.Turns.{each-append, each-place, each-read, untouched, kept}
 use Rattle.interleaver.proofs.Calling.{passes, deeper}
 use Rattle.interleaver.proofs.Pushing.{sent-length}
-use Rattle.interleaver.proofs.Pulling.{rest, some-given, given-length}
+use Rattle.interleaver.proofs.Pulling.{some-given, given-length}
 
 -- at depth 2 or more, from place 0, whatever the cells hold
 module _ (d : ℕ) (deep : 2 ≤ d) (cs : List ℕ) (room : size d ≤ length cs) where
