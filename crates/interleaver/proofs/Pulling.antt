@@ -31,10 +31,10 @@ use Rattle.interleaver.proofs.Calling.{passes, deeper, below}
 
 module _ (d : ℕ) where
   taken-length : (m : Matrix) (bs : List ℕ) → length (run (taken d) m bs .0) ≡ length bs
-  taken-length = each-length (size d) (cell d) (λ p w. getD (w .cells) (w .place) 0)
+  taken-length = each-length (size d) (cell d) (λ m w. getD (w .cells) (w .place) 0)
 
   taken-place : (m : Matrix) (bs : List ℕ) → m .place < size d → run (taken d) m bs .1 .place ≡ (m .place + length bs) % size d
-  taken-place = each-place (size d) (cell d) (λ p w. getD (w .cells) (w .place) 0)
+  taken-place = each-place (size d) (cell d) (λ m w. getD (w .cells) (w .place) 0)
 
   -- with this byte the first pass is over (t) or not
   by : Bool → Matrix → ℕ → List ℕ → List ℕ × Back

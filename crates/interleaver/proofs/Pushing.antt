@@ -19,10 +19,10 @@ use Rattle.interleaver.proofs.Loops.{left-out}
 use Rattle.interleaver.proofs.Calling.{passes, deeper}
 
 pub sent-length : (d : ℕ) (m : Matrix) (bs : List ℕ) → length (run (sent d) m bs .0) ≡ length bs
-sent-length d = each-length (size d) (λ p. p) (λ p w. getD (w .cells) (cell d p) 0)
+sent-length d = each-length (size d) (λ p. p) (λ m w. getD (w .cells) (cell d (m .place)) 0)
 
 pub sent-place : (d : ℕ) (m : Matrix) (bs : List ℕ) → m .place < size d → run (sent d) m bs .1 .place ≡ (m .place + length bs) % size d
-sent-place d = each-place (size d) (λ p. p) (λ p w. getD (w .cells) (cell d p) 0)
+sent-place d = each-place (size d) (λ p. p) (λ m w. getD (w .cells) (cell d (m .place)) 0)
 
 pub pushed-length : (d : ℕ) (m : Matrix) (bs : List ℕ) → length (run (push d) m bs .0) ≡ length bs
 pushed-length d m bs =

@@ -29,11 +29,11 @@ use Rattle.interleaver.proofs.Pulling.{some-given, given-length}
 -- at depth 2 or more, from place 0, whatever the cells hold
 module _ (d : ℕ) (deep : 2 ≤ d) (cs : List ℕ) (room : size d ≤ length cs) where
   -- what is read behind a write: by the equations, and at the place that is next
-  abbrev at : ℕ → Matrix → ℕ
-  at p m = getD (m .cells) (cell d p) 0
+  abbrev at : Matrix → Matrix → ℕ
+  at m w = getD (w .cells) (cell d (m .place)) 0
 
-  abbrev behind : ℕ → Matrix → ℕ
-  behind p m = getD (m .cells) (m .place) 0
+  abbrev behind : Matrix → Matrix → ℕ
+  behind m w = getD (w .cells) (w .place) 0
 
   one : (p q : ℕ) → p < size d → q < size d → cell d p ≡ cell d q → p ≡ q
   one p q h k e = cell-one d p q (omega arith) (omega arith) e
