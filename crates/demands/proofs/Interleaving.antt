@@ -1,12 +1,14 @@
 -- Demand 2, interleaving, in the words of request W3. N is 255 d.
 -- cell-is, cell-period                            the equations, and their period
+-- place-is                                        where byte t is written
 -- output-is, second-output, depth-passes          what output t is
 -- came-count, came-back, delay                    what has come back, and when
 -- closing-zeros, there-and-back                   .. behind the closing push
 -- push-cut, pull-cut, push-goes, pull-goes        pieces, by the calls of either side
 -- pieces-late, pieces-back                        .. and by both
 use Prim.Native.Nat.{ℕ, _+_, _-_, _*_, _/_, _%_, _≤_, _<_}
-use mathlib.Core.Path.{_≡_, refl, ap}
+use native.Mathlib.Omega.{arith}
+use mathlib.Core.Path.{_≡_, refl, ap, _∙_}
 use mathlib.Core.Bool.{Bool, false}
 use mathlib.Core.Logic.{_⊎_}
 use mathlib.Core.List.{List, [], _∷_, _++_}
@@ -22,7 +24,8 @@ use Rattle.interleaver.specs.Pieces.{Goes}
 use Rattle.interleaver.specs.declared.Matrix.{Matrix}
 use Rattle.interleaver.specs.declared.Back.{Back}
 use Rattle.interleaver.proofs.Places.{cell-mod}
-use Rattle.interleaver.proofs.Calling.{passes}
+use Rattle.interleaver.proofs.Calling.{passes, deeper}
+use Rattle.interleaver.proofs.Pushing.{sent-place}
 use Rattle.interleaver.proofs.Numbers.{first-outputs}
 use Rattle.interleaver.proofs.Round.{output-told, returned-told, returned-length, delayed, there-and-back as round}
 use Rattle.interleaver.proofs.Cutting as cutting
@@ -34,6 +37,12 @@ cell-is d i = refl
 -- .. so that output t is read by the equations of t, and of t mod N: they name one cell
 pub cell-period : (d t : ℕ) → cell d t ≡ cell d (t % (255 * d))
 cell-period = cell-mod
+
+-- ---- "byte t is written to cell t mod N": the place whose turn it is, behind any bytes
+pub place-is : (d : ℕ) → 2 ≤ d → (bs : List ℕ) → run (push d) fresh bs .1 .place ≡ length bs % (255 * d)
+place-is d h bs =
+    ap (λ (x : List ℕ × Matrix). x .1 .place) (deeper d (sent d) h fresh bs) ∙ sent-place d fresh bs (omega arith)
+    ∙ ap (λ (x : ℕ). x % (255 * d)) (let z : 0 + length bs ≡ length bs = omega arith in z)
 
 -- ---- "byte t is written to cell t mod N and then output t is read by the equations, giving what the cell holds from this pass or the one before; cells
 -- begin at zero": where the cell's first byte is still to come, zero; else byte u, the last one up to byte t that went to that cell

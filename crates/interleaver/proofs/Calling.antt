@@ -16,7 +16,7 @@ use borrow.Author.Tests.{lt-ltb, le-ltb, le-leb, lt-leb, leb-false}
 use Rattle.base.specs.Calls.{tell, run}
 use Rattle.base.specs.Choice.{pick}
 use Rattle.base.specs.Written.{Outcome, outcome, refused, write, copied}
-use Rattle.base.specs.declared.Written.the-variants.{Wrote, Refused}
+use Rattle.base.specs.declared.Written.the-variants.{Wrote}
 use Rattle.base.proofs.Tests.{by-le, by-test}
 use Rattle.base.proofs.Writing.{write-fits, write-short}
 use Rattle.interleaver.specs.Places.{width}

@@ -3,33 +3,30 @@
 -- push-goes, pull-goes   from every state that passes 10, with room for each piece, there are such calls
 -- returned-late          what has come back of pieces pushed
 -- returned-all           .. and behind the closing push
-use mathlib.Core.Path.{_≡_, refl, sym, ap, ap₂, _∙_, subst}
-use mathlib.Core.Bool.{Bool, true, false, _&&_}
+use mathlib.Core.Path.{_≡_, refl, sym, ap, _∙_, subst}
+use mathlib.Core.Bool.{Bool, false, _&&_}
 use mathlib.Core.List.{List, [], _∷_, _++_}
 use mathlib.Core.Option.{Option, some, none}
-use Prim.Native.Nat.{ℕ, suc, _+_, _-_, _≤_, _<_, min}
+use Prim.Native.Nat.{ℕ, suc, _+_, _-_, _≤_, _<_}
 use native.Mathlib.Nat.{mod-lt}
 use native.Mathlib.Omega.{arith}
 use lib.Dec.{leb}
-use lib.ListN.{length, take, getD, length-replicate}
+use lib.ListN.{length, take, length-replicate}
 use lib.Seq.{take-at}
 use borrow.Author.Tests.{lt-leb}
 use Rattle.base.specs.Calls.{joined, tell, andThen, run}
-use Rattle.base.specs.Choice.{pick}
 use Rattle.base.specs.Written.{Outcome, outcome, copied}
 use Rattle.base.specs.declared.Written.the-variants.{Wrote, Refused}
 use Rattle.base.proofs.Calls.{run-append}
 use Rattle.base.proofs.Tests.{by-le, by-test, and-false}
 use Rattle.base.proofs.Writing.{copied-fits}
-use Rattle.interleaver.specs.Places.{cell}
 use Rattle.interleaver.specs.Running.{depthLimit, size, fresh, passing, sent, push, freshBack, gave, pull, beyond, calling, pushing, closingBytes, zeros, closing, pulling}
 use Rattle.interleaver.specs.Pieces.{Goes}
 use Rattle.interleaver.specs.Pieces.Goes.{done, piece}
 use Rattle.interleaver.specs.declared.Matrix.{Matrix}
 use Rattle.interleaver.specs.declared.Back.{Back}
-use Rattle.interleaver.proofs.Turns.{each-length, each-place}
 use Rattle.interleaver.proofs.Calling.{passes, deeper, below, state-refused, depth-refused, output-refused, wrote}
-use Rattle.interleaver.proofs.Pulling.{given-length}
+use Rattle.interleaver.proofs.Pushing.{sent-place}
 use Rattle.interleaver.proofs.Round.{delayed, there-and-back}
 
 -- ---- of anything that is done byte by byte: it gives at most as many as it takes; the state behind an answer
@@ -118,7 +115,7 @@ module _ (d : ℕ) where
     push-goes =
         goes-on d (push d) (λ m. m .place) most
         (on (sent d) (λ m. m .place)
-        (λ m bs h. subst (λ (x : ℕ). x < size d) (sym (each-place (size d) (λ p. p) (λ p w. getD (w .cells) (cell d p) 0) m bs h)) (mod-lt (m .place + length bs) (omega arith)))) lent room
+        (λ m bs h. subst (λ (x : ℕ). x < size d) (sym (sent-place d m bs h)) (mod-lt (m .place + length bs) (omega arith)))) lent room
 
     pub pull-goes : (k : Back) → beyond d (k .matrix .place) ≡ false → (ps : List (List ℕ)) → (xs : List ℕ) × (l : Back) × Goes (pulling d) k ps xs l
     pull-goes =

@@ -4,14 +4,13 @@
 -- given-length          how many come back
 -- pulled-length         .. at any depth
 -- kept-all, kept-some   what the code leaves of bytes that are all stored, and of others
-use mathlib.Core.Path.{_≡_, refl, sym, ap, _∙_, subst}
-use mathlib.Core.Bool.{Bool, true, false, _||_}
-use mathlib.Core.List.{List, [], _∷_, _++_}
-use mathlib.Core.Option.{some, none}
-use Prim.Native.Nat.{ℕ, zero, suc, _+_, _-_, _%_, _≤_, _<_, min}
+use mathlib.Core.Path.{_≡_, refl, sym, ap, _∙_}
+use mathlib.Core.Bool.{Bool, true, false}
+use mathlib.Core.List.{List, [], _∷_}
+use mathlib.Core.Option.{none}
+use Prim.Native.Nat.{ℕ, suc, _+_, _-_, _%_, _≤_, _<_, min}
 use native.Mathlib.Nat.{mod-eq-of-lt}
 use native.Mathlib.Omega.{arith}
-use lib.Dec.{ltb, eqb}
 use lib.ListN.{length, getD, take, drop, length-drop, take-append-drop}
 use lib.Seq.{drop-cons, length-take-le, take-all}
 use borrow.Author.Tests.{lt-ltb, le-ltb, eq-eqb, ne-eqb}
@@ -32,10 +31,10 @@ use Rattle.interleaver.proofs.Calling.{passes, deeper, below}
 
 module _ (d : ℕ) where
   taken-length : (m : Matrix) (bs : List ℕ) → length (run (taken d) m bs .0) ≡ length bs
-  taken-length = each-length (size d) (cell d) (λ p w. getD (w .cells) (w .place) 0)
+  taken-length = each-length (size d) (cell d) (λ m w. getD (w .cells) (w .place) 0)
 
   taken-place : (m : Matrix) (bs : List ℕ) → m .place < size d → run (taken d) m bs .1 .place ≡ (m .place + length bs) % size d
-  taken-place = each-place (size d) (cell d) (λ p w. getD (w .cells) (w .place) 0)
+  taken-place = each-place (size d) (cell d) (λ m w. getD (w .cells) (w .place) 0)
 
   -- with this byte the first pass is over (t) or not
   by : Bool → Matrix → ℕ → List ℕ → List ℕ × Back

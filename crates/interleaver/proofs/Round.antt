@@ -3,14 +3,14 @@
 -- returned-is, -told, -length           what comes back of whatever is received: byte t, where it stood, and how many
 -- delayed                               all but the last N - 1 bytes pushed have come back
 -- there-and-back                        with N - 1 bytes behind them, all have
-use mathlib.Core.Path.{_≡_, refl, sym, ap, ap₂, _∙_}
+use mathlib.Core.Path.{_≡_, refl, sym, ap, _∙_}
 use mathlib.Core.Bool.{Bool, false}
 use mathlib.Core.Logic.{_⊎_, inl, inr}
 use mathlib.Core.List.{List, [], _∷_, _++_, append-nil}
 use Prim.Native.Nat.{ℕ, suc, _+_, _-_, _*_, _%_, _≤_, _<_, min}
 use native.Mathlib.Nat.{mod-eq-of-lt, add-mod-right}
 use native.Mathlib.Omega.{arith}
-use lib.ListN.{length, getD, take, drop, replicate, length-append, length-drop, length-replicate, getD-replicate}
+use lib.ListN.{length, getD, take, drop, length-append, length-drop, length-replicate, getD-replicate}
 use lib.Seq.{getD-take, length-take-le, take-add, take-at, ext-getD}
 use borrow.Author.Tests.{lt-ltb, le-ltb}
 use Rattle.base.specs.Calls.{run}
@@ -21,18 +21,19 @@ use Rattle.interleaver.specs.Running.{depthLimit, size, matrix, fresh, s
 use Rattle.interleaver.specs.declared.Matrix.{Matrix}
 use Rattle.interleaver.specs.declared.Back.{Back}
 use Rattle.interleaver.proofs.Places.{cell-below, cell-one, cell-mod, last-written, read-at}
-use Rattle.interleaver.proofs.Turns.{each-append, each-length, each-place, each-read, untouched, kept}
+use Rattle.interleaver.proofs.Turns.{each-append, each-place, each-read, untouched, kept}
 use Rattle.interleaver.proofs.Calling.{passes, deeper}
-use Rattle.interleaver.proofs.Pulling.{rest, some-given, given-length}
+use Rattle.interleaver.proofs.Pushing.{sent-length}
+use Rattle.interleaver.proofs.Pulling.{some-given, given-length}
 
 -- at depth 2 or more, from place 0, whatever the cells hold
 module _ (d : ℕ) (deep : 2 ≤ d) (cs : List ℕ) (room : size d ≤ length cs) where
   -- what is read behind a write: by the equations, and at the place that is next
-  abbrev at : ℕ → Matrix → ℕ
-  at p m = getD (m .cells) (cell d p) 0
+  abbrev at : Matrix → Matrix → ℕ
+  at m w = getD (w .cells) (cell d (m .place)) 0
 
-  abbrev behind : ℕ → Matrix → ℕ
-  behind p m = getD (m .cells) (m .place) 0
+  abbrev behind : Matrix → Matrix → ℕ
+  behind m w = getD (w .cells) (w .place) 0
 
   one : (p q : ℕ) → p < size d → q < size d → cell d p ≡ cell d q → p ≡ q
   one p q h k e = cell-one d p q (omega arith) (omega arith) e
@@ -128,7 +129,7 @@ module _ (d : ℕ) (deep : 2 ≤ d) (most : d ≤ depthLimit) where
   returned-length rs = ap (λ (x : List ℕ × Back). length (x .0)) (in-again rs) ∙ gave-length d deep (fresh .cells) room rs
 
   length-out : (bs : List ℕ) → length (run (push d) fresh bs .0) ≡ length bs
-  length-out bs = ap (λ (x : List ℕ × Matrix). length (x .0)) (out bs) ∙ each-length (size d) (λ p. p) (λ p m. getD (m .cells) (cell d p) 0) fresh bs
+  length-out bs = ap (λ (x : List ℕ × Matrix). length (x .0)) (out bs) ∙ sent-length d fresh bs
 
   pub delayed : (bs : List ℕ) → run (pull d) freshBack (run (push d) fresh bs .0) .0 ≡ take (length bs - (size d - 1)) bs
   delayed bs =

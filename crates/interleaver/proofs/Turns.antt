@@ -1,5 +1,5 @@
 -- Cells written in turn, the byte of place p in cell f p, of n cells in all: a byte stays until its turn comes round again. The sender has its
--- places themselves for f, the receiving side the equations; r is what is read behind each write.
+-- places themselves for f, the receiving side the equations; r is what is read with each write, of the states before and behind it.
 -- each             one byte: stored, and one read
 -- each-append      .. and bytes in two parts: the state
 -- each-length      as many are read
@@ -12,7 +12,7 @@ use mathlib.Core.Option.{Option, some}
 use Prim.Native.Nat.{ℕ, zero, suc, _+_, _-_, _%_, _≤_, _<_}
 use native.Mathlib.Nat.{mod-lt, mod-eq-of-lt, mod-add-mod, add-mod-right, mod-eq-sub-mod}
 use native.Mathlib.Omega.{arith}
-use lib.ListN.{length, getD, set, take, drop, length-set, length-take, length-drop}
+use lib.ListN.{length, getD, set, take, drop, length-set, length-drop}
 use lib.Seq.{getD-set-same, getD-set-other, split-at, getD-take, length-take-le}
 use Rattle.base.specs.Calls.{run}
 use Rattle.base.proofs.Tests.{by-le}
@@ -30,12 +30,12 @@ apart n p k h l m e =
     (λ o. let z : (p + k) % n ≡ p + k - n = mod-eq-sub-mod o ∙ mod-eq-of-lt (let y : p + k - n < n = omega arith in y) in omega arith)
     (λ o. let z : (p + k) % n ≡ p + k = mod-eq-of-lt o in omega arith)
 
-module _ (n : ℕ) (f : ℕ → ℕ) (r : ℕ → Matrix → ℕ) where
+module _ (n : ℕ) (f : ℕ → ℕ) (r : Matrix → Matrix → ℕ) where
   abbrev store : Matrix → ℕ → Matrix
   store m b = matrix ((m .place + 1) % n) (set (m .cells) (f (m .place)) b)
 
   abbrev pub each : Matrix → ℕ → Option ℕ × Matrix
-  each m b = (some (r (m .place) (store m b)), store m b)
+  each m b = (some (r m (store m b)), store m b)
 
   pub each-append : (m : Matrix) (xs ys : List ℕ) → run each m (xs ++ ys) .1 ≡ run each (run each m xs .1) ys .1
   each-append m [] ys = refl
@@ -50,7 +50,7 @@ module _ (n : ℕ) (f : ℕ → ℕ) (r : ℕ → Matrix → ℕ) where
   each-place m (b ∷ bs) h = each-place (store m b) bs (mod-lt (m .place + 1) (omega arith)) ∙ on-one n (m .place) (length bs)
 
   pub each-read : (m : Matrix) (bs : List ℕ) (t : ℕ) → t < length bs
-      → getD (run each m bs .0) t 0 ≡ r (run each m (take t bs) .1 .place) (run each m (take (suc t) bs) .1)
+      → getD (run each m bs .0) t 0 ≡ r (run each m (take t bs) .1) (run each m (take (suc t) bs) .1)
   each-read m [] t h = absurd (omega arith)
   each-read m (b ∷ bs) zero h = refl
   each-read m (b ∷ bs) (suc t) h = each-read (store m b) bs t (omega arith)

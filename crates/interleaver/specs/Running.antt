@@ -6,7 +6,7 @@
 -- back, freshBack, gave, pull    one received byte: stored, and then the byte N - 1 before it given back
 -- beyond, calling                refusals 10, 32 and 23
 -- pushing, closing, pulling      what the three calls answer and leave
-use mathlib.Core.Bool.{Bool, true, false, _&&_, _||_}
+use mathlib.Core.Bool.{Bool, false, _&&_, _||_}
 use mathlib.Core.List.{List}
 use mathlib.Core.Option.{Option, some, none}
 use Prim.Native.Nat.{ℕ, _+_, _-_, _*_, _%_}

@@ -190,8 +190,9 @@ fn cell(depth: usize, place: usize) -> usize
     requires { ⌜ (0 < depth) × (depth ≤ depthLimit) × (place < depthLimit * width) ⌝ }
     ensures { λ r. ⌜ (r ≡ cell depth place) × (r < depthLimit * width) ⌝ }
 {
-    (place - (Matrix::ROW - 1) * (place / Matrix::ROW)) % depth * Matrix::ROW
-        + Matrix::STEP * place % Matrix::ROW
+    let row = (place - (Matrix::ROW - 1) * (place / Matrix::ROW)) % depth;
+    let column = Matrix::STEP * place % Matrix::ROW;
+    row * Matrix::ROW + column
 }
 
 // The place behind one, around N.
@@ -247,8 +248,8 @@ fn send(
     let mut place = first;
     let mut i: usize = 0;
     while i < bytes.len() {
-        cells[place] = bytes[i];
         let k = cell(depth, place);
+        cells[place] = bytes[i];
         out[i] = cells[k];
         place = next(depth, place);
         i += 1;

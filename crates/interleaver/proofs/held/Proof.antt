@@ -1,12 +1,9 @@
 -- `interleaver::held` meets its contract.
-use mathlib.Core.Path.{sym, ap, ap₂, _∙_}
-use mathlib.Core.Bool.{Bool}
-use Prim.Native.Nat.{_-_, min}
+use mathlib.Core.Path.{_∙_}
+use Prim.Native.Nat.{_-_}
 use native.Mathlib.Omega.{arith}
 use borrow.Author.Needs.{needs}
 use borrow.Author.Tests.{lt-ltb, le-ltb}
-use Rattle.base.specs.Choice.{pick}
-use Rattle.interleaver.specs.Running.{size}
 use Rattle.interleaver.proofs.Calling.{below}
 use Rattle.interleaver.proofs.held.Statement.{statement}
 use Rattle.interleaver.proofs.held.Tie as tie

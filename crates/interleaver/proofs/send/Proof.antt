@@ -40,7 +40,7 @@ send-spec =
       c .next .ensures .1,
       simp length-set (l .inv .3),
       left-next (sent (a .depth)) (a .bytes .now) (l .i) (matrix (l .place) (l .cells)) (l .out) (l .inv .4) _ _ (omega arith)
-          (sends (a .depth) (l .place) (l .cells) _ (c .before .cell .ensures .0) (c .next .ensures .0)),
+          (sends (a .depth) (l .place) (l .cells) _ (c .before .before .cell .ensures .0) (c .next .ensures .0)),
     ))
     (λ c. c .before .loop .inv .3)
     (λ c.
