@@ -16,8 +16,8 @@
 //!   second steady plain|marked MIB
 //!                            a clean recording to be timed, to standard output
 //!   second samples DIR       the recordings of samples/ with their listings
-//!   second cases calls|pieces [SEED]
-//!                            cases for the proved code, to standard output: single calls, or what is read in pieces
+//!   second cases calls|pieces|listings [SEED]
+//!                            cases for the proved code, to standard output: single calls, what is read in pieces, or recordings
 //!   second words R PLACES N  N cases for repair: words altered in so many places
 //!   second time N M          times of N words made and checked, and of M words of each kind repaired (time.rs)
 //!   second compare CASES ANSWERS ..
@@ -29,6 +29,7 @@ mod channel;
 mod channel_cases;
 mod fcs;
 mod interleaver;
+mod key_cases;
 mod kinds;
 mod listing;
 mod listing_cases;
@@ -61,8 +62,8 @@ fn main() {
         ["recordings", dir, seed] => number(seed).map(|seed| write_recordings(dir, seed)),
         ["steady", kind, mib] => first_byte(kind).zip(number(mib)).map(|(letter, mib)| write_steady(letter, mib)),
         ["samples", dir] => Some(samples::write(dir).expect(dir)),
-        ["cases", kind] => in_pieces(kind).map(|pieces| write_cases(pieces, 1)),
-        ["cases", kind, seed] => in_pieces(kind).zip(number(seed)).map(|(pieces, seed)| write_cases(pieces, seed)),
+        ["cases", program] => write_cases(program, 1),
+        ["cases", program, seed] => number(seed).and_then(|seed| write_cases(program, seed)),
         ["words", r, places, n] => three(r, places, n).map(|(r, places, n)| write(cases::altered_words(r, places, n))),
         ["time", n, m] => number(n).zip(number(m)).map(|(n, m)| time::run(n as usize, m as usize)),
         ["compare", _, _, ref more @ ..] if more.len() % 2 == 0 => std::process::exit(compare(&words[1..])),
@@ -70,7 +71,7 @@ fn main() {
     };
     if done.is_none() {
         eprintln!("usage: second fcs HEX | parity R HEX | word R HEX | repair R HEX | interleave DEPTH HEX | restore DEPTH HEX | list | kinds FILE..");
-        eprintln!("  | recordings DIR [SEED] | steady plain|marked MIB | samples DIR | cases calls|pieces [SEED] | compare CASES ANSWERS .. | test [SEED] | words R PLACES N | time N M");
+        eprintln!("  | recordings DIR [SEED] | steady plain|marked MIB | samples DIR | cases calls|pieces|listings [SEED] | compare CASES ANSWERS .. | test [SEED] | words R PLACES N | time N M");
         std::process::exit(2);
     }
 }
@@ -150,16 +151,9 @@ fn write_steady(letter: u8, mib: u64) {
     std::io::stdout().write_all(&bytes).expect("standard output");
 }
 
-fn in_pieces(kind: &str) -> Option<bool> {
-    match kind {
-        "calls" => Some(false),
-        "pieces" => Some(true),
-        _ => None,
-    }
-}
-
-fn write_cases(pieces: bool, seed: u64) {
-    write(cases::all(seed).into_iter().filter(|case| case.in_pieces() == pieces).collect());
+/// The cases of one program; none where there is no such program.
+fn write_cases(program: &str, seed: u64) -> Option<()> {
+    ["calls", "pieces", "listings"].contains(&program).then(|| write(cases::all(seed).into_iter().filter(|case| case.program() == program).collect()))
 }
 
 fn write(cases: Vec<cases::Case>) {

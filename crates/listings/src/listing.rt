@@ -3,7 +3,6 @@
 //! lines, lent to each call anew; the first piece is empty. Each call is told as the bytes taken, what it wants (0: more, 1: room) and how
 //! many bytes it wrote, and those. The last line stands in the output; told are its length, then the answers where just that length is
 //! lent, and a byte less.
-use crate::reading;
 use base::Written;
 use channel::Receiver;
 use listed::Spot;
@@ -24,6 +23,12 @@ struct Place {
     at: usize,
     end: usize,
     go: bool,
+}
+
+// The next piece: where it ends, and how the rest is cut.
+struct Piece {
+    seed: u64,
+    end: usize,
 }
 
 pub fn list(number: u64, bytes: &[u8], out: &mut [u8]) {
@@ -168,8 +173,29 @@ fn more(recording: Recording, size: usize, seed: u64, at: usize, end: usize, n: 
     if 0 < size {
         return onward(recording, size, seed, at, behind(size, at, n), true);
     }
-    let c = reading::cut(seed, at, n);
+    let c = cut(seed, at, n);
     onward(recording, size, c.seed, at, c.end, true)
+}
+
+// Cuts the next piece: often of 0 bytes or 1, else of up to 300.
+fn cut(seed: u64, at: usize, n: usize) -> Piece {
+    if seed == 0 {
+        return Piece { seed, end: n };
+    }
+    let drawn = seed % 0x80000000 * 1103515245 % 0x80000000 / 8;
+    let kind = drawn / 256 % 8;
+    let next = seed % 0x80000000 * 69069 % 0x80000000 + 1;
+    let long = (drawn / 2048 % 300) as usize;
+    let want = if kind < 2 {
+        0
+    } else {
+        if kind < 4 { 1 } else { long }
+    };
+    let left = n - base::least(at, n);
+    Piece {
+        seed: next,
+        end: base::least(at, n) + base::least(want, left),
+    }
 }
 
 // Where a piece of this size ends.
