@@ -17,7 +17,7 @@ pub enum Written {
 pub struct Refusal;
 
 impl Refusal {
-    /// A frame has more than 8,205 raw bytes.
+    /// A frame has more than 8,272 raw bytes.
     pub const RAW: u8 = 1;
     /// The last raw byte is 7D.
     pub const UNFINISHED: u8 = 2;
@@ -27,7 +27,7 @@ impl Refusal {
     pub const SHORT: u8 = 4;
     /// The check differs.
     pub const CHECK: u8 = 5;
-    /// The format byte is not 0x21.
+    /// The format byte is neither 0x21 nor 0x26.
     pub const FORMAT: u8 = 6;
     /// A frame's port is 7D00-7EFF.
     pub const PORT: u8 = 7;
@@ -37,7 +37,7 @@ impl Refusal {
     pub const STATE: u8 = 10;
     /// A lent buffer is too short.
     pub const BUFFER: u8 = 11;
-    /// A frame's key does not fit its format.
+    /// A frame's key length is outside 2 to 32, or too few bytes stand behind the key.
     pub const KEY: u8 = 12;
     /// A payload to be sent is empty.
     pub const EMPTY: u8 = 20;
@@ -47,7 +47,7 @@ impl Refusal {
     pub const BARRED: u8 = 22;
     /// The output is shorter than the result.
     pub const OUTPUT: u8 = 23;
-    /// A key to be sent does not fit its format.
+    /// A format, key length or key number is not to be sent.
     pub const SENT_KEY: u8 = 24;
     /// R is above 64.
     pub const ROOTS: u8 = 30;

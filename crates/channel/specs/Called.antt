@@ -137,7 +137,7 @@ soundLock l = leb (l .word) wordBytes && (leb (l .marker) 3 && leb (l .handed) m
 abbrev pub sound : Receiver → Bool
 sound s = soundFrame (s .frame) && soundLock (s .lock)
 
--- 11: receive buffer under 8,205 bytes, word buffer under 255
+-- 11: receive buffer under 8,272 bytes, word buffer under 255
 abbrev pub roomy : List ℕ → List ℕ → Bool
 roomy recv word = leb rawLimit (length recv) && leb wordBytes (length word)
 

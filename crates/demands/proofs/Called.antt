@@ -31,14 +31,9 @@ use Rattle.channel.specs.declared.locked.Locked.{Locked}
 use Rattle.channel.specs.declared.receiver.Receiver.{Receiver}
 use Rattle.channel.proofs.Cutting.{hand-one}
 use Rattle.demands.specs.Table.{Exact}
-use Rattle.demands.specs.Refusals.{FrameBeyond, Beyond, Short, ByFrame, ByRead, ByHear}
-use Rattle.demands.proofs.Rows.{applies, over, passed}
-use Rattle.demands.proofs.Frames.{Small, small}
-
--- ---- two tests in one
-pub not-both : (a b : Bool) → a && b ≡ false → (a ≡ false) ⊎ (b ≡ false)
-not-both true b e = inr e
-not-both false b e = inl refl
+use Rattle.demands.specs.Refusals.{FrameBeyond, Beyond, Short, OfFrame, OfCall, ByFrame, ByRead, ByHear}
+use Rattle.demands.proofs.Rows.{applies, over, passed, not-both}
+use Rattle.demands.proofs.Frames.{Small, small, frame-or-call}
 
 pub not-most : (a b : ℕ) → leb a b ≡ true → b < a → ⊥
 not-most a b e h = let k : a ≤ b = leb-true a b e in omega arith
@@ -102,19 +97,19 @@ small-take true true h b = small-shut (eqb (h .st .raw) 0) h
 pub small-byte : (h : Held) (b : ℕ) → With SmallHeld (takeByte h b .0) (takeByte h b .1)
 small-byte h b = small-take (eqb b flag) (h .st .opened) h b
 
-frame-only : (o : Option Told) (h : Held) (n : ℕ) → With SmallHeld o h → 10 ≤ n → o ≡ some (refusal n) → ⊥
-frame-only o h n w k e = let s : (1 ≤ n) × (n ≤ 8) = subst (λ (o : Option Told). With SmallHeld o h) e w in omega (arith, s .1)
+frame-only : (o : Option Told) (h : Held) (n : ℕ) → With SmallHeld o h → OfCall n → o ≡ some (refusal n) → ⊥
+frame-only o h n w k e = frame-or-call n (subst (λ (o : Option Told). With SmallHeld o h) e w) k
 
-is-read : (h : Held) (m n : ℕ) → 10 ≤ m → ByRead (some (refusal m), 0, h) n ↔ n ≡ m
-is-read h m n k = (λ e. let z : m ≡ n = cc in sym z, λ e. (subst (λ (x : ℕ). 10 ≤ x) (sym e) k, λ i. some (refusal (sym e i))))
+is-read : (h : Held) (m n : ℕ) → OfCall m → ByRead (some (refusal m), 0, h) n ↔ n ≡ m
+is-read h m n k = (λ e. let z : m ≡ n = cc in sym z, λ e. (subst OfCall (sym e) k, λ i. some (refusal (sym e i))))
 
 pub read-exact : (h : Held) (bs : List ℕ) → Exact ByRead (readCall h bs) ((10, FrameBeyond (h .st)) ∷ (11, length (h .recv) < rawLimit) ∷ [])
 read-exact h bs = go (soundFrame (h .st)) (leb rawLimit (length (h .recv))) refl refl
   where
     go : (s r : Bool) → soundFrame (h .st) ≡ s → leb rawLimit (length (h .recv)) ≡ r
         → Exact ByRead (readBy s r h bs) ((10, FrameBeyond (h .st)) ∷ (11, length (h .recv) < rawLimit) ∷ [])
-    go false r e f = applies ByRead _ (λ n. is-read h 10 n (omega arith)) (frame-beyond (h .st) e)
-    go true false e f = over ByRead (frame-within (h .st) e) (applies ByRead _ (λ n. is-read h 11 n (omega arith)) (leb-false _ _ f))
+    go false r e f = applies ByRead _ (λ n. is-read h 10 n (inl refl)) (frame-beyond (h .st) e)
+    go true false e f = over ByRead (frame-within (h .st) e) (applies ByRead _ (λ n. is-read h 11 n (inr refl)) (leb-false _ _ f))
     go true true e f =
         over ByRead (frame-within (h .st) e) (over ByRead (not-most _ _ f) (passed ByRead λ n b.
         frame-only (readOn h bs .0) (readOn h bs .2) n
@@ -168,19 +163,19 @@ small-hear c bs =
     with-hear owed handOn eatByte hand-one SmallEvent small-hand
     (λ d b. small-eat (d .st .locked) (ltb (d .st .lock .word) wordBytes) d b) c bs
 
-pub event-only : {S : Type 0} (o : Option Event) (s : S) (n : ℕ) → With SmallEvent o s → 10 ≤ n → o ≡ some (said (refusal n)) → ⊥
-event-only o s n w k e = let h : (1 ≤ n) × (n ≤ 8) = subst (λ (o : Option Event). With SmallEvent o s) e w in omega (arith, h .1)
+pub event-only : {S : Type 0} (o : Option Event) (s : S) (n : ℕ) → With SmallEvent o s → OfCall n → o ≡ some (said (refusal n)) → ⊥
+event-only o s n w k e = frame-or-call n (subst (λ (o : Option Event). With SmallEvent o s) e w) k
 
-is-hear : (c : Board) (m n : ℕ) → 10 ≤ m → ByHear (some (said (refusal m)), 0, c) n ↔ n ≡ m
-is-hear c m n k = (λ e. let z : m ≡ n = cc in sym z, λ e. (subst (λ (x : ℕ). 10 ≤ x) (sym e) k, λ i. some (said (refusal (sym e i)))))
+is-hear : (c : Board) (m n : ℕ) → OfCall m → ByHear (some (said (refusal m)), 0, c) n ↔ n ≡ m
+is-hear c m n k = (λ e. let z : m ≡ n = cc in sym z, λ e. (subst OfCall (sym e) k, λ i. some (said (refusal (sym e i)))))
 
 pub hear-exact : (c : Board) (bs : List ℕ) → Exact ByHear (hearCall c bs) ((10, Beyond (c .st)) ∷ (11, Short (c .recv) (c .word)) ∷ [])
 hear-exact c bs = go (sound (c .st)) (roomy (c .recv) (c .word)) refl refl
   where
     go : (s r : Bool) → sound (c .st) ≡ s → roomy (c .recv) (c .word) ≡ r
         → Exact ByHear (hearBy s r c bs) ((10, Beyond (c .st)) ∷ (11, Short (c .recv) (c .word)) ∷ [])
-    go false r e f = applies ByHear _ (λ n. is-hear c 10 n (omega arith)) (beyond (c .st) e)
-    go true false e f = over ByHear (within (c .st) e) (applies ByHear _ (λ n. is-hear c 11 n (omega arith)) (short (c .recv) (c .word) f))
+    go false r e f = applies ByHear _ (λ n. is-hear c 10 n (inl refl)) (beyond (c .st) e)
+    go true false e f = over ByHear (within (c .st) e) (applies ByHear _ (λ n. is-hear c 11 n (inr refl)) (short (c .recv) (c .word) f))
     go true true e f =
         over ByHear (within (c .st) e) (over ByHear (long (c .recv) (c .word) f)
         (passed ByHear λ n b. event-only (hearOn c bs .0) (hearOn c bs .2) n (small-hear c bs) (b .0) (b .1)))
@@ -194,15 +189,15 @@ hear-same c bs n = go (sound (c .st)) (roomy (c .recv) (c .word))
     go true true b = absurd (event-only (hearOn c bs .0) (hearOn c bs .2) n (small-hear c bs) (b .0) (b .1))
 
 -- ---- the numbers that are given
--- of a frame 1 to 8, of a call 10 and 11
+-- of a frame 1 to 8 and 12, of a call 10 and 11
 abbrev pub Given : ℕ → Type 0
-Given n = ((1 ≤ n) × (n ≤ 8)) ⊎ ((n ≡ 10) ⊎ (n ≡ 11))
+Given n = OfFrame n ⊎ OfCall n
 
 -- an answer by its number: that of a place is 3
 pub number-given : (t : Told) (n : ℕ) → ByFrame t n → ((m : ℕ) → t ≡ refusal m → Given m) → Given n
 number-given (packet p) n e f = let z : _≡_ {A = ℕ} 0 1 = cc in absurd (omega arith)
 number-given (refusal m) n e f = let z : m ≡ n = cc in subst Given z (f m refl)
-number-given (broken m) n e f = let z : 3 ≡ n = cc in inl (omega arith, omega arith)
+number-given (broken m) n e f = let z : 3 ≡ n = cc in inl (inl (omega arith, omega arith))
 
 read-refused : (h : Held) (bs : List ℕ) (n : ℕ) → readCall h bs .0 ≡ some (refusal n) → Given n
 read-refused h bs n = go (soundFrame (h .st)) (leb rawLimit (length (h .recv)))

@@ -32,7 +32,7 @@ use Rattle.packet.specs.Contents.{Packet, payloadLimit, rawLimit}
 use Rattle.packet.specs.Escape.{flag, escape, plain}
 use Rattle.packet.specs.Port.{barred}
 use Rattle.packet.specs.Frame.{Told, refusal, closed, judging, judge}
-use Rattle.packet.specs.Sender.{frameOf, writing}
+use Rattle.packet.specs.Sender.{frameOf, headFits, writing}
 use Rattle.packet.proofs.Judging.{closed-keeps}
 use Rattle.packet.proofs.Sending.{writing-keeps}
 use Rattle.stream.specs.Called.{Held, begun, takeBy, takeByte, shut, readAll, readCall, Fine as FineFrame}
@@ -59,9 +59,9 @@ use Rattle.office.specs.Desk.{Desk, endingOf, refusal as line-refusal}
 use Rattle.office.specs.Called.{holdLimit, outLimit, starting, denied, hearCall as desk-hear, closeCall, spokenOut, answeredOut, finishing as desk-finish}
 use Rattle.demands.specs.Table.{Exact}
 use Rattle.demands.specs.Desks.{DeskBeyond, DeskShort, lineRows, ByDesk, ByStart, ByLine, BySpoken}
-use Rattle.demands.specs.Refusals.{Unusable, frameRows, FrameBeyond, Beyond, NextBeyond, TapeBeyond, Short, ByFrame, ByCall, ByCheck, ByRepair, ByRead, ByHear, ByNext, ByTake}
+use Rattle.demands.specs.Refusals.{Unusable, Unfit, frameRows, FrameBeyond, Beyond, NextBeyond, TapeBeyond, Short, OfFrame, OfCall, ByFrame, ByCall, ByCheck, ByRepair, ByRead, ByHear, ByNext, ByTake}
 use Rattle.demands.proofs.Rows.{row, row-not, not-less, not-same, refuses, wrote, refuses-word, found, repair-as-check, not-whole, is-whole}
-use Rattle.demands.proofs.Frames.{barred-is, free-is, closed-exact, judging-exact, judging-same, judge-exact, undone}
+use Rattle.demands.proofs.Frames.{barred-is, free-is, unfit-is, fit-is, closed-exact, judging-exact, judging-same, judge-exact, undone}
 use Rattle.demands.proofs.Called.{read-given, hear-given, read-exact, read-same, hear-exact, hear-same}
 use Rattle.demands.proofs.Taken.{next-exact, next-same, next-given, take-exact, take-same}
 use Rattle.demands.proofs.Desk.{line-exact, office-line-same, office-start-exact, office-start-same, office-hear-exact, office-hear-same, office-close-exact, office-close-same, office-finish-exact, office-finish-same}
@@ -79,58 +79,58 @@ plain-ends = read-yields
 
 -- ---- "Bad input gets a numbered refusal": a frame, of which m raw bytes are in the receive buffer ..
 pub frame-refusals : (recv : List ℕ) (m : ℕ) → Exact ByFrame (closed recv m .told)
-    ((1, rawLimit < m) ∷  -- more than 8,205 raw bytes
-    frameRows (take m recv))  -- 2 to 8
+    ((1, rawLimit < m) ∷  -- more than 8,272 raw bytes
+    frameRows (take m recv))  -- 2 to 6, 12, 7 and 8
 frame-refusals = closed-exact
 
 -- .. by the call that judges one ..
 pub judge-refusals : (recv : List ℕ) (m : ℕ) → Exact ByFrame (judging recv m .told)
-    ((10, suc rawLimit < m) ∷  -- raw count above 8,206
-    (11, length recv < rawLimit) ∷  -- receive buffer under 8,205 bytes
-    (1, rawLimit < m) ∷  -- more than 8,205 raw bytes
-    frameRows (take m recv))  -- 2 to 8
+    ((10, suc rawLimit < m) ∷  -- raw count above 8,273
+    (11, length recv < rawLimit) ∷  -- receive buffer under 8,272 bytes
+    (1, rawLimit < m) ∷  -- more than 8,272 raw bytes
+    frameRows (take m recv))  -- 2 to 6, 12, 7 and 8
 judge-refusals = judging-exact
 
 -- .. and of raw bytes alone: what a byte stream means is defined by these
 pub raw-refusals : (raw : List ℕ) → Exact ByFrame (judge raw) ((1, rawLimit < length raw) ∷ frameRows raw)
 raw-refusals = judge-exact
 
--- the numbers that a receiving call gives are 1 to 8 of a frame, 10 and 11 of the call: 9 is not used. The buffer is measured on entry,
+-- the numbers that a receiving call gives are 1 to 8 and 12 of a frame, 10 and 11 of the call: 9 is not used. The buffer is measured on entry,
 -- and the raw count stops storage
-pub read-numbers : (h : Held) (bs : List ℕ) (t : Told) (n : ℕ) → readCall h bs .0 ≡ some t → ByFrame t n → ((1 ≤ n) × (n ≤ 8)) ⊎ ((n ≡ 10) ⊎ (n ≡ 11))
+pub read-numbers : (h : Held) (bs : List ℕ) (t : Told) (n : ℕ) → readCall h bs .0 ≡ some t → ByFrame t n → OfFrame n ⊎ OfCall n
 read-numbers = read-given
 
-pub hear-numbers : (c : Board) (bs : List ℕ) (t : Told) (n : ℕ) → hearCall c bs .0 ≡ some (said t) → ByFrame t n → ((1 ≤ n) × (n ≤ 8)) ⊎ ((n ≡ 10) ⊎ (n ≡ 11))
+pub hear-numbers : (c : Board) (bs : List ℕ) (t : Told) (n : ℕ) → hearCall c bs .0 ≡ some (said t) → ByFrame t n → OfFrame n ⊎ OfCall n
 hear-numbers = hear-given
 
-pub next-numbers : (m : Deck) (bs : List ℕ) (t : Told) (n : ℕ) → tapeCall m bs .0 ≡ some (said t) → ByFrame t n → ((1 ≤ n) × (n ≤ 8)) ⊎ ((n ≡ 10) ⊎ (n ≡ 11))
+pub next-numbers : (m : Deck) (bs : List ℕ) (t : Told) (n : ℕ) → tapeCall m bs .0 ≡ some (said t) → ByFrame t n → OfFrame n ⊎ OfCall n
 next-numbers = next-given
 
 -- a receiving call on the plain stream
 pub read-refusals : (h : Held) (bs : List ℕ) → Exact ByRead (readCall h bs)
     ((10, FrameBeyond (h .st)) ∷  -- a count of the state is beyond its limit
-    (11, length (h .recv) < rawLimit) ∷  -- receive buffer under 8,205 bytes
+    (11, length (h .recv) < rawLimit) ∷  -- receive buffer under 8,272 bytes
     [])
 read-refusals = read-exact
 
 -- and on the channel
 pub hear-refusals : (c : Board) (bs : List ℕ) → Exact ByHear (hearCall c bs)
     ((10, Beyond (c .st)) ∷  -- a count of the state is beyond its limit
-    (11, Short (c .recv) (c .word)) ∷  -- receive buffer under 8,205 bytes, word buffer under 255
+    (11, Short (c .recv) (c .word)) ∷  -- receive buffer under 8,272 bytes, word buffer under 255
     [])
 hear-refusals = hear-exact
 
 -- a call on a recording's bytes: both buffers are measured, of a plain stream too
 pub next-refusals : (m : Deck) (bs : List ℕ) → Exact ByNext (tapeCall m bs)
     ((10, NextBeyond (m .ear .board .st) (m .spot) (length bs)) ∷  -- a count of the state is beyond its limit
-    (11, Short (m .ear .board .recv) (m .ear .board .word)) ∷  -- receive buffer under 8,205 bytes, word buffer under 255
+    (11, Short (m .ear .board .recv) (m .ear .board .word)) ∷  -- receive buffer under 8,272 bytes, word buffer under 255
     [])
 next-refusals = next-exact
 
 -- a call on a recording that is listed, and the call that ends it
 pub take-refusals : (m : Deck) (t : Totals) (room : ℕ) (bs : List ℕ) → Exact ByTake (takes m t room bs)
     ((10, TapeBeyond (m .ear .board .st) (m .spot) t (length bs) room) ∷  -- a count of the state is beyond its limit
-    (11, Short (m .ear .board .recv) (m .ear .board .word)) ∷  -- receive buffer under 8,205 bytes, word buffer under 255
+    (11, Short (m .ear .board .recv) (m .ear .board .word)) ∷  -- receive buffer under 8,272 bytes, word buffer under 255
     [])
 take-refusals = take-exact
 
@@ -142,20 +142,22 @@ pub write-refusals : (p : Packet) (out : List ℕ) → Exact ByCall (writing p o
     ((20, length (p .payload) ≡ 0) ∷  -- payload empty
     (21, payloadLimit < length (escape (p .payload))) ∷  -- payload above 8,192 bytes as escaped
     (22, Unusable (p .port)) ∷  -- port 7D00-7EFF
+    (24, Unfit p) ∷  -- a 0x26 key length outside 2 to 32, another format, or a key length or number above zero in format 0x21
     (23, length out < length (frameOf p)) ∷  -- output shorter than the result
     [])
 unfolding writing
 write-refusals p out =
     row ByCall (eqb (length (p .payload)) 0) (refuses 20 out) (eqb-true _ _) (eqb-false _ _)
     (row ByCall (ltb payloadLimit (length (escape (p .payload)))) (refuses 21 out) (ltb-true _ _) (not-less _ _)
-    (row ByCall (barred (p .port)) (refuses 22 out) (barred-is (p .port)) (free-is (p .port)) (wrote (frameOf p) out _ refl)))
+    (row ByCall (barred (p .port)) (refuses 22 out) (barred-is (p .port)) (free-is (p .port))
+    (row-not ByCall (headFits (p .format) (p .number) (length (p .key))) (refuses 24 out) (unfit-is p) (fit-is p) (wrote (frameOf p) out _ refl))))
 
 -- a stream begun, and a packet appended to one
 pub begin-refusals : (out : List ℕ) → Exact ByCall (write (flag ∷ []) out) ((23, length out < 1) ∷ [])
 begin-refusals out = wrote (flag ∷ []) out 1 refl
 
 pub append-refusals : (at : ℕ) (p : Packet) (out : List ℕ) → Exact ByCall (appending at p out)
-    ((20, length (p .payload) ≡ 0) ∷ (21, payloadLimit < length (escape (p .payload))) ∷ (22, Unusable (p .port))
+    ((20, length (p .payload) ≡ 0) ∷ (21, payloadLimit < length (escape (p .payload))) ∷ (22, Unusable (p .port)) ∷ (24, Unfit p)
     ∷ (23, length (drop at out) < length (frameOf p)) ∷ [])
 append-refusals at p out = record { says = write-refusals p (drop at out) .says }
 
@@ -302,7 +304,7 @@ pub line-keeps-all : (d : Desk) (n : ℕ) → BySpoken (endingOf d .said) n
 line-keeps-all = office-line-same
 
 -- .. the call that judges a frame the receive buffer ..
-pub judge-keeps-recv : (recv : List ℕ) (m n : ℕ) → judging recv m .told ≡ refusal n → 10 ≤ n → judging recv m .recv ≡ recv
+pub judge-keeps-recv : (recv : List ℕ) (m n : ℕ) → judging recv m .told ≡ refusal n → OfCall n → judging recv m .recv ≡ recv
 judge-keeps-recv = judging-same
 
 -- .. and a receiving call its state and the lent buffers, with zero bytes taken

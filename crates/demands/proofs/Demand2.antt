@@ -11,8 +11,8 @@
 --   block answers   `condition`, `mend` (crates/channel/specs/Channel.antt), by repair's promise: `Promised` (crates/repair/specs/Promise.antt)
 --   the listing     `listing` (crates/listed/specs/Listing.antt), of recordings taken apart: `apart` (crates/listed/specs/Apart.antt)
 -- Here: that they hold together. The paper's numbers are in Numbers, and what else it prints in Printed.
--- round-trip, round-answer           a packet written and read back
--- part-short, part-long              the part of the receive buffer that is handed out
+-- round-trip, round-answer, delivered-only   a packet written and read back, and a packet read is one that could be written
+-- part-short, part-long, payload-place   the part of the receive buffer that is handed out
 -- broken-place, place-told           the place that refusal 3 tells
 -- stream-trip, stream-begun, stream-appended, stream-sent, stream-filled, words-carry   a whole stream, and the calls that make it
 -- word-clean, word-only, clean-at    parity words
@@ -31,7 +31,7 @@ use mathlib.Core.Bool.{Bool, true, false}
 use mathlib.Core.Logic.{_↔_, _≢_}
 use mathlib.Core.List.{List, [], _∷_, _++_, map, append-nil}
 use lib.ListN.{length, take, drop, getD, replicate}
-use borrow.Author.Tests.{lt-ltb, le-ltb}
+use borrow.Author.Tests.{ne-eqb, lt-ltb, le-ltb}
 use Rattle.base.specs.Bytes.{Each, Bytes}
 use Rattle.base.specs.Calls.{joined, With}
 use Rattle.base.specs.Written.{write}
@@ -43,10 +43,10 @@ use Rattle.repair.specs.Promise.{Promised}
 use Rattle.parity.proofs.Clean.{clean-roots, roots-clean, parity-clean, clean-is}
 use Rattle.interleaver.specs.Matrix.{isMatrix, interleaved, restored, turned}
 use Rattle.interleaver.proofs.Round.{passed, output-at, restored-interleaved, interleaved-restored}
-use Rattle.packet.specs.Escape.{flag, last, BrokenAt}
+use Rattle.packet.specs.Escape.{flag, plain, last, BrokenAt}
 use Rattle.packet.specs.Port.{class}
 use Rattle.packet.proofs.Classes.{from-0000, from-0401, from-5100, from-5101, from-5201, from-5208, from-5300, from-7F00, from-FF00}
-use Rattle.packet.specs.Frame.{broken, delivery, judged, closed, judge, part}
+use Rattle.packet.specs.Frame.{packet, broken, delivery, judged, closed, judge, part}
 use Rattle.packet.proofs.Faults.{closed-broken, judge-broken}
 use Rattle.packet.specs.Sender.{Accepted, writing}
 use Rattle.packet.specs.declared.frame.Judged.the-variants.{Packet as Delivered}
@@ -65,7 +65,9 @@ use Rattle.listed.specs.Listing.{heard, totalLine, listing}
 use Rattle.listed.specs.declared.Place.the-variants.{Wrong}
 use Rattle.listed.proofs.Offsets.{offset-right, offset-wrong}
 use Rattle.listed.proofs.Totals.{packets-counted, refusals-counted, damaged-counted, lost-counted, sent-counted}
-use Rattle.packet.specs.Contents.{rawLimit, Packet}
+use Rattle.packet.specs.Contents.{rawLimit, Packet, contents, payloadAt}
+use Rattle.packet.proofs.Only.{judge-only}
+use Rattle.base.specs.Choice.{pick}
 use Rattle.channel.specs.Sender.{wordBytes}
 use Rattle.tape.specs.Deck.{Deck, fresh}
 use Rattle.tape.specs.Called.{far, deckOf, EveryCut}
@@ -82,26 +84,35 @@ use Rattle.demands.proofs.Desk.{office-line-number, office-close-number
 use Rattle.demands.proofs.Digits.{decimal-digits}
 use Rattle.demands.proofs.Trips.{packet-back, judged-back, plain-listed, channel-listed}
 
--- ---- "for each packet the sender accepts, a packet written and read back is the same packet.": where n bytes are written of a packet (numbers
--- of two bytes, a payload of bytes), those n bytes, read behind a flag, give that packet and nothing else ..
-pub round-trip : (p : Packet) → p .port < 65536 → p .sequence < 65536 → Bytes (p .payload) → (out : List ℕ) (n : ℕ)
+-- ---- "for each packet the sender accepts, a packet written and read back is the same packet.": where n bytes are written of a packet (a key
+-- number of a byte, numbers of two bytes, key and payload of bytes), those n bytes, read behind a flag, give that packet and nothing else ..
+pub round-trip : (p : Packet) → p .number < 256 → Bytes (p .key) → p .port < 65536 → p .sequence < 65536 → Bytes (p .payload) → (out : List ℕ) (n : ℕ)
     → writing p out .answer ≡ Wrote n
     → reads (inside []) (take n (writing p out .output)) ≡ (delivered p ∷ [], inside [])
 round-trip = packet-back
 
--- .. and in the code's answer: a frame of its raw bytes, wherever they came from, is judged to have its port, its sequence and its length,
--- and the part of the receive buffer that is handed out is its payload
+-- .. and in the code's answer: a frame of its raw bytes, wherever they came from, is judged to have its format, key number, port and sequence,
+-- and the parts of the receive buffer that are handed out are its payload and its key ("the key being as many bytes as its length says")
 pub round-answer : (p : Packet) → Accepted p → (recv : List ℕ) → take (length (rawOf p)) recv ≡ rawOf p
     → (judged (closed recv (length (rawOf p)) .told) ≡ Delivered (delivery p))
-    × (part (closed recv (length (rawOf p)) .recv) (length (p .payload)) ≡ p .payload)
+    × ((part (payloadAt (length (p .key))) (length (p .payload)) (closed recv (length (rawOf p)) .recv) ≡ p .payload)
+    × (part 3 (length (p .key)) (closed recv (length (rawOf p)) .recv) ≡ p .key))
 round-answer = judged-back
 
--- .. "or an empty part where the buffer is too short to hold it"
-pub part-short : (recv : List ℕ) (n : ℕ) → length recv < n + 5 → part recv n ≡ []
-part-short recv n h = simp (lt-ltb _ _ h)
+-- .. the other way too: what is delivered is a packet that the sender accepts, and its contents are what was received, escapes undone
+pub delivered-only : (raw : List ℕ) → Bytes raw → (p : Packet) → judge raw ≡ packet p → (contents p ≡ plain raw) × Accepted p
+delivered-only = judge-only
 
-pub part-long : (recv : List ℕ) (n : ℕ) → n + 5 ≤ length recv → part recv n ≡ take n (drop 5 recv)
-part-long recv n h = simp (le-ltb _ _ h)
+-- .. "or an empty part where the buffer is too short to hold it"
+pub part-short : (at n : ℕ) (recv : List ℕ) → length recv < at + n → part at n recv ≡ []
+part-short at n recv h = simp (lt-ltb _ _ h)
+
+pub part-long : (at n : ℕ) (recv : List ℕ) → at + n ≤ length recv → part at n recv ≡ take n (drop at recv)
+part-long at n recv h = simp (le-ltb _ _ h)
+
+-- without format, key, port, sequence and check
+pub payload-place : (k : ℕ) → 0 < k → (payloadAt 0 ≡ 5) × (payloadAt k ≡ k + 7)
+payload-place k h = (refl, ap (λ (t : Bool). pick t 5 (3 + k + 4)) (ne-eqb k 0 (λ e. omega (arith, e))) ∙ omega arith)
 
 -- ---- "escapes": "at which raw byte of the frame, counted from 0 behind the opening flag, the first wrong byte after 7D stands". Raw bytes are
 -- refused with 3 and the place n exactly where they are within the limit, do not end in 7D, and that byte stands at n ..

@@ -73,7 +73,8 @@ pub same-cut : (recv word : List ℕ) → rawLimit ≤ length recv → wordBytes
     λ fs g. (es ≡ fs) × (d ≡ g)
 same-cut = channel.same-cut
 
--- a delivery counts with its payload bytes: they are the part of the receive buffer that a call of its own hands out
+-- a delivery counts with its payload bytes and its key: they are the parts of the receive buffer that calls of their own hand out; format, key
+-- number, port and sequence stand in the answer itself
 pub every-payload : (c : Board) (bs : List ℕ) → With ThereEvent (hearCall c bs .0) (hearCall c bs .2)
 every-payload = payload-there
 

@@ -26,7 +26,7 @@ use Rattle.packet.specs.Port.{barred}
 use Rattle.channel.specs.Sender.{marked}
 use Rattle.channel.specs.declared.answer.Answer.{Answer}
 use Rattle.listed.specs.Lines.{line, endLine, wrongLine}
-use Rattle.bid.specs.Line.{feed, lineLimit, noNumber, port, sequence, text, Verdict, noBid, refused, accepted, judged, isBid, verdict}
+use Rattle.bid.specs.Line.{feed, lineLimit, noNumber, port, sequence, text, Verdict, noBid, refused, accepted, judged, isBid, verdict, bidOf}
 use Rattle.office.specs.declared.Office.{Office}
 use Rattle.office.specs.declared.Started.{Started}
 use Rattle.office.specs.declared.Started.the-variants.{Ready, Refused as StartRefused}
@@ -36,9 +36,9 @@ use Rattle.office.specs.Called.{heldLimit, holdLimit, outLimit, freshOffice, st
 use Rattle.demands.specs.Table.{Exact}
 use Rattle.demands.specs.Refusals.{ByCall}
 use Rattle.demands.specs.Desks.{DeskBeyond, DeskShort, Bids, lineRows, OfCall, ByDesk, ByStart, ByLine, BySpoken}
-use Rattle.demands.proofs.Rows.{applies, over, row, passed, not-less, refuses, wrote, first-each}
+use Rattle.demands.proofs.Rows.{applies, over, row, passed, not-less, refuses, wrote, first-each, not-both}
 use Rattle.demands.proofs.Frames.{barred-is, free-is}
-use Rattle.demands.proofs.Called.{not-both, not-most}
+use Rattle.demands.proofs.Called.{not-most}
 
 -- ---- 10 and 11, as facts
 desk-beyond : (s : Office) → sound s ≡ false → DeskBeyond s
@@ -74,7 +74,7 @@ line-exact l = go (isBid l) refl
     none-is e b =
         ⊎-elim (λ h. not-less _ _ h (b .0)) (λ h. not-less _ _ h (b .1)) (not-both (ltb (port l) noNumber) (ltb (sequence l) noNumber) e)
 
-    go : (t : Bool) → isBid l ≡ t → Exact ByLine (pick t (judged (record { port = port l; sequence = sequence l; payload = text l })) noBid) (lineRows l)
+    go : (t : Bool) → isBid l ≡ t → Exact ByLine (pick t (judged (bidOf l)) noBid) (lineRows l)
     go true e =
         row ByLine (eqb (length (text l)) 0) (is-line 20) (λ h. (bids e, eqb-true _ _ h)) (λ h k. eqb-false _ _ h (k .1))
         (row ByLine (ltb payloadLimit (length (escape (text l)))) (is-line 21) (λ h. (bids e, ltb-true _ _ h)) (λ h k. not-less _ _ h (k .1))

@@ -22,7 +22,7 @@ use Rattle.repair.specs.Promise.{Promised}
 use Rattle.interleaver.specs.Matrix.{turning}
 use Rattle.packet.specs.Escape.{flag, wrongBehind}
 use Rattle.packet.specs.Frame.{Told, packet, refusal, broken, judged, judging, part}
-use Rattle.packet.specs.Contents.{Packet}
+use Rattle.packet.specs.Contents.{Packet, plainPacket, payloadAt}
 use Rattle.packet.specs.declared.frame.Judged.{Judged}
 use Rattle.packet.specs.declared.frame.Judged.the-variants.{Packet as Delivered, Refused, Broken}
 use Rattle.packet.specs.Port.{class}
@@ -47,8 +47,10 @@ use Rattle.office.specs.declared.Started.{Started}
 use Rattle.office.specs.declared.Started.the-variants.{Ready, Refused as Denied}
 use Rattle.office.specs.Called as office
 use Rattle.demands.specs.Means.{Means}
+use Rattle.packet.proofs.write_as as packet-write-as
 use Rattle.packet.proofs.write as packet-write
 use Rattle.stream.proofs.begin as stream-begin
+use Rattle.stream.proofs.append_as as stream-append-as
 use Rattle.stream.proofs.append as stream-append
 use Rattle.channel.proofs.mark as channel-mark
 use Rattle.channel.proofs.send as channel-send
@@ -60,6 +62,7 @@ use Rattle.stream.proofs.frame.Frame.fresh as stream-fresh
 use Rattle.stream.proofs.frame.Frame.read as stream-read
 use Rattle.stream.proofs.frame.Frame.sound as stream-sound
 use Rattle.stream.proofs.payload as stream-payload
+use Rattle.stream.proofs.key as stream-key
 use Rattle.packet.proofs.judge as packet-judge
 use Rattle.packet.proofs.wrong_behind as packet-wrong-behind
 use Rattle.packet.proofs.class_of as packet-class-of
@@ -98,16 +101,26 @@ use Rattle.base.proofs.up_to as base-up-to
 use Rattle.base.proofs.copy as base-copy
 
 -- ---- the sender: a packet, a plain stream of packets, a block of the channel, a whole marked stream
+pub packet-write-as-means : Means packet-write-as.Statement.statement packet-write-as.Kinds.ps packet-write-as.Kinds.r packet-write-as.Reads.Asked packet-write-as.Reads.Learnt
+    λ κs format number key port sequence payload out w.
+    outcome w (now (out .exit)) ≡ writing (record { format = format; number = number; key = now key; port = port; sequence = sequence; payload = now payload }) (now (out .entry))
+packet-write-as-means = (λ M. packet-write-as.Met.met, λ κs a. tt, λ κs a z ws. (λ p. p, λ p. p))
+
 pub packet-write-means : Means packet-write.Statement.statement packet-write.Kinds.ps packet-write.Kinds.r packet-write.Reads.Asked packet-write.Reads.Learnt
-    λ κs port sequence payload out w. outcome w (now (out .exit)) ≡ writing (record { port = port; sequence = sequence; payload = now payload }) (now (out .entry))
+    λ κs port sequence payload out w. outcome w (now (out .exit)) ≡ writing (plainPacket port sequence (now payload)) (now (out .entry))
 packet-write-means = (λ M. packet-write.Met.met, λ κs a. tt, λ κs a z ws. (λ p. p, λ p. p))
 
 pub stream-begin-means : Means stream-begin.Statement.statement stream-begin.Kinds.ps stream-begin.Kinds.r stream-begin.Reads.Asked stream-begin.Reads.Learnt
     λ κs out w. outcome w (now (out .exit)) ≡ write (flag ∷ []) (now (out .entry))
 stream-begin-means = (λ M. stream-begin.Met.met, λ κs a. tt, λ κs a z ws. (λ p. p, λ p. p))
 
+pub stream-append-as-means : Means stream-append-as.Statement.statement stream-append-as.Kinds.ps stream-append-as.Kinds.r stream-append-as.Reads.Asked stream-append-as.Reads.Learnt
+    λ κs out at format number key port sequence payload w.
+    outcome w (now (out .exit)) ≡ appending at (record { format = format; number = number; key = now key; port = port; sequence = sequence; payload = now payload }) (now (out .entry))
+stream-append-as-means = (λ M. stream-append-as.Met.met, λ κs a. tt, λ κs a z ws. (λ p. p, λ p. p))
+
 pub stream-append-means : Means stream-append.Statement.statement stream-append.Kinds.ps stream-append.Kinds.r stream-append.Reads.Asked stream-append.Reads.Learnt
-    λ κs out at port sequence payload w. outcome w (now (out .exit)) ≡ appending at (record { port = port; sequence = sequence; payload = now payload }) (now (out .entry))
+    λ κs out at port sequence payload w. outcome w (now (out .exit)) ≡ appending at (plainPacket port sequence (now payload)) (now (out .entry))
 stream-append-means = (λ M. stream-append.Met.met, λ κs a. tt, λ κs a z ws. (λ p. p, λ p. p))
 
 pub channel-mark-means : Means channel-mark.Statement.statement channel-mark.Kinds.ps channel-mark.Kinds.r channel-mark.Reads.Asked channel-mark.Reads.Learnt
@@ -143,8 +156,8 @@ channel-has-room-means = (λ M. channel-has-room.Met.met, λ κs a. tt, λ κs a
 
 -- what a frame is told to be, and what a call answers, in the code's words
 pub judged-is : (p : Packet) (n : ℕ)
-    → (judged (packet p) ≡ Delivered (record { port = p .port; sequence = p .sequence; length = length (p .payload) })) × (judged (refusal n) ≡ Refused n)
-    × (judged (broken n) ≡ Broken n)
+    → (judged (packet p) ≡ Delivered (record { format = p .format; number = p .number; key = length (p .key); port = p .port; sequence = p .sequence; length = length (p .payload) }))
+    × (judged (refusal n) ≡ Refused n) × (judged (broken n) ≡ Broken n)
 judged-is p n = (refl, refl, refl)
 
 pub answered-is : (t : Told) (c : Condition)
@@ -169,8 +182,12 @@ pub stream-sound-means : Means stream-sound.Statement.statement stream-sound.Kin
 stream-sound-means = (λ M. stream-sound.Met.met, λ κs a. tt, λ κs a z ws. (λ p. p, λ p. p))
 
 pub stream-payload-means : Means stream-payload.Statement.statement stream-payload.Kinds.ps stream-payload.Kinds.r stream-payload.Reads.Asked stream-payload.Reads.Learnt
-    λ κs recv delivery r. now r ≡ part (now recv) (delivery .length)
+    λ κs recv delivery r. now r ≡ part (payloadAt (delivery .key)) (delivery .length) (now recv)
 stream-payload-means = (λ M. stream-payload.Met.met, λ κs a. tt, λ κs a z ws. (λ p. p, λ p. p))
+
+pub stream-key-means : Means stream-key.Statement.statement stream-key.Kinds.ps stream-key.Kinds.r stream-key.Reads.Asked stream-key.Reads.Learnt
+    λ κs recv delivery r. now r ≡ part 3 (delivery .key) (now recv)
+stream-key-means = (λ M. stream-key.Met.met, λ κs a. tt, λ κs a z ws. (λ p. p, λ p. p))
 
 pub packet-judge-means : Means packet-judge.Statement.statement packet-judge.Kinds.ps packet-judge.Kinds.r packet-judge.Reads.Asked packet-judge.Reads.Learnt
     λ κs recv raw r. (r ≡ judged (judging (now (recv .entry)) raw .told)) × (now (recv .exit) ≡ judging (now (recv .entry)) raw .recv)

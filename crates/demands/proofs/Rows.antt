@@ -3,12 +3,13 @@
 -- row, row-not    a test chooses the refusal, or the rest
 -- passed          what is no refusal
 -- wrote           a call that writes: 23 is its only row
+-- not-both        two tests in one
 -- first-each      what a table gives is one of its numbers
 use Prim.Native.Nat.{ℕ, _*_, _<_, _≤_}
 use native.Mathlib.Omega.{arith}
 use mathlib.Core.Path.{_≡_, refl, sym, _∙_, ap, subst}
-use mathlib.Core.Bool.{Bool, true, false}
-use mathlib.Core.Logic.{_↔_, _≢_, ⊎-elim}
+use mathlib.Core.Bool.{Bool, true, false, _&&_}
+use mathlib.Core.Logic.{_⊎_, _↔_, _≢_, ⊎-elim}
 use mathlib.Core.Logic._⊎_.{inl, inr}
 use mathlib.Core.List.{List, [], _∷_}
 use lib.Dec.{eqb, ltb}
@@ -46,6 +47,10 @@ module _ {A : Type 0} (By : A → ℕ → Type 0) where
 
   pub passed : {x : A} → ((n : ℕ) → By x n → ⊥) → Exact By x []
   passed none = record { says = λ n. (none n, λ f. absurd f) }
+
+pub not-both : (a b : Bool) → a && b ≡ false → (a ≡ false) ⊎ (b ≡ false)
+not-both true b e = inr e
+not-both false b e = inl refl
 
 pub not-less : (a b : ℕ) → ltb a b ≡ false → a < b → ⊥
 not-less a b e h = let k : b ≤ a = ltb-false a b e in omega arith

@@ -31,9 +31,9 @@ use Rattle.recording.specs.declared.recording.Wants.the-variants.{Refused}
 use Rattle.recording.specs.Printed.{printed, nearTotals, near, takesBy, takes}
 use Rattle.recording.proofs.Ends.{print-not}
 use Rattle.demands.specs.Table.{Exact}
-use Rattle.demands.specs.Refusals.{NextBeyond, TapeBeyond, Short, ByFrame, ByNext, ByTake}
-use Rattle.demands.proofs.Rows.{applies, over, passed}
-use Rattle.demands.proofs.Called.{not-both, not-most, beyond, within, short, long, SmallEvent, small-byte, small-as, small-eat, small-hand, event-only, Given, number-given}
+use Rattle.demands.specs.Refusals.{NextBeyond, TapeBeyond, Short, OfCall, ByFrame, ByNext, ByTake}
+use Rattle.demands.proofs.Rows.{applies, over, passed, not-both}
+use Rattle.demands.proofs.Called.{not-most, beyond, within, short, long, SmallEvent, small-byte, small-as, small-eat, small-hand, event-only, Given, number-given}
 
 -- ---- numbers near their width
 module _ (t : Totals) (room : ℕ) where
@@ -92,8 +92,8 @@ small-heard : (m : Deck) (bs : List ℕ) → With SmallEvent (deckHear m bs .0) 
 small-heard m bs =
     with-hear deckOwes deckHand deckEat deck-hand-one SmallEvent small-deck (λ k b. small-record (inStream (k .spot .place) (k .spot .count)) k b) m bs
 
-is-next : (m : Deck) (k n : ℕ) → 10 ≤ k → ByNext (some (said (refusal k)), 0, m) n ↔ n ≡ k
-is-next m k n h = (λ e. let z : k ≡ n = cc in sym z, λ e. (subst (λ (x : ℕ). 10 ≤ x) (sym e) h, λ i. some (said (refusal (sym e i)))))
+is-next : (m : Deck) (k n : ℕ) → OfCall k → ByNext (some (said (refusal k)), 0, m) n ↔ n ≡ k
+is-next m k n h = (λ e. let z : k ≡ n = cc in sym z, λ e. (subst OfCall (sym e) h, λ i. some (said (refusal (sym e i)))))
 
 module _ (m : Deck) (bs : List ℕ) where
   abbrev soundly : Bool
@@ -112,11 +112,11 @@ module _ (m : Deck) (bs : List ℕ) where
       go : (s n r : Bool) → soundly ≡ s → nearly ≡ n → roomily ≡ r
           → Exact ByNext (tapeBy s n r m bs)
           ((10, NextBeyond (m .ear .board .st) (m .spot) (length bs)) ∷ (11, Short (m .ear .board .recv) (m .ear .board .word)) ∷ [])
-      go false n r e f g = applies ByNext _ (λ k. is-next m 10 k (omega arith)) (inl (beyond (m .ear .board .st) e))
-      go true false r e f g = applies ByNext _ (λ k. is-next m 10 k (omega arith)) (inr (leb-false _ _ f))
+      go false n r e f g = applies ByNext _ (λ k. is-next m 10 k (inl refl)) (inl (beyond (m .ear .board .st) e))
+      go true false r e f g = applies ByNext _ (λ k. is-next m 10 k (inl refl)) (inr (leb-false _ _ f))
       go true true false e f g =
           over ByNext (⊎-elim (within (m .ear .board .st) e) (not-most _ _ f))
-          (applies ByNext _ (λ k. is-next m 11 k (omega arith)) (short (m .ear .board .recv) (m .ear .board .word) g))
+          (applies ByNext _ (λ k. is-next m 11 k (inr refl)) (short (m .ear .board .recv) (m .ear .board .word) g))
       go true true true e f g =
           over ByNext (⊎-elim (within (m .ear .board .st) e) (not-most _ _ f))
           (over ByNext (long (m .ear .board .recv) (m .ear .board .word) g)

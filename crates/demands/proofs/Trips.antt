@@ -14,7 +14,7 @@ use Rattle.base.specs.Bytes.{Bytes}
 use Rattle.base.specs.Calls.{joined}
 use Rattle.base.specs.declared.Written.the-variants.{Wrote}
 use Rattle.packet.specs.Escape.{flag}
-use Rattle.packet.specs.Frame.{Told, delivery, judged, closed, judge, part, There}
+use Rattle.packet.specs.Frame.{Told, packet, delivery, judged, closed, judge, There}
 use Rattle.packet.specs.Sender.{Accepted, frameOf, flagged, writing}
 use Rattle.packet.specs.declared.frame.Judged.the-variants.{Packet as Delivered}
 use Rattle.packet.proofs.Judging.{judge-is, payload-there}
@@ -30,12 +30,22 @@ use Rattle.listed.specs.Lines.{lines}
 use Rattle.listed.specs.Listing.{heard, totalLine, lastLine, listed, listing}
 use Rattle.listed.proofs.Apart.{records-apart, records-channel}
 
-module _ (p : Packet) (port-fits : p .port < 65536) (sequence-fits : p .sequence < 65536) (bytes : Bytes (p .payload)) (out : List ℕ) (n : ℕ)
-    (wrote : writing p out .answer ≡ Wrote n) where
+module _ (p : Packet) (number-fits : p .number < 256) (key-bytes : Bytes (p .key)) (port-fits : p .port < 65536) (sequence-fits : p .sequence < 65536)
+    (bytes : Bytes (p .payload)) (out : List ℕ) (n : ℕ) (wrote : writing p out .answer ≡ Wrote n) where
   pub accepted : Accepted p
   accepted =
       let w = wrote-is p out n wrote in
-      record { some = w .some; short = w .short; free = w .free; port-fits = port-fits; sequence-fits = sequence-fits; bytes = bytes }
+      record {
+        some = w .some;
+        short = w .short;
+        free = w .free;
+        fits = w .fits;
+        number-fits = number-fits;
+        key-bytes = key-bytes;
+        port-fits = port-fits;
+        sequence-fits = sequence-fits;
+        bytes = bytes;
+      }
 
   pub packet-back : reads (inside []) (take n (writing p out .output)) ≡ (delivered p ∷ [], inside [])
   unfolding frameOf flagged
@@ -48,11 +58,11 @@ module _ (p : Packet) (a : Accepted p) (recv : List ℕ) (there : take (length (
   told-back : closed recv (length (rawOf p)) .told ≡ delivered p
   told-back =
       let l : length (rawOf p) ≤ length recv = omega (arith, sym (ap length there) ∙ length-take (length (rawOf p)) recv) in
-      judge-is recv (length (rawOf p)) (raw-fits p (a .some) (a .short) (a .free)) l
+      judge-is recv (length (rawOf p)) (raw-fits p a) l
       ∙ ap judge there ∙ judged-is p a
 
   pub judged-back : (judged (closed recv (length (rawOf p)) .told) ≡ Delivered (delivery p))
-      × (part (closed recv (length (rawOf p)) .recv) (length (p .payload)) ≡ p .payload)
+      × There (packet p) (closed recv (length (rawOf p)) .recv)
   judged-back = (
     ap judged told-back,
     subst (λ (t : Told). There t (closed recv (length (rawOf p)) .recv)) told-back (payload-there recv (length (rawOf p))),

@@ -7,14 +7,14 @@ use mathlib.Core.Path.{_≡_, refl}
 use mathlib.Core.Bool.{Bool, true, false, _&&_}
 use mathlib.Core.List.{List, [], _∷_, _++_, map}
 use lib.Dec.{eqb}
-use lib.ListN.{replicate}
+use lib.ListN.{length, replicate}
 use Rattle.base.specs.Calls.{joined}
 use Rattle.base.specs.Choice.{pick}
 use Rattle.fcs.specs.Fcs.{fcs, register, entered}
 use Rattle.field.specs.Field.{add, double, shiftAdd, mul, pow}
 use Rattle.parity.specs.Word.{scale, onto, timesRoot, generator, divide, remainder}
 use Rattle.interleaver.specs.Places.{cell}
-use Rattle.packet.specs.Contents.{withCheck, contents}
+use Rattle.packet.specs.Contents.{plainPacket, withCheck, contents}
 use Rattle.packet.specs.Escape.{escape, escapeByte, plain, wrongFrom, right, last, scan}
 use Rattle.packet.specs.Frame.{Told, packet, refusal, broken, judgeContents, closedBy, closed, judge, judgeBody}
 use Rattle.stream.specs.Reader.{waiting, reads}
@@ -23,9 +23,9 @@ use Rattle.stream.specs.Reader.{waiting, reads}
 abbrev pub Line : Type 0
 Line = ℕ × List ℕ × List ℕ
 
--- an answer in numbers: the number of a refusal; 0, port, sequence and payload of a packet
+-- an answer in numbers: the number of a refusal; of a packet 0, format, key number, key length, key, port, sequence, payload
 abbrev pub inNumbers : Told → List ℕ
-inNumbers (packet p) = 0 ∷ p .port ∷ p .sequence ∷ p .payload
+inNumbers (packet p) = 0 ∷ p .format ∷ p .number ∷ length (p .key) ∷ (p .key ++ p .port ∷ p .sequence ∷ p .payload)
 inNumbers (refusal n) = n ∷ []
 inNumbers (broken n) = 3 ∷ []
 
@@ -42,7 +42,7 @@ table =
     (0x61, fcs [] ∷ [], 0x0000 ∷ []) ∷  -- (a) FCS of no bytes 0x0000
     (0x62, fcs (0x00 ∷ []) ∷ [], 0xF078 ∷ []) ∷  -- (b) of 00, 0xF078
     (0x63, fcs (0xFF ∷ []) ∷ [], 0xFF00 ∷ []) ∷  -- (c) of FF, 0xFF00
-    (0x64, contents (record { port = 0x5100; sequence = 0; payload = 0x41 ∷ [] }), 0x21 ∷ 0x00 ∷ 0x51 ∷ 0x00 ∷ 0x00 ∷ 0x41 ∷ 0xE4 ∷ 0xEC ∷ []) ∷  -- (d) port 5100, sequence 0, payload 41
+    (0x64, contents (plainPacket 0x5100 0 (0x41 ∷ [])), 0x21 ∷ 0x00 ∷ 0x51 ∷ 0x00 ∷ 0x00 ∷ 0x41 ∷ 0xE4 ∷ 0xEC ∷ []) ∷  -- (d) port 5100, sequence 0, payload 41
     (0x65, heard (0x7E ∷ 0x7E ∷ []), []) ∷  -- (e) 7E 7E, no answer
     (0x66, heard (0x7E ∷ 0x00 ∷ 0x7E ∷ []), 4 ∷ []) ∷  -- (f) 7E 00 7E, refusal 4
     (0x67, heard (0x7E ∷ 0x21 ∷ 0x7D ∷ 0x7E ∷ []), 2 ∷ []) ∷  -- (g) 7E 21 7D 7E, 2

@@ -2,7 +2,7 @@
 -- definition slip together. The fresh states stand in proofs/Promises, the rows of refusals in proofs/Demand1, and what a law says for all numbers
 -- (classes, interleaver) in proofs/Demand2.
 -- printed    the rows
-use Prim.Native.Nat.{ℕ, zero, suc}
+use Prim.Native.Nat.{ℕ, zero, suc, _-_}
 use mathlib.Core.Path.{_≡_, refl}
 use mathlib.Core.Bool.{false}
 use mathlib.Core.List.{List, [], _∷_, _++_, map}
@@ -12,12 +12,12 @@ use Rattle.base.specs.Choice.{pick}
 use Rattle.fcs.specs.Fcs as check
 use Rattle.field.specs.Field as field
 use Rattle.parity.specs.Calls as parity
-use Rattle.packet.specs.Contents.{format, payloadLimit, plainLimit, rawLimit, withCheck, contents}
+use Rattle.packet.specs.Contents.{Packet, plainPacket, keyPacket, plainFormat, keyFormat, keyLeast, keyMost, payloadLimit, plainLimit, rawLimit, withCheck, contents}
 use Rattle.packet.specs.Escape.{flag, escape, escapeByte, plain, wrongFrom, right, last, scan}
 use Rattle.packet.specs.Frame.{Told, packet, refusal, broken, judgeContents, judgeBody, closedBy, closed, judge}
 use Rattle.packet.specs.Port.{class, barred}
 use Rattle.packet.specs.Sender.{refusing}
-use Rattle.packet.specs.declared.frame.Judged.the-variants.{Packet, Refused, Broken}
+use Rattle.packet.specs.declared.frame.Judged.the-variants.{Packet as Delivered, Refused, Broken}
 use Rattle.stream.specs.Reader.{waiting, reads}
 use Rattle.stream.specs.Called.{placeLimit}
 use Rattle.channel.specs.Sender.{marker, messageBytes, parityBytes, wordBytes, blockBytes}
@@ -36,11 +36,17 @@ use Rattle.recording.specs.declared.recording.Recording.{Recording}
 use Rattle.recording.specs.Printed.{lastOf}
 use Rattle.demands.specs.Numbers.{Line, inNumbers, heard}
 
+-- the number of a refusal; 0 of a packet
+abbrev numberOf : Told → ℕ
+numberOf (packet p) = 0
+numberOf (refusal n) = n
+numberOf (broken n) = 3
+
 -- so many packets, refusals, blocks beyond repair and lost locks among the answers, and a clean and a repaired block besides
 abbrev answersOf : ℕ → ℕ → ℕ → ℕ → List Event
 answersOf packets refusals damaged locks =
     block Clean ∷ block (Repaired 1)
-    ∷ replicate packets (said (packet (record { port = 0x5100; sequence = 0; payload = 0x41 ∷ [] }))) ++ (replicate refusals (said (refusal 4)) ++ (replicate damaged (block Beyond) ++ replicate locks lost))
+    ∷ replicate packets (said (packet (plainPacket 0x5100 0 (0x41 ∷ [])))) ++ (replicate refusals (said (refusal 4)) ++ (replicate damaged (block Beyond) ++ replicate locks lost))
 
 -- a recording that may end here, with so many stream bytes and these totals
 abbrev endsWith : ℕ → ℕ → ℕ → ℕ → ℕ → Recording
@@ -57,9 +63,21 @@ letterOf port = letter (class port)
 abbrev unusable : ℕ → ℕ
 unusable port = pick (barred port) 1 0
 
--- the number by which a payload for port 5100 is refused; 0 where it passes
-abbrev refusalOf : List ℕ → ℕ
-refusalOf payload = refusing (record { port = 0x5100; sequence = 0; payload = payload }) (λ n. n) 0
+-- the number by which a packet is refused; 0 where it passes
+abbrev refusalOf : Packet → ℕ
+refusalOf p = refusing p (λ n. n) 0
+
+-- a payload for port 5100
+abbrev paying : List ℕ → Packet
+paying payload = plainPacket 0x5100 0 payload
+
+-- a format, a key number and a key of so many bytes, for port 5100
+abbrev headed : ℕ → ℕ → ℕ → Packet
+headed format number k = record { format = format; number = number; key = replicate k 0xAA; port = 0x5100; sequence = 0; payload = 0x41 ∷ [] }
+
+-- the number by which contents of format 0x26 are refused that say so many key bytes, and have so many bytes behind them, with their check; 0 where they pass
+abbrev keyRefusal : ℕ → ℕ → ℕ
+keyRefusal k behind = numberOf (judgeContents (withCheck (0x26 ∷ k ∷ 0x07 ∷ (replicate k 0xAA ++ replicate (behind - 2) 0x41))))
 
 -- the place where an escape broke
 abbrev placeOf : Told → List ℕ
@@ -74,17 +92,17 @@ places bs = joined (map placeOf (reads waiting bs .0))
 -- the number of a row, what the definitions give, what the paper prints
 abbrev pub printed : List Line
 printed =
-    (1, flag ∷ format ∷ [], 0x7E ∷ 0x21 ∷ []) ∷  -- flag 0x7E, format byte 0x21
-    (2, payloadLimit ∷ plainLimit ∷ rawLimit ∷ listed.most ∷ [], 8192 ∷ 8205 ∷ 8205 ∷ 4294967295 ∷ []) ∷  -- a payload of 8,192 bytes as escaped, 8,205 raw bytes of a packet and of any frame, a stream of 4,294,967,295 bytes, at most
+    (1, flag ∷ plainFormat ∷ keyFormat ∷ keyLeast ∷ keyMost ∷ [], 0x7E ∷ 0x21 ∷ 0x26 ∷ 2 ∷ 32 ∷ []) ∷  -- flag 0x7E, format bytes 0x21 and 0x26, 2 to 32 key bytes
+    (2, payloadLimit ∷ plainLimit ∷ rawLimit ∷ listed.most ∷ [], 8192 ∷ 8205 ∷ 8272 ∷ 4294967295 ∷ []) ∷  -- a payload of 8,192 bytes as escaped, 8,205 raw bytes of a packet of format 0x21, 8,272 of any frame, a stream of 4,294,967,295 bytes, at most
     (3, parity.wordBytes ∷ parity.rootLimit ∷ [], 255 ∷ 64 ∷ []) ∷  -- a word is 255 bytes, R from 0 to 64
     (4, messageBytes ∷ parityBytes ∷ wordBytes ∷ blockBytes ∷ [], 223 ∷ 32 ∷ 255 ∷ 259 ∷ []) ∷  -- each 223 bytes become a word with R = 32, of 255 bytes; a block is 259
     (5, marker, 0x7D ∷ 0x3A ∷ 0xE2 ∷ 0x42 ∷ []) ∷  -- the marker 7D 3A E2 42
     (6, check.ones ∷ check.polynomial ∷ [], 0xFFFF ∷ 0x8408 ∷ []) ∷  -- register starts at 0xFFFF, reversed polynomial 0x8408
     (7, field.polynomial ∷ field.alpha ∷ [], 0x11D ∷ 2 ∷ []) ∷  -- x^8+x^4+x^3+x^2+1; alpha is 2
     (8, escape (0x7E ∷ 0x7D ∷ 0x5E ∷ 0x5D ∷ 0x21 ∷ []), 0x7D ∷ 0x5E ∷ 0x7D ∷ 0x5D ∷ 0x5E ∷ 0x5D ∷ 0x21 ∷ []) ∷  -- 0x7E becomes 7D 5E, 0x7D becomes 7D 5D; no other byte is escaped
-    (9, contents (record { port = 0x1234; sequence = 0x0102; payload = 0x41 ∷ [] }), 0x21 ∷ 0x34 ∷ 0x12 ∷ 0x02 ∷ 0x01 ∷ 0x41 ∷ 0x3F ∷ 0x8A ∷ []) ∷  -- port and sequence each two bytes, low first: port 1234, sequence 0102
-    (10, heard (0x7E ∷ 0x21 ∷ 0x34 ∷ 0x12 ∷ 0x02 ∷ 0x01 ∷ 0x41 ∷ 0x3F ∷ 0x8A ∷ 0x7E ∷ []), 0 ∷ 0x1234 ∷ 0x0102 ∷ 0x41 ∷ []) ∷  -- .. and taken apart
-    (11, line (Said (Packet (record { port = 0x5100; sequence = 0x0102; length = 3 }))), 80 ∷ 32 ∷ 50 ∷ 48 ∷ 55 ∷ 51 ∷ 54 ∷ 32 ∷ 50 ∷ 53 ∷ 56 ∷ 32 ∷ 51 ∷ 32 ∷ 77 ∷ 10 ∷ []) ∷  -- `P port sequence payload-length class`: P 20736 258 3 M
+    (9, contents (plainPacket 0x1234 0x0102 (0x41 ∷ [])), 0x21 ∷ 0x34 ∷ 0x12 ∷ 0x02 ∷ 0x01 ∷ 0x41 ∷ 0x3F ∷ 0x8A ∷ []) ∷  -- port and sequence each two bytes, low first: port 1234, sequence 0102
+    (10, heard (0x7E ∷ 0x21 ∷ 0x34 ∷ 0x12 ∷ 0x02 ∷ 0x01 ∷ 0x41 ∷ 0x3F ∷ 0x8A ∷ 0x7E ∷ []), 0 ∷ 0x21 ∷ 0 ∷ 0 ∷ 0x1234 ∷ 0x0102 ∷ 0x41 ∷ []) ∷  -- .. and taken apart
+    (11, line (Said (Delivered (record { format = 0x26; number = 7; key = 2; port = 0x5100; sequence = 0x0102; length = 3 }))), 80 ∷ 32 ∷ 50 ∷ 48 ∷ 55 ∷ 51 ∷ 54 ∷ 32 ∷ 50 ∷ 53 ∷ 56 ∷ 32 ∷ 51 ∷ 32 ∷ 77 ∷ 10 ∷ []) ∷  -- `P port sequence payload-length class`: P 20736 258 3 M
     (12, line (Said (Refused 4)), 82 ∷ 32 ∷ 52 ∷ 10 ∷ []) ∷  -- `R n`: R 4
     (13, line (Block Clean), 66 ∷ 32 ∷ 48 ∷ 10 ∷ []) ∷  -- `B 0` clean
     (14, line (Block (Repaired 16)), 66 ∷ 32 ∷ 49 ∷ 54 ∷ 10 ∷ []) ∷  -- `B count` repaired: B 16
@@ -100,10 +118,14 @@ printed =
     (24, map letterOf (0x5300 ∷ 0x7CFF ∷ 0x7F00 ∷ 0xFEFF ∷ []), 70 ∷ 70 ∷ 70 ∷ 70 ∷ []) ∷  -- F 5300 7CFF 7F00 FEFF
     (25, map unusable (0x7CFF ∷ 0x7D00 ∷ 0x7EFF ∷ 0x7F00 ∷ []), 0 ∷ 1 ∷ 1 ∷ 0 ∷ []) ∷  -- 7D00-7EFF may not be used, and the ports beside them may
     (26, lineLimit ∷ heldLimit ∷ holdLimit ∷ outLimit ∷ longest ∷ far ∷ [], 8205 ∷ 222 ∷ 8428 ∷ 9583 ∷ 128 ∷ 18446744073709551615 ∷ []) ∷  -- our own limits, as docs/REFUSALS.md and docs/DECISIONS.md print them
-    (27, map refusalOf (replicate 8192 0 ∷ replicate 8193 0 ∷ replicate 4096 0x7E ∷ replicate 4097 0x7E ∷ []), 0 ∷ 21 ∷ 0 ∷ 21 ∷ []) ∷  -- 8,192 plain payload bytes pass and 8,193 get 21; 4,096 bytes of 0x7E pass and 4,097 get 21
-    (28, joined (map inNumbers (judge (replicate 8205 0x7D) ∷ judge (replicate 8206 0x7D) ∷ [])), 2 ∷ 1 ∷ []) ∷  -- 8,205 raw bytes are judged further and 8,206 get 1
+    (27, map (λ l. refusalOf (paying l)) (replicate 8192 0 ∷ replicate 8193 0 ∷ replicate 4096 0x7E ∷ replicate 4097 0x7E ∷ []), 0 ∷ 21 ∷ 0 ∷ 21 ∷ []) ∷  -- 8,192 plain payload bytes pass and 8,193 get 21; 4,096 bytes of 0x7E pass and 4,097 get 21
+    (28, joined (map inNumbers (judge (replicate 8272 0x7D) ∷ judge (replicate 8273 0x7D) ∷ [])), 2 ∷ 1 ∷ []) ∷  -- 8,272 raw bytes are judged further and 8,273 get 1
     (29, places (0x7E ∷ 0x7D ∷ 0x21 ∷ 0x7E ∷ 0x41 ∷ 0x7D ∷ 0x7D ∷ 0x5E ∷ 0x7D ∷ 0x22 ∷ 0x7E ∷ 0x7D ∷ 0x21 ∷ 0x7D ∷ 0x7E ∷ []), 1 ∷ 2 ∷ []) ∷  -- counted from 0 behind the opening flag, the first wrong byte after 7D: 21 at 1, the second 7D at 2; none where the last raw byte is 7D
-    (30, joined (map placeOf (judge (replicate 8203 0 ++ 0x7D ∷ 0x21 ∷ []) ∷ judge (replicate 8204 0 ++ 0x7D ∷ 0x21 ∷ []) ∷ [])), 8204 ∷ []) ∷  -- the last of 8,205 raw bytes is at 8,204; 8,206 get 1
-    (31, placeLimit ∷ [], 8204 ∷ []) ∷  -- 10 where the remembered place is above 8,204
+    (30, joined (map placeOf (judge (replicate 8270 0 ++ 0x7D ∷ 0x21 ∷ []) ∷ judge (replicate 8271 0 ++ 0x7D ∷ 0x21 ∷ []) ∷ [])), 8271 ∷ []) ∷  -- the last of 8,272 raw bytes is at 8,271; 8,273 get 1
+    (31, placeLimit ∷ [], 8271 ∷ []) ∷  -- 10 where the remembered place is above 8,271
     (32, line (Said (Broken 105)), 82 ∷ 32 ∷ 51 ∷ 32 ∷ 49 ∷ 48 ∷ 53 ∷ 10 ∷ []) ∷  -- `R 3 n`: R 3 105
+    (33, contents (keyPacket 0x07 (0xAA ∷ 0xBB ∷ []) 0x1234 0x0102 (0x41 ∷ [])), 0x26 ∷ 0x02 ∷ 0x07 ∷ 0xAA ∷ 0xBB ∷ 0x34 ∷ 0x12 ∷ 0x02 ∷ 0x01 ∷ 0x41 ∷ 0x8E ∷ 0x3F ∷ []) ∷  -- "Between format and port stand a key length byte, a key number and 2 to 32 key bytes.", the check over everything from the format byte on
+    (34, heard (0x7E ∷ 0x26 ∷ 0x02 ∷ 0x07 ∷ 0xAA ∷ 0xBB ∷ 0x34 ∷ 0x12 ∷ 0x02 ∷ 0x01 ∷ 0x41 ∷ 0x8E ∷ 0x3F ∷ 0x7E ∷ []), 0 ∷ 0x26 ∷ 7 ∷ 2 ∷ 0xAA ∷ 0xBB ∷ 0x1234 ∷ 0x0102 ∷ 0x41 ∷ []) ∷  -- .. and taken apart
+    (35, keyRefusal 0 7 ∷ keyRefusal 1 7 ∷ keyRefusal 2 7 ∷ keyRefusal 32 7 ∷ keyRefusal 33 7 ∷ keyRefusal 2 6 ∷ keyRefusal 32 6 ∷ [], 12 ∷ 12 ∷ 0 ∷ 0 ∷ 12 ∷ 12 ∷ 12 ∷ []) ∷  -- 12: a key length outside 2 to 32, fewer than seven bytes behind the key
+    (36, map refusalOf (headed 0x26 0 1 ∷ headed 0x26 0 2 ∷ headed 0x26 255 32 ∷ headed 0x26 0 33 ∷ headed 0x26 0 258 ∷ headed 0x21 0 0 ∷ headed 0x21 0 2 ∷ headed 0x21 1 0 ∷ headed 0x22 0 2 ∷ []), 24 ∷ 0 ∷ 0 ∷ 24 ∷ 24 ∷ 0 ∷ 24 ∷ 24 ∷ 24 ∷ []) ∷  -- 24: such a length, a key length or number above zero in format 0x21, another format
     []

@@ -1,20 +1,24 @@
 -- Rows of the paper's tables ("Numbered refusals") that several calls share, or that take more than a line.
--- frameRows             2 to 8, of the raw bytes of a frame
+-- frameRows             2 to 6, 12, 7 and 8, of the raw bytes of a frame
+-- Unfit                 24: a head that is not to be sent
 -- FrameBeyond, Beyond   10: a count of the state is beyond its limit
 -- NextBeyond            .. of a call on a recording's bytes
 -- TapeBeyond            .. and of a listing
 -- Short                 11: a lent buffer is too short
+-- OfFrame, OfCall       the numbers of frames, and those of receiving calls
 -- ByFrame, By..         that an answer refuses by a number
-use Prim.Native.Nat.{ℕ, suc, _-_, _≤_, _<_, min}
+use Prim.Native.Nat.{ℕ, suc, _+_, _-_, _≤_, _<_, min}
 use mathlib.Core.Path.{_≡_}
 use mathlib.Core.Logic.{_⊎_, _≢_}
 use mathlib.Core.List.{List, [], _∷_}
 use mathlib.Core.Option.{Option, some}
-use lib.ListN.{length, take, getD}
+use lib.Dec.{eqb}
+use lib.ListN.{length, take, drop, getD}
+use Rattle.base.specs.Choice.{pick}
 use Rattle.base.specs.Written.{Outcome}
 use Rattle.base.specs.declared.Written.the-variants.{Refused}
 use Rattle.fcs.specs.Fcs.{fcs}
-use Rattle.packet.specs.Contents.{format, payloadLimit, rawLimit, wordAt, payloadOf}
+use Rattle.packet.specs.Contents.{Packet, plainFormat, keyFormat, keyLeast, keyMost, keyAt, keyLength, payloadLimit, rawLimit, wordAt}
 use Rattle.packet.specs.Escape.{escape, plain, last, Followed}
 use Rattle.packet.specs.Frame.{Told, refusal, number}
 use Rattle.parity.specs.declared.Checked.{Checked}
@@ -39,13 +43,26 @@ use Rattle.demands.specs.Table.{Row}
 abbrev pub Unusable : ℕ → Type 0
 Unusable port = (0x7D00 ≤ port) × (port ≤ 0x7EFF)
 
+-- a key length outside 2 to 32
+abbrev pub KeyBeyond : ℕ → Type 0
+KeyBeyond k = (k < keyLeast) ⊎ (keyMost < k)
+
+-- where the port stands in contents: behind the format byte or, in format 0x26, behind the key
+abbrev pub portAt : List ℕ → ℕ
+portAt cs = pick (eqb (getD cs 0 0) keyFormat) (keyAt + keyLength cs) 1
+
+-- what stands between the sequence and the check
+abbrev pub payloadOf : List ℕ → List ℕ
+payloadOf cs = take (length cs - 2 - (portAt cs + 4)) (drop (portAt cs + 4) cs)
+
 -- of contents cs, the bytes after undoing escapes
 abbrev pub contentsRows : List ℕ → List Row
 contentsRows cs =
     (4, length cs < 8) ∷  -- fewer than 8 bytes after undoing escapes
     (5, fcs (take (length cs - 2) cs) ≢ wordAt cs (length cs - 2)) ∷  -- check differs
-    (6, getD cs 0 0 ≢ format) ∷  -- format byte is not 0x21
-    (7, Unusable (wordAt cs 1)) ∷  -- port 7D00-7EFF
+    (6, (getD cs 0 0 ≢ plainFormat) × (getD cs 0 0 ≢ keyFormat)) ∷  -- neither format
+    (12, (getD cs 0 0 ≡ keyFormat) × (KeyBeyond (keyLength cs) ⊎ (length cs < keyAt + keyLength cs + 7))) ∷  -- a 0x26 key length outside 2 to 32 or fewer than seven bytes behind the key
+    (7, Unusable (wordAt cs (portAt cs))) ∷  -- port 7D00-7EFF
     (8, payloadLimit < length (escape (payloadOf cs))) ∷  -- payload above 8,192 bytes as escaped
     []
 
@@ -56,7 +73,14 @@ frameRows raw =
     (3, Followed raw) ∷  -- 7D followed by other than 5E, 5D
     contentsRows (plain raw)
 
--- 10 of the frame reader: stored bytes other than the raw count or 8,205, whichever is less; raw count above 8,206; remembered place above 8,204
+-- 24: a 0x26 key length outside 2 to 32, another format, or a key length or number above zero in format 0x21
+abbrev pub Unfit : Packet → Type 0
+Unfit p =
+    ((p .format ≡ keyFormat) × KeyBeyond (length (p .key)))
+    ⊎ ((p .format ≢ plainFormat) × (p .format ≢ keyFormat))
+    ⊎ ((p .format ≡ plainFormat) × ((0 < length (p .key)) ⊎ (0 < p .number)))
+
+-- 10 of the frame reader: stored bytes other than the raw count or 8,272, whichever is less; raw count above 8,273; remembered place above 8,271
 abbrev pub FrameBeyond : Frame → Type 0
 FrameBeyond f = (f .stored ≢ min (f .raw) rawLimit) ⊎ (suc rawLimit < f .raw) ⊎ (placeLimit < f .place)
 
@@ -64,7 +88,7 @@ FrameBeyond f = (f .stored ≢ min (f .raw) rawLimit) ⊎ (suc rawLimit < f .raw
 abbrev pub Beyond : Receiver → Type 0
 Beyond s = FrameBeyond (s .frame) ⊎ (wordBytes < s .lock .word) ⊎ (3 < s .lock .marker) ⊎ (messageBytes < s .lock .handed)
 
--- 11 on the channel: receive buffer under 8,205 bytes, word buffer under 255
+-- 11 on the channel: receive buffer under 8,272 bytes, word buffer under 255
 abbrev pub Short : List ℕ → List ℕ → Type 0
 Short recv word = (length recv < rawLimit) ⊎ (length word < wordBytes)
 
@@ -76,6 +100,14 @@ NextBeyond s p n = Beyond s ⊎ (far - n < p .offset)
 abbrev pub TapeBeyond : Receiver → Spot → Totals → ℕ → ℕ → Type 0
 TapeBeyond s p t n room =
     Beyond s ⊎ (far - n < p .offset) ⊎ (far - room < t .packets) ⊎ (far - room < t .refused) ⊎ (far - room < t .damaged) ⊎ (far - room < t .lost)
+
+-- the numbers that frames are refused by
+abbrev pub OfFrame : ℕ → Type 0
+OfFrame n = ((1 ≤ n) × (n ≤ 8)) ⊎ (n ≡ 12)
+
+-- .. and receiving calls
+abbrev pub OfCall : ℕ → Type 0
+OfCall n = (n ≡ 10) ⊎ (n ≡ 11)
 
 -- a frame is refused by its number, with a place or without
 abbrev pub ByFrame : Told → ℕ → Type 0
@@ -93,17 +125,17 @@ ByCheck c n = c ≡ WordRefused n
 abbrev pub ByRepair : Mended → ℕ → Type 0
 ByRepair a n = a ≡ RepairRefused n
 
--- a receiving call on the plain stream is: from 10 on the numbers are those of calls, below they are of frames
+-- a receiving call on the plain stream is: by a number of calls, and not of frames
 abbrev pub ByRead : Option Told × ℕ × Held → ℕ → Type 0
-ByRead r n = (10 ≤ n) × (r .0 ≡ some (refusal n))
+ByRead r n = OfCall n × (r .0 ≡ some (refusal n))
 
 -- a receiving call on the channel is
 abbrev pub ByHear : Option Event × ℕ × Board → ℕ → Type 0
-ByHear r n = (10 ≤ n) × (r .0 ≡ some (said (refusal n)))
+ByHear r n = OfCall n × (r .0 ≡ some (said (refusal n)))
 
 -- a call on a recording's bytes is
 abbrev pub ByNext : Option Event × ℕ × Deck → ℕ → Type 0
-ByNext r n = (10 ≤ n) × (r .0 ≡ some (said (refusal n)))
+ByNext r n = OfCall n × (r .0 ≡ some (said (refusal n)))
 
 -- a call on a recording that is listed is
 abbrev pub ByTake : Printed → ℕ → Type 0

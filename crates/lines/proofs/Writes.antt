@@ -12,6 +12,7 @@ use lib.ListN.{length, take, set}
 use Rattle.base.specs.Private.{Laid}
 use Rattle.base.proofs.Laid.{laid-append, laid-take}
 use Rattle.packet.specs.Port.{class}
+use Rattle.packet.specs.declared.frame.Delivery.{Delivery}
 use Rattle.packet.specs.declared.frame.Judged.the-variants.{Packet, Refused, Broken}
 use Rattle.channel.specs.declared.answer.Condition.the-variants.{Repaired}
 use Rattle.listed.specs.Lines.{decimal, letter, told, endLine, wrongLine, longest, blockLine}
@@ -53,17 +54,17 @@ Put l bs after end = Laid l 0 bs after end × (end ≤ longest)
 pub put-as : {l bs cs after : List ℕ} {end : ℕ} → Put l bs after end → bs ≡ cs → Put l cs after end
 put-as h e = (laid-as (h .0) e, h .1)
 
-packet-parts : (p s n : ℕ)
-    → (80 ∷ 32 ∷ []) ++ (decimal p ++ (32 ∷ [])) ++ (decimal s ++ (32 ∷ [])) ++ (decimal n ++ (32 ∷ [])) ++ (letter (class p) ∷ 10 ∷ []) ≡ told (Packet (record { port = p; sequence = s; length = n }))
+packet-parts : (d : Delivery)
+    → (80 ∷ 32 ∷ []) ++ (decimal (d .port) ++ (32 ∷ [])) ++ (decimal (d .sequence) ++ (32 ∷ [])) ++ (decimal (d .length) ++ (32 ∷ [])) ++ (letter (class (d .port)) ∷ 10 ∷ []) ≡ told (Packet d)
 unfolding told
-packet-parts p s n = simp append-assoc
+packet-parts d = simp append-assoc
 
-pub packet-put : {l l₁ l₂ l₃ l₄ l₅ : List ℕ} {a b c d e : ℕ} (p s n k : ℕ)
-    → Laid l 0 (80 ∷ 32 ∷ []) l₁ a → Item l₁ a p 32 l₂ b → Item l₂ b s 32 l₃ c → Item l₃ c n 32 l₄ d
-    → k ≡ letter (class p) → Laid l₄ d (k ∷ 10 ∷ []) l₅ e → Put l (told (Packet (record { port = p; sequence = s; length = n }))) l₅ e
-packet-put {l₄ = l₄} {l₅ = l₅} {d = d} {e = e} p s n k u v w x h y =
-    let z : Laid l₄ d (letter (class p) ∷ 10 ∷ []) l₅ e = subst (λ (m : ℕ). Laid l₄ d (m ∷ 10 ∷ []) l₅ e) h y in (
-      laid-as (laid-append (laid-append (laid-append (laid-append u (v .0)) (w .0)) (x .0)) z) (packet-parts p s n),
+pub packet-put : {l l₁ l₂ l₃ l₄ l₅ : List ℕ} {a b c f e : ℕ} (d : Delivery) (k : ℕ)
+    → Laid l 0 (80 ∷ 32 ∷ []) l₁ a → Item l₁ a (d .port) 32 l₂ b → Item l₂ b (d .sequence) 32 l₃ c → Item l₃ c (d .length) 32 l₄ f
+    → k ≡ letter (class (d .port)) → Laid l₄ f (k ∷ 10 ∷ []) l₅ e → Put l (told (Packet d)) l₅ e
+packet-put {l₄ = l₄} {l₅ = l₅} {f = f} {e = e} d k u v w x h y =
+    let z : Laid l₄ f (letter (class (d .port)) ∷ 10 ∷ []) l₅ e = subst (λ (m : ℕ). Laid l₄ f (m ∷ 10 ∷ []) l₅ e) h y in (
+      laid-as (laid-append (laid-append (laid-append (laid-append u (v .0)) (w .0)) (x .0)) z) (packet-parts d),
       omega (arith, u .ends, v .1, w .1, x .1, y .ends),
     )
 

@@ -125,7 +125,7 @@ table = refl
 
 -- P, R, R 3 with its place, B 0, B n, B X, L, E with five different numbers, X; and the five letters
 pub letters : _≡_ {A = List (List ℕ)}
-    (line (Said (Packet (record { port = 20736; sequence = 258; length = 3 }))) ∷ line (Said (Refused 4)) ∷ line (Said (Broken 105)) ∷ line (Block Clean) ∷ line (Block (Repaired 16)) ∷ line (Block Beyond) ∷ line LockLost
+    (line (Said (Packet (record { format = 0x26; number = 7; key = 2; port = 20736; sequence = 258; length = 3 }))) ∷ line (Said (Refused 4)) ∷ line (Said (Broken 105)) ∷ line (Block Clean) ∷ line (Block (Repaired 16)) ∷ line (Block Beyond) ∷ line LockLost
     ∷ endLine 5 1 2 3 4 ∷ wrongLine 7 ∷ map letter (System ∷ Applications ∷ M ∷ D ∷ Future ∷ []) ∷ [])
     ((80 ∷ 32 ∷ 50 ∷ 48 ∷ 55 ∷ 51 ∷ 54 ∷ 32 ∷ 50 ∷ 53 ∷ 56 ∷ 32 ∷ 51 ∷ 32 ∷ 77 ∷ 10 ∷ []) ∷ (82 ∷ 32 ∷ 52 ∷ 10 ∷ []) ∷ (82 ∷ 32 ∷ 51 ∷ 32 ∷ 49 ∷ 48 ∷ 53 ∷ 10 ∷ []) ∷ (66 ∷ 32 ∷ 48 ∷ 10 ∷ []) ∷ (66 ∷ 32 ∷ 49 ∷ 54 ∷ 10 ∷ []) ∷ (66 ∷ 32 ∷ 88 ∷ 10 ∷ []) ∷ (76 ∷ 10 ∷ [])
     ∷ (69 ∷ 32 ∷ 53 ∷ 32 ∷ 49 ∷ 32 ∷ 50 ∷ 32 ∷ 51 ∷ 32 ∷ 52 ∷ 10 ∷ []) ∷ (88 ∷ 32 ∷ 55 ∷ 10 ∷ []) ∷ (83 ∷ 65 ∷ 77 ∷ 68 ∷ 70 ∷ []) ∷ [])

@@ -20,4 +20,4 @@ put-packet-spec =
     (search needs)
     (search needs)
     (λ c. search needs)
-    (λ c. packet-put _ _ _ _ (c .before .before .before .before .before .before .before .before .before .before .before .before .before .before .before .before .before .before .before .before .before .before .put-two .ensures) (c .before .before .before .before .before .before .before .before .before .before .before .before .before .before .before .before .before .put-item .ensures) (c .before .before .before .before .before .before .before .before .before .before .before .before .put-item2 .ensures) (c .before .before .before .before .before .before .before .before .put-item3 .ensures) (c .before .before .before .letter .ensures ∙ ap letter (c .before .before .before .before .class-of .ensures)) (c .before .before .put-two2 .ensures)))
+    (λ c. packet-put _ _ (c .before .before .before .before .before .before .before .before .before .before .before .before .before .before .before .before .before .before .before .before .before .before .put-two .ensures) (c .before .before .before .before .before .before .before .before .before .before .before .before .before .before .before .before .before .put-item .ensures) (c .before .before .before .before .before .before .before .before .before .before .before .before .put-item2 .ensures) (c .before .before .before .before .before .before .before .before .put-item3 .ensures) (c .before .before .before .letter .ensures ∙ ap letter (c .before .before .before .before .class-of .ensures)) (c .before .before .put-two2 .ensures)))
