@@ -30,7 +30,7 @@ impl Case {
         match self.asked {
             b'S' | b'O' => "pieces",
             b'L' => "listings",
-            _ => "calls",
+            _ => "answers",
         }
     }
 
@@ -72,9 +72,8 @@ impl Case {
             }
             b'R' => answer_in(key_cases::packet_in(self.number, &self.bytes).escaped(out.len()), out),
             b'V' => {
-                let (place, bytes) = self.bytes.split_at(2);
-                let at = out.len().min(u16::from_le_bytes([place[0], place[1]]) as usize);
-                answer_in(key_cases::packet_in(self.number, bytes).escaped(out.len() - at), &mut out[at..])
+                let at = out.len().min((self.number >> 32) as usize);
+                answer_in(key_cases::packet_in(self.number, &self.bytes).escaped(out.len() - at), &mut out[at..])
             }
             b'D' => part(key_cases::delivery_in(self.number).payload(&self.bytes), out),
             b'H' => part(key_cases::delivery_in(self.number).key(&self.bytes), out),

@@ -43,26 +43,21 @@ pub fn told_length(length: u8, number: u8, behind: &[u8]) -> Vec<u8> {
 
 /// A packet written into an output of this length.
 fn written(packet: &Packet, space: usize) -> Case {
-    Case { asked: b'R', number: number_of(packet), space: space as u16, bytes: [&packet.key[..], &packet.payload].concat() }
+    Case { asked: b'R', ..appended(packet, 0, space) }
 }
 
 /// The same appended at a place.
-fn appended(packet: &Packet, at: u16, space: usize) -> Case {
-    let bytes = [&at.to_le_bytes()[..], &packet.key, &packet.payload].concat();
-    Case { asked: b'V', number: number_of(packet), space: space as u16, bytes }
+fn appended(packet: &Packet, at: u32, space: usize) -> Case {
+    let number = packet.port as u64 | (packet.sequence as u64) << 16 | (at as u64) << 32;
+    let [low, high] = (packet.key.len() as u16).to_le_bytes();
+    let bytes = [&[packet.format, packet.key_number, low, high][..], &packet.key, &packet.payload].concat();
+    Case { asked: b'V', number, space: space as u16, bytes }
 }
 
-fn number_of(packet: &Packet) -> u64 {
-    let bytes = [packet.format, packet.key_number];
-    packet.port as u64 | (packet.sequence as u64) << 16 | (u16::from_le_bytes(bytes) as u64) << 32 | (packet.key.len() as u64) << 48
-}
-
-/// The packet in the number of a case; its key and its payload are the bytes.
+/// The packet of such a case.
 pub fn packet_in(number: u64, bytes: &[u8]) -> Packet {
-    let [a, b, c, d, format, key_number, e, f] = number.to_le_bytes();
-    let (key, payload) = bytes.split_at(u16::from_le_bytes([e, f]) as usize);
-    let (port, sequence) = (u16::from_le_bytes([a, b]), u16::from_le_bytes([c, d]));
-    Packet { format, key_number, key: key.to_vec(), port, sequence, payload: payload.to_vec() }
+    let (key, payload) = bytes[4..].split_at(u16::from_le_bytes([bytes[2], bytes[3]]) as usize);
+    Packet { format: bytes[0], key_number: bytes[1], key: key.to_vec(), ..Packet::new(number as u16, (number >> 16) as u16, payload) }
 }
 
 /// What is told in the number of a case that asks for a part: key length, format, payload length.
@@ -141,7 +136,7 @@ fn payloads_written(random: &mut Random, cases: &mut Vec<Case>) {
             for space in [n, n - 1, n + 1, n + 9] {
                 cases.push(written(&packet, space));
             }
-            for (at, space) in [(5, n + 5), (5, n + 4), (0, n), (4, 3), (65535, 3), (17, n + 40)] {
+            for (at, space) in [(5, n + 5), (5, n + 4), (0, n), (4, 3), (0xFFFFFFFF, 3), (17, n + 40)] {
                 cases.push(appended(&packet, at, space));
             }
         }

@@ -16,7 +16,7 @@
 //!   second steady plain|marked MIB
 //!                            a clean recording to be timed, to standard output
 //!   second samples DIR       the recordings of samples/ with their listings
-//!   second cases calls|pieces|listings [SEED]
+//!   second cases answers|pieces|listings [SEED]
 //!                            cases for the proved code, to standard output: single calls, what is read in pieces, or recordings
 //!   second words R PLACES N  N cases for repair: words altered in so many places
 //!   second time N M          times of N words made and checked, and of M words of each kind repaired (time.rs)
@@ -71,7 +71,7 @@ fn main() {
     };
     if done.is_none() {
         eprintln!("usage: second fcs HEX | parity R HEX | word R HEX | repair R HEX | interleave DEPTH HEX | restore DEPTH HEX | list | kinds FILE..");
-        eprintln!("  | recordings DIR [SEED] | steady plain|marked MIB | samples DIR | cases calls|pieces|listings [SEED] | compare CASES ANSWERS .. | test [SEED] | words R PLACES N | time N M");
+        eprintln!("  | recordings DIR [SEED] | steady plain|marked MIB | samples DIR | cases answers|pieces|listings [SEED] | compare CASES ANSWERS .. | test [SEED] | words R PLACES N | time N M");
         std::process::exit(2);
     }
 }
@@ -153,7 +153,7 @@ fn write_steady(letter: u8, mib: u64) {
 
 /// The cases of one program; none where there is no such program.
 fn write_cases(program: &str, seed: u64) -> Option<()> {
-    ["calls", "pieces", "listings"].contains(&program).then(|| write(cases::all(seed).into_iter().filter(|case| case.program() == program).collect()))
+    ["answers", "pieces", "listings"].contains(&program).then(|| write(cases::all(seed).into_iter().filter(|case| case.program() == program).collect()))
 }
 
 fn write(cases: Vec<cases::Case>) {

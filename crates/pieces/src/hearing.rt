@@ -1,8 +1,9 @@
 //! A channel heard in pieces. The number of the case is as for a stream (reading.rt). Its bytes begin with a head: whether the
 //! receiver is locked, its four hunted bytes, then in 16 bits each the counts of word, handed on and marker, the length of the first
-//! piece, that of the word buffer, and the remembered place. The word buffer's bytes follow, then those to be heard; the output is the receive buffer. Each
-//! call is told as the bytes taken and its answer (0: more wanted, 1: clean, 2: beyond repair, 3: lock lost, 256 + n: repaired in n
-//! places), a delivered payload behind it; at the end the state's numbers, the hunted bytes and the word buffer.
+//! piece, that of the word buffer, and the remembered place. The word buffer's bytes follow, then those to be heard; the output is the
+//! receive buffer. Each call is told as the bytes taken and its answer (0: more wanted, 1: clean, 2: beyond repair, 3: lock lost, 256 + n:
+//! repaired in n places), a packet's format and key, and its payload, behind it; at the end the state's numbers, the hunted bytes and the
+//! word buffer.
 use crate::reading;
 use channel::Answer;
 use channel::Condition;

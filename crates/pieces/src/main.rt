@@ -1,14 +1,12 @@
 //! Answers cases from standard input, one after the other, so that tests/compare can hold the code to the second program. Each is
-//! read in pieces: a stream (S, reading.rt), a channel (O, hearing.rt) or a recording (L, listing.rt).
+//! read in pieces: a stream (S, reading.rt) or a channel (O, hearing.rt).
 //!
 //! A case, a number and a refusal stand as crates/answers/src/main.rt has them. An answer: what is told of each call, and all bytes
 //! of the output, which is lent filled with 0xA5.
 mod hearing;
-mod listing;
 mod reading;
 
 use base::Refusal;
-use base::Written;
 use packet::Judged;
 
 const HEAD: usize = 13;
@@ -57,11 +55,7 @@ fn respond(asked: u8, number: u64, bytes: &[u8], out: &mut [u8]) -> bool {
         reading::read(number, bytes, out);
         return io::write_all(1, out);
     }
-    if asked == b'O' {
-        hearing::hear(number, bytes, out);
-        return io::write_all(1, out);
-    }
-    listing::list(number, bytes, out);
+    hearing::hear(number, bytes, out);
     io::write_all(1, out)
 }
 
@@ -107,13 +101,6 @@ fn low(n: u64) -> u8 {
     (n % 256) as u8
 }
 
-fn written(w: Written) -> u64 {
-    match w {
-        Written::Wrote(n) => n as u64,
-        Written::Refused(n) => refused(n),
-    }
-}
-
 // A packet: port, sequence, length, and 1 above them; a broken escape: its place above the number.
 fn judged(j: Judged) -> u64 {
     match j {
@@ -129,6 +116,11 @@ fn judged(j: Judged) -> u64 {
 
 fn sum(port: u64, sequence: u64, length: u64) -> u64 {
     port | sequence << 16 | length << 32 | 1 << 56
+}
+
+// A packet's format, key number and key length.
+fn kind(format: u64, number: u64, key: u64) -> u64 {
+    format | number << 8 | key << 16
 }
 
 fn refused(n: u8) -> u64 {

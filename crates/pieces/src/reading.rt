@@ -1,7 +1,9 @@
 //! A stream read in pieces. The number of the case: 31 bits that say how it is cut behind the first piece (0: not at all), whether the
 //! frame is open, then raw and stored count in 16 bits each. Its bytes begin with a head, in 16 bits each: the remembered place, and the
 //! length of the first piece. Those to be read follow; the output is the receive buffer. Each call is told as the bytes taken and its
-//! answer (0: more wanted), a delivered payload behind it; at the end the state's four numbers.
+//! answer (0: more wanted), a packet's format and key, and its payload, behind it; at the end the state's four numbers.
+use base::Refusal;
+use packet::Delivery;
 use packet::Judged;
 use stream::Frame;
 use stream::Heard;
@@ -145,11 +147,18 @@ fn stop(frame: Frame) -> Place {
     }
 }
 
-// Writes a delivered payload; false where the call was refused.
+// Writes what else is told of a packet; false where the call was refused: by 10 or 11.
 pub fn deliver(j: Judged, recv: &[u8]) -> bool {
     match j {
-        Judged::Packet(delivery) => io::write_all(1, stream::payload(recv, delivery)),
-        Judged::Refused(n) => n < 10,
+        Judged::Packet(d) => parts(d, recv),
+        Judged::Refused(n) => n != Refusal::STATE && n != Refusal::BUFFER,
         Judged::Broken(_) => true,
     }
+}
+
+// Format, key number and key length, then key and payload.
+fn parts(d: Delivery, recv: &[u8]) -> bool {
+    crate::print(crate::kind(d.format as u64, d.number as u64, d.key as u64));
+    io::write_all(1, stream::key(recv, d));
+    io::write_all(1, stream::payload(recv, d))
 }
