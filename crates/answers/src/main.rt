@@ -33,6 +33,11 @@ fn answer(bytes: &mut [u8], out: &mut [u8]) -> bool {
     if io::read_full(0, &mut head) != HEAD {
         return false;
     }
+    behind(head, bytes, out)
+}
+
+// Reads what stands behind a head.
+fn behind(head: [u8; 13], bytes: &mut [u8], out: &mut [u8]) -> bool {
     let room = pair(head[9], head[10]);
     let n = pair(head[11], head[12]);
     follow(head[0], number(head), room, n, bytes, out)
@@ -145,14 +150,38 @@ fn keyed(number: u64, bytes: &[u8], out: &mut [u8]) -> u64 {
         return 0;
     }
     let n = pair(bytes[2], bytes[3]);
-    write_parts(bytes[0], bytes[1], n, half(number), half(number / 0x10000), &bytes[4..], out)
+    write_parts(
+        bytes[0],
+        bytes[1],
+        n,
+        half(number),
+        half(number / 0x10000),
+        &bytes[4..],
+        out,
+    )
 }
 
-fn write_parts(format: u8, number: u8, n: usize, port: u16, sequence: u16, bytes: &[u8], out: &mut [u8]) -> u64 {
+fn write_parts(
+    format: u8,
+    number: u8,
+    n: usize,
+    port: u16,
+    sequence: u16,
+    bytes: &[u8],
+    out: &mut [u8],
+) -> u64 {
     if bytes.len() < n {
         return 0;
     }
-    written(packet::write_as(format, number, &bytes[0..n], port, sequence, &bytes[n..], out))
+    written(packet::write_as(
+        format,
+        number,
+        &bytes[0..n],
+        port,
+        sequence,
+        &bytes[n..],
+        out,
+    ))
 }
 
 // The same appended, at the place that the number has above port and sequence.
@@ -162,14 +191,41 @@ fn keyed_at(number: u64, bytes: &[u8], out: &mut [u8]) -> u64 {
     }
     let n = pair(bytes[2], bytes[3]);
     let at = (number / 0x100000000) as usize;
-    append_parts(at, bytes[0], bytes[1], n, half(number), half(number / 0x10000), &bytes[4..], out)
+    append_parts(
+        at,
+        bytes[0],
+        bytes[1],
+        n,
+        half(number),
+        half(number / 0x10000),
+        &bytes[4..],
+        out,
+    )
 }
 
-fn append_parts(at: usize, format: u8, number: u8, n: usize, port: u16, sequence: u16, bytes: &[u8], out: &mut [u8]) -> u64 {
+fn append_parts(
+    at: usize,
+    format: u8,
+    number: u8,
+    n: usize,
+    port: u16,
+    sequence: u16,
+    bytes: &[u8],
+    out: &mut [u8],
+) -> u64 {
     if bytes.len() < n {
         return 0;
     }
-    written(stream::append_as(out, at, format, number, &bytes[0..n], port, sequence, &bytes[n..]))
+    written(stream::append_as(
+        out,
+        at,
+        format,
+        number,
+        &bytes[0..n],
+        port,
+        sequence,
+        &bytes[n..],
+    ))
 }
 
 // What is told of a packet: key length, format, and the payload's length above them.

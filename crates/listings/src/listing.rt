@@ -171,37 +171,44 @@ fn more(recording: Recording, size: usize, seed: u64, at: usize, end: usize, n: 
         return stop(recording);
     }
     if 0 < size {
-        return onward(recording, size, seed, at, behind(size, at, n), true);
+        return onward(recording, size, seed, at, piece_end(at, size, n), true);
     }
     let c = cut(seed, at, n);
     onward(recording, size, c.seed, at, c.end, true)
 }
 
-// Cuts the next piece: often of 0 bytes or 1, else of up to 300.
+// A number that looks random, from a seed.
+fn drawn(seed: u64) -> u64 {
+    seed % 0x80000000 * 1103515245 % 0x80000000 / 8
+}
+
+// The length of a piece that is wanted: often 0 bytes or 1, else up to 300.
+fn wanted(drawn: u64) -> usize {
+    let kind = drawn / 256 % 8;
+    if kind < 2 {
+        return 0;
+    }
+    if kind < 4 {
+        return 1;
+    }
+    (drawn / 2048 % 300) as usize
+}
+
+// Where a piece that begins at a place and wants so many bytes ends, of n in all.
+fn piece_end(at: usize, wants: usize, n: usize) -> usize {
+    let from = base::least(at, n);
+    from + base::least(wants, n - from)
+}
+
+// Cuts the next piece.
 fn cut(seed: u64, at: usize, n: usize) -> Piece {
     if seed == 0 {
         return Piece { seed, end: n };
     }
-    let drawn = seed % 0x80000000 * 1103515245 % 0x80000000 / 8;
-    let kind = drawn / 256 % 8;
-    let next = seed % 0x80000000 * 69069 % 0x80000000 + 1;
-    let long = (drawn / 2048 % 300) as usize;
-    let want = if kind < 2 {
-        0
-    } else {
-        if kind < 4 { 1 } else { long }
-    };
-    let left = n - base::least(at, n);
     Piece {
-        seed: next,
-        end: base::least(at, n) + base::least(want, left),
+        seed: seed % 0x80000000 * 69069 % 0x80000000 + 1,
+        end: piece_end(at, wanted(drawn(seed)), n),
     }
-}
-
-// Where a piece of this size ends.
-fn behind(size: usize, at: usize, n: usize) -> usize {
-    let left = n - base::least(at, n);
-    base::least(at, n) + base::least(size, left)
 }
 
 fn onward(recording: Recording, size: usize, seed: u64, at: usize, end: usize, go: bool) -> Place {

@@ -27,6 +27,11 @@ fn answer(bytes: &mut [u8], out: &mut [u8]) -> bool {
     if io::read_full(0, &mut head) != HEAD {
         return false;
     }
+    behind(head, bytes, out)
+}
+
+// Reads what stands behind a head.
+fn behind(head: [u8; 13], bytes: &mut [u8], out: &mut [u8]) -> bool {
     let room = pair(head[9], head[10]);
     let n = pair(head[11], head[12]);
     follow(number(head), room, n, bytes, out)

@@ -29,6 +29,11 @@ fn answer(bytes: &mut [u8], out: &mut [u8]) -> bool {
     if io::read_full(0, &mut head) != HEAD {
         return false;
     }
+    behind(head, bytes, out)
+}
+
+// Reads what stands behind a head.
+fn behind(head: [u8; 13], bytes: &mut [u8], out: &mut [u8]) -> bool {
     let room = pair(head[9], head[10]);
     let n = pair(head[11], head[12]);
     follow(head[0], number(head), room, n, bytes, out)
@@ -95,6 +100,15 @@ fn print(n: u64) {
         low(n / 0x100000000000000),
     ];
     io::write_all(1, &text);
+}
+
+// Writes numbers, one behind the other.
+fn print_all(numbers: &[u64]) {
+    let mut i: usize = 0;
+    while i < numbers.len() {
+        print(numbers[i]);
+        i += 1;
+    }
 }
 
 fn low(n: u64) -> u8 {
