@@ -1,12 +1,13 @@
 //! Cases for the comparison: how they are written, which are asked, and what the second program answers.
 //! crates/answers/src/main.rt has the form of a case and of an answer, crates/pieces/src and crates/listings/src that of an answer in
-//! pieces.
+//! pieces; crates/turns/src/main.rt what is asked of the interleaver, whose states are carried over from case to case.
 
+use crate::interleaver::{Sender, Sides, CELLS};
 use crate::packet::{Delivery, Fault, Frame, Packet, FLAG, RAW_LIMIT};
 use crate::parity::WORD;
 use crate::repair::altered;
 use crate::stream::Reader;
-use crate::{channel, channel_cases, fcs, interleaver, key_cases, listing_cases, packet, parity, repair, stream};
+use crate::{channel, channel_cases, fcs, key_cases, listing_cases, packet, parity, repair, stream};
 
 pub struct Case {
     pub asked: u8,
@@ -25,23 +26,26 @@ impl Case {
         to.extend(&self.bytes);
     }
 
-    /// The program that answers it: a stream or a channel is read in pieces, a recording is listed; each other case is a single call.
-    pub fn program(&self) -> &'static str {
+    /// Which program answers it: `pieces` a stream or a channel, `listings` a recording, `turns` the interleaver, `calls` each other single
+    /// call. A letter belongs to one of them.
+    pub fn kind(&self) -> &'static str {
         match self.asked {
             b'S' | b'O' => "pieces",
             b'L' => "listings",
-            _ => "answers",
+            b'I' | b'J' | b'Z' | b'N' | b'X' | b'V' => "turns",
+            _ => "calls",
         }
     }
 
     /// What the second program answers, as bytes.
-    pub fn reply(&self) -> Vec<u8> {
+    pub fn reply(&self, sides: &mut Sides) -> Vec<u8> {
         let mut out = vec![0xA5; self.space as usize];
         let mut reply = match self.asked {
             b'S' => self.stream_in_pieces(&mut out),
             b'O' => channel_cases::channel_in_pieces(self.number, &self.bytes, &mut out),
             b'L' => listing_cases::recording_in_pieces(self.number, &self.bytes, &mut out),
             b'Q' => self.closed_frame(&mut out),
+            _ if self.kind() == "turns" => self.turn(sides, &mut out).to_le_bytes().to_vec(),
             _ => self.number_of_call(&mut out).to_le_bytes().to_vec(),
         };
         reply.extend(out);
@@ -61,8 +65,6 @@ impl Case {
                 lay(&self.bytes, out);
                 repair::repair(self.number, out).map_or_else(refusal, |repaired| repaired.map_or(256, |places| places as u64))
             }
-            b'I' => answer_in(interleaver::permute(false, self.number, &self.bytes, out.len()), out),
-            b'J' => answer_in(interleaver::permute(true, self.number, &self.bytes, out.len()), out),
             b'C' => class_number(low),
             b'K' => answer_in(packet::escaped_packet(low, next, &self.bytes, out.len()), out),
             b'B' => answer_in(if out.is_empty() { Err(23) } else { Ok(vec![packet::FLAG]) }, out),
@@ -70,15 +72,15 @@ impl Case {
                 let at = out.len().min((self.number >> 32) as usize);
                 answer_in(packet::escaped_packet(low, next, &self.bytes, out.len() - at), &mut out[at..])
             }
-            b'R' => answer_in(key_cases::packet_in(self.number, &self.bytes).escaped(out.len()), out),
-            b'V' => {
+            b'k' => answer_in(key_cases::packet_in(self.number, &self.bytes).escaped(out.len()), out),
+            b'a' => {
                 let at = out.len().min((self.number >> 32) as usize);
                 answer_in(key_cases::packet_in(self.number, &self.bytes).escaped(out.len() - at), &mut out[at..])
             }
             b'D' => part(key_cases::delivery_in(self.number).payload(&self.bytes), out),
             b'H' => part(key_cases::delivery_in(self.number).key(&self.bytes), out),
             b'M' => answer_in(channel::marked_block(&self.bytes, out.len()), out),
-            b'N' => answer_in(channel::in_blocks(&self.bytes, out.len()), out),
+            b'R' => answer_in(channel::in_blocks(&self.bytes, out.len()), out),
             _ => 0,
         }
     }
@@ -90,6 +92,32 @@ impl Case {
         let mut told = Vec::new();
         push_all(&mut told, &[frame_number(result), result.map_or(0, key_numbers)]);
         told
+    }
+
+    /// The interleaver: both sides as they stand behind this case.
+    fn turn(&self, sides: &mut Sides, out: &mut [u8]) -> u64 {
+        match self.asked {
+            b'I' => answer_in(sides.sender.push(self.number, &self.bytes, out.len()), out),
+            b'Z' => answer_in(sides.sender.close(self.number, out.len()), out),
+            b'J' => answer_in(sides.receiver.pull(self.number, &self.bytes, out.len()), out),
+            b'V' if self.number == 0 => {
+                lay(&sides.sender.cells, out);
+                sides.sender.place
+            }
+            b'V' => {
+                out.fill(sides.receiver.again as u8);
+                lay(&sides.receiver.cells, out);
+                sides.receiver.place
+            }
+            b'X' => {
+                (sides.sender.place, sides.receiver.place, sides.receiver.again) = (self.number, self.number, self.bytes[0] != 0);
+                0
+            }
+            _ => {
+                *sides = Sides::new();
+                0
+            }
+        }
     }
 
     /// A stream read in pieces, the receive buffer lent.
@@ -344,19 +372,68 @@ pub fn altered_words(r: usize, places: usize, n: usize) -> Vec<Case> {
     (0..n).map(|_| Case { asked: b'Y', number: r as u64, space: WORD as u16, bytes: altered(&mut random, r, places).1 }).collect()
 }
 
-/// Depths as they should be and not, whole matrices and others, outputs too short by one, exact and longer.
-fn matrices(random: &mut Random, cases: &mut Vec<Case>) {
-    for depth in (0..=65).chain([255, 256, 1 << 32, u64::MAX / 255 + 1, u64::MAX - 1, u64::MAX]) {
-        let whole = WORD * depth.min(65) as usize;
-        for n in [whole, whole.saturating_sub(1), whole + 1, 0, 1, WORD, 2 * WORD] {
-            let bytes = random.bytes(n);
-            for space in [n, n.saturating_sub(1), n + 1, n + 20] {
-                for asked in [b'I', b'J'] {
-                    cases.push(Case { asked, number: depth, space: space as u16, bytes: bytes.clone() });
-                }
-            }
+/// Bytes handed to a side of the interleaver in pieces of any length, now and then with an output that is too short by one: what is refused is
+/// handed in again. Then the state.
+fn in_turns(random: &mut Random, asked: u8, depth: u64, bytes: &[u8], sides: &mut Sides, cases: &mut Vec<Case>) {
+    let mut at = 0;
+    while at < bytes.len() {
+        let most = [2, 300, 20000][random.below(3)].min(bytes.len() - at + 1);
+        let piece = &bytes[at..at + random.below(most)];
+        let space = (piece.len() + random.below(4)).saturating_sub(1);
+        let case = Case { asked, number: depth, space: space as u16, bytes: piece.to_vec() };
+        if case.turn(sides, &mut vec![0; space]) < refusal(0) {
+            at += piece.len();
         }
+        cases.push(case);
     }
+    cases.push(Case { asked: b'V', number: (asked == b'J') as u64, space: CELLS as u16 + 1, bytes: vec![] });
+}
+
+/// Every depth from fresh: two passes and more, the closing push, and what came out taken in; then places as they should be and not, and depths
+/// that change.
+fn matrices(random: &mut Random, cases: &mut Vec<Case>) {
+    for depth in 0..=64 {
+        cases.push(Case { asked: b'N', number: 0, space: 0, bytes: vec![] });
+        let mut sides = Sides::new();
+        let bytes = random_length(random, 600 + 5 * 255 * depth as usize);
+        in_turns(random, b'I', depth, &bytes, &mut sides, cases);
+        let zeros = (255 * depth as usize).max(256) - 1;
+        for space in [zeros - 1, zeros] {
+            cases.push(Case { asked: b'Z', number: depth, space: space as u16, bytes: vec![] });
+        }
+        let mut sender = Sender::new();
+        let mut sent = sender.push(depth, &bytes, bytes.len()).unwrap();
+        sent.extend(sender.close(depth, zeros).unwrap());
+        in_turns(random, b'J', depth, &sent, &mut sides, cases);
+        let noise = random_length(random, 255 * depth as usize);
+        in_turns(random, b'J', depth, &noise, &mut sides, cases);
+    }
+    for _ in 0..400 {
+        let depth = any_depth(random);
+        let whole = 255 * depth.min(70);
+        let place = [0, whole.saturating_sub(1), whole, whole + 1, random.below(17000) as u64, CELLS as u64 - 1, CELLS as u64, u64::MAX][random.below(8)];
+        cases.push(Case { asked: b'X', number: place, space: 0, bytes: vec![random.below(2) as u8] });
+        for asked in [b'I', b'J', b'I', b'J'] {
+            let depth = if random.below(3) == 0 { any_depth(random) } else { depth };
+            let bytes = random_length(random, 40);
+            let space = (bytes.len() + random.below(4)).saturating_sub(1);
+            cases.push(Case { asked, number: depth, space: space as u16, bytes });
+        }
+        cases.push(Case { asked: b'Z', number: depth, space: (whole as u16).saturating_sub(random.below(3) as u16), bytes: vec![] });
+    }
+    for number in [0, 1] {
+        cases.push(Case { asked: b'V', number, space: CELLS as u16 + 1, bytes: vec![] });
+    }
+}
+
+/// Up to n random bytes more than half of n.
+fn random_length(random: &mut Random, n: usize) -> Vec<u8> {
+    let n = n / 2 + random.below(n / 2 + 1);
+    random.bytes(n)
+}
+
+fn any_depth(random: &mut Random) -> u64 {
+    [0, 1, 2, 3, 63, 64, 65, 66, 1 << 32, u64::MAX / 255 + 1, u64::MAX, random.below(65) as u64][random.below(12)]
 }
 
 /// Ports at the edges of their classes.

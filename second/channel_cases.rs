@@ -123,7 +123,7 @@ fn senders(random: &mut Random, cases: &mut Vec<Case>) {
         let result = n.div_ceil(MESSAGE) * BLOCK;
         for bytes in [random.bytes(n), vec![FLAG; n], packets(random, n)] {
             for space in [result, result.saturating_sub(1), result + 1, result + 40, 0] {
-                cases.push(Case { asked: b'N', number: 0, space: space as u16, bytes: bytes.clone() });
+                cases.push(Case { asked: b'R', number: 0, space: space as u16, bytes: bytes.clone() });
             }
         }
     }

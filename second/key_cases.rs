@@ -43,7 +43,7 @@ pub fn told_length(length: u8, number: u8, behind: &[u8]) -> Vec<u8> {
 
 /// A packet written into an output of this length.
 fn written(packet: &Packet, space: usize) -> Case {
-    Case { asked: b'R', ..appended(packet, 0, space) }
+    Case { asked: b'k', ..appended(packet, 0, space) }
 }
 
 /// The same appended at a place.
@@ -51,7 +51,7 @@ fn appended(packet: &Packet, at: u32, space: usize) -> Case {
     let number = packet.port as u64 | (packet.sequence as u64) << 16 | (at as u64) << 32;
     let [low, high] = (packet.key.len() as u16).to_le_bytes();
     let bytes = [&[packet.format, packet.key_number, low, high][..], &packet.key, &packet.payload].concat();
-    Case { asked: b'V', number, space: space as u16, bytes }
+    Case { asked: b'a', number, space: space as u16, bytes }
 }
 
 /// The packet of such a case.

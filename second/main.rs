@@ -7,8 +7,8 @@
 //!   second word R HEX        clean or damaged
 //!   second repair R HEX      what repair finds, and the word that it leaves
 //!   second test [SEED]       holds the second program itself to the paper (selftest.rs)
-//!   second interleave DEPTH HEX, second restore DEPTH HEX
-//!                            the bytes of a matrix, there and back
+//!   second interleave push|pull DEPTH
+//!                            standard input through the interleaver, with the closing push, or back
 //!   second list              the listing of the recording on standard input
 //!   second kinds FILE..      how often each kind of line occurs in the listings of recordings; fails where one never does
 //!   second recordings DIR [SEED]
@@ -16,8 +16,9 @@
 //!   second steady plain|marked MIB
 //!                            a clean recording to be timed, to standard output
 //!   second samples DIR       the recordings of samples/ with their listings
-//!   second cases answers|pieces|listings [SEED]
-//!                            cases for the proved code, to standard output: single calls, what is read in pieces, or recordings
+//!   second cases calls|turns|pieces|listings [SEED]
+//!                            cases for the proved code, to standard output: single calls, the interleaver, what is read in pieces, or
+//!                            recordings
 //!   second words R PLACES N  N cases for repair: words altered in so many places
 //!   second time N M          times of N words made and checked, and of M words of each kind repaired (time.rs)
 //!   second compare CASES ANSWERS ..
@@ -41,7 +42,8 @@ mod selftest;
 mod stream;
 mod time;
 
-use std::io::Write;
+use interleaver::{Receiver, Sender, Sides};
+use std::io::{Read, Write};
 
 fn main() {
     let args: Vec<String> = std::env::args().skip(1).collect();
@@ -53,8 +55,7 @@ fn main() {
         ["repair", r, bytes] => both(r, bytes).map(|(r, b)| show_repair(r, b)),
         ["test"] => Some(selftest::run(1)),
         ["test", seed] => number(seed).map(selftest::run),
-        ["interleave", d, bytes] => both(d, bytes).map(|(d, b)| show(interleaver::permute(false, d, &b, b.len()))),
-        ["restore", d, bytes] => both(d, bytes).map(|(d, b)| show(interleaver::permute(true, d, &b, b.len()))),
+        ["interleave", side @ ("push" | "pull"), depth] => number(depth).filter(|d| *d <= 64).map(|d| interleave(side == "push", d)),
         ["bids", ref rest @ ..] => std::process::exit(bids::run(rest)),
         ["list"] => Some(listing::list_input().expect("standard input and output")),
         ["kinds", ref files @ ..] => std::process::exit(kinds::show(files)),
@@ -62,16 +63,16 @@ fn main() {
         ["recordings", dir, seed] => number(seed).map(|seed| write_recordings(dir, seed)),
         ["steady", kind, mib] => first_byte(kind).zip(number(mib)).map(|(letter, mib)| write_steady(letter, mib)),
         ["samples", dir] => Some(samples::write(dir).expect(dir)),
-        ["cases", program] => write_cases(program, 1),
-        ["cases", program, seed] => number(seed).and_then(|seed| write_cases(program, seed)),
+        ["cases", kind] if KINDS.contains(&kind) => Some(write_cases(kind, 1)),
+        ["cases", kind, seed] if KINDS.contains(&kind) => number(seed).map(|seed| write_cases(kind, seed)),
         ["words", r, places, n] => three(r, places, n).map(|(r, places, n)| write(cases::altered_words(r, places, n))),
         ["time", n, m] => number(n).zip(number(m)).map(|(n, m)| time::run(n as usize, m as usize)),
         ["compare", _, _, ref more @ ..] if more.len() % 2 == 0 => std::process::exit(compare(&words[1..])),
         _ => None,
     };
     if done.is_none() {
-        eprintln!("usage: second fcs HEX | parity R HEX | word R HEX | repair R HEX | interleave DEPTH HEX | restore DEPTH HEX | list | kinds FILE..");
-        eprintln!("  | recordings DIR [SEED] | steady plain|marked MIB | samples DIR | cases answers|pieces|listings [SEED] | compare CASES ANSWERS .. | test [SEED] | words R PLACES N | time N M");
+        eprintln!("usage: second fcs HEX | parity R HEX | word R HEX | repair R HEX | interleave push|pull DEPTH | list | kinds FILE..");
+        eprintln!("  | recordings DIR [SEED] | steady plain|marked MIB | samples DIR | cases calls|turns|pieces|listings [SEED] | compare CASES ANSWERS .. | test [SEED] | words R PLACES N | time N M");
         std::process::exit(2);
     }
 }
@@ -151,9 +152,26 @@ fn write_steady(letter: u8, mib: u64) {
     std::io::stdout().write_all(&bytes).expect("standard output");
 }
 
-/// The cases of one program; none where there is no such program.
-fn write_cases(program: &str, seed: u64) -> Option<()> {
-    ["answers", "pieces", "listings"].contains(&program).then(|| write(cases::all(seed).into_iter().filter(|case| case.program() == program).collect()))
+/// The programs that answer cases, `answers` the single calls.
+const KINDS: [&str; 4] = ["calls", "turns", "pieces", "listings"];
+
+fn write_cases(kind: &str, seed: u64) {
+    write(cases::all(seed).into_iter().filter(|case| case.kind() == kind).collect());
+}
+
+/// Standard input through the interleaver as a whole.
+fn interleave(push: bool, depth: u64) {
+    let mut bytes = Vec::new();
+    std::io::stdin().read_to_end(&mut bytes).expect("standard input");
+    let mut out = Vec::new();
+    if push {
+        let mut sender = Sender::new();
+        out.extend(sender.push(depth, &bytes, bytes.len()).unwrap());
+        out.extend(sender.close(depth, 255 * depth as usize).unwrap());
+    } else {
+        out.extend(Receiver::new().pull(depth, &bytes, bytes.len()).unwrap());
+    }
+    std::io::stdout().write_all(&out).expect("standard output");
 }
 
 fn write(cases: Vec<cases::Case>) {
@@ -184,10 +202,11 @@ fn compare_file(asked: &str, told: &str) -> (usize, usize) {
     let asked = std::fs::read(asked).expect("cases");
     let told = std::fs::read(told).expect("answers");
     let (mut at, mut from, mut count, mut differ) = (0, 0, 0, 0);
+    let mut sides = Sides::new();
     while at < asked.len() {
         let case = read_case(&asked[at..]);
         at += 13 + case.bytes.len();
-        let right = case.reply();
+        let right = case.reply(&mut sides);
         let end = told.len().min(from + right.len());
         if told[from..end] != right[..] {
             differ += 1;

@@ -4,13 +4,14 @@
 use crate::cases::{self, Random};
 use crate::channel::{self, Answer, Receiver, BLOCK, MESSAGE, ROOTS};
 use crate::channel_cases::alter;
+use crate::interleaver::{self, Receiver as Back, Sender};
 use crate::listing::Scribe;
 use crate::listing_cases::{any, recorded, small, OPPORTUNISTIC, PAPER, PLAIN};
 use crate::key_cases::{self, checked, told_length, with_check, with_key};
 use crate::packet::{self, Fault, Packet, ESCAPE, FLAG, FORMAT, RAW_LIMIT, RESTRICTED};
 use crate::parity::{self, WORD};
 use crate::stream::{self, Reader};
-use crate::{fcs, interleaver, listing, repair};
+use crate::{fcs, listing, repair};
 
 pub fn run(seed: u64) {
     let mut random = Random::new(seed);
@@ -56,10 +57,8 @@ fn numbers() {
     let ending_in_one = |n: usize| [vec![0; n - 1], vec![1]].concat();
     assert_eq!(parity::make(1, &ending_in_one(254), 1), Ok(vec![0x02]), "(k)");
     assert_eq!(parity::make(2, &ending_in_one(253), 2), Ok(vec![0x06, 0x08]), "(l)");
-    // a byte cannot tell 510 places: once their low halves, once their high ones
-    let halves = [0, 8].map(|by| interleaver::permute(false, 2, &(0..510).map(|i| (i >> by) as u8).collect::<Vec<_>>(), 510).unwrap());
-    let input = [0, 1, 2, 254, 255, 256].map(|i| halves[0][i] as usize | (halves[1][i] as usize) << 8);
-    assert_eq!(input, [0, 308, 106, 202, 255, 53], "(m)");
+    assert_eq!([0, 1, 2, 254, 255, 256].map(|t| interleaver::cell(2, t)), [0, 308, 106, 202, 255, 53], "(m)");
+    assert_eq!(Sender::new().push(2, &[7, 9], 2), Ok(vec![7, 0]), "at depth 2, output 1 is zero");
     assert_eq!(both_listings(&PAPER), "P 20736 0 1 M\nE 10 1 0 0 0\n");
     assert_eq!(both_listings(&[]), "X 0\n");
 }
@@ -128,8 +127,13 @@ fn edges() {
     }
     assert_eq!(parity::make(64, &[0; 191], 64), Ok(vec![0; 64]));
     assert_eq!(parity::make(65, &[0; 190], 65), Err(30));
-    assert_eq!(interleaver::permute(false, 64, &[0; 16320], 16320), Ok(vec![0; 16320]));
-    assert_eq!(interleaver::permute(false, 65, &[0; 16575], 16575), Err(32));
+    for (depth, place, told) in
+        [(64, 16319, None), (64, 16320, Some(10)), (65, 16574, Some(32)), (65, 16575, Some(10)), (2, 509, None), (2, 510, Some(10)), (1, 16320, None)]
+    {
+        assert_eq!(Sender { place, ..Sender::new() }.push(depth, &[1], 1).err(), told);
+        assert_eq!(Back { place, ..Back::new() }.pull(depth, &[1], 1).err(), told);
+        assert_eq!(Sender { place, ..Sender::new() }.push(depth, &[1], 0).err(), told.or(Some(23)));
+    }
     assert_eq!(near_stream_limit(&[0x50, 0xF5, 0x5F, 3, 0, 0x7E, 0x00, 0x7E]), b"R 4\nE 4294967295 0 1 0 0\n");
     assert_eq!(near_stream_limit(&[0x50, 0xF5, 0x5F, 5, 0, 0x7E, 0x00, 0x7E, 0x00, 0x7E]), b"R 4\nX 8\n");
 }
@@ -232,7 +236,7 @@ fn slips() {
     assert_eq!(lines_for(OPPORTUNISTIC, &[&first[..], &[0; 4], &second].concat()), "B 0\nL\nB 0\nP 20736 7 3 M\n");
     // depth 1 passes bytes unchanged
     let bytes: Vec<u8> = (0..255).collect();
-    assert_eq!(interleaver::permute(false, 1, &bytes, 255), Ok(bytes));
+    assert_eq!(Sender::new().push(1, &bytes, 255), Ok(bytes));
 }
 
 /// The check bit by bit, as the paper has it.
@@ -262,16 +266,22 @@ fn elements() {
     assert_eq!(counts, [0x401 + 0x100 + 0xF8 + 0x100, 0x50FF - 0x400, 1, 7, 0x2A00 + 0x8000, 0x200]);
 }
 
-/// Every matrix by the paper's equations, and back.
+/// Every depth with cells that are written and read one after the other, and back: all but the last N - 1 bytes, and with the closing push all.
 fn matrices(random: &mut Random) {
-    for depth in 2..=64 {
-        let input = random.bytes(255 * depth);
-        let output = interleaver::permute(false, depth as u64, &input, input.len()).unwrap();
-        for (i, byte) in output.iter().enumerate() {
-            let (column, row) = (53 * i % 255, (i - 254 * (i / 255)) % depth);
-            assert_eq!(*byte, input[255 * row + column]);
+    for depth in 2..=64usize {
+        let n = 255 * depth;
+        let input = random.bytes(2 * n + 77);
+        let mut sender = Sender::new();
+        let mut output = sender.push(depth as u64, &input, input.len()).unwrap();
+        let mut rows = vec![[0; 255]; depth];
+        for (t, byte) in input.iter().enumerate() {
+            rows[t % n / 255][t % 255] = *byte;
+            let (column, row) = (53 * t % 255, (t - 254 * (t / 255)) % depth);
+            assert_eq!(output[t], rows[row][column]);
         }
-        assert_eq!(interleaver::permute(true, depth as u64, &output, input.len()), Ok(input));
+        assert_eq!(Back::new().pull(depth as u64, &output, input.len()).unwrap(), input[..n + 78]);
+        output.extend(sender.close(depth as u64, n - 1).unwrap());
+        assert_eq!(Back::new().pull(depth as u64, &output, input.len()), Ok(input));
     }
 }
 

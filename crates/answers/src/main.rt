@@ -1,5 +1,5 @@
 //! Answers cases from standard input, one after the other, so that tests/compare can hold the code to the second program. Each asks
-//! for one call; crates/pieces has those that ask for many.
+//! for one call; crates/pieces has those that ask for many, and crates/turns those of the interleaver.
 //!
 //! A case: what is asked (a letter), a number (8 bytes), how many bytes are lent as output and how many follow (2 bytes each),
 //! and those that follow. An answer: a number (8 bytes; two of a closed frame), and all bytes of the output. Numbers stand low byte
@@ -119,15 +119,13 @@ fn tell(asked: u8, number: u64, bytes: &[u8], out: &mut [u8]) -> u64 {
         b'P' => written(parity::make(number as usize, bytes, out)),
         b'W' => checked(parity::check(number as usize, bytes)),
         b'Y' => repaired(number as usize, bytes, out),
-        b'I' => written(interleaver::interleave(number as usize, bytes, out)),
-        b'J' => written(interleaver::restore(number as usize, bytes, out)),
         b'C' => class(packet::class_of(half(number))),
         b'K' => written(packet::write(half(number), half(number / 0x10000), bytes, out)),
         b'B' => written(stream::begin(out)),
         b'A' => appended(number, bytes, out),
         b'Q' => closed(number as usize, bytes, out),
         b'M' => written(channel::mark(bytes, out)),
-        b'N' => written(channel::send(bytes, out)),
+        b'R' => written(channel::send(bytes, out)),
         _ => tell_keyed(asked, number, bytes, out),
     }
 }
@@ -135,8 +133,8 @@ fn tell(asked: u8, number: u64, bytes: &[u8], out: &mut [u8]) -> u64 {
 // Packets of either format, and the parts of one that are handed out.
 fn tell_keyed(asked: u8, number: u64, bytes: &[u8], out: &mut [u8]) -> u64 {
     match asked {
-        b'R' => keyed(number, bytes, out),
-        b'V' => keyed_at(number, bytes, out),
+        b'k' => keyed(number, bytes, out),
+        b'a' => keyed_at(number, bytes, out),
         b'D' => part(stream::payload(bytes, delivery(number)), out),
         b'H' => part(stream::key(bytes, delivery(number)), out),
         _ => 0,

@@ -13,7 +13,7 @@ pub enum Written {
     Refused(u8),
 }
 
-/// The refusals of the paper and of its requests, by number; 9 is not used.
+/// The refusals of the paper and of its requests, by number; 9 and 33 are not used.
 pub struct Refusal;
 
 impl Refusal {
@@ -55,8 +55,6 @@ impl Refusal {
     pub const LENGTH: u8 = 31;
     /// The depth is above 64.
     pub const DEPTH: u8 = 32;
-    /// The input is not 255 times the depth.
-    pub const MATRIX: u8 = 33;
     /// A new port finds no free place.
     pub const FULL: u8 = 40;
     /// A port to be forgotten is not held.

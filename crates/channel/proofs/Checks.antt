@@ -15,7 +15,7 @@ use borrow.Author.Tests.{eq-eqb, ne-eqb}
 use borrow.Rule.Slice.PartMut.{putMid}
 use Rattle.base.specs.Choice.{pick}
 use Rattle.base.specs.Bytes.{Bytes}
-use Rattle.parity.specs.Word.{clean}
+use Rattle.words.specs.Word.{clean}
 use Rattle.parity.specs.Calls.{checked}
 use Rattle.parity.specs.declared.Checked.{Checked}
 use Rattle.parity.specs.declared.Checked.the-variants as check

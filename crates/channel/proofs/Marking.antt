@@ -11,8 +11,8 @@ use mathlib.Core.List.{List, [], _∷_, _++_, map, append-nil, append-assoc}
 use lib.ListN.{length, take, drop, replicate, length-append, length-drop, take-append-drop}
 use lib.Seq.{take-append-le, drop-append-le, length-take-le}
 use Rattle.packet.specs.Escape.{flag}
-use Rattle.parity.specs.Word.{remainder}
-use Rattle.parity.proofs.Division.{length-remainder}
+use Rattle.words.specs.Word.{remainder}
+use Rattle.words.proofs.Division.{length-remainder}
 use Rattle.channel.specs.Sender.{marker, wordOf, framed, fillers, filled, cutUp, marked, wholeBytes, wholes, restOf, blockBytes, messageBytes, parityBytes, wordBytes}
 
 framed-append : (us vs : List (List ℕ)) → framed (map wordOf (us ++ vs)) ≡ framed (map wordOf us) ++ framed (map wordOf vs)

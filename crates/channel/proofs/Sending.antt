@@ -24,9 +24,9 @@ use Rattle.base.proofs.Parts.{tail-is, tail-put}
 use Rattle.base.proofs.Tests.{by-le}
 use Rattle.base.proofs.Writing.{write-fits, write-short, copied-fits, write-keeps, refused-keeps, pick-keeps}
 use Rattle.packet.specs.Escape.{flag}
-use Rattle.parity.specs.Word.{remainder}
+use Rattle.words.specs.Word.{remainder}
 use Rattle.parity.specs.Calls.{made}
-use Rattle.parity.proofs.Division.{length-remainder}
+use Rattle.words.proofs.Division.{length-remainder}
 use Rattle.channel.specs.Sender.{marker, wordOf, framed, fillers, filled, cutUp, marked, marking, sending, blockBytes, wordBytes, messageBytes, parityBytes}
 
 -- ---- the list p ++ rest, whose rest is lent and comes back as y

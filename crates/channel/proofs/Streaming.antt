@@ -20,9 +20,9 @@ use Rattle.base.proofs.Calls.{run-append}
 use Rattle.base.proofs.Tests.{and-parts}
 use Rattle.packet.specs.Escape.{flag}
 use Rattle.packet.specs.Frame.{Told}
-use Rattle.parity.specs.Word.{remainder}
-use Rattle.parity.proofs.Division.{length-remainder}
-use Rattle.parity.proofs.Clean.{parity-clean}
+use Rattle.words.specs.Word.{remainder}
+use Rattle.words.proofs.Division.{length-remainder}
+use Rattle.words.proofs.Clean.{parity-clean}
 use Rattle.stream.specs.Reader.{Reading, waiting, read, reads}
 use Rattle.packet.specs.Sender.{Accepted}
 use Rattle.stream.specs.Sender.{rawOf, framesOf, stream, delivered, openedFrom}

@@ -12,7 +12,7 @@ use lib.ListN.{length, take, drop, length-append, take-append-drop}
 use lib.Seq.{take-at, drop-at}
 use Rattle.base.specs.Bytes.{Bytes}
 use Rattle.base.specs.Choice.{pick}
-use Rattle.parity.specs.Word.{clean}
+use Rattle.words.specs.Word.{clean}
 use Rattle.parity.specs.declared.Checked.the-variants as check
 use Rattle.repair.specs.declared.Mended.{Mended}
 use Rattle.repair.specs.declared.Mended.the-variants.{Clean, Repaired, Beyond, Refused}

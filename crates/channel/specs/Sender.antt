@@ -12,7 +12,7 @@ use lib.ListN.{length, take, drop, replicate}
 use Rattle.base.specs.Choice.{pick}
 use Rattle.base.specs.Written.{Outcome, refused, write}
 use Rattle.packet.specs.Escape.{flag}
-use Rattle.parity.specs.Word.{remainder}
+use Rattle.words.specs.Word.{remainder}
 use Rattle.parity.specs.Calls as parity
 use Rattle.stream.specs.Sender.{stream}
 use Rattle.packet.specs.Contents.{Packet}

@@ -2,7 +2,7 @@
 ghost use mathlib.Core.Path.{_≡_};
 ghost use Prim.Native.Nat.{_+_, _≤_};
 ghost use lib.ListN.{length, take, drop};
-ghost use Rattle.parity.specs.Word.{clean};
+ghost use Rattle.words.specs.Word.{clean};
 ghost use Rattle.channel.specs.Sender.{parityBytes, wordBytes};
 ghost use Rattle.channel.specs.Channel.{condition, mend};
 ghost use Rattle.channel.specs.Called.{mendIn};

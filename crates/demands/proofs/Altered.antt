@@ -15,10 +15,10 @@ use lib.Dec.{eqb}
 use Rattle.base.specs.Choice.{pick}
 use Rattle.base.specs.Bytes.{Each, IsByte}
 use Rattle.base.proofs.Bytes.{each-append}
-use Rattle.parity.specs.Word.{clean as cleanWord, remainder}
+use Rattle.words.specs.Word.{clean as cleanWord, remainder}
 use Rattle.parity.specs.declared.Checked.the-variants as check
-use Rattle.parity.proofs.Division.{bytes-remainder}
-use Rattle.parity.proofs.Clean.{parity-clean}
+use Rattle.words.proofs.Division.{bytes-remainder}
+use Rattle.words.proofs.Clean.{parity-clean}
 use Rattle.repair.specs.declared.Mended.the-variants.{Repaired}
 use Rattle.repair.specs.Promise.{distance, half, CleanWord}
 use Rattle.repair.specs.Way.{repaired as repairedWord}

@@ -6,7 +6,7 @@
 -- ..-refusals   the paper's table, row by row: each number exactly when its row applies and none above it
 -- ..-keeps      what a refused call leaves
 -- frame-..      what a refused frame leaves
-use Prim.Native.Nat.{ℕ, suc, _-_, _*_, _≤_, _<_}
+use Prim.Native.Nat.{ℕ, suc, _-_, _≤_, _<_}
 use mathlib.Core.Path.{_≡_, refl}
 use mathlib.Core.Bool.{Bool, true, false}
 use mathlib.Core.Logic.{_⊎_, _≢_}
@@ -15,19 +15,20 @@ use mathlib.Core.Option.{some}
 use lib.Dec.{eqb, ltb}
 use lib.ListN.{length, take, drop}
 use borrow.Author.Tests.{eqb-true, eqb-false, ltb-true}
-use Rattle.base.specs.Calls.{joined, Yields}
-use Rattle.base.specs.Written.{write, Keeps}
+use Rattle.base.specs.Calls.{joined, run, Yields}
+use Rattle.base.specs.Written.{refused, write, Keeps}
 use Rattle.base.proofs.Writing.{write-keeps}
-use Rattle.parity.specs.Word.{clean, remainder}
+use Rattle.words.specs.Word.{clean, remainder}
 use Rattle.parity.specs.Calls.{checked, made}
-use Rattle.parity.proofs.Division.{length-remainder}
+use Rattle.words.proofs.Division.{length-remainder}
 use Rattle.parity.proofs.Refusing.{made-keeps}
 use Rattle.repair.specs.declared.Mended.{Mended}
 use Rattle.repair.specs.declared.Mended.the-variants.{Refused as RepairRefused}
 use Rattle.repair.specs.Promise.{Promised}
-use Rattle.interleaver.specs.Matrix.{isMatrix, turned, turning}
-use Rattle.interleaver.proofs.Round.{length-turned}
-use Rattle.interleaver.proofs.Turning.{turning-keeps}
+use Rattle.interleaver.specs.Running.{push, pull, pushing, zeros, closing, pulling}
+use Rattle.interleaver.specs.declared.Matrix.{Matrix}
+use Rattle.interleaver.specs.declared.Back.{Back}
+use Rattle.interleaver.proofs.Pushing.{pushed-length}
 use Rattle.packet.specs.Contents.{Packet, payloadLimit, rawLimit}
 use Rattle.packet.specs.Escape.{flag, escape, plain}
 use Rattle.packet.specs.Port.{barred}
@@ -59,8 +60,8 @@ use Rattle.office.specs.Desk.{Desk, endingOf, refusal as line-refusal}
 use Rattle.office.specs.Called.{holdLimit, outLimit, starting, denied, hearCall as desk-hear, closeCall, spokenOut, answeredOut, finishing as desk-finish}
 use Rattle.demands.specs.Table.{Exact}
 use Rattle.demands.specs.Desks.{DeskBeyond, DeskShort, lineRows, ByDesk, ByStart, ByLine, BySpoken}
-use Rattle.demands.specs.Refusals.{Unusable, Unfit, frameRows, FrameBeyond, Beyond, NextBeyond, TapeBeyond, Short, OfFrame, OfCall, ByFrame, ByCall, ByCheck, ByRepair, ByRead, ByHear, ByNext, ByTake}
-use Rattle.demands.proofs.Rows.{row, row-not, not-less, not-same, refuses, wrote, refuses-word, found, repair-as-check, not-whole, is-whole}
+use Rattle.demands.specs.Refusals.{PlaceBeyond, Unusable, Unfit, frameRows, FrameBeyond, Beyond, NextBeyond, TapeBeyond, Short, OfFrame, OfCall, ByFrame, ByCall, ByState, ByCheck, ByRepair, ByRead, ByHear, ByNext, ByTake}
+use Rattle.demands.proofs.Rows.{row, row-not, not-less, not-same, refuses, wrote, refuses-word, found, repair-as-check, calling-exact, calling-same}
 use Rattle.demands.proofs.Frames.{barred-is, free-is, unfit-is, fit-is, closed-exact, judging-exact, judging-same, judge-exact, undone}
 use Rattle.demands.proofs.Called.{read-given, hear-given, read-exact, read-same, hear-exact, hear-same}
 use Rattle.demands.proofs.Taken.{next-exact, next-same, next-given, take-exact, take-same}
@@ -193,16 +194,21 @@ repair-refusals r word a left p =
 pub repair-keeps : (r n : ℕ) (word left : List ℕ) → Promised r word (RepairRefused n) left → left ≡ word
 repair-keeps r n word left p = p .1
 
--- the interleaver, there and back
-pub turn-refusals : (back : Bool) (d : ℕ) (bytes out : List ℕ) → Exact ByCall (turning back d bytes out)
-    ((32, 64 < d) ∷  -- depth above 64
-    (33, (2 ≤ d) × (length bytes ≢ 255 * d)) ∷  -- input not 255 times the depth (any length at depth 0 or 1)
-    (23, length out < length bytes) ∷  -- output shorter than the result
+-- the interleaver: bytes pushed, the closing push, received bytes taken in. 23 is the last, of the result that each has
+pub push-refusals : (d : ℕ) (m : Matrix) (bs out : List ℕ) → Exact ByState (pushing d m bs out)
+    ((10, PlaceBeyond d (m .place)) ∷  -- a cell place of N or more
+    (32, 64 < d) ∷  -- depth above 64
+    (23, length out < length bs) ∷  -- output shorter than the result
     [])
-turn-refusals back d bytes out =
-    row ByCall (ltb 64 d) (refuses 32 out) (ltb-true _ _) (not-less _ _)
-    (row-not ByCall (isMatrix d (length bytes)) (refuses 33 out) (not-whole d _) (is-whole d _)
-    (wrote (turned back d bytes) out (length bytes) (length-turned back d bytes)))
+push-refusals d m bs out = calling-exact d (m .place) m (run (push d) m bs) out (length bs) (pushed-length d m bs)
+
+pub closing-refusals : (d : ℕ) (m : Matrix) (out : List ℕ) → Exact ByState (closing d m out)
+    ((10, PlaceBeyond d (m .place)) ∷ (32, 64 < d) ∷ (23, length out < length (zeros d)) ∷ [])
+closing-refusals d m out = push-refusals d m (zeros d) out
+
+pub pull-refusals : (d : ℕ) (k : Back) (bs out : List ℕ) → Exact ByState (pulling d k bs out)
+    ((10, PlaceBeyond d (k .matrix .place)) ∷ (32, 64 < d) ∷ (23, length out < length (run (pull d) k bs .0)) ∷ [])
+pull-refusals d k bs out = calling-exact d (k .matrix .place) k (run (pull d) k bs) out _ refl
 
 -- a block marked, and a whole stream sent
 pub mark-refusals : (message out : List ℕ) → Exact ByCall (marking message out)
@@ -262,9 +268,6 @@ append-keeps-out = appending-keeps
 pub make-keeps-out : (r : ℕ) (message out : List ℕ) → Keeps out (made r message out)
 make-keeps-out = made-keeps
 
-pub turn-keeps-out : (back : Bool) (d : ℕ) (bytes out : List ℕ) → Keeps out (turning back d bytes out)
-turn-keeps-out = turning-keeps
-
 pub mark-keeps-out : (message out : List ℕ) → Keeps out (marking message out)
 mark-keeps-out = marking-keeps
 
@@ -285,6 +288,16 @@ print-wrong-keeps-out = lines-print-wrong-same
 
 pub last-keeps-out : (s : Office) (hold out : List ℕ) → Keeps out (desk-finish s hold out)
 last-keeps-out = office-finish-same
+
+-- .. the interleaver its state and the output ..
+pub push-keeps-all : (d : ℕ) (m : Matrix) (bs out : List ℕ) (n : ℕ) → ByState (pushing d m bs out) n → pushing d m bs out ≡ (refused n out, m)
+push-keeps-all d m bs out = calling-same d (m .place) m (run (push d) m bs) out
+
+pub closing-keeps-all : (d : ℕ) (m : Matrix) (out : List ℕ) (n : ℕ) → ByState (closing d m out) n → closing d m out ≡ (refused n out, m)
+closing-keeps-all d m out = push-keeps-all d m (zeros d) out
+
+pub pull-keeps-all : (d : ℕ) (k : Back) (bs out : List ℕ) (n : ℕ) → ByState (pulling d k bs out) n → pulling d k bs out ≡ (refused n out, k)
+pull-keeps-all d k bs out = calling-same d (k .matrix .place) k (run (pull d) k bs) out
 
 -- .. the office its state, its buffers and the output ..
 pub start-keeps-hold : (hold : List ℕ) (n : ℕ) → ByStart (starting hold) n → starting hold ≡ (StartRefused n, hold)

@@ -5,29 +5,28 @@
 --   packets         `contents`, `class` (crates/packet/specs/Contents.antt, Port.antt), `stream` (crates/stream/specs/Sender.antt)
 --   check values    `fcs` (crates/fcs/specs/Fcs.antt)
 --   escapes         `escape`, `plain`, `scan` (crates/packet/specs/Escape.antt), and `reads` (crates/stream/specs/Reader.antt)
---   parity words    `generator`, `remainder`, `clean` (crates/parity/specs/Word.antt), over the field of crates/field/specs/Field.antt
---   interleaving    `interleaved`, `restored` (crates/interleaver/specs/Matrix.antt)
+--   parity words    `generator`, `remainder`, `clean` (crates/words/specs/Word.antt), over the field of crates/field/specs/Field.antt
+--   interleaving    `cell` (crates/interleaver/specs/Places.antt), `push`, `pull`, `pushing`, `closing`, `pulling` (crates/interleaver/specs/Running.antt)
 --   markers         `marked` (crates/channel/specs/Sender.antt), and `answers` (crates/channel/specs/Channel.antt)
 --   block answers   `condition`, `mend` (crates/channel/specs/Channel.antt), by repair's promise: `Promised` (crates/repair/specs/Promise.antt)
 --   the listing     `listing` (crates/listed/specs/Listing.antt), of recordings taken apart: `apart` (crates/listed/specs/Apart.antt)
--- Here: that they hold together. The paper's numbers are in Numbers, and what else it prints in Printed.
+-- Here: that they hold together; of interleaving, in Interleaving. The paper's numbers are in Numbers, and what else it prints in Printed.
 -- round-trip, round-answer, delivered-only   a packet written and read back, and a packet read is one that could be written
 -- part-short, part-long, payload-place   the part of the receive buffer that is handed out
 -- broken-place, place-told           the place that refusal 3 tells
 -- stream-trip, stream-begun, stream-appended, stream-sent, stream-filled, words-carry   a whole stream, and the calls that make it
 -- word-clean, word-only, clean-at    parity words
 -- class-letters                      classes of ports
--- output-is, depth-passes, there-and-back, back-and-there   interleaving
 -- block-answer, block-only           a block's answer and the word that is read are what repair promises
 -- plain-listing, channel-listing, totals, sent-totals   the listing's lines and totals
 -- x-offset, decimal-value                               the offset that `X` prints, and numbers as they are printed
 -- recorded-by-calls                                     a recording's answers by calls, and where it ends
 -- listed-by-calls, listed-at-last, finished-at-last     the listing by calls
 -- line-number, close-number                             the number of a line that the office tells of
-use Prim.Native.Nat.{ℕ, suc, _+_, _-_, _*_, _/_, _%_, _≤_, _<_}
+use Prim.Native.Nat.{ℕ, suc, _+_, _-_, _%_, _≤_, _<_}
 use native.Mathlib.Omega.{arith}
 use mathlib.Core.Path.{_≡_, refl, sym, _∙_, ap}
-use mathlib.Core.Bool.{Bool, true, false}
+use mathlib.Core.Bool.{true, false}
 use mathlib.Core.Logic.{_↔_, _≢_}
 use mathlib.Core.List.{List, [], _∷_, _++_, map, append-nil}
 use lib.ListN.{length, take, drop, getD, replicate}
@@ -37,12 +36,10 @@ use Rattle.base.specs.Calls.{joined, With}
 use Rattle.base.specs.Written.{write}
 use Rattle.base.proofs.Writing.{write-is}
 use Rattle.base.specs.declared.Written.the-variants.{Wrote}
-use Rattle.parity.specs.Word.{clean, remainder, Zero}
+use Rattle.words.specs.Word.{clean, remainder, Zero}
 use Rattle.repair.specs.declared.Mended.{Mended}
 use Rattle.repair.specs.Promise.{Promised}
-use Rattle.parity.proofs.Clean.{clean-roots, roots-clean, parity-clean, clean-is}
-use Rattle.interleaver.specs.Matrix.{isMatrix, interleaved, restored, turned}
-use Rattle.interleaver.proofs.Round.{passed, output-at, restored-interleaved, interleaved-restored}
+use Rattle.words.proofs.Clean.{clean-roots, roots-clean, parity-clean, clean-is}
 use Rattle.packet.specs.Escape.{flag, plain, last, BrokenAt}
 use Rattle.packet.specs.Port.{class}
 use Rattle.packet.proofs.Classes.{from-0000, from-0401, from-5100, from-5101, from-5201, from-5208, from-5300, from-7F00, from-FF00}
@@ -178,22 +175,6 @@ word-only = clean-is
 -- .. and clean means zero at all R roots, alpha^1 to alpha^R
 pub clean-at : (r : ℕ) (w : List ℕ) → clean r w ≡ true ↔ Zero r w
 clean-at r w = (clean-roots r w, roots-clean r w)
-
--- ---- "interleaving": "output i, from 0 to 255D - 1, is the byte at column 53i mod 255 and row (i - 254·INT(i/255)) mod D" ..
-pub output-is : (d : ℕ) (bytes : List ℕ) → 2 ≤ d → (i : ℕ) → i < length bytes
-    → getD (interleaved d bytes) i 0 ≡ getD bytes ((i - 254 * (i / 255)) % d * 255 + 53 * i % 255) 0
-output-is = output-at
-
--- .. "Depth 0 and 1 pass bytes unchanged", there and back
-pub depth-passes : (back : Bool) (d : ℕ) (bytes : List ℕ) → d < 2 → turned back d bytes ≡ bytes
-depth-passes = passed
-
--- the reverse operation restores a whole matrix, and the other way round
-pub there-and-back : (d : ℕ) (bytes : List ℕ) → isMatrix d (length bytes) ≡ true → restored d (interleaved d bytes) ≡ bytes
-there-and-back = restored-interleaved
-
-pub back-and-there : (d : ℕ) (bytes : List ℕ) → isMatrix d (length bytes) ≡ true → interleaved d (restored d bytes) ≡ bytes
-back-and-there = interleaved-restored
 
 -- ---- "block answers": the block's answer and the word that is read then are what repair promises of a word of 255 bytes: clean, and left; repaired, the left
 -- word clean and the only one within 16 places; beyond repair, and left as it came ..

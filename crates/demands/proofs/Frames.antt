@@ -22,7 +22,7 @@ use Rattle.base.proofs.Lists.{drop-take}
 use Rattle.base.proofs.Tests.{by-le, and-parts}
 use Rattle.fcs.specs.Fcs.{fcs}
 use Rattle.packet.specs.Port.{barred}
-use Rattle.packet.specs.Contents.{Packet, plainFormat, keyFormat, keyLeast, keyMost, keySized, keyAt, keyLength, payloadLimit, rawLimit, word, wordAt, unpacked, plainly, keyed, body}
+use Rattle.packet.specs.Contents.{Packet, plainFormat, keyFormat, keyLeast, keyMost, keySized, keyAt, restLeast, keyLength, payloadLimit, rawLimit, word, wordAt, unpacked, plainly, keyed, body}
 use Rattle.packet.specs.Escape.{escape, plain, scan}
 use Rattle.packet.specs.Frame.{Told, packet, refusal, broken, number, kept, judgePacket, keyFits, judgeBody, judgeContents, closedBy, closed, judging, judge}
 use Rattle.packet.specs.declared.escape.Escapes.{Escapes}
@@ -144,8 +144,8 @@ module _ (cs : List ℕ) (long : 8 ≤ length cs) where
       unfit : keyFits (body cs) ≡ false → KeyBeyond (keyLength cs) ⊎ (length cs < keyAt + keyLength cs + 7)
       unfit e =
           ⊎-elim (λ h. inl (subst KeyBeyond key-same (sized-not (keyLength (body cs)) h)))
-          (λ h. let m : length (body cs) < keyAt + keyLength (body cs) + 5 = leb-false _ _ h in inr (omega (arith, body-length, key-same)))
-          (not-both (keySized (keyLength (body cs))) (leb (keyAt + keyLength (body cs) + 5) (length (body cs))) e)
+          (λ h. let m : length (body cs) < keyAt + keyLength (body cs) + restLeast = leb-false _ _ h in inr (omega (arith, body-length, key-same)))
+          (not-both (keySized (keyLength (body cs))) (leb (keyAt + keyLength (body cs) + restLeast) (length (body cs))) e)
 
       fit : keyFits (body cs) ≡ true → KeyBeyond (keyLength cs) ⊎ (length cs < keyAt + keyLength cs + 7) → ⊥
       fit e =
@@ -235,8 +235,7 @@ small-by (broken n) h = tt
 pub small : (recv : List ℕ) (m : ℕ) → Small (closed recv m .told)
 small recv m =
     small-by (closed recv m .told) λ n e.
-    first-each OfFrame ((1, rawLimit < m) ∷ frameRows (take m recv))
-    (
+    first-each OfFrame ((1, rawLimit < m) ∷ frameRows (take m recv)) (
       inl (omega arith, omega arith),
       (
         inl (omega arith, omega arith),

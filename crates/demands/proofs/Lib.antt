@@ -8,6 +8,7 @@ pub mod Promises
 pub mod Calling
 pub mod Digits
 pub mod Demand1
+pub mod Interleaving
 pub mod Demand2
 pub mod Demand3
 pub mod Altered

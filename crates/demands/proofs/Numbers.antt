@@ -5,7 +5,7 @@ use mathlib.Core.Path.{_≡_, refl}
 use mathlib.Core.List.{[]}
 use Rattle.fcs.specs.Fcs.{fcs, register, entered}
 use Rattle.field.specs.Field.{add, double, shiftAdd, mul, pow}
-use Rattle.parity.specs.Word.{scale, onto, timesRoot, generator, divide, remainder}
+use Rattle.words.specs.Word.{scale, onto, timesRoot, generator, divide, remainder}
 use Rattle.packet.specs.Contents.{withCheck, contents}
 use Rattle.packet.specs.Escape.{escape, escapeByte, plain, wrongFrom, right, last, scan}
 use Rattle.packet.specs.Frame.{judgeBody, judgeContents, closedBy, closed, judge}

@@ -8,7 +8,7 @@ use mathlib.Core.Path.{_≡_, refl}
 use mathlib.Core.Option.{some, none}
 use mathlib.Core.Bool.{true, false}
 use mathlib.Core.List.{List, [], _∷_, _++_}
-use lib.ListN.{length, drop}
+use lib.ListN.{length, drop, replicate}
 use lib.Dec.{ltb}
 use denote.Ref.{now}
 use Rattle.base.specs.Choice.{pick}
@@ -16,13 +16,13 @@ use Rattle.base.specs.UpTo.{upTo}
 use Rattle.base.specs.Written.{outcome, write, copied}
 use Rattle.fcs.specs.Fcs as check
 use Rattle.field.specs.Field.{add, mul, pow, alpha, inverse}
-use Rattle.parity.specs.Word.{onto, scale}
+use Rattle.words.specs.Word.{onto, scale}
 use Rattle.parity.specs.Calls.{atRoots, made, checked}
 use Rattle.repair.specs.Promise.{Promised}
-use Rattle.interleaver.specs.Matrix.{turning}
+use Rattle.interleaver.specs.Running.{pushing, closing, pulling}
 use Rattle.packet.specs.Escape.{flag, wrongBehind}
 use Rattle.packet.specs.Frame.{Told, packet, refusal, broken, judged, judging, part}
-use Rattle.packet.specs.Contents.{Packet, plainPacket, payloadAt}
+use Rattle.packet.specs.Contents.{Packet, packetOf, plainPacket, payloadAt}
 use Rattle.packet.specs.declared.frame.Judged.{Judged}
 use Rattle.packet.specs.declared.frame.Judged.the-variants.{Packet as Delivered, Refused, Broken}
 use Rattle.packet.specs.Port.{class}
@@ -69,8 +69,11 @@ use Rattle.packet.proofs.class_of as packet-class-of
 use Rattle.parity.proofs.make as parity-make
 use Rattle.parity.proofs.check as parity-check
 use Rattle.repair.proofs.repair as repair-repair
-use Rattle.interleaver.proofs.interleave as interleaver-interleave
-use Rattle.interleaver.proofs.restore as interleaver-restore
+use Rattle.interleaver.proofs.Matrix.fresh as interleaver-matrix-fresh
+use Rattle.interleaver.proofs.Matrix.push as interleaver-push
+use Rattle.interleaver.proofs.Matrix.close as interleaver-close
+use Rattle.interleaver.proofs.Back.fresh as interleaver-back-fresh
+use Rattle.interleaver.proofs.Back.pull as interleaver-pull
 use Rattle.tape.proofs.tape.Tape.fresh as tape-fresh
 use Rattle.tape.proofs.tape.Tape.next as tape-next
 use Rattle.tape.proofs.tape.Tape.may_end as tape-may-end
@@ -103,7 +106,7 @@ use Rattle.base.proofs.copy as base-copy
 -- ---- the sender: a packet, a plain stream of packets, a block of the channel, a whole marked stream
 pub packet-write-as-means : Means packet-write-as.Statement.statement packet-write-as.Kinds.ps packet-write-as.Kinds.r packet-write-as.Reads.Asked packet-write-as.Reads.Learnt
     λ κs format number key port sequence payload out w.
-    outcome w (now (out .exit)) ≡ writing (record { format = format; number = number; key = now key; port = port; sequence = sequence; payload = now payload }) (now (out .entry))
+    outcome w (now (out .exit)) ≡ writing (packetOf format number (now key) port sequence (now payload)) (now (out .entry))
 packet-write-as-means = (λ M. packet-write-as.Met.met, λ κs a. tt, λ κs a z ws. (λ p. p, λ p. p))
 
 pub packet-write-means : Means packet-write.Statement.statement packet-write.Kinds.ps packet-write.Kinds.r packet-write.Reads.Asked packet-write.Reads.Learnt
@@ -116,7 +119,7 @@ stream-begin-means = (λ M. stream-begin.Met.met, λ κs a. tt, λ κs a z ws. (
 
 pub stream-append-as-means : Means stream-append-as.Statement.statement stream-append-as.Kinds.ps stream-append-as.Kinds.r stream-append-as.Reads.Asked stream-append-as.Reads.Learnt
     λ κs out at format number key port sequence payload w.
-    outcome w (now (out .exit)) ≡ appending at (record { format = format; number = number; key = now key; port = port; sequence = sequence; payload = now payload }) (now (out .entry))
+    outcome w (now (out .exit)) ≡ appending at (packetOf format number (now key) port sequence (now payload)) (now (out .entry))
 stream-append-as-means = (λ M. stream-append-as.Met.met, λ κs a. tt, λ κs a z ws. (λ p. p, λ p. p))
 
 pub stream-append-means : Means stream-append.Statement.statement stream-append.Kinds.ps stream-append.Kinds.r stream-append.Reads.Asked stream-append.Reads.Learnt
@@ -201,7 +204,7 @@ pub packet-class-of-means : Means packet-class-of.Statement.statement packet-cla
     λ κs port r. r ≡ class port
 packet-class-of-means = (λ M. packet-class-of.Met.met, λ κs a. tt, λ κs a z ws. (λ p. p, λ p. p))
 
--- ---- parity, repair and the interleaver
+-- ---- parity and repair
 pub parity-make-means : Means parity-make.Statement.statement parity-make.Kinds.ps parity-make.Kinds.r parity-make.Reads.Asked parity-make.Reads.Learnt
     λ κs r message out w. outcome w (now (out .exit)) ≡ made r (now message) (now (out .entry))
 parity-make-means = (λ M. parity-make.Met.met, λ κs a. tt, λ κs a z ws. (λ p. p, λ p. p))
@@ -214,13 +217,26 @@ pub repair-repair-means : Means repair-repair.Statement.statement repair-repair.
     λ κs r word a. Promised r (now (word .entry)) a (now (word .exit))
 repair-repair-means = (λ M. repair-repair.Met.met, λ κs a. tt, λ κs a z ws. (λ p. p, λ p. p))
 
-pub interleaver-interleave-means : Means interleaver-interleave.Statement.statement interleaver-interleave.Kinds.ps interleaver-interleave.Kinds.r interleaver-interleave.Reads.Asked interleaver-interleave.Reads.Learnt
-    λ κs depth bytes out w. outcome w (now (out .exit)) ≡ turning false depth (now bytes) (now (out .entry))
-interleaver-interleave-means = (λ M. interleaver-interleave.Met.met, λ κs a. tt, λ κs a z ws. (λ p. p, λ p. p))
+-- ---- the interleaver. "Cells begin at zero"; on the receiving side nothing has come
+pub interleaver-matrix-fresh-means : Means interleaver-matrix-fresh.Statement.statement interleaver-matrix-fresh.Kinds.ps interleaver-matrix-fresh.Kinds.r interleaver-matrix-fresh.Reads.Asked interleaver-matrix-fresh.Reads.Learnt
+    λ κs r. r ≡ record { place = 0; cells = replicate 16320 0 }
+interleaver-matrix-fresh-means = (λ M. interleaver-matrix-fresh.Met.met, λ κs a. tt, λ κs a z ws. (λ p. p, λ p. p))
 
-pub interleaver-restore-means : Means interleaver-restore.Statement.statement interleaver-restore.Kinds.ps interleaver-restore.Kinds.r interleaver-restore.Reads.Asked interleaver-restore.Reads.Learnt
-    λ κs depth bytes out w. outcome w (now (out .exit)) ≡ turning true depth (now bytes) (now (out .entry))
-interleaver-restore-means = (λ M. interleaver-restore.Met.met, λ κs a. tt, λ κs a z ws. (λ p. p, λ p. p))
+pub interleaver-push-means : Means interleaver-push.Statement.statement interleaver-push.Kinds.ps interleaver-push.Kinds.r interleaver-push.Reads.Asked interleaver-push.Reads.Learnt
+    λ κs self depth bytes out r. (outcome (r .written) (now (out .exit)), r .matrix) ≡ pushing depth self (now bytes) (now (out .entry))
+interleaver-push-means = (λ M. interleaver-push.Met.met, λ κs a. tt, λ κs a z ws. (λ p. p, λ p. p))
+
+pub interleaver-close-means : Means interleaver-close.Statement.statement interleaver-close.Kinds.ps interleaver-close.Kinds.r interleaver-close.Reads.Asked interleaver-close.Reads.Learnt
+    λ κs self depth out r. (outcome (r .written) (now (out .exit)), r .matrix) ≡ closing depth self (now (out .entry))
+interleaver-close-means = (λ M. interleaver-close.Met.met, λ κs a. tt, λ κs a z ws. (λ p. p, λ p. p))
+
+pub interleaver-back-fresh-means : Means interleaver-back-fresh.Statement.statement interleaver-back-fresh.Kinds.ps interleaver-back-fresh.Kinds.r interleaver-back-fresh.Reads.Asked interleaver-back-fresh.Reads.Learnt
+    λ κs r. r ≡ record { again = false; matrix = record { place = 0; cells = replicate 16320 0 } }
+interleaver-back-fresh-means = (λ M. interleaver-back-fresh.Met.met, λ κs a. tt, λ κs a z ws. (λ p. p, λ p. p))
+
+pub interleaver-pull-means : Means interleaver-pull.Statement.statement interleaver-pull.Kinds.ps interleaver-pull.Kinds.r interleaver-pull.Reads.Asked interleaver-pull.Reads.Learnt
+    λ κs self depth bytes out r. (outcome (r .written) (now (out .exit)), r .back) ≡ pulling depth self (now bytes) (now (out .entry))
+interleaver-pull-means = (λ M. interleaver-pull.Met.met, λ κs a. tt, λ κs a z ws. (λ p. p, λ p. p))
 
 -- ---- a recording's bytes. Before the first one: at the byte that says which stream it is, with a fresh receiver
 pub tape-fresh-means : Means tape-fresh.Statement.statement tape-fresh.Kinds.ps tape-fresh.Kinds.r tape-fresh.Reads.Asked tape-fresh.Reads.Learnt

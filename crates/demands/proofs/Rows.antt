@@ -4,29 +4,32 @@
 -- passed          what is no refusal
 -- wrote           a call that writes: 23 is its only row
 -- not-both        two tests in one
+-- calling-exact, calling-same   a call of the interleaver: its rows; refused, it leaves output and state
 -- first-each      what a table gives is one of its numbers
 use Prim.Native.Nat.{ℕ, _*_, _<_, _≤_}
 use native.Mathlib.Omega.{arith}
 use mathlib.Core.Path.{_≡_, refl, sym, _∙_, ap, subst}
 use mathlib.Core.Bool.{Bool, true, false, _&&_}
-use mathlib.Core.Logic.{_⊎_, _↔_, _≢_, ⊎-elim}
+use mathlib.Core.Logic.{_⊎_, _↔_, ⊎-elim}
 use mathlib.Core.Logic._⊎_.{inl, inr}
 use mathlib.Core.List.{List, [], _∷_}
-use lib.Dec.{eqb, ltb}
+use lib.Dec.{ltb, leb}
 use lib.ListN.{length}
-use borrow.Author.Tests.{eqb-true, eqb-false, ltb-true, ltb-false}
+use borrow.Author.Tests.{ltb-true, ltb-false, leb-true}
 use Rattle.base.specs.Bytes.{Each}
 use Rattle.base.specs.Choice.{pick}
-use Rattle.base.specs.Written.{refused, write}
-use Rattle.base.specs.declared.Written.the-variants.{Refused}
+use Rattle.base.specs.Written.{Outcome, outcome, refused, write}
+use Rattle.base.specs.declared.Written.the-variants.{Wrote, Refused}
+use Rattle.base.proofs.Tests.{by-le, by-test, and-parts}
 use Rattle.parity.specs.declared.Checked.the-variants.{Clean, Damaged, Refused as WordRefused}
 use Rattle.parity.specs.Calls.{checked}
 use Rattle.repair.specs.declared.Mended.{Mended}
 use Rattle.repair.specs.declared.Mended.the-variants as repair
 use Rattle.repair.specs.Promise.{Promised}
-use Rattle.interleaver.specs.Matrix.{isMatrix}
+use Rattle.interleaver.specs.Running.{beyond, calling}
+use Rattle.interleaver.proofs.Calling.{below, state-refused, depth-refused, output-refused, wrote as fits}
 use Rattle.demands.specs.Table.{Row, First, Exact}
-use Rattle.demands.specs.Refusals.{ByCall, ByCheck, ByRepair}
+use Rattle.demands.specs.Refusals.{PlaceBeyond, ByCall, ByState, ByCheck, ByRepair}
 
 module _ {A : Type 0} (By : A → ℕ → Type 0) where
   pub applies : {m : ℕ} {C : Type 0} {x : A} (rows : List Row) → ((n : ℕ) → By x n ↔ n ≡ m) → C → Exact By x ((m, C) ∷ rows)
@@ -96,20 +99,38 @@ repair-as-check r w (repair.Refused m) o p n =
     same : WordRefused m ≡ WordRefused n → m ≡ n
     same e = cc
 
--- ---- the interleaver's matrix
-pub not-whole : (d n : ℕ) → isMatrix d n ≡ false → (2 ≤ d) × (n ≢ 255 * d)
-not-whole d n = go (ltb d 2) refl
-  where
-    go : (t : Bool) → ltb d 2 ≡ t → pick t true (eqb n (255 * d)) ≡ false → (2 ≤ d) × (n ≢ 255 * d)
-    go true e h = let z : _≡_ {A = ℕ} 0 1 = cc in absurd (omega arith)
-    go false e h = (ltb-false _ _ e, eqb-false _ _ h)
+-- ---- the interleaver: any call of it
+pub place-beyond : (d p : ℕ) → beyond d p ≡ true → PlaceBeyond d p
+place-beyond d p e = let h = and-parts (leb 2 d) (leb (255 * d) p) e in (leb-true _ _ (h .0), leb-true _ _ (h .1))
 
-pub is-whole : (d n : ℕ) → isMatrix d n ≡ true → (2 ≤ d) × (n ≢ 255 * d) → ⊥
-is-whole d n = go (ltb d 2) refl
-  where
-    go : (t : Bool) → ltb d 2 ≡ t → pick t true (eqb n (255 * d)) ≡ true → (2 ≤ d) × (n ≢ 255 * d) → ⊥
-    go true e h b = let k : d < 2 = ltb-true _ _ e in omega (arith, b .0)
-    go false e h b = b .1 (eqb-true _ _ h)
+pub place-within : (d p : ℕ) → beyond d p ≡ false → PlaceBeyond d p → ⊥
+place-within d p e h = let k : p < 255 * d = below d p (h .0) e in omega (arith, h .1)
+
+module _ {S : Type 0} (d p : ℕ) (s : S) (r : List ℕ × S) (out : List ℕ) where
+  pub calling-exact : (n : ℕ) → length (r .0) ≡ n → Exact ByState (calling d p s r out) ((10, PlaceBeyond d p) ∷ (32, 64 < d) ∷ (23, length out < n) ∷ [])
+  calling-exact n e =
+      row ByState (beyond d p) (refuses 10 out) (place-beyond d p) (place-within d p)
+      (row ByState (ltb 64 d) (refuses 32 out) (ltb-true _ _) (not-less _ _) (record { says = wrote (r .0) out n e .says }))
+
+  pub calling-same : (n : ℕ) → ByState (calling d p s r out) n → calling d p s r out ≡ (refused n out, s)
+  calling-same n q =
+      by-test (beyond d p) (λ b. by 10 (state-refused d p s r out b))
+      (λ b.
+      by-le d 64
+      (λ l. by-le (length (r .0)) (length out) (λ k. absurd (not-written (fits d p s r out b l k))) (λ k. by 23 (output-refused d p s r out b l k)))
+      (λ l. by 32 (depth-refused d p s r out b l)))
+    where
+      by : (m : ℕ) → _≡_ {A = Outcome × S} (refused m out, s) (calling d p s r out) → calling d p s r out ≡ (refused n out, s)
+      by m e =
+          let a : Refused m ≡ Refused n = ap (λ (x : Outcome × S). x .0 .answer) e ∙ q in
+          let z : m ≡ n = cc in
+          sym e ∙ ap (λ (x : ℕ). (refused x out, s)) z
+
+      not-written : {o : List ℕ} {m : ℕ} {t : S} → _≡_ {A = Outcome × S} (outcome (Wrote m) o, t) (calling d p s r out) → ⊥
+      not-written {o} {m} {t} e =
+          let a : Wrote m ≡ Refused n = ap (λ (x : Outcome × S). x .0 .answer) e ∙ q in
+          let z : _≡_ {A = ℕ} 0 1 = cc in
+          omega arith
 
 -- ---- a table's numbers
 pub first-each : (P : ℕ → Type 0) (rows : List Row) → Each (λ (r : Row). P (r .0)) rows → (n : ℕ) → First rows n → P n

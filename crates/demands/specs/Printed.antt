@@ -6,18 +6,22 @@ use Prim.Native.Nat.{ℕ, zero, suc, _-_}
 use mathlib.Core.Path.{_≡_, refl}
 use mathlib.Core.Bool.{false}
 use mathlib.Core.List.{List, [], _∷_, _++_, map}
-use lib.ListN.{replicate}
+use lib.ListN.{length, replicate}
 use Rattle.base.specs.Calls.{joined}
 use Rattle.base.specs.Choice.{pick}
+use Rattle.base.specs.declared.Written.{Written}
+use Rattle.base.specs.declared.Written.the-variants.{Wrote, Refused}
 use Rattle.fcs.specs.Fcs as check
 use Rattle.field.specs.Field as field
 use Rattle.parity.specs.Calls as parity
-use Rattle.packet.specs.Contents.{Packet, plainPacket, keyPacket, plainFormat, keyFormat, keyLeast, keyMost, payloadLimit, plainLimit, rawLimit, withCheck, contents}
+use Rattle.interleaver.specs.Places.{width}
+use Rattle.interleaver.specs.Running as interleaver
+use Rattle.packet.specs.Contents.{Packet, packetOf, plainPacket, keyPacket, plainFormat, keyFormat, keyLeast, keyMost, payloadLimit, plainLimit, rawLimit, withCheck, contents}
 use Rattle.packet.specs.Escape.{flag, escape, escapeByte, plain, wrongFrom, right, last, scan}
 use Rattle.packet.specs.Frame.{Told, packet, refusal, broken, judgeContents, judgeBody, closedBy, closed, judge}
 use Rattle.packet.specs.Port.{class, barred}
 use Rattle.packet.specs.Sender.{refusing}
-use Rattle.packet.specs.declared.frame.Judged.the-variants.{Packet as Delivered, Refused, Broken}
+use Rattle.packet.specs.declared.frame.Judged.the-variants.{Packet as Delivered, Refused as Denied, Broken}
 use Rattle.stream.specs.Reader.{waiting, reads}
 use Rattle.stream.specs.Called.{placeLimit}
 use Rattle.channel.specs.Sender.{marker, messageBytes, parityBytes, wordBytes, blockBytes}
@@ -36,11 +40,11 @@ use Rattle.recording.specs.declared.recording.Recording.{Recording}
 use Rattle.recording.specs.Printed.{lastOf}
 use Rattle.demands.specs.Numbers.{Line, inNumbers, heard}
 
--- the number of a refusal; 0 of a packet
-abbrev numberOf : Told → ℕ
-numberOf (packet p) = 0
-numberOf (refusal n) = n
-numberOf (broken n) = 3
+-- the number by which a frame is refused; 0 where it is a packet
+abbrev toldNumber : Told → ℕ
+toldNumber (packet p) = 0
+toldNumber (refusal n) = n
+toldNumber (broken n) = 3
 
 -- so many packets, refusals, blocks beyond repair and lost locks among the answers, and a clean and a repaired block besides
 abbrev answersOf : ℕ → ℕ → ℕ → ℕ → List Event
@@ -73,11 +77,11 @@ paying payload = plainPacket 0x5100 0 payload
 
 -- a format, a key number and a key of so many bytes, for port 5100
 abbrev headed : ℕ → ℕ → ℕ → Packet
-headed format number k = record { format = format; number = number; key = replicate k 0xAA; port = 0x5100; sequence = 0; payload = 0x41 ∷ [] }
+headed format number k = packetOf format number (replicate k 0xAA) 0x5100 0 (0x41 ∷ [])
 
 -- the number by which contents of format 0x26 are refused that say so many key bytes, and have so many bytes behind them, with their check; 0 where they pass
 abbrev keyRefusal : ℕ → ℕ → ℕ
-keyRefusal k behind = numberOf (judgeContents (withCheck (0x26 ∷ k ∷ 0x07 ∷ (replicate k 0xAA ++ replicate (behind - 2) 0x41))))
+keyRefusal k behind = toldNumber (judgeContents (withCheck (0x26 ∷ k ∷ 0x07 ∷ (replicate k 0xAA ++ replicate (behind - 2) 0x41))))
 
 -- the place where an escape broke
 abbrev placeOf : Told → List ℕ
@@ -88,6 +92,15 @@ placeOf (broken n) = n ∷ []
 -- .. of each frame of a stream from its start
 abbrev places : List ℕ → List ℕ
 places bs = joined (map placeOf (reads waiting bs .0))
+
+-- the number by which a call is refused; 0 where it writes
+abbrev numberOf : Written → ℕ
+numberOf (Wrote n) = 0
+numberOf (Refused n) = n
+
+-- .. a push of no bytes, at a depth and a place
+abbrev refusalAt : ℕ → ℕ → ℕ
+refusalAt d p = numberOf (interleaver.pushing d (interleaver.matrix p []) [] [] .0 .answer)
 
 -- the number of a row, what the definitions give, what the paper prints
 abbrev pub printed : List Line
@@ -103,7 +116,7 @@ printed =
     (9, contents (plainPacket 0x1234 0x0102 (0x41 ∷ [])), 0x21 ∷ 0x34 ∷ 0x12 ∷ 0x02 ∷ 0x01 ∷ 0x41 ∷ 0x3F ∷ 0x8A ∷ []) ∷  -- port and sequence each two bytes, low first: port 1234, sequence 0102
     (10, heard (0x7E ∷ 0x21 ∷ 0x34 ∷ 0x12 ∷ 0x02 ∷ 0x01 ∷ 0x41 ∷ 0x3F ∷ 0x8A ∷ 0x7E ∷ []), 0 ∷ 0x21 ∷ 0 ∷ 0 ∷ 0x1234 ∷ 0x0102 ∷ 0x41 ∷ []) ∷  -- .. and taken apart
     (11, line (Said (Delivered (record { format = 0x26; number = 7; key = 2; port = 0x5100; sequence = 0x0102; length = 3 }))), 80 ∷ 32 ∷ 50 ∷ 48 ∷ 55 ∷ 51 ∷ 54 ∷ 32 ∷ 50 ∷ 53 ∷ 56 ∷ 32 ∷ 51 ∷ 32 ∷ 77 ∷ 10 ∷ []) ∷  -- `P port sequence payload-length class`: P 20736 258 3 M
-    (12, line (Said (Refused 4)), 82 ∷ 32 ∷ 52 ∷ 10 ∷ []) ∷  -- `R n`: R 4
+    (12, line (Said (Denied 4)), 82 ∷ 32 ∷ 52 ∷ 10 ∷ []) ∷  -- `R n`: R 4
     (13, line (Block Clean), 66 ∷ 32 ∷ 48 ∷ 10 ∷ []) ∷  -- `B 0` clean
     (14, line (Block (Repaired 16)), 66 ∷ 32 ∷ 49 ∷ 54 ∷ 10 ∷ []) ∷  -- `B count` repaired: B 16
     (15, line (Block Beyond), 66 ∷ 32 ∷ 88 ∷ 10 ∷ []) ∷  -- `B X` beyond repair
@@ -128,4 +141,8 @@ printed =
     (34, heard (0x7E ∷ 0x26 ∷ 0x02 ∷ 0x07 ∷ 0xAA ∷ 0xBB ∷ 0x34 ∷ 0x12 ∷ 0x02 ∷ 0x01 ∷ 0x41 ∷ 0x8E ∷ 0x3F ∷ 0x7E ∷ []), 0 ∷ 0x26 ∷ 7 ∷ 2 ∷ 0xAA ∷ 0xBB ∷ 0x1234 ∷ 0x0102 ∷ 0x41 ∷ []) ∷  -- .. and taken apart
     (35, keyRefusal 0 7 ∷ keyRefusal 1 7 ∷ keyRefusal 2 7 ∷ keyRefusal 32 7 ∷ keyRefusal 33 7 ∷ keyRefusal 2 6 ∷ keyRefusal 32 6 ∷ [], 12 ∷ 12 ∷ 0 ∷ 0 ∷ 12 ∷ 12 ∷ 12 ∷ []) ∷  -- 12: a key length outside 2 to 32, fewer than seven bytes behind the key
     (36, map refusalOf (headed 0x26 0 1 ∷ headed 0x26 0 2 ∷ headed 0x26 255 32 ∷ headed 0x26 0 33 ∷ headed 0x26 0 258 ∷ headed 0x21 0 0 ∷ headed 0x21 0 2 ∷ headed 0x21 1 0 ∷ headed 0x22 0 2 ∷ []), 24 ∷ 0 ∷ 0 ∷ 24 ∷ 24 ∷ 0 ∷ 24 ∷ 24 ∷ 24 ∷ []) ∷  -- 24: such a length, a key length or number above zero in format 0x21, another format
+    (37, width ∷ interleaver.depthLimit ∷ length (interleaver.fresh .cells) ∷ [], 255 ∷ 64 ∷ 16320 ∷ []) ∷  -- D rows by 255, depth 0 to 64; a matrix holds up to 16,320 bytes
+    (38, map interleaver.closingBytes (0 ∷ 1 ∷ 2 ∷ 64 ∷ []), 0 ∷ 0 ∷ 509 ∷ 16319 ∷ []) ∷  -- the closing push: N - 1 bytes, none at depth 0 and 1
+    (39, map (refusalAt 2) (509 ∷ 510 ∷ []) ++ (map (refusalAt 64) (16319 ∷ 16320 ∷ []) ++ map (refusalAt 65) (16574 ∷ 16575 ∷ [])), 0 ∷ 10 ∷ 0 ∷ 10 ∷ 32 ∷ 10 ∷ []) ∷  -- 10 for a cell place of N or more; depth 64 passes, 65 gets 32, behind 10
+    (40, map (refusalAt 0) (0 ∷ 16320 ∷ []) ++ map (refusalAt 1) (255 ∷ 16320 ∷ []), 0 ∷ 0 ∷ 0 ∷ 0 ∷ []) ∷  -- depth 0 and 1 use no cell
     []

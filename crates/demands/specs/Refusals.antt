@@ -1,13 +1,14 @@
 -- Rows of the paper's tables ("Numbered refusals") that several calls share, or that take more than a line.
 -- frameRows             2 to 6, 12, 7 and 8, of the raw bytes of a frame
 -- Unfit                 24: a head that is not to be sent
+-- PlaceBeyond           10: a place of the interleaver
 -- FrameBeyond, Beyond   10: a count of the state is beyond its limit
 -- NextBeyond            .. of a call on a recording's bytes
 -- TapeBeyond            .. and of a listing
 -- Short                 11: a lent buffer is too short
 -- OfFrame, OfCall       the numbers of frames, and those of receiving calls
 -- ByFrame, By..         that an answer refuses by a number
-use Prim.Native.Nat.{ℕ, suc, _+_, _-_, _≤_, _<_, min}
+use Prim.Native.Nat.{ℕ, suc, _+_, _-_, _*_, _≤_, _<_, min}
 use mathlib.Core.Path.{_≡_}
 use mathlib.Core.Logic.{_⊎_, _≢_}
 use mathlib.Core.List.{List, [], _∷_}
@@ -38,6 +39,10 @@ use Rattle.recording.specs.Printed.{Printed}
 use Rattle.recording.specs.declared.recording.Totals.{Totals}
 use Rattle.recording.specs.declared.recording.Wants.the-variants.{Refused as TakeRefused}
 use Rattle.demands.specs.Table.{Row}
+
+-- 10 of the interleaver: a cell place of N or more, at depth 2 or more
+abbrev pub PlaceBeyond : ℕ → ℕ → Type 0
+PlaceBeyond d p = (2 ≤ d) × (255 * d ≤ p)
 
 -- 7D00-7EFF
 abbrev pub Unusable : ℕ → Type 0
@@ -116,6 +121,10 @@ ByFrame t n = number t ≡ some n
 -- a call that writes is
 abbrev pub ByCall : Outcome → ℕ → Type 0
 ByCall o n = o .answer ≡ Refused n
+
+-- a call that writes and has a state is
+abbrev pub ByState : {S : Type 0} → Outcome × S → ℕ → Type 0
+ByState x n = ByCall (x .0) n
 
 -- the check of a word is
 abbrev pub ByCheck : Checked → ℕ → Type 0

@@ -1,14 +1,35 @@
 -- Each public function's promise determines its result, and what the output then holds.
 use mathlib.Core.Path.{refl}
 use Rattle.base.specs.Determined.{Determined}
-use Rattle.base.proofs.Determining.{same-answer, same-output, buffer, skip}
-use Rattle.interleaver.proofs.interleave.Kinds as interleave-kinds
-use Rattle.interleaver.proofs.interleave.Reads as interleave-reads
-use Rattle.interleaver.proofs.restore.Kinds as restore-kinds
-use Rattle.interleaver.proofs.restore.Reads as restore-reads
+use Rattle.base.proofs.Determining.{same, buffer, skip}
+use Rattle.interleaver.proofs.Matrix.fresh.Kinds as fresh-kinds
+use Rattle.interleaver.proofs.Matrix.fresh.Reads as fresh-reads
+use Rattle.interleaver.proofs.Matrix.push.Kinds as push-kinds
+use Rattle.interleaver.proofs.Matrix.push.Reads as push-reads
+use Rattle.interleaver.proofs.Matrix.close.Kinds as close-kinds
+use Rattle.interleaver.proofs.Matrix.close.Reads as close-reads
+use Rattle.interleaver.proofs.Back.fresh.Kinds as back-kinds
+use Rattle.interleaver.proofs.Back.fresh.Reads as back-reads
+use Rattle.interleaver.proofs.Back.pull.Kinds as pull-kinds
+use Rattle.interleaver.proofs.Back.pull.Reads as pull-reads
 
-pub interleave-determined : Determined interleave-kinds.ps interleave-kinds.r interleave-reads.Asked interleave-reads.Learnt
-interleave-determined κs a z z′ ws ws′ pre p q = (same-answer p q, skip (skip (buffer (same-output p q) refl)))
+pub fresh-determined : Determined fresh-kinds.ps fresh-kinds.r fresh-reads.Asked fresh-reads.Learnt
+fresh-determined κs a z z′ ws ws′ pre p q = (same p q, refl)
 
-pub restore-determined : Determined restore-kinds.ps restore-kinds.r restore-reads.Asked restore-reads.Learnt
-restore-determined κs a z z′ ws ws′ pre p q = (same-answer p q, skip (skip (buffer (same-output p q) refl)))
+pub push-determined : Determined push-kinds.ps push-kinds.r push-reads.Asked push-reads.Learnt
+push-determined κs a z z′ ws ws′ pre p q =
+    let e = same p q in
+    (λ i. record { written = e i .0 .answer; matrix = e i .1 }, skip (skip (skip (buffer (λ i. e i .0 .output) refl))))
+
+pub close-determined : Determined close-kinds.ps close-kinds.r close-reads.Asked close-reads.Learnt
+close-determined κs a z z′ ws ws′ pre p q =
+    let e = same p q in
+    (λ i. record { written = e i .0 .answer; matrix = e i .1 }, skip (skip (buffer (λ i. e i .0 .output) refl)))
+
+pub back-determined : Determined back-kinds.ps back-kinds.r back-reads.Asked back-reads.Learnt
+back-determined κs a z z′ ws ws′ pre p q = (same p q, refl)
+
+pub pull-determined : Determined pull-kinds.ps pull-kinds.r pull-reads.Asked pull-reads.Learnt
+pull-determined κs a z z′ ws ws′ pre p q =
+    let e = same p q in
+    (λ i. record { written = e i .0 .answer; back = e i .1 }, skip (skip (skip (buffer (λ i. e i .0 .output) refl))))

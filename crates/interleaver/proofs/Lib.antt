@@ -1,7 +1,11 @@
 pub mod Places
-pub mod Tab
+pub mod Turns
+pub mod Loops
+pub mod Calling
+pub mod Pushing
+pub mod Pulling
 pub mod Round
+pub mod Cutting
 pub mod Steps
-pub mod Turning
 pub mod Numbers
 pub mod Determined

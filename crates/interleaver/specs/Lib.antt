@@ -1,3 +1,4 @@
 pub mod Places
-pub mod Matrix
+pub mod Running
+pub mod Pieces
 pub mod Private

@@ -1,16 +1,36 @@
 -- What private functions alone are promised by.
--- first, Placed   where an output stands, of the code's `Place`
+-- left           what a loop over bytes has left from byte i on: in the output, and in the cells
+-- held           how many of n received bytes give none back
+-- Ready, given   what the receiving side's bytes at depth 2 or more ask, and what they leave
 use mathlib.Core.Path.{_≡_}
-use Prim.Native.Nat.{ℕ, _/_}
-use Rattle.interleaver.specs.Places.{width, row, column}
-use Rattle.interleaver.specs.declared.Place.{Place}
+use mathlib.Core.Bool.{Bool}
+use mathlib.Core.List.{List}
+use mathlib.Core.Option.{Option}
+use Prim.Native.Nat.{ℕ, _+_, _-_, _≤_, _<_, min}
+use lib.Dec.{ltb}
+use lib.ListN.{length, drop}
+use lib.Seq.{sets}
+use Rattle.base.specs.Calls.{run}
+use Rattle.base.specs.Choice.{pick}
+use Rattle.base.specs.Written.{copied}
+use Rattle.interleaver.specs.Running.{depthLimit, size, gave}
+use Rattle.interleaver.specs.declared.Matrix.{Matrix}
+use Rattle.interleaver.specs.declared.Back.{Back}
 
--- output 0 stands first
-abbrev pub first : Place
-first = record { i = 0; block = 0; row = 0; column = 0 }
+-- each byte by e
+abbrev pub left : (Matrix → ℕ → Option ℕ × Matrix) → List ℕ → ℕ → Matrix → List ℕ → List ℕ × Matrix
+left e bs i m out = (sets out i (run e m (drop i bs) .0), run e m (drop i bs) .1)
 
--- p says where its output stands
-pub record Placed (d : ℕ) (p : Place) : Type 0 where
-  pub is-block : p .block ≡ p .i / width
-  pub is-row : p .row ≡ row d (p .i)
-  pub is-column : p .column ≡ column (p .i)
+-- none behind the first pass, nor at depth 0 and 1; else those up to the last place but one
+abbrev pub held : ℕ → Bool → ℕ → ℕ → ℕ
+held d a p n = pick (ltb d 2) 0 (pick a 0 (min (size d - 1 - p) n))
+
+-- the first n of the bytes give none back, and there is room for what the others give
+abbrev pub Ready : ℕ → Back → List ℕ → List ℕ → ℕ → Type 0
+Ready d k bs out n =
+    (2 ≤ d) × (d ≤ depthLimit) × (k .matrix .place < size d) × (n ≡ held d (k .again) (k .matrix .place) (length bs))
+    × (n ≤ length bs) × (length bs ≤ length out + n)
+
+-- the output, and the state
+abbrev pub given : ℕ → Back → List ℕ → List ℕ → List ℕ × Back
+given d k bs out = (copied (run (gave d) k bs .0) out, run (gave d) k bs .1)

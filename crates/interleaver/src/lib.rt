@@ -1,202 +1,299 @@
-//! The byte interleaver, there and back.
+//! The byte interleaver, running: each write is followed at once by a read.
 ghost use mathlib.Core.Path.{_≡_};
-ghost use mathlib.Core.Bool.{true, false};
-ghost use mathlib.Core.List.{_++_};
-ghost use Prim.Native.Nat.{ℕ, _+_, _*_, _%_, _≤_, _<_};
-ghost use lib.ListN.{length, getD, drop};
-ghost use Rattle.base.specs.Written.{copied, outcome};
+ghost use mathlib.Core.Bool.{false};
+ghost use Prim.Native.Nat.{_+_, _*_, _≤_, _<_};
+ghost use lib.ListN.{length};
+ghost use Rattle.base.specs.Calls.{run};
+ghost use Rattle.base.specs.Written.{outcome};
+ghost use Rattle.base.specs.declared.Written.the-variants.{Refused};
 ghost use Rattle.interleaver.specs.Places.{width, cell};
-ghost use Rattle.interleaver.specs.Private.{first, Placed};
-ghost use Rattle.interleaver.specs.Matrix.{depthLimit, tab, turned, turning};
+ghost use Rattle.interleaver.specs.Running.{depthLimit, size, next, matrix, fresh, freshBack, sent, taken};
+ghost use Rattle.interleaver.specs.Running.{beyond, pushing, closingBytes, closing, pulling};
+ghost use Rattle.interleaver.specs.Private.{left, held, Ready, given};
 use base::Refusal;
 use base::Written;
 
-// The matrix, up to 64 rows of 255 bytes.
-struct Matrix;
+/// The sender's side: the place whose turn it is, and the cells, up to 64 rows of 255.
+pub struct Matrix {
+    pub place: usize,
+    pub cells: [u8; Matrix::CELLS],
+}
+
+/// The receiving side: whether its first pass is over, its place and cells.
+pub struct Back {
+    pub again: bool,
+    pub matrix: Matrix,
+}
+
+/// What a push answers.
+pub struct Pushed {
+    pub written: Written,
+    pub matrix: Matrix,
+}
+
+/// What a pull answers.
+pub struct Pulled {
+    pub written: Written,
+    pub back: Back,
+}
 
 impl Matrix {
     // The most rows.
     const DEEPEST: usize = 64;
     // The columns of a row.
     const ROW: usize = 255;
-    // The bytes of the largest.
+    // The cells of the largest.
     const CELLS: usize = Self::DEEPEST * Self::ROW;
     // From output to output the column moves on by so many, around 255.
     const STEP: usize = 53;
-}
 
-// Output i, and the row and column where it stands; block is INT(i/255).
-struct Place {
-    i: usize,
-    block: usize,
-    row: usize,
-    column: usize,
-}
-
-impl Place {
-    // The place of output 0.
-    fn first() -> Self
-        ensures { λ r. ⌜ r ≡ first ⌝ }
+    /// No byte pushed yet.
+    pub fn fresh() -> Self
+        ensures { λ r. ⌜ r ≡ fresh ⌝ }
     {
         Self {
-            i: 0,
-            block: 0,
-            row: 0,
-            column: 0,
+            place: 0,
+            cells: [0; Matrix::CELLS],
         }
     }
 
-    // The cell, row by row.
-    fn cell(self) -> usize
-        requires { ⌜ (self .row < depthLimit) × (self .column < width) ⌝ }
-        ensures { λ r. ⌜ (r ≡ self .row * width + self .column) × (r < depthLimit * width) ⌝ }
+    /// Pushes bytes through the cells; as many come out.
+    pub fn push(self, depth: usize, bytes: &[u8], out: &mut [u8]) -> Pushed
+        ensures { λ r. ⌜ (outcome (r .written) (now (out .exit)), r .matrix) ≡ pushing depth self (now (bytes .entry)) (now (out .entry)) ⌝ }
     {
-        self.row * Matrix::ROW + self.column
-    }
-
-    // The place of the next output: a column returns to 0 where a block ends.
-    fn next(self, depth: usize) -> Self
-        requires { ⌜ (Placed depth self) × (self .i < width * depth) × (depth ≤ depthLimit) ⌝ }
-        ensures { λ r. ⌜ (Placed depth r) × (r .i ≡ self .i + 1) ⌝ }
-    {
-        let i = self.i + 1;
-        let column = next_column(self.column);
-        if column == 0 {
-            let block = self.block + 1;
-            return Self {
-                i,
-                block,
-                row: around(block, depth),
-                column,
+        let place = self.place;
+        if beyond(depth, place) {
+            return self.refused(Refusal::STATE);
+        }
+        if Matrix::DEEPEST < depth {
+            return self.refused(Refusal::DEPTH);
+        }
+        if out.len() < bytes.len() {
+            return self.refused(Refusal::OUTPUT);
+        }
+        let written = Written::Wrote(bytes.len());
+        if depth < 2 {
+            base::copy(bytes, out);
+            return Pushed {
+                written,
+                matrix: self,
             };
         }
-        Self {
-            i,
-            block: self.block,
-            row: around(self.row + 1, depth),
-            column,
+        let cells = self.cells;
+        let matrix = send(cells, place, depth, bytes, out);
+        Pushed { written, matrix }
+    }
+
+    /// The closing push: N - 1 zeros behind the last byte, none at depth 0 and 1.
+    pub fn close(self, depth: usize, out: &mut [u8]) -> Pushed
+        ensures { λ r. ⌜ (outcome (r .written) (now (out .exit)), r .matrix) ≡ closing depth self (now (out .entry)) ⌝ }
+    {
+        let zeros = [0u8; Matrix::CELLS];
+        let n = closing_bytes(depth);
+        self.push(depth, &zeros[0..n], out)
+    }
+
+    // A refused push: the state as it was.
+    fn refused(self, number: u8) -> Pushed
+        ensures { λ r. ⌜ r ≡ record { written = Refused number; matrix = self } ⌝ }
+    {
+        Pushed {
+            written: Written::Refused(number),
+            matrix: self,
         }
     }
 }
 
-// x modulo depth, which it has just reached or not.
-fn around(x: usize, depth: usize) -> usize
-    requires { ⌜ (x ≤ depth) × (0 < depth) ⌝ }
-    ensures { λ r. ⌜ r ≡ x % depth ⌝ }
+impl Back {
+    /// Nothing received yet.
+    pub fn fresh() -> Self
+        ensures { λ r. ⌜ r ≡ freshBack ⌝ }
+    {
+        Self {
+            again: false,
+            matrix: Matrix::fresh(),
+        }
+    }
+
+    /// Takes received bytes in; those come back that N - 1 others have followed.
+    pub fn pull(self, depth: usize, bytes: &[u8], out: &mut [u8]) -> Pulled
+        ensures { λ r. ⌜ (outcome (r .written) (now (out .exit)), r .back) ≡ pulling depth self (now (bytes .entry)) (now (out .entry)) ⌝ }
+    {
+        let matrix = self.matrix;
+        let place = matrix.place;
+        if beyond(depth, place) {
+            return self.refused(Refusal::STATE);
+        }
+        if Matrix::DEEPEST < depth {
+            return self.refused(Refusal::DEPTH);
+        }
+        let kept = held(depth, self.again, place, bytes.len());
+        if out.len() < bytes.len() - kept {
+            return self.refused(Refusal::OUTPUT);
+        }
+        let written = Written::Wrote(bytes.len() - kept);
+        if depth < 2 {
+            base::copy(bytes, out);
+            return Pulled {
+                written,
+                back: self,
+            };
+        }
+        let back = self.take(depth, bytes, kept, out);
+        Pulled { written, back }
+    }
+
+    // A refused pull: the state as it was.
+    fn refused(self, number: u8) -> Pulled
+        ensures { λ r. ⌜ r ≡ record { written = Refused number; back = self } ⌝ }
+    {
+        Pulled {
+            written: Written::Refused(number),
+            back: self,
+        }
+    }
+
+    // At depth 2 or more: the first `kept` bytes give none back, each other one gives one.
+    fn take(self, depth: usize, bytes: &[u8], kept: usize, out: &mut [u8]) -> Self
+        requires { ⌜ Ready depth self (now bytes) (now out) kept ⌝ }
+        ensures { λ r. ⌜ (now (out .exit), r) ≡ given depth self (now (bytes .entry)) (now (out .entry)) ⌝ }
+    {
+        let matrix = self.matrix;
+        let cells = matrix.cells;
+        let first = keep(cells, matrix.place, depth, &bytes[0..kept]);
+        if kept == bytes.len() {
+            return Self {
+                again: self.again,
+                matrix: first,
+            };
+        }
+        let stored = first.cells;
+        Self {
+            again: true,
+            matrix: give(stored, first.place, depth, &bytes[kept..], out),
+        }
+    }
+}
+
+// Whether a place is none of the N cells.
+fn beyond(depth: usize, place: usize) -> bool
+    ensures { λ r. ⌜ r ≡ beyond depth place ⌝ }
 {
-    if x < depth {
-        return x;
+    if depth < 2 {
+        return false;
+    }
+    depth <= place / Matrix::ROW
+}
+
+// The cell that the output of a place is read from.
+fn cell(depth: usize, place: usize) -> usize
+    requires { ⌜ (0 < depth) × (depth ≤ depthLimit) × (place < depthLimit * width) ⌝ }
+    ensures { λ r. ⌜ (r ≡ cell depth place) × (r < depthLimit * width) ⌝ }
+{
+    let row = (place - (Matrix::ROW - 1) * (place / Matrix::ROW)) % depth;
+    let column = Matrix::STEP * place % Matrix::ROW;
+    row * Matrix::ROW + column
+}
+
+// The place behind one, around N.
+fn next(depth: usize, place: usize) -> usize
+    requires { ⌜ (depth ≤ depthLimit) × (place < size depth) ⌝ }
+    ensures { λ r. ⌜ (r ≡ next depth place) × (r < size depth) ⌝ }
+{
+    if place + 1 < Matrix::ROW * depth {
+        return place + 1;
     }
     0
 }
 
-// The column of the next output.
-fn next_column(column: usize) -> usize
-    requires { ⌜ column < width ⌝ }
-    ensures { λ r. ⌜ r ≡ (column + 53) % width ⌝ }
+// The bytes of the closing push; where the depth is refused, none.
+fn closing_bytes(depth: usize) -> usize
+    ensures { λ r. ⌜ (r ≤ depthLimit * width) × (depth ≤ depthLimit → r ≡ closingBytes depth) ⌝ }
 {
-    if column < Matrix::ROW - Matrix::STEP {
-        return column + Matrix::STEP;
-    }
-    column - (Matrix::ROW - Matrix::STEP)
-}
-
-// The matrix filled row by row.
-fn filled(bytes: &[u8]) -> [u8; Matrix::CELLS]
-    requires { ⌜ length (now bytes) ≤ depthLimit * width ⌝ }
-    ensures { λ r. ⌜ ((k : ℕ) → k < length (now (bytes .entry)) → getD r k 0 ≡ getD (now (bytes .entry)) k 0) ⌝ }
-{
-    let mut cells = [0u8; Matrix::CELLS];
-    let mut i: usize = 0;
-    while i < bytes.len() {
-        cells[i] = bytes[i];
-        i += 1;
-    }
-    cells
-}
-
-// The first n outputs, read from the matrix by the equations.
-fn read_out(depth: usize, cells: &[u8; Matrix::CELLS], n: usize, out: &mut [u8])
-    requires { ⌜ (depth ≤ depthLimit) × (n ≤ width * depth) × (n ≤ length (now out)) ⌝ }
-    ensures { λ _. ⌜ now (out .exit) ≡ tab (λ i. getD (now (cells .entry)) (cell depth i) 0) n ++ drop n (now (out .entry)) ⌝ }
-{
-    let mut at = Place::first();
-    let mut i: usize = 0;
-    while i < n {
-        let k = at.cell();
-        out[i] = cells[k];
-        at = at.next(depth);
-        i += 1;
-    }
-}
-
-// The matrix filled by the equations, from the bytes that were read from it.
-fn put_back(depth: usize, bytes: &[u8]) -> [u8; Matrix::CELLS]
-    requires { ⌜ (depth ≤ depthLimit) × (length (now bytes) ≡ width * depth) ⌝ }
-    ensures { λ r. ⌜ ((i : ℕ) → i < length (now (bytes .entry)) → getD r (cell depth i) 0 ≡ getD (now (bytes .entry)) i 0) ⌝ }
-{
-    let mut cells = [0u8; Matrix::CELLS];
-    let mut at = Place::first();
-    let mut i: usize = 0;
-    while i < bytes.len() {
-        let k = at.cell();
-        cells[k] = bytes[i];
-        at = at.next(depth);
-        i += 1;
-    }
-    cells
-}
-
-// A whole matrix at depth 2 or more, through the cells, back or there.
-fn through(back: bool, depth: usize, bytes: &[u8], out: &mut [u8])
-    requires { ⌜ (2 ≤ depth) × (depth ≤ depthLimit) × (length (now bytes) ≡ width * depth) × (length (now bytes) ≤ length (now out)) ⌝ }
-    ensures { λ _. ⌜ now (out .exit) ≡ copied (turned back depth (now (bytes .entry))) (now (out .entry)) ⌝ }
-{
-    let n = bytes.len();
-    if back {
-        let cells = put_back(depth, bytes);
-        base::copy(&cells[0..n], out);
-        return;
-    }
-    let cells = filled(bytes);
-    read_out(depth, &cells, n, out);
-}
-
-// Either operation.
-fn turn(back: bool, depth: usize, bytes: &[u8], out: &mut [u8]) -> Written
-    ensures { λ w. ⌜ outcome w (now (out .exit)) ≡ turning back depth (now (bytes .entry)) (now (out .entry)) ⌝ }
-{
-    let n = bytes.len();
-    if Matrix::DEEPEST < depth {
-        return Written::Refused(Refusal::DEPTH);
-    }
     if depth < 2 {
-        if out.len() < n {
-            return Written::Refused(Refusal::OUTPUT);
-        }
-        base::copy(bytes, out);
-        return Written::Wrote(n);
+        return 0;
     }
-    if n != Matrix::ROW * depth {
-        return Written::Refused(Refusal::MATRIX);
+    if Matrix::DEEPEST < depth {
+        return 0;
     }
-    if out.len() < n {
-        return Written::Refused(Refusal::OUTPUT);
-    }
-    through(back, depth, bytes, out);
-    Written::Wrote(n)
+    Matrix::ROW * depth - 1
 }
 
-/// Interleaves the bytes of a whole matrix.
-pub fn interleave(depth: usize, bytes: &[u8], out: &mut [u8]) -> Written
-    ensures { λ w. ⌜ outcome w (now (out .exit)) ≡ turning false depth (now (bytes .entry)) (now (out .entry)) ⌝ }
+// How many of n received bytes give none back.
+fn held(depth: usize, again: bool, place: usize, n: usize) -> usize
+    requires { ⌜ (depth ≤ depthLimit) × (beyond depth place ≡ false) ⌝ }
+    ensures { λ r. ⌜ (r ≡ held depth again place n) × (r ≤ n) ⌝ }
 {
-    turn(false, depth, bytes, out)
+    if depth < 2 {
+        return 0;
+    }
+    if again {
+        return 0;
+    }
+    base::least(Matrix::ROW * depth - 1 - place, n)
 }
 
-/// The reverse operation: restores the bytes.
-pub fn restore(depth: usize, bytes: &[u8], out: &mut [u8]) -> Written
-    ensures { λ w. ⌜ outcome w (now (out .exit)) ≡ turning true depth (now (bytes .entry)) (now (out .entry)) ⌝ }
+// The sender's bytes at depth 2 or more.
+fn send(
+    from: [u8; Matrix::CELLS],
+    first: usize,
+    depth: usize,
+    bytes: &[u8],
+    out: &mut [u8],
+) -> Matrix
+    requires { ⌜ (2 ≤ depth) × (depth ≤ depthLimit) × (first < size depth) × (length (now bytes) ≤ length (now out)) ⌝ }
+    ensures { λ r. ⌜ (now (out .exit), r) ≡ left (sent depth) (now (bytes .entry)) 0 (matrix first from) (now (out .entry)) ⌝ }
 {
-    turn(true, depth, bytes, out)
+    let mut cells = from;
+    let mut place = first;
+    let mut i: usize = 0;
+    while i < bytes.len() {
+        let k = cell(depth, place);
+        cells[place] = bytes[i];
+        out[i] = cells[k];
+        place = next(depth, place);
+        i += 1;
+    }
+    Matrix { place, cells }
+}
+
+// Received bytes stored, none of which gives one back.
+fn keep(from: [u8; Matrix::CELLS], first: usize, depth: usize, bytes: &[u8]) -> Matrix
+    requires { ⌜ (2 ≤ depth) × (depth ≤ depthLimit) × (first < size depth) ⌝ }
+    ensures { λ r. ⌜ (r ≡ run (taken depth) (matrix first from) (now (bytes .entry)) .1) × (r .place < size depth) ⌝ }
+{
+    let mut cells = from;
+    let mut place = first;
+    let mut i: usize = 0;
+    while i < bytes.len() {
+        let k = cell(depth, place);
+        cells[k] = bytes[i];
+        place = next(depth, place);
+        i += 1;
+    }
+    Matrix { place, cells }
+}
+
+// Received bytes stored, each of which gives one back.
+fn give(
+    from: [u8; Matrix::CELLS],
+    first: usize,
+    depth: usize,
+    bytes: &[u8],
+    out: &mut [u8],
+) -> Matrix
+    requires { ⌜ (2 ≤ depth) × (depth ≤ depthLimit) × (first < size depth) × (length (now bytes) ≤ length (now out)) ⌝ }
+    ensures { λ r. ⌜ (now (out .exit), r) ≡ left (taken depth) (now (bytes .entry)) 0 (matrix first from) (now (out .entry)) ⌝ }
+{
+    let mut cells = from;
+    let mut place = first;
+    let mut i: usize = 0;
+    while i < bytes.len() {
+        let k = cell(depth, place);
+        cells[k] = bytes[i];
+        place = next(depth, place);
+        out[i] = cells[place];
+        i += 1;
+    }
+    Matrix { place, cells }
 }

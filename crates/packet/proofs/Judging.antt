@@ -26,7 +26,7 @@ use Rattle.base.proofs.Parts.{tail-is}
 use Rattle.base.proofs.Tests.{by-le, and-parts}
 use Rattle.fcs.specs.Fcs.{fcs}
 use Rattle.packet.specs.Port.{barred}
-use Rattle.packet.specs.Contents.{Packet, plainFormat, keyFormat, keyLeast, keyMost, keySized, payloadLimit, rawLimit, wordAt, unpacked, keyAt, keyLength, plainly, keyed, body}
+use Rattle.packet.specs.Contents.{Packet, plainFormat, keyFormat, keyLeast, keyMost, keySized, payloadLimit, rawLimit, wordAt, unpacked, keyAt, restLeast, keyLength, plainly, keyed, body}
 use Rattle.packet.specs.Escape.{escape, scan, plain}
 use Rattle.packet.specs.Frame.{Told, packet, refusal, broken, judged, number, Closed, kept, judgePacket, keyFits, judgeBody, judgeContents, closedBy, closed, judging, judge, part, There}
 use Rattle.packet.specs.declared.escape.Escapes.{Escapes}
@@ -81,10 +81,10 @@ module _ (bs : List ℕ) where
     body-keyed k = rw (not-plain, eq-eqb _ _ e, k)
 
 -- what keyFits asks, in numbers
-pub key-fits : (bs : List ℕ) → keyFits bs ≡ true → (keyLeast ≤ keyLength bs) × (keyLength bs ≤ keyMost) × (keyAt + keyLength bs + 5 ≤ length bs)
+pub key-fits : (bs : List ℕ) → keyFits bs ≡ true → (keyLeast ≤ keyLength bs) × (keyLength bs ≤ keyMost) × (keyAt + keyLength bs + restLeast ≤ length bs)
 key-fits bs e =
     let k = keyLength bs in
-    let p = and-parts (keySized k) (leb (keyAt + k + 5) (length bs)) e in
+    let p = and-parts (keySized k) (leb (keyAt + k + restLeast) (length bs)) e in
     let q = and-parts (leb keyLeast k) (leb k keyMost) (p .0) in
     (leb-true _ _ (q .0), leb-true _ _ (q .1), leb-true _ _ (p .1))
 
@@ -105,12 +105,12 @@ body-ways bs P six twelve seven eight plain key = go (eqb (getD bs 0 0) plainFor
 
 -- ---- the code's tests of a key
 module _ (bs : List ℕ) {k : ℕ} (e : k ≡ keyLength bs) where
-  pub fits-sized : keySized k ≡ true → leb (keyAt + k + 5) (length bs) ≡ keyFits bs
+  pub fits-sized : keySized k ≡ true → leb (keyAt + k + restLeast) (length bs) ≡ keyFits bs
   fits-sized t =
-      ap (λ (m : ℕ). leb (keyAt + m + 5) (length bs)) e ∙ sym (ap (λ (u : Bool). u && leb (keyAt + keyLength bs + 5) (length bs)) (ap keySized (sym e) ∙ t))
+      ap (λ (m : ℕ). leb (keyAt + m + restLeast) (length bs)) e ∙ sym (ap (λ (u : Bool). u && leb (keyAt + keyLength bs + restLeast) (length bs)) (ap keySized (sym e) ∙ t))
 
   pub fits-not : keySized k ≡ false → false ≡ keyFits bs
-  fits-not t = sym (ap (λ (u : Bool). u && leb (keyAt + keyLength bs + 5) (length bs)) (ap keySized (sym e) ∙ t))
+  fits-not t = sym (ap (λ (u : Bool). u && leb (keyAt + keyLength bs + restLeast) (length bs)) (ap keySized (sym e) ∙ t))
 
 -- ---- the code's answer, by the parts that it takes apart ..
 module _ (bs : List ℕ) {j : Judged} where
@@ -262,7 +262,7 @@ there-body bs t h =
     k : ℕ
     k = keyLength bs
 
-    keyed-there : (keyLeast ≤ k) × (k ≤ keyMost) × (keyAt + k + 5 ≤ length bs) → There (packet (keyed bs)) (bs ++ t)
+    keyed-there : (keyLeast ≤ k) × (k ≤ keyMost) × (keyAt + k + restLeast ≤ length bs) → There (packet (keyed bs)) (bs ++ t)
     keyed-there (low, high, room) =
         let l : length (take k (drop keyAt bs)) ≡ k = length-take-le k (drop keyAt bs) (omega (arith, length-drop keyAt bs)) in
         rw (l, ne-eqb k 0 (λ z. absurd (omega (arith, z))))

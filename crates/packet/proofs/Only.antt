@@ -18,7 +18,7 @@ use Rattle.base.proofs.Lists.{next, over}
 use Rattle.base.proofs.Tests.{by-eq}
 use Rattle.fcs.specs.Fcs.{fcs}
 use Rattle.packet.specs.Port.{barred}
-use Rattle.packet.specs.Contents.{Packet, plainFormat, keyFormat, keyLeast, keyMost, keyAt, payloadLimit, rawLimit, two, word, wordAt, head, packed, unpacked, plainly, keyed, withCheck, contents, body}
+use Rattle.packet.specs.Contents.{Packet, plainFormat, keyFormat, keyLeast, keyMost, keyAt, restLeast, payloadLimit, rawLimit, two, word, wordAt, head, packed, unpacked, plainly, keyed, withCheck, contents, body}
 use Rattle.packet.specs.Escape.{escape, plain, escaped, scan}
 use Rattle.packet.specs.Frame.{Told, packet, refusal, broken, kept, judgeBody, judgeContents, closedBy, closed, judge}
 use Rattle.packet.specs.Sender.{headFits, Accepted}
@@ -60,7 +60,7 @@ module _ (format number : ℕ) (key rest bs : List ℕ) (whole : head format num
   only-of : Only (packet (unpacked format number key rest)) bs
   only-of = (
     append-assoc (head format number key) (two (wordAt rest 0) ++ two (wordAt rest 2)) (drop 4 rest)
-    ∙ ap (λ (l : List ℕ). head format number key ++ l) (rest-back rest bytes (omega arith)) ∙ whole,
+        ∙ ap (λ (l : List ℕ). head format number key ++ l) (rest-back rest bytes (omega arith)) ∙ whole,
     record {
       some = λ e. omega (arith, length-drop 4 rest);
       short = short;
@@ -85,7 +85,7 @@ key-rest b k n l h =
     let e : keyAt + k ≡ suc (suc (suc k)) = omega arith in
     ap (λ (m : ℕ). take k l ++ drop m (b ∷ k ∷ n ∷ l)) e ∙ take-append-drop k l
 
-only-keyed : (bs : List ℕ) → Bytes bs → getD bs 0 0 ≡ keyFormat → (keyLeast ≤ getD bs 1 0) × (getD bs 1 0 ≤ keyMost) × (keyAt + getD bs 1 0 + 5 ≤ length bs)
+only-keyed : (bs : List ℕ) → Bytes bs → getD bs 0 0 ≡ keyFormat → (keyLeast ≤ getD bs 1 0) × (getD bs 1 0 ≤ keyMost) × (keyAt + getD bs 1 0 + restLeast ≤ length bs)
     → barred (keyed bs .port) ≡ false → length (escape (keyed bs .payload)) ≤ payloadLimit → Only (packet (keyed bs)) bs
 only-keyed [] h e k f s = absurd (omega (arith, k .0))
 only-keyed (b ∷ []) h e k f s = absurd (omega (arith, k .0))
@@ -126,10 +126,9 @@ only-contents cs h = go (ltb (length cs) 8) refl (eqb (fcs (body cs)) (wordAt cs
     told (broken n) e l f = tt
     told (packet p) e l f =
         let m : length (body cs) ≡ length cs - 2 = length-take-le (length cs - 2) cs (omega arith) in
-        let o = body-only (body cs) (each-take IsByte (length cs - 2) cs h) (omega arith) p e in
-        (
+        let o = body-only (body cs) (each-take IsByte (length cs - 2) cs h) (omega arith) p e in (
           ap withCheck (o .0) ∙ ap (λ (n : ℕ). body cs ++ two n) f ∙ ap (λ (l : List ℕ). body cs ++ l) (last-two cs h (omega arith))
-          ∙ take-append-drop (length cs - 2) cs,
+              ∙ take-append-drop (length cs - 2) cs,
           o .1,
         )
 

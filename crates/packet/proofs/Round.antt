@@ -21,7 +21,7 @@ use Rattle.base.proofs.Bytes.{each-append}
 use Rattle.base.proofs.Tests.{and-parts}
 use Rattle.fcs.specs.Fcs.{fcs}
 use Rattle.packet.specs.Escape.{escape, escapeByte, plain, wrongFrom, scannedBy, scan, last, right, NoFlag}
-use Rattle.packet.specs.Contents.{Packet, plainPacket, keyPacket, plainFormat, keyFormat, keyLeast, keyMost, keySized, payloadLimit, plainLimit, rawLimit, contents, withCheck, packed, unpacked, keyed, keyAt, two, wordAt, body}
+use Rattle.packet.specs.Contents.{Packet, packetOf, plainPacket, keyPacket, plainFormat, keyFormat, keyLeast, keyMost, keySized, payloadLimit, plainLimit, rawLimit, contents, withCheck, packed, unpacked, keyed, keyAt, restLeast, two, wordAt, body}
 use Rattle.packet.specs.Frame.{Closed, packet, judge, judgePacket, keyFits, judgeBody, judgeContents, closedBy}
 use Rattle.packet.specs.Sender.{headFits, Accepted}
 use Rattle.packet.specs.declared.escape.Escapes.the-variants.{Right}
@@ -125,11 +125,11 @@ by-format {P} p h plain key = go (eqb (p .format) plainFormat) refl (eqb (p .for
         let f = eqb-true _ _ a in
         let n = eqb-true _ _ (q .1) in
         let e = no-bytes (p .key) (eqb-true _ _ (q .0)) in
-        plain (λ i. record { format = f i; number = n i; key = e i; port = p .port; sequence = p .sequence; payload = p .payload })
+        plain (λ i. packetOf (f i) (n i) (e i) (p .port) (p .sequence) (p .payload))
     go false a true b h =
         let q = and-parts (leb keyLeast k) (leb k keyMost) h in
         let f = eqb-true _ _ b in
-        key (λ i. record { format = f i; number = p .number; key = p .key; port = p .port; sequence = p .sequence; payload = p .payload }) (leb-true _ _ (q .0)) (leb-true _ _ (q .1))
+        key (λ i. packetOf (f i) (p .number) (p .key) (p .port) (p .sequence) (p .payload)) (leb-true _ _ (q .0)) (leb-true _ _ (q .1))
     go false a false b h = absurd (false≢true h)
 
 -- ---- format byte to last payload byte, taken apart
@@ -139,11 +139,11 @@ module _ (port sequence : ℕ) (payload : List ℕ) where
   rest = (two port ++ two sequence) ++ payload
 
   apart : (format number : ℕ) (key : List ℕ)
-      → unpacked format number key rest ≡ record { format = format; number = number; key = key; port = port; sequence = sequence; payload = payload }
+      → unpacked format number key rest ≡ packetOf format number key port sequence payload
   apart format number key =
       let p : wordAt rest 0 ≡ port = omega arith in
       let s : wordAt rest 2 ≡ sequence = omega arith in
-      λ i. record { format = format; number = number; key = key; port = p i; sequence = s i; payload = payload }
+      λ i. packetOf format number key (p i) (s i) payload
 
   pub packed-key : (number : ℕ) (key : List ℕ) → packed (keyPacket number key port sequence payload) ≡ keyFormat ∷ length key ∷ number ∷ (key ++ rest)
   packed-key number key = ap (λ (l : List ℕ). keyFormat ∷ length key ∷ number ∷ l) (append-assoc key (two port ++ two sequence) payload)
@@ -158,7 +158,7 @@ module _ (port sequence : ℕ) (payload : List ℕ) where
   keyed-fits : (number : ℕ) (key : List ℕ) → (length payload ≡ 0 → ⊥) → keyLeast ≤ length key → length key ≤ keyMost
       → keyFits (keyFormat ∷ length key ∷ number ∷ (key ++ rest)) ≡ true
   keyed-fits number key some low high =
-      let l : keyAt + length key + 5 ≤ length (keyFormat ∷ length key ∷ number ∷ (key ++ rest)) = omega (arith, length-append key rest, some) in
+      let l : keyAt + length key + restLeast ≤ length (keyFormat ∷ length key ∷ number ∷ (key ++ rest)) = omega (arith, length-append key rest, some) in
       rw (le-leb _ _ low, le-leb _ _ high, le-leb _ _ l)
 
 -- ---- a packet that the sender accepts

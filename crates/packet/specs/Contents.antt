@@ -1,5 +1,5 @@
 -- The contents of a frame (paper 01, "Packet and frame"; request W8), before escaping.
--- Packet, ..Packet          a packet, and one of each format
+-- Packet, packetOf, ..Packet   a packet, of its parts, and one of each format
 -- head, opening             format byte and, in format 0x26, key length, key number and key; then port and sequence
 -- packed, contents          format byte to last payload byte, and the check behind it
 -- plainly, keyed, body      the same taken apart; keyAt, payloadAt, where key and payload stand
@@ -29,15 +29,18 @@ plainFormat = 0x21
 abbrev pub keyFormat : ℕ
 keyFormat = 0x26
 
+-- a packet of these parts
+abbrev pub packetOf : ℕ → ℕ → List ℕ → ℕ → ℕ → List ℕ → Packet
+packetOf format number key port sequence payload =
+    record { format = format; number = number; key = key; port = port; sequence = sequence; payload = payload }
+
 -- a packet of format 0x21: key number zero, no key
 abbrev pub plainPacket : ℕ → ℕ → List ℕ → Packet
-plainPacket port sequence payload =
-    record { format = plainFormat; number = 0; key = []; port = port; sequence = sequence; payload = payload }
+plainPacket = packetOf plainFormat 0 []
 
 -- a packet of format 0x26
 abbrev pub keyPacket : ℕ → List ℕ → ℕ → ℕ → List ℕ → Packet
-keyPacket number key port sequence payload =
-    record { format = keyFormat; number = number; key = key; port = port; sequence = sequence; payload = payload }
+keyPacket = packetOf keyFormat
 
 -- key bytes in format 0x26, at least
 abbrev pub keyLeast : ℕ
@@ -50,6 +53,10 @@ keyMost = 32
 -- so many key bytes may stand in format 0x26
 abbrev pub keySized : ℕ → Bool
 keySized k = leb keyLeast k && leb k keyMost
+
+-- bytes behind the key, at least, before the two of the check: port, sequence, one of payload
+abbrev pub restLeast : ℕ
+restLeast = 5
 
 -- bytes of a payload as escaped, at most
 abbrev pub payloadLimit : ℕ
@@ -89,8 +96,7 @@ packed p = opening p ++ p .payload
 
 -- what stands behind the head, taken apart: port, sequence, payload
 abbrev pub unpacked : ℕ → ℕ → List ℕ → List ℕ → Packet
-unpacked format number key bs =
-    record { format = format; number = number; key = key; port = wordAt bs 0; sequence = wordAt bs 2; payload = drop 4 bs }
+unpacked format number key bs = packetOf format number key (wordAt bs 0) (wordAt bs 2) (drop 4 bs)
 
 -- where the key stands in format 0x26: behind format byte, key length, key number
 abbrev pub keyAt : ℕ

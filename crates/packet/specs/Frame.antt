@@ -15,7 +15,7 @@ use lib.ListN.{length, getD, take, drop}
 use Rattle.base.specs.Choice.{pick}
 use Rattle.fcs.specs.Fcs.{fcs}
 use Rattle.packet.specs.Port.{barred}
-use Rattle.packet.specs.Contents.{Packet, plainFormat, keyFormat, keySized, payloadLimit, rawLimit, wordAt, keyLength, keyAt, payloadAt, plainly, keyed, body}
+use Rattle.packet.specs.Contents.{Packet, plainFormat, keyFormat, keySized, restLeast, payloadLimit, rawLimit, wordAt, keyLength, keyAt, payloadAt, plainly, keyed, body}
 use Rattle.packet.specs.Escape.{escape, plain, scan}
 use Rattle.packet.specs.declared.escape.Escapes.{Escapes}
 use Rattle.packet.specs.declared.escape.Escapes.the-variants.{Right, Unfinished, Wrong}
@@ -61,9 +61,9 @@ pub record Closed : Type 0 where
 abbrev pub judgePacket : Packet → Told
 judgePacket p = pick (barred (p .port)) (refusal 7) (pick (ltb payloadLimit (length (escape (p .payload)))) (refusal 8) (packet p))
 
--- a key length of 2 to 32, and behind the key seven bytes at least: five of these, and the two of the check
+-- a key length of 2 to 32, and behind the key seven bytes at least, the two of the check among them
 abbrev pub keyFits : List ℕ → Bool
-keyFits bs = keySized (keyLength bs) && leb (keyAt + keyLength bs + 5) (length bs)
+keyFits bs = keySized (keyLength bs) && leb (keyAt + keyLength bs + restLeast) (length bs)
 
 -- format byte to last payload byte: 6 neither format, 12 the key of format 0x26, then as above
 unfoldable pub judgeBody : List ℕ → Told

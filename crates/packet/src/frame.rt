@@ -25,6 +25,8 @@ impl Packet {
     pub const KEY_MOST: usize = 32;
     /// Where its key stands: behind format byte, key length and key number.
     pub const KEY_AT: usize = 3;
+    /// Bytes behind it, at least, before the check: port, sequence, one of payload.
+    pub const REST_LEAST: usize = 5;
     /// Format byte to sequence, at most.
     pub const OPENING: usize = Self::KEY_AT + Self::KEY_MOST + 4;
     /// Raw bytes of a packet of format 0x21, at most.
@@ -98,7 +100,7 @@ fn key_fits(body: &[u8]) -> bool
 {
     let k = wide(body[1]);
     if key_sized(k) {
-        return Packet::KEY_AT + k + 5 <= body.len();
+        return Packet::KEY_AT + k + Packet::REST_LEAST <= body.len();
     }
     false
 }

@@ -6,7 +6,7 @@ ghost use lib.ListN.{length};
 ghost use Rattle.base.specs.Private.{Laid};
 ghost use Rattle.base.specs.Written.{outcome, write};
 ghost use Rattle.fcs.specs.Fcs.{fcs};
-ghost use Rattle.packet.specs.Contents.{keyMost, keyAt, payloadLimit, head, opening, two, plainPacket};
+ghost use Rattle.packet.specs.Contents.{packetOf, plainPacket, keyMost, keyAt, payloadLimit, head, opening, two};
 ghost use Rattle.packet.specs.Escape.{escape};
 ghost use Rattle.packet.specs.Sender.{flagged, frameOf, headFits, writing};
 ghost use Rattle.packet.specs.Private.{openingMost};
@@ -69,9 +69,16 @@ fn put_two(out: &mut [u8], at: usize, n: u16) -> usize
 }
 
 // Stores format byte to sequence; how many bytes.
-fn put_opening(out: &mut [u8], format: u8, number: u8, key: &[u8], port: u16, sequence: u16) -> usize
+fn put_opening(
+    out: &mut [u8],
+    format: u8,
+    number: u8,
+    key: &[u8],
+    port: u16,
+    sequence: u16,
+) -> usize
     requires { ⌜ (length (now key) ≤ keyMost) × (openingMost ≤ length (now out)) ⌝ }
-    ensures { λ r. ⌜ Laid (now (out .entry)) 0 (opening (record { format = format; number = number; key = now (key .entry); port = port; sequence = sequence; payload = [] })) (now (out .exit)) r ⌝ }
+    ensures { λ r. ⌜ Laid (now (out .entry)) 0 (opening (packetOf format number (now (key .entry)) port sequence [])) (now (out .exit)) r ⌝ }
 {
     let a = put_head(out, format, number, key);
     let b = put_two(out, a, port);
@@ -102,9 +109,17 @@ fn put_frame(opening: &[u8], payload: &[u8], tail: &[u8; 2], out: &mut [u8]) -> 
 }
 
 // Stores a packet's frame, where there is room.
-fn put_packet(format: u8, number: u8, key: &[u8], port: u16, sequence: u16, payload: &[u8], out: &mut [u8]) -> Written
+fn put_packet(
+    format: u8,
+    number: u8,
+    key: &[u8],
+    port: u16,
+    sequence: u16,
+    payload: &[u8],
+    out: &mut [u8],
+) -> Written
     requires { ⌜ (length (now key) ≤ keyMost) × (length (escape (now payload)) ≤ payloadLimit) ⌝ }
-    ensures { λ w. ⌜ outcome w (now (out .exit)) ≡ write (frameOf (record { format = format; number = number; key = now (key .entry); port = port; sequence = sequence; payload = now (payload .entry) })) (now (out .entry)) ⌝ }
+    ensures { λ w. ⌜ outcome w (now (out .exit)) ≡ write (frameOf (packetOf format number (now (key .entry)) port sequence (now (payload .entry)))) (now (out .entry)) ⌝ }
 {
     let mut opening = [0u8; Packet::OPENING];
     let n = put_opening(&mut opening, format, number, key, port, sequence);
@@ -113,8 +128,16 @@ fn put_packet(format: u8, number: u8, key: &[u8], port: u16, sequence: u16, payl
 }
 
 /// Writes a packet of either format: its escaped contents, and one flag behind them.
-pub fn write_as(format: u8, number: u8, key: &[u8], port: u16, sequence: u16, payload: &[u8], out: &mut [u8]) -> Written
-    ensures { λ w. ⌜ outcome w (now (out .exit)) ≡ writing (record { format = format; number = number; key = now (key .entry); port = port; sequence = sequence; payload = now (payload .entry) }) (now (out .entry)) ⌝ }
+pub fn write_as(
+    format: u8,
+    number: u8,
+    key: &[u8],
+    port: u16,
+    sequence: u16,
+    payload: &[u8],
+    out: &mut [u8],
+) -> Written
+    ensures { λ w. ⌜ outcome w (now (out .exit)) ≡ writing (packetOf format number (now (key .entry)) port sequence (now (payload .entry))) (now (out .entry)) ⌝ }
 {
     if payload.len() == 0 {
         return Written::Refused(Refusal::EMPTY);
@@ -135,5 +158,13 @@ pub fn write_as(format: u8, number: u8, key: &[u8], port: u16, sequence: u16, pa
 pub fn write(port: u16, sequence: u16, payload: &[u8], out: &mut [u8]) -> Written
     ensures { λ w. ⌜ outcome w (now (out .exit)) ≡ writing (plainPacket port sequence (now (payload .entry))) (now (out .entry)) ⌝ }
 {
-    write_as(Packet::PLAIN_FORMAT, 0, &payload[0..0], port, sequence, payload, out)
+    write_as(
+        Packet::PLAIN_FORMAT,
+        0,
+        &payload[0..0],
+        port,
+        sequence,
+        payload,
+        out,
+    )
 }

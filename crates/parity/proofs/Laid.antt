@@ -1,35 +1,40 @@
 -- Four numbers as 32 bytes: what each function of `Lanes` leaves, and a turn of each loop.
 -- laid-plus, laid-doubled, laid-shifted, laid-first, laid-zero   sum, double, shift, the first byte, the test
--- Upto, upto-..    the products with 0, 1, .., two more a turn
+-- doubles-are, Rows, rows-are   the products with 2, 4 and 8, and with each of 0, 1, .. 15
 -- tables-are, product-turn, beyond-is, twice-turn   the products of a byte's halves; a byte's product by its halves; two bytes more of a division
--- pair-..          the bytes left are pairs
+-- pair-.., next-fits   the bytes left are pairs
+-- low-.., high-..  a byte's halves are places in a table
 -- left-..          the bytes handed out
+-- eight-.., head-laid   eight bytes as a number; a word's first 31 bytes laid down
 -- begun-..         the first bytes laid down
-use mathlib.Core.Path.{_≡_, refl, sym, ap, ap₂, _∙_}
+use mathlib.Core.Path.{_≡_, refl, sym, ap, ap₂, _∙_, subst}
 use mathlib.Core.Bool.{_&&_}
 use mathlib.Core.List.{List, [], _∷_, _++_, map, map-append, append-assoc, append-nil}
 use Prim.Native.Nat.{ℕ, zero, suc, _+_, _-_, _*_, _/_, _%_, _≤_, _<_}
+use native.Mathlib.Nat.{le-antisymm}
 use native.Mathlib.Numerals.{add-one}
 use native.Mathlib.Omega.{arith}
 use lib.Bits.{bitXor}
-use lib.Dec.{eqb, eqb→eq}
-use lib.ListN.{length, take, drop, getD, set, replicate, length-append, length-set, length-drop}
-use lib.Seq.{getD-set-same, getD-set-other, take-all, take-suc-set, take-append-le, take-suc, append-snoc}
+use lib.Dec.{eqb, eqb→eq, leb, leb→le}
+use lib.ListN.{length, take, drop, getD, set, replicate, length-append, length-drop}
+use lib.Seq.{getD-drop, take-all, take-at, take-take, take-add, take-suc-set, take-append-le, take-suc, append-snoc}
 use mir.Val.{Fits}
 use mir.Syntax.{w64}
 use Rattle.base.specs.Bytes.{IsByte, Bytes}
 use Rattle.base.proofs.Bytes.{each-append}
-use Rattle.base.proofs.Tests.{all-at, by-eq}
+use Rattle.base.proofs.Tests.{all-at}
 use Rattle.field.specs.Field.{alpha, add, double, shiftAdd, mul}
 use Rattle.field.proofs.Sum.{add-comm, parts}
-use Rattle.field.proofs.Product.{add-mul, mul-assoc, one-mul, double-is, mul-lt}
-use Rattle.parity.specs.Word.{scale, onto}
-use Rattle.parity.specs.Lanes.{laneRoots, below, bytesOf, laid, isZero, nothing, Multiples, Tables, fed}
+use Rattle.field.proofs.Product.{mul-assoc, one-mul, double-is, mul-lt}
+use Rattle.words.specs.Word.{scale, onto}
+use Rattle.words.specs.Private.{laneRoots, below, bytesOf, isZero, fed}
+use Rattle.parity.specs.Lanes.{laid, nothing, Doubles, Multiples, Tables}
 use Rattle.parity.specs.declared.lanes.Lanes.{Lanes}
-use Rattle.parity.proofs.Sums.{length-scale, length-onto, onto-append, onto-comm, onto-assoc}
-use Rattle.parity.proofs.Generator.{length-generator, generator-monic}
-use Rattle.parity.proofs.Packed.{length-bytes, bytes-bytes, bytes-xor, bytes-behind, bytes-first, bytes-zero, zero-append, size}
-use Rattle.parity.proofs.Residue.{length-fed, scale-zero, scale-add, scale-scale, fed-twice}
+use Rattle.parity.specs.declared.lanes.Doublings.{Doublings}
+use Rattle.words.proofs.Sums.{length-scale, length-onto, onto-append, onto-comm, onto-assoc}
+use Rattle.words.proofs.Generator.{length-generator, generator-monic}
+use Rattle.words.proofs.Packed.{length-bytes, bytes-bytes, bytes-xor, bytes-behind, bytes-first, bytes-zero, zero-append, size}
+use Rattle.words.proofs.Residue.{length-fed, scale-zero, scale-add, scale-scale, fed-twice}
 
 -- six bytes, seven and eight are numbers below these
 abbrev six : ℕ
@@ -245,53 +250,95 @@ scale-double a (x ∷ g) = ap₂ _∷_ (double-is (mul a x) (mul-lt a x) ∙ sym
 twice : (i : ℕ) → i < 16 → mul alpha i ≡ i * 2
 twice i h = eqb→eq _ _ (all-at 16 (λ (j : ℕ). eqb (mul alpha j) (j * 2)) (unfold mul shiftAdd double add in tt) i h)
 
-one-more : (i : ℕ) → i < 8 → add (i * 2) 1 ≡ i * 2 + 1
-one-more i h = eqb→eq _ _ (all-at 8 (λ (j : ℕ). eqb (add (j * 2) 1) (j * 2 + 1)) (unfold add in tt) i h)
-
 sixteen : (i : ℕ) → i < 16 → mul i 16 ≡ i * 16
 sixteen i h = eqb→eq _ _ (all-at 16 (λ (j : ℕ). eqb (mul j 16) (j * 16)) (unfold mul shiftAdd double add in tt) i h)
 
--- the products with 0, 1, .. n - 1
-abbrev pub Upto : ℕ → List Lanes → List ℕ → Type 0
-Upto n m g = (length m ≡ 16) × ((i : ℕ) → i < n → laid (getD m i nothing) ≡ scale i g)
-
-pub upto-two : (z l : Lanes) → laid z ≡ replicate laneRoots 0 → Upto 2 (set (replicate 16 z) 1 l) (laid l)
-upto-two z l e = (refl, at)
+-- twice as much, and so on
+pub doubles-are : (l : Lanes) {two four eight : List ℕ} → two ≡ map double (laid l) → four ≡ map double two → eight ≡ map double four
+    → (two ≡ scale 2 (laid l)) × (four ≡ scale 4 (laid l)) × (eight ≡ scale 8 (laid l))
+doubles-are l {two} {four} e2 e4 e8 = (is-two, is-four, twice-more 4 e8 is-four (omega arith))
   where
-    at : (i : ℕ) → i < 2 → laid (getD (set (replicate 16 z) 1 l) i nothing) ≡ scale i (laid l)
-    at zero h = e ∙ sym (scale-zero (laid l) ∙ ap (λ (n : ℕ). replicate n 0) (length-laid l))
-    at (suc zero) h = sym (scale-one (laid l) (bytes-laid l))
-    at (suc (suc i)) h = absurd (omega arith)
+    twice-more : (i : ℕ) {p q : List ℕ} → q ≡ map double p → p ≡ scale i (laid l) → i < 16 → q ≡ scale (i * 2) (laid l)
+    twice-more i eq ep h = eq ∙ ap (map double) ep ∙ scale-double i (laid l) ∙ ap (λ (n : ℕ). scale n (laid l)) (twice i h)
 
-pub upto-more : (i : ℕ) (m : List Lanes) (l even odd : Lanes) → i < 8 → 0 < i → Upto (i * 2) m (laid l)
-    → laid even ≡ map double (laid (getD m i nothing)) → laid odd ≡ onto (laid even) (laid l) → Upto ((i + 1) * 2) (set (set m (i * 2) even) (i * 2 + 1) odd) (laid l)
-upto-more i m l even odd h p u ee eo = (length-set (set m (i * 2) even) (i * 2 + 1) odd ∙ length-set m (i * 2) even ∙ u .0, at)
+    is-two : two ≡ scale 2 (laid l)
+    is-two = twice-more 1 e2 (sym (scale-one (laid l) (bytes-laid l))) (omega arith)
+
+    is-four : four ≡ scale 4 (laid l)
+    is-four = twice-more 2 e4 is-two (omega arith)
+
+-- the rows of a table, from that of i on
+unfoldable pub Rows : ℕ → List Lanes → List ℕ → Type 0
+Rows i [] g = Unit {0}
+Rows i (r ∷ m) g = (laid r ≡ scale i g) × Rows (suc i) m g
+
+rows-at : (i : ℕ) (m : List Lanes) (g : List ℕ) → Rows i m g → (j : ℕ) → j < length m → laid (getD m j nothing) ≡ scale (i + j) g
+unfolding Rows
+rows-at i [] g h j k = absurd (omega arith)
+rows-at i (r ∷ m) g h zero k = h .0 ∙ ap (λ (n : ℕ). scale n g) at
   where
-    is-even : laid even ≡ scale (i * 2) (laid l)
-    is-even = ee ∙ ap (map double) (u .1 i (omega arith)) ∙ scale-double i (laid l) ∙ ap (λ (n : ℕ). scale n (laid l)) (twice i (omega arith))
+    at : i ≡ i + 0
+    at = omega arith
+rows-at i (r ∷ m) g h (suc j) k = rows-at (suc i) m g (h .1) j (omega arith) ∙ ap (λ (n : ℕ). scale n g) at
+  where
+    at : suc i + j ≡ i + suc j
+    at = omega arith
 
-    is-odd : laid odd ≡ scale (i * 2 + 1) (laid l)
-    is-odd =
-        eo ∙ ap₂ onto is-even (sym (scale-one (laid l) (bytes-laid l))) ∙ sym (scale-add (i * 2) 1 (laid l)) ∙ ap (λ (n : ℕ). scale n (laid l)) (one-more i h)
+sum-is : (g : List ℕ) (i j : ℕ) {p q r : List ℕ} → add i j ≡ i + j → p ≡ scale i g → q ≡ scale j g → r ≡ onto p q → r ≡ scale (i + j) g
+sum-is g i j e ep eq er = er ∙ ap₂ onto ep eq ∙ sym (scale-add i j g) ∙ ap (λ (n : ℕ). scale n g) e
 
-    at : (j : ℕ) → j < (i + 1) * 2 → laid (getD (set (set m (i * 2) even) (i * 2 + 1) odd) j nothing) ≡ scale j (laid l)
-    at j k =
-        by-eq j (i * 2 + 1)
-        (λ e. rw e (ap laid (getD-set-same (set m (i * 2) even) (i * 2 + 1) odd nothing (omega (arith, length-set m (i * 2) even, u .0))) ∙ is-odd))
-        (λ n. ap laid (getD-set-other (set m (i * 2) even) (i * 2 + 1) j odd nothing n)
-        ∙ by-eq j (i * 2)
-        (λ e. rw e (ap laid (getD-set-same m (i * 2) even nothing (omega (arith, u .0))) ∙ is-even))
-        (λ o. ap laid (getD-set-other m (i * 2) j even nothing o) ∙ u .1 j (omega arith)))
+-- each of the others is the sum of two
+module _ (s : Doublings) (z x3 x5 x6 x7 x9 x10 x11 x12 x13 x14 x15 : Lanes) (d : Doubles s) (e0 : laid z ≡ replicate laneRoots 0)
+    (e3 : laid x3 ≡ onto (laid (s .two)) (laid (s .one))) (e5 : laid x5 ≡ onto (laid (s .four)) (laid (s .one)))
+    (e6 : laid x6 ≡ onto (laid (s .four)) (laid (s .two))) (e7 : laid x7 ≡ onto (laid (s .four)) (laid x3))
+    (e9 : laid x9 ≡ onto (laid (s .eight)) (laid (s .one))) (e10 : laid x10 ≡ onto (laid (s .eight)) (laid (s .two)))
+    (e11 : laid x11 ≡ onto (laid (s .eight)) (laid x3)) (e12 : laid x12 ≡ onto (laid (s .eight)) (laid (s .four)))
+    (e13 : laid x13 ≡ onto (laid (s .eight)) (laid x5)) (e14 : laid x14 ≡ onto (laid (s .eight)) (laid x6))
+    (e15 : laid x15 ≡ onto (laid (s .eight)) (laid x7)) where
+  abbrev g : List ℕ
+  g = laid (s .one)
+
+  abbrev m : List Lanes
+  m = z ∷ s .one ∷ s .two ∷ x3 ∷ s .four ∷ x5 ∷ x6 ∷ x7 ∷ s .eight ∷ x9 ∷ x10 ∷ x11 ∷ x12 ∷ x13 ∷ x14 ∷ x15 ∷ []
+
+  pub rows-are : Multiples m g
+  unfolding Rows add
+  rows-are i h = rows-at 0 m g all i h ∙ ap (λ (n : ℕ). scale n g) from-zero
+    where
+      from-zero : 0 + i ≡ i
+      from-zero = omega arith
+
+      is-one : g ≡ scale 1 g
+      is-one = sym (scale-one g (bytes-laid (s .one)))
+
+      is-three : laid x3 ≡ scale 3 g
+      is-three = sum-is g 2 1 refl (d .0) is-one e3
+
+      is-five : laid x5 ≡ scale 5 g
+      is-five = sum-is g 4 1 refl (d .1) is-one e5
+
+      is-six : laid x6 ≡ scale 6 g
+      is-six = sum-is g 4 2 refl (d .1) (d .0) e6
+
+      is-seven : laid x7 ≡ scale 7 g
+      is-seven = sum-is g 4 3 refl (d .1) is-three e7
+
+      is-none : laid z ≡ scale 0 g
+      is-none = e0 ∙ sym (scale-zero g ∙ ap (λ (n : ℕ). replicate n 0) (length-laid (s .one)))
+
+      all : Rows 0 m g
+      all = (is-none, (is-one, (d .0, (is-three, (d .1, (is-five, (is-six, (is-seven, (d .2, (sum-is g 8 1 refl (d .2) is-one e9, (sum-is g 8 2 refl (d .2) (d .0) e10, (sum-is g 8 3 refl (d .2) is-three e11, (sum-is g 8 4 refl (d .2) (d .1) e12, (sum-is g 8 5 refl (d .2) is-five e13, (sum-is g 8 6 refl (d .2) is-six e14, (sum-is g 8 7 refl (d .2) is-seven e15, tt))))))))))))))))
 
 -- ---- tables
-pub tables-are : (g : List ℕ) (k e : Lanes) (low high : List Lanes) → laid k ≡ g → Multiples low (laid k) → laid e ≡ map double (laid (getD low 8 nothing)) → Multiples high (laid e) → Tables low high g
-tables-are g k e low high ek hl he hh = (below-sixteen, λ i h. hh i h ∙ ap (scale i) sixteenth)
+pub tables-are : (g : List ℕ) (k e : Lanes) (s t : Doublings) (low high : List Lanes) → laid k ≡ g → (s .one ≡ k) × Doubles s → laid e ≡ map double (laid (s .eight))
+    → (t .one ≡ e) × Doubles t → Multiples low (laid (s .one)) → Multiples high (laid (t .one)) → Tables low high g
+tables-are g k e s t low high ek hs he ht hl hh = (λ i h. hl i h ∙ ap (scale i) once, λ i h. hh i h ∙ ap (scale i) sixteenth)
   where
-    below-sixteen : Multiples low g
-    below-sixteen i h = hl i h ∙ ap (scale i) ek
+    once : laid (s .one) ≡ g
+    once = ap laid (hs .0) ∙ ek
 
-    sixteenth : laid e ≡ scale 16 g
-    sixteenth = he ∙ ap (map double) (below-sixteen 8 (omega arith)) ∙ scale-double 8 g ∙ ap (λ (n : ℕ). scale n g) (twice 8 (omega arith))
+    sixteenth : laid (t .one) ≡ scale 16 g
+    sixteenth = ap laid (ht .0) ∙ he ∙ ap (map double) (hs .1 .2 ∙ ap (scale 8) once) ∙ scale-double 8 g ∙ ap (λ (n : ℕ). scale n g) (twice 8 (omega arith))
 
 halves : (f : ℕ) → add (f % 16) (f / 16 * 16) ≡ f
 halves f = add-comm (f % 16) (f / 16 * 16) ∙ sym (parts f 4)
@@ -354,6 +401,23 @@ pair-next i n h e = (omega arith, omega arith, omega arith, omega arith)
 pub pair-fits : (i n : ℕ) → i + 2 ≤ n → n < eight → Fits w64 (i + 2)
 pair-fits i n h k = record { fits = omega arith }
 
+pub next-fits : (i n : ℕ) → i < n → n < eight → Fits w64 (i + 1)
+next-fits i n h k = record { fits = omega arith }
+
+-- ---- a byte's halves are places in a table of sixteen, whose rows are 32 bytes
+pub low-place : (f : ℕ) → f % 16 < 16
+low-place f = omega arith
+
+pub low-fits : (f : ℕ) → Fits w64 (f % 16 * 32)
+low-fits f = record { fits = omega arith }
+
+module _ (f : ℕ) (h : f < 256) where
+  pub high-place : f / 16 < 16
+  high-place = omega arith
+
+  pub high-fits : Fits w64 (f / 16 * 32)
+  high-fits = record { fits = omega arith }
+
 -- ---- the bytes handed out one by one: i of them stand in l, the others are the first of xs
 module _ (i : ℕ) (l xs : List ℕ) (n : length l ≡ laneRoots) {t : List ℕ} (inv : take i l ++ take (laneRoots - i) xs ≡ t) where
   pub left-next : {f : ℕ} {ys : List ℕ} → length xs ≡ laneRoots → i < laneRoots → f ≡ getD xs 0 0 → ys ≡ drop 1 xs ++ 0 ∷ []
@@ -378,7 +442,58 @@ module _ (i : ℕ) (l xs : List ℕ) (n : length l ≡ laneRoots) {t : List ℕ}
       none : laneRoots - i ≡ 0
       none = omega arith
 
--- ---- the first bytes laid down: i of them stand behind zeros
+-- ---- eight bytes as a number: i of them stand in x, and one more fits
+module _ (i x : ℕ) (h : i < 8) (hx : x < size i) where
+  room : x < seven
+  room = omega (arith, small)
+    where
+      small : size i ≤ seven
+      small = leb→le _ _ (all-at 8 (λ (j : ℕ). leb (size j) seven) (unfold size in tt) i h)
+
+  pub eight-fits : Fits w64 (x * 256)
+  eight-fits = record { fits = omega (arith, room) }
+
+  module _ (at : ℕ) (w : List ℕ) {y : ℕ} (ey : y ≡ getD w (at + i) 0) (hy : getD w (at + i) 0 < 256) where
+    pub eight-more : Fits w64 (x * 256 + y)
+    eight-more = record { fits = omega (arith, room) }
+
+    pub eight-next : at + i < length w → bytesOf i x ≡ take i (drop at w) → (x * 256 + y < size (i + 1)) × (bytesOf (i + 1) (x * 256 + y) ≡ take (i + 1) (drop at w))
+    unfolding size
+    eight-next l inv =
+        rw (add-one i)
+        (omega arith, bytes-behind i x y (omega arith) ∙ ap₂ (λ (p : List ℕ) (b : ℕ). p ++ b ∷ []) inv (ey ∙ sym (getD-drop at w i 0)) ∙ sym (take-suc (drop at w) i 0 (omega (arith, length-drop at w))))
+
+pub eight-done : (at i x : ℕ) (w : List ℕ) → i ≤ 8 → 8 ≤ i → bytesOf i x ≡ take i (drop at w) → bytesOf 8 x ≡ take 8 (drop at w)
+eight-done at i x w h k inv = subst (λ (n : ℕ). bytesOf n x ≡ take n (drop at w)) (le-antisymm h k) inv
+
+-- a word's head: the first number is of seven bytes, and a zero before them
+module _ (w : List ℕ) (x b c d : ℕ) (h : x < eight) (ex : bytesOf 8 x ≡ take 8 w) where
+  seven-bytes : bytesOf 8 (x / 256) ≡ 0 ∷ take 7 w
+  unfolding bytesOf
+  seven-bytes = first-of (x / 256) (omega arith) ∙ ap₂ (λ (q r : ℕ). q ∷ bytesOf 7 r) none same ∙ ap (λ (l : List ℕ). 0 ∷ l) front
+    where
+      none : x / 256 / seven ≡ 0
+      none = omega arith
+
+      same : x / 256 % seven ≡ x / 256
+      same = omega arith
+
+      front : bytesOf 7 (x / 256) ≡ take 7 w
+      front = sym (take-at (bytesOf 7 (x / 256)) (x % 256 ∷ []) 7 (length-bytes 7 (x / 256))) ∙ ap (take 7) ex ∙ take-take 7 8 w (omega arith)
+
+  pub head-laid : bytesOf 8 b ≡ take 8 (drop 7 w) → bytesOf 8 c ≡ take 8 (drop 15 w) → bytesOf 8 d ≡ take 8 (drop 23 w)
+      → laid (record { a = x / 256; b = b; c = c; d = d }) ≡ 0 ∷ take (laneRoots - 1) w
+  unfolding laid
+  head-laid eb ec ed =
+      (λ i. seven-bytes i ++ eb i ++ ec i ++ ed i)
+      ∙ ap (λ (l : List ℕ). 0 ∷ l)
+      (ap (λ (l : List ℕ). (l ++ take 8 (drop 15 w)) ++ take 8 (drop 23 w)) (sym (take-add 7 8 w))
+      ∙ ap (λ (l : List ℕ). l ++ take 8 (drop 23 w)) (sym (take-add 15 8 w)) ∙ sym (take-add 23 8 w))
+
+-- ---- the first bytes laid down: 31 at once, or i of them stand behind zeros
+pub word-begun : (n : ℕ) (w : List ℕ) {xs : List ℕ} → n ≡ laneRoots - 1 → xs ≡ 0 ∷ take (laneRoots - 1) w → xs ≡ replicate (laneRoots - n) 0 ++ take n w
+word-begun n w en ex = ex ∙ ap (λ (k : ℕ). replicate (laneRoots - k) 0 ++ take k w) (sym en)
+
 pub begun-next : (i : ℕ) (xs w : List ℕ) {ys : List ℕ} → i < laneRoots → i < length w → xs ≡ replicate (laneRoots - i) 0 ++ take i w → ys ≡ drop 1 xs ++ getD w i 0 ∷ []
     → ys ≡ replicate (laneRoots - (i + 1)) 0 ++ take (i + 1) w
 begun-next i xs w h l ex ey =

@@ -1,13 +1,4 @@
-pub mod Sums
-pub mod Values
-pub mod Roots
-pub mod Generator
-pub mod Division
-pub mod Clean
-pub mod Packed
-pub mod Residue
 pub mod Laid
 pub mod Loops
 pub mod Refusing
-pub mod Numbers
 pub mod Determined

@@ -1,4 +1,3 @@
-pub mod Word
 pub mod Calls
 pub mod Private
 pub mod Lanes

@@ -1,11 +1,12 @@
 //! Division by the generator for 32 roots: what is left lies in four numbers of eight bytes, and two bytes go in at a turn.
 ghost use mathlib.Core.Path.{_≡_};
 ghost use mathlib.Core.List.{[], _∷_, _++_, map};
-ghost use Prim.Native.Nat.{_-_, _%_, _≤_, _<_};
+ghost use Prim.Native.Nat.{_+_, _-_, _%_, _≤_, _<_};
 ghost use lib.ListN.{length, take, drop, getD, replicate};
 ghost use Rattle.field.specs.Field.{double};
-ghost use Rattle.parity.specs.Word.{clean, onto};
-ghost use Rattle.parity.specs.Lanes.{laneRoots, below, bytesOf, laid, Multiples, Tables, fed, residue, isZero};
+ghost use Rattle.words.specs.Word.{clean, onto};
+ghost use Rattle.words.specs.Private.{laneRoots, below, bytesOf, fed, residue, isZero};
+ghost use Rattle.parity.specs.Lanes.{laid, Doubles, Multiples, Tables};
 
 // 32 coefficients, the highest first: eight in a number.
 struct Lanes {
@@ -13,6 +14,14 @@ struct Lanes {
     b: u64,
     c: u64,
     d: u64,
+}
+
+// The products with 1, 2, 4 and 8.
+struct Doublings {
+    one: Lanes,
+    two: Lanes,
+    four: Lanes,
+    eight: Lanes,
 }
 
 // The generator's roots, and so the bytes that are left.
@@ -151,22 +160,53 @@ impl Lanes {
     }
 }
 
-// The products with 0, 1, .. 15: twice each, and one more.
-fn multiples(l: Lanes) -> [Lanes; 16]
-    ensures { λ m. ⌜ Multiples m (laid l) ⌝ }
+// Twice, four times and eight times as much.
+fn steps(l: Lanes) -> Doublings
+    ensures { λ s. ⌜ (s .one ≡ l) × Doubles s ⌝ }
 {
-    let mut m = [Lanes::none(); 16];
-    m[1] = l;
-    let mut i: usize = 1;
-    while i < 8 {
-        let half = m[i];
-        let even = half.doubled();
-        let at = i * 2;
-        m[at] = even;
-        m[at + 1] = even.plus(l);
-        i += 1;
+    let two = l.doubled();
+    let four = two.doubled();
+    let eight = four.doubled();
+    Doublings {
+        one: l,
+        two: two,
+        four: four,
+        eight: eight,
     }
-    m
+}
+
+// The products with 0, 1, .. 15. It has no loop and is small, so that the compiler puts it where it is called: there it knows the first of
+// them, and makes all.
+fn rows(s: Doublings) -> [Lanes; 16]
+    requires { ⌜ Doubles s ⌝ }
+    ensures { λ m. ⌜ Multiples m (laid (s .one)) ⌝ }
+{
+    let one = s.one;
+    let two = s.two;
+    let four = s.four;
+    let eight = s.eight;
+    let three = two.plus(one);
+    let five = four.plus(one);
+    let six = four.plus(two);
+    let seven = four.plus(three);
+    [
+        Lanes::none(),
+        one,
+        two,
+        three,
+        four,
+        five,
+        six,
+        seven,
+        eight,
+        eight.plus(one),
+        eight.plus(two),
+        eight.plus(three),
+        eight.plus(four),
+        eight.plus(five),
+        eight.plus(six),
+        eight.plus(seven),
+    ]
 }
 
 // One step behind the generator itself: what a byte is worth that stands before the first.
@@ -191,11 +231,41 @@ fn head(n: usize) -> usize
     ROOTS - n % 2
 }
 
+// Eight bytes from a place on, as a number.
+fn eight(at: usize, bytes: &[u8]) -> u64
+    requires { ⌜ at + 8 ≤ length (now bytes) ⌝ }
+    ensures { λ x. ⌜ bytesOf 8 x ≡ take 8 (drop at (now (bytes .entry))) ⌝ }
+{
+    let mut x: u64 = 0;
+    let mut i: usize = 0;
+    while i < 8 {
+        x = x * 256 + wide(bytes[at + i]);
+        i += 1;
+    }
+    x
+}
+
+// The first 31 bytes, behind a zero: the head of a word, eight bytes at once.
+fn word_begun(bytes: &[u8]) -> Lanes
+    requires { ⌜ laneRoots ≤ length (now bytes) + 1 ⌝ }
+    ensures { λ l. ⌜ laid l ≡ 0 ∷ take (laneRoots - 1) (now (bytes .entry)) ⌝ }
+{
+    Lanes {
+        a: eight(0, bytes) / 256,
+        b: eight(7, bytes),
+        c: eight(15, bytes),
+        d: eight(23, bytes),
+    }
+}
+
 // The first n bytes, behind zeros: nothing is taken away from them yet.
 fn begun(n: usize, bytes: &[u8]) -> Lanes
     requires { ⌜ (n ≤ laneRoots) × (n ≤ length (now bytes)) ⌝ }
     ensures { λ l. ⌜ laid l ≡ replicate (laneRoots - n) 0 ++ take n (now (bytes .entry)) ⌝ }
 {
+    if n == ROOTS - 1 {
+        return word_begun(bytes);
+    }
     let mut l = Lanes::none();
     let mut i: usize = 0;
     while i < n {
@@ -237,12 +307,16 @@ fn divided(
 fn residue(bytes: &[u8]) -> Lanes
     ensures { λ l. ⌜ laid l ≡ residue laneRoots (now (bytes .entry)) ⌝ }
 {
-    let low = multiples(Lanes::generator());
-    let eighth = low[8];
-    let high = multiples(eighth.doubled());
-    let low2 = multiples(beyond(low, high));
-    let eighth2 = low2[8];
-    let high2 = multiples(eighth2.doubled());
+    let g = steps(Lanes::generator());
+    let eighth = g.eight;
+    let h = steps(eighth.doubled());
+    let low = rows(g);
+    let high = rows(h);
+    let g2 = steps(beyond(low, high));
+    let eighth2 = g2.eight;
+    let h2 = steps(eighth2.doubled());
+    let low2 = rows(g2);
+    let high2 = rows(h2);
     divided(low, high, low2, high2, bytes)
 }
 

@@ -5,9 +5,10 @@ ghost use Prim.Native.Nat.{_+_, _-_, _≤_};
 ghost use lib.ListN.{length, take, drop, replicate};
 ghost use Rattle.base.specs.Written.{copied, outcome};
 ghost use Rattle.field.specs.Field.{alpha};
-ghost use Rattle.parity.specs.Word.{valuesFrom, clean, scale, onto, generator, divide, remainder};
+ghost use Rattle.words.specs.Word.{valuesFrom, clean, scale, onto, generator, divide, remainder};
+ghost use Rattle.words.specs.Private.{points, stepped};
 ghost use Rattle.parity.specs.Calls.{wordBytes, rootLimit, atRoots, checked, made};
-ghost use Rattle.parity.specs.Private.{atAll, points, stepped};
+ghost use Rattle.parity.specs.Private.{atAll};
 use base::Refusal;
 use base::Written;
 

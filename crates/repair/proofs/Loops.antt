@@ -18,11 +18,11 @@ use Rattle.field.specs.Field.{alpha, add, mul, pow, inverse}
 use Rattle.field.proofs.Sum.{add-zero, zero-add, add-assoc}
 use Rattle.field.proofs.Product.{mul-zero, zero-mul, mul-comm}
 use Rattle.field.proofs.Powers.{pow-suc}
-use Rattle.parity.specs.Word.{valuesFrom, scale, onto}
+use Rattle.words.specs.Word.{valuesFrom, scale, onto}
 use Rattle.parity.specs.Calls.{atRoots, checked, rootLimit, wordBytes}
 use Rattle.parity.specs.declared.Checked.{Checked}
 use Rattle.parity.specs.declared.Checked.the-variants as check
-use Rattle.parity.proofs.Sums.{length-onto}
+use Rattle.words.proofs.Sums.{length-onto}
 use Rattle.repair.specs.declared.Mended.{Mended}
 use Rattle.repair.specs.declared.Mended.the-variants.{Repaired, Beyond}
 use Rattle.repair.specs.Promise.{distance, half, Promised}

@@ -2,7 +2,7 @@
 ghost use mathlib.Core.Path.{_≡_};
 ghost use Prim.Native.Nat.{_≤_, _<_};
 ghost use lib.ListN.{length};
-ghost use Rattle.parity.specs.Word.{onto};
+ghost use Rattle.words.specs.Word.{onto};
 ghost use Rattle.repair.specs.Way.{low, tails, errorAt, errors};
 use crate::rows;
 

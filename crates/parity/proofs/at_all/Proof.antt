@@ -4,8 +4,8 @@ use Prim.Native.Nat.{_-_, _≤_}
 use native.Mathlib.Omega.{arith}
 use lib.ListN.{length, take}
 use borrow.Author.Needs.{needs}
-use Rattle.parity.specs.Word.{valuesFrom}
-use Rattle.parity.proofs.Roots.{values-none}
+use Rattle.words.specs.Word.{valuesFrom}
+use Rattle.words.proofs.Roots.{values-none}
 use Rattle.parity.proofs.Loops.{at-all-next, at-all-done}
 use Rattle.parity.proofs.at_all.Statement.{statement}
 use Rattle.parity.proofs.at_all.Tie as tie

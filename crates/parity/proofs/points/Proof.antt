@@ -6,7 +6,7 @@ use native.Mathlib.Omega.{arith}
 use lib.ListN.{length, take, length-set}
 use borrow.Author.Needs.{needs}
 use Rattle.field.specs.Field.{alpha}
-use Rattle.parity.specs.Private.{points}
+use Rattle.words.specs.Private.{points}
 use Rattle.parity.proofs.Loops.{points-next, points-done}
 use Rattle.parity.proofs.points.Statement.{statement}
 use Rattle.parity.proofs.points.Tie as tie

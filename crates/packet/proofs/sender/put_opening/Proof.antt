@@ -2,6 +2,7 @@
 use mathlib.Core.List.{[]}
 use native.Mathlib.Omega.{arith}
 use borrow.Author.Needs.{needs}
+use Rattle.packet.specs.Contents.{packetOf}
 use Rattle.packet.proofs.Sending.{head-most, laid-opening}
 use Rattle.packet.proofs.sender.put_opening.Statement.{statement}
 use Rattle.packet.proofs.sender.put_opening.Tie as tie
@@ -23,5 +24,5 @@ put-opening-spec =
     (search needs)
     (λ c.
     let a = c .before .before .before .before .before .before .before .before .before .before .before .before .before .before .args in
-    laid-opening (record { format = a .format; number = a .number; key = a .key .now; port = a .port; sequence = a .sequence; payload = [] })
+    laid-opening (packetOf (a .format) (a .number) (a .key .now) (a .port) (a .sequence) [])
     (c .before .before .before .before .before .before .before .before .before .before .put-head .ensures) (c .before .before .before .before .before .before .put-two .ensures) (c .before .before .put-two2 .ensures)))

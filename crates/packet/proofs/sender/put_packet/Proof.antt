@@ -6,7 +6,7 @@ use native.Mathlib.Omega.{arith}
 use borrow.Author.Needs.{needs}
 use lib.ListN.{length}
 use Rattle.base.specs.Written.{write}
-use Rattle.packet.specs.Contents.{Packet}
+use Rattle.packet.specs.Contents.{packetOf}
 use Rattle.packet.proofs.Sending.{opening-part, opening-short, opening-most, sent-parts}
 use Rattle.packet.proofs.sender.put_packet.Statement.{statement}
 use Rattle.packet.proofs.sender.put_packet.Tie as tie
@@ -22,7 +22,7 @@ put-packet-spec =
     (λ c.
     let o = c .before .before .put-opening in
     let s = c .before .before .before .before .before .before .before in
-    omega (arith, opening-short (record { format = s .args .format; number = s .args .number; key = s .args .key .now; port = s .args .port; sequence = s .args .sequence; payload = [] }) (o .ensures) (omega arith) (s .pre .0), o .kept .0))
+    omega (arith, opening-short (packetOf (s .args .format) (s .args .number) (s .args .key .now) (s .args .port) (s .args .sequence) []) (o .ensures) (omega arith) (s .pre .0), o .kept .0))
     (λ c κs. search needs)
     (λ c κs. search needs)
     (search needs)
@@ -30,17 +30,17 @@ put-packet-spec =
     (λ c.
     let o = c .before .before .before .before .before .before .put-opening in
     let s = c .before .before .before .before .before .before .before .before .before .before .before in
-    omega (arith, opening-short (record { format = s .args .format; number = s .args .number; key = s .args .key .now; port = s .args .port; sequence = s .args .sequence; payload = [] }) (o .ensures) (omega arith) (s .pre .0), o .kept .0))
+    omega (arith, opening-short (packetOf (s .args .format) (s .args .number) (s .args .key .now) (s .args .port) (s .args .sequence) []) (o .ensures) (omega arith) (s .pre .0), o .kept .0))
     (λ c κs.
     let o = c .before .before .before .before .before .before .before .before .before .put-opening in
     let s = c .before .before .before .before .before .before .before .before .before .before .before .before .before .before in
-    let p : Packet = record { format = s .args .format; number = s .args .number; key = s .args .key .now; port = s .args .port; sequence = s .args .sequence; payload = [] } in
+    let p = packetOf (s .args .format) (s .args .number) (s .args .key .now) (s .args .port) (s .args .sequence) [] in
     (omega (arith, ap length (opening-part p (o .ensures) (omega arith) (s .pre .0)), opening-most p (s .pre .0)), s .pre .1))
     (search needs)
     (λ c.
     let o = c .before .before .before .before .before .before .before .before .before .before .before .before .put-opening in
     let s = c .before .before .before .before .before .before .before .before .before .before .before .before .before .before .before .before .before in
-    let p : Packet = record { format = s .args .format; number = s .args .number; key = s .args .key .now; port = s .args .port; sequence = s .args .sequence; payload = s .args .payload .now } in
+    let p = packetOf (s .args .format) (s .args .number) (s .args .key .now) (s .args .port) (s .args .sequence) (s .args .payload .now) in
     let e = opening-part p (o .ensures) (omega arith) (s .pre .0) in
     c .before .before .put-frame .ensures
     ∙ ap (λ (bs : List ℕ). write bs (s .args .out .now)) (sent-parts p _ _ _ e (c .before .before .before .before .before .before .before .two .ensures) (c .before .before .before .before .before .before .before .before .check-of .ensures))))

@@ -1,6 +1,6 @@
 -- `parity::lanes::beyond` meets its contract: a step of the division, with the generator in the lanes.
 use borrow.Author.Needs.{needs}
-use Rattle.parity.specs.Lanes.{below}
+use Rattle.words.specs.Private.{below}
 use Rattle.parity.proofs.Laid.{length-below, product-turn, beyond-is}
 use Rattle.parity.proofs.lanes.beyond.Statement.{statement}
 use Rattle.parity.proofs.lanes.beyond.Tie as tie

@@ -5,10 +5,11 @@ use Prim.Native.Nat.{_-_, _%_, _≤_, _<_}
 use native.Mathlib.Omega.{arith}
 use lib.ListN.{length, drop}
 use borrow.Author.Needs.{needs}
-use Rattle.parity.specs.Word.{scale, onto}
-use Rattle.parity.specs.Lanes.{laneRoots, below, laid, fed, residue}
-use Rattle.parity.proofs.Residue.{fedAll, fed-start, fed-next, fed-done}
-use Rattle.parity.proofs.Laid.{length-laid, length-below, length-beyond, product-turn, twice-turn, pair-next, pair-fits}
+use Rattle.words.specs.Word.{scale, onto}
+use Rattle.words.specs.Private.{laneRoots, below, fed, residue}
+use Rattle.parity.specs.Lanes.{laid}
+use Rattle.words.proofs.Residue.{fedAll, fed-start, fed-next, fed-done}
+use Rattle.parity.proofs.Laid.{length-laid, length-below, length-beyond, product-turn, twice-turn, pair-next, pair-fits, next-fits, low-place, low-fits, high-place, high-fits}
 use Rattle.parity.proofs.lanes.divided.Statement.{statement}
 use Rattle.parity.proofs.lanes.divided.Tie as tie
 
@@ -22,24 +23,24 @@ pub divided-spec : {M : Type 1} → statement M
 divided-spec =
     tie.close
     (tie.spec Inv-loop μ-loop
-    (search needs)
-    (search needs)
+    (λ c κs. tt)
+    (λ c κs. (c .head .ensures .0, c .head .ensures .1))
     (λ c.
     let n = c .before .head .ensures in
     (n .1, n .2, omega arith, fed-start _ _ (n .0) (n .1) (c .begun .ensures)))
     (λ c κs. tt)
     (λ c κs. tt)
-    (search needs)
-    (search needs)
-    (search needs)
-    (search needs)
-    (search needs)
-    (search needs)
-    (search needs)
-    (search needs)
-    (search needs)
-    (omega arith)
-    (omega arith)
+    (λ c. low-fits (c .second .result))
+    (λ c. low-place (c .second .result))
+    (λ c. high-fits (c .before .second .result) (c .before .second .ensures .1))
+    (λ c. high-place (c .before .second .result) (c .before .second .ensures .1))
+    (λ c. low-fits (c .before .before .before .first .result))
+    (λ c. low-place (c .before .before .before .first .result))
+    (λ c. high-fits (c .before .before .before .before .first .result) (c .before .before .before .before .first .ensures .1))
+    (λ c. high-place (c .before .before .before .before .first .result) (c .before .before .before .before .first .ensures .1))
+    (λ c. c .before .before .before .before .before .before .before .loop-test .taken)
+    (λ c. next-fits _ _ (c .before .before .before .before .before .before .before .loop-test .taken) (c .before .before .before .before .before .before .before .before .loop .inv .2))
+    (λ c. pair-next _ _ (c .before .before .before .before .before .before .before .before .loop-test .taken) (c .before .before .before .before .before .before .before .before .before .loop .inv .1) .0)
     (λ c κs. tt)
     (λ c κs. tt)
     (λ c κs. tt)

@@ -1,6 +1,6 @@
 -- `parity::lanes::double_eight` meets its contract, by the law of bytes doubled; its masks are computed.
 use Prim.Native.Nat.{_/_}
-use Rattle.parity.proofs.Packed.{size, lows, ones, low-fits, high-fits, bytes-double}
+use Rattle.words.proofs.Packed.{size, lows, ones, low-fits, high-fits, bytes-double}
 use Rattle.parity.proofs.lanes.double_eight.Statement.{statement}
 use Rattle.parity.proofs.lanes.double_eight.Tie as tie
 

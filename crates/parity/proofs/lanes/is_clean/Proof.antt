@@ -2,9 +2,9 @@
 use mathlib.Core.Path.{ap, _∙_}
 use native.Mathlib.Omega.{arith}
 use borrow.Author.Needs.{needs}
-use Rattle.parity.specs.Lanes.{laneRoots, isZero}
-use Rattle.parity.proofs.Values.{bytes-of}
-use Rattle.parity.proofs.Residue.{residue-clean}
+use Rattle.words.specs.Private.{laneRoots, isZero}
+use Rattle.words.proofs.Values.{bytes-of}
+use Rattle.words.proofs.Residue.{residue-clean}
 use Rattle.parity.proofs.lanes.is_clean.Statement.{statement}
 use Rattle.parity.proofs.lanes.is_clean.Tie as tie
 

@@ -6,7 +6,8 @@ use native.Mathlib.Omega.{arith}
 use lib.ListN.{length, take, length-set}
 use lib.Seq.{take-all}
 use borrow.Author.Needs.{needs}
-use Rattle.parity.specs.Lanes.{laneRoots, laid, residue}
+use Rattle.words.specs.Private.{laneRoots, residue}
+use Rattle.parity.specs.Lanes.{laid}
 use Rattle.parity.proofs.Laid.{length-laid, left-next, left-done}
 use Rattle.parity.proofs.lanes.left.Statement.{statement}
 use Rattle.parity.proofs.lanes.left.Tie as tie

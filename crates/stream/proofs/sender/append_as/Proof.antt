@@ -1,5 +1,6 @@
 -- `stream::sender::append_as` meets its contract.
 use borrow.Author.Needs.{needs}
+use Rattle.packet.specs.Contents.{packetOf}
 use Rattle.packet.specs.Sender.{writing}
 use Rattle.stream.proofs.Sending.{appended}
 use Rattle.stream.proofs.sender.append_as.Statement.{statement}
@@ -17,4 +18,4 @@ append-as-spec =
     (search needs)
     (λ c.
     let a = c .before .before .before .before .before .before .before .before .args in
-    appended (a .at) _ (a .out .now) (c .before .before .before .before .least .ensures) (writing (record { format = a .format; number = a .number; key = a .key .now; port = a .port; sequence = a .sequence; payload = a .payload .now })) (c .before .before .write-as .ensures)))
+    appended (a .at) _ (a .out .now) (c .before .before .before .before .least .ensures) (writing (packetOf (a .format) (a .number) (a .key .now) (a .port) (a .sequence) (a .payload .now))) (c .before .before .write-as .ensures)))

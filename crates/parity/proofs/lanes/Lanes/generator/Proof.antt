@@ -1,8 +1,9 @@
 -- `parity::lanes::Lanes::generator` meets its contract: the product of its 32 factors, computed.
 use mathlib.Core.Path.{refl}
 use Rattle.field.specs.Field.{add, double, shiftAdd, mul, pow}
-use Rattle.parity.specs.Word.{scale, onto, timesRoot, generator}
-use Rattle.parity.specs.Lanes.{bytesOf, laid}
+use Rattle.words.specs.Word.{scale, onto, timesRoot, generator}
+use Rattle.words.specs.Private.{bytesOf}
+use Rattle.parity.specs.Lanes.{laid}
 use Rattle.parity.proofs.lanes.Lanes.generator.Statement.{statement}
 use Rattle.parity.proofs.lanes.Lanes.generator.Tie as tie
 

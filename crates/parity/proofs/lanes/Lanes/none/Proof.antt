@@ -1,6 +1,7 @@
 -- `parity::lanes::Lanes::none` meets its contract: computed.
 use mathlib.Core.Path.{refl}
-use Rattle.parity.specs.Lanes.{bytesOf, laid}
+use Rattle.words.specs.Private.{bytesOf}
+use Rattle.parity.specs.Lanes.{laid}
 use Rattle.parity.proofs.lanes.Lanes.none.Statement.{statement}
 use Rattle.parity.proofs.lanes.Lanes.none.Tie as tie
 

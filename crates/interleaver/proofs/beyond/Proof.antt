@@ -1,0 +1,18 @@
+-- `interleaver::beyond` meets its contract.
+use mathlib.Core.Path.{sym, ap, _∙_}
+use mathlib.Core.Bool.{Bool, _&&_}
+use lib.Dec.{leb}
+use borrow.Author.Tests.{le-leb, lt-leb}
+use Rattle.interleaver.specs.Running.{size}
+use Rattle.interleaver.proofs.Calling.{row-beyond}
+use Rattle.interleaver.proofs.beyond.Statement.{statement}
+use Rattle.interleaver.proofs.beyond.Tie as tie
+
+pub beyond-spec : {M : Type 1} → statement M
+beyond-spec =
+    tie.close
+    (tie.spec
+    (λ c. let a = c .before .args in sym (ap (λ (t : Bool). t && leb (size (a .depth)) (a .place)) (lt-leb 2 (a .depth) (c .if1 .taken))))
+    (λ c.
+    let a = c .before .args in
+    row-beyond (a .depth) (a .place) ∙ sym (ap (λ (t : Bool). t && leb (size (a .depth)) (a .place)) (le-leb 2 (a .depth) (c .if1 .left)))))

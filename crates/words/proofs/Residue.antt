@@ -1,0 +1,268 @@
+-- What long division by the generator leaves of bytes.
+-- fedAll, fed-start, fed-next, fed-done   the division byte by byte: its beginning, a turn of two, its end
+-- fed-twice                  two steps at once
+-- residue-value              it has the value of the bytes at every root
+-- residue-clean              of a word nothing is left exactly where it is clean
+-- residue-parity             of a message with zeros behind it the parity is left
+use mathlib.Core.Path.{_≡_, refl, sym, ap, ap₂, _∙_}
+use mathlib.Core.Bool.{Bool, true, false}
+use mathlib.Core.List.{List, [], _∷_, _++_, append-assoc, append-nil}
+use Prim.Native.Nat.{ℕ, zero, suc, _+_, _-_, _≤_, _<_}
+use native.Mathlib.Nat.{sub-zero, suc-inj}
+use native.Mathlib.Omega.{arith}
+use lib.Dec.{eqb}
+use lib.ListN.{length, take, drop, getD, replicate, length-append, length-replicate}
+use lib.Seq.{drop-cons, take-suc}
+use borrow.Author.Tests.{eqb-true}
+use Rattle.base.specs.Bytes.{IsByte, Bytes}
+use Rattle.base.proofs.Bytes.{each-append, each-replicate}
+use Rattle.base.proofs.Lists.{next, over}
+use Rattle.base.proofs.Tests.{and-parts}
+use Rattle.field.specs.Field.{alpha, add, mul, pow}
+use Rattle.field.proofs.Sum.{zero-add}
+use Rattle.field.proofs.Product.{add-mul, mul-add, mul-assoc, mul-zero, zero-mul}
+use Rattle.words.specs.Word.{horner, eval, valuesFrom, scale, onto, generator, divide, remainder, clean}
+use Rattle.words.specs.Private.{laneRoots, below, fed, residue, isZero}
+use Rattle.words.proofs.Sums.{length-scale, length-onto, onto-assoc, onto-comm, onto-append, zeros-onto, product, length-product}
+use Rattle.words.proofs.Values.{horner-append, eval-add, eval-zeros, eval-product}
+use Rattle.words.proofs.Generator.{length-generator, generator-monic, generator-root}
+use Rattle.words.proofs.Division.{divide-step, quotient, length-divide, bytes-divide, length-quotient, bytes-quotient, divide-whole}
+use Rattle.words.proofs.Clean.{roots-clean, clean-roots, zeros}
+
+-- ---- a byte at a time
+-- the bytes one after the other
+unfoldable pub fedAll : List ℕ → List ℕ → List ℕ → List ℕ
+fedAll g xs [] = xs
+fedAll g xs (b ∷ bs) = fedAll g (fed g xs b) bs
+
+pub length-fed : (g xs : List ℕ) (x : ℕ) → length xs ≡ length g → 0 < length g → length (fed g xs x) ≡ length g
+unfolding fed
+length-fed g [] x l h = absurd (omega arith)
+length-fed g (c ∷ xs) x l h = length-onto (scale c g) (xs ++ x ∷ []) ∙ length-append xs (x ∷ []) ∙ omega arith
+
+fed-front : (g : List ℕ) (c : ℕ) (xs : List ℕ) (b : ℕ) (w : List ℕ) → suc (length xs) ≡ length g → fed g (c ∷ xs) b ++ w ≡ onto (scale c g) (xs ++ b ∷ w)
+unfolding fed onto
+fed-front g c xs b w l =
+    sym
+    (ap₂ onto (sym (append-nil (scale c g))) (sym (append-assoc xs (b ∷ []) w))
+    ∙ onto-append (scale c g) [] (xs ++ b ∷ []) w (length-scale c g ∙ sym l ∙ sym (length-append xs (b ∷ []) ∙ omega arith)))
+
+fed-divide : (g xs w : List ℕ) → length xs ≡ length g → 0 < length g → fedAll g xs w ≡ divide (length w) (1 ∷ g) (xs ++ w)
+unfolding fedAll divide
+fed-divide g xs [] l h = sym (append-nil xs)
+fed-divide g [] (b ∷ w) l h = absurd (omega arith)
+fed-divide g (c ∷ xs) (b ∷ w) l h =
+    fed-divide g (fed g (c ∷ xs) b) w (length-fed g (c ∷ xs) b l h) h
+    ∙ ap (divide (length w) (1 ∷ g)) (fed-front g c xs b w l)
+    ∙ sym (divide-step (length w) c g (xs ++ b ∷ w))
+
+-- a zero that goes takes nothing away ..
+pub scale-zero : (g : List ℕ) → scale 0 g ≡ replicate (length g) 0
+unfolding scale
+scale-zero [] = refl
+scale-zero (x ∷ g) = ap₂ _∷_ (zero-mul x) (scale-zero g)
+
+fed-zero : (g xs : List ℕ) (x : ℕ) → fed g (0 ∷ xs) x ≡ xs ++ x ∷ []
+unfolding fed
+fed-zero g xs x = ap (λ (z : List ℕ). onto z (xs ++ x ∷ [])) (scale-zero g) ∙ zeros-onto (length g) (xs ++ x ∷ [])
+
+-- .. so that the first n of k bytes are only laid down
+pub fed-begun : (g : List ℕ) (k n : ℕ) (w : List ℕ) → n ≤ k → n ≤ length w → fedAll g (replicate (k - n) 0 ++ take n w) (drop n w) ≡ fedAll g (replicate k 0) w
+unfolding fedAll
+fed-begun g k zero w h l = ap (λ (xs : List ℕ). fedAll g xs w) (append-nil (replicate (k - 0) 0) ∙ ap (λ (n : ℕ). replicate n 0) (sub-zero k))
+fed-begun g k (suc n) w h l =
+    sym
+    (sym (fed-begun g k n w (omega arith) (omega arith))
+    ∙ ap₂ (λ (m : ℕ) (v : List ℕ). fedAll g (replicate m 0 ++ take n w) v) more (drop-cons w n 0 l)
+    ∙ ap (λ (xs : List ℕ). fedAll g xs (drop (suc n) w)) (fed-zero g (replicate (k - suc n) 0 ++ take n w) (getD w n 0))
+    ∙ ap (λ (xs : List ℕ). fedAll g xs (drop (suc n) w)) (append-assoc (replicate (k - suc n) 0) (take n w) (getD w n 0 ∷ []) ∙ ap (λ (v : List ℕ). replicate (k - suc n) 0 ++ v) (sym (take-suc w n 0 l))))
+  where
+    more : k - n ≡ suc (k - suc n)
+    more = omega arith
+
+-- a turn of the loop over the bytes w, two of them, and its end
+module _ (g xs w : List ℕ) (i : ℕ) {t : List ℕ} (inv : fedAll g xs (drop i w) ≡ t) where
+  pub fed-next : i + 1 < length w → {ys : List ℕ} → ys ≡ fed g (fed g xs (getD w i 0)) (getD w (i + 1) 0) → fedAll g ys (drop (i + 2) w) ≡ t
+  unfolding fedAll
+  fed-next h e =
+      ap (λ (zs : List ℕ). fedAll g zs (drop (i + 2) w)) e
+      ∙ sym (ap (fedAll g xs) (next w i (omega arith) ∙ ap (λ (v : List ℕ). getD w i 0 ∷ v) (next w (i + 1) h ∙ ap (λ (n : ℕ). getD w (i + 1) 0 ∷ drop n w) more)))
+      ∙ inv
+    where
+      more : i + 1 + 1 ≡ i + 2
+      more = omega arith
+
+  pub fed-done : length w ≤ i → xs ≡ t
+  unfolding fedAll
+  fed-done h = ap (fedAll g xs) (sym (over w i h)) ∙ inv
+
+-- ---- two steps at once
+pub scale-add : (a b : ℕ) (g : List ℕ) → scale (add a b) g ≡ onto (scale a g) (scale b g)
+unfolding scale onto
+scale-add a b [] = refl
+scale-add a b (x ∷ g) = ap₂ _∷_ (add-mul a b x) (scale-add a b g)
+
+pub scale-scale : (a b : ℕ) (g : List ℕ) → scale a (scale b g) ≡ scale (mul a b) g
+unfolding scale
+scale-scale a b [] = refl
+scale-scale a b (x ∷ g) = ap₂ _∷_ (sym (mul-assoc a b x)) (scale-scale a b g)
+
+scale-onto : (a : ℕ) (p q : List ℕ) → length p ≡ length q → scale a (onto p q) ≡ onto (scale a p) (scale a q)
+unfolding scale onto
+scale-onto a [] [] l = refl
+scale-onto a [] (y ∷ q) l = absurd (omega arith)
+scale-onto a (x ∷ p) [] l = absurd (omega arith)
+scale-onto a (x ∷ p) (y ∷ q) l = ap₂ _∷_ (mul-add a x y) (scale-onto a p q (suc-inj l))
+
+scale-behind : (a : ℕ) (p : List ℕ) → scale a (p ++ 0 ∷ []) ≡ scale a p ++ 0 ∷ []
+unfolding scale
+scale-behind a [] = ap (λ (x : ℕ). x ∷ []) (mul-zero a)
+scale-behind a (x ∷ p) = ap (λ (l : List ℕ). mul a x ∷ l) (scale-behind a p)
+
+onto-swap : (p q s : List ℕ) → length p ≡ length q → onto p (onto q s) ≡ onto q (onto p s)
+onto-swap p q s l = sym (onto-assoc p q s (omega arith)) ∙ ap (λ (v : List ℕ). onto v s) (onto-comm p q l) ∙ onto-assoc q p s (omega arith)
+
+-- the second place's multiple of g, and the first one's of what g itself leaves a step further
+module _ (g₀ : ℕ) (g : List ℕ) (c d : ℕ) (xs : List ℕ) (x y : ℕ) (l : length xs + 1 ≡ length g) where
+  abbrev divisor : List ℕ
+  divisor = g₀ ∷ g
+
+  abbrev both : List ℕ
+  both = xs ++ x ∷ y ∷ []
+
+  behind : onto (scale c g) (xs ++ x ∷ []) ++ y ∷ [] ≡ onto (scale c (g ++ 0 ∷ [])) both
+  unfolding onto
+  behind =
+      sym
+      (ap₂ onto (scale-behind c g) (sym (append-assoc xs (x ∷ []) (y ∷ [])))
+      ∙ onto-append (scale c g) (0 ∷ []) (xs ++ x ∷ []) (y ∷ []) (omega (arith, length-scale c g, length-append xs (x ∷ [])))
+      ∙ ap (λ (z : ℕ). onto (scale c g) (xs ++ x ∷ []) ++ z ∷ []) (zero-add y))
+
+  pub fed-twice : fed divisor (fed divisor (c ∷ d ∷ xs) x) y ≡ onto (scale c (fed divisor divisor 0)) (onto (scale d divisor) both)
+  unfolding fed scale onto
+  fed-twice =
+      ap₂ onto (scale-add (mul c g₀) d divisor) behind
+      ∙ onto-assoc (scale (mul c g₀) divisor) (scale d divisor) (onto (scale c (g ++ 0 ∷ [])) both) (omega (arith, length-scale (mul c g₀) divisor, length-scale d divisor))
+      ∙ ap (onto (scale (mul c g₀) divisor)) (onto-swap (scale d divisor) (scale c (g ++ 0 ∷ [])) both (omega (arith, length-scale d divisor, length-scale c (g ++ 0 ∷ []), length-append g (0 ∷ []))))
+      ∙ sym
+      (ap (λ (v : List ℕ). onto v (onto (scale d divisor) both)) (scale-onto c (scale g₀ divisor) (g ++ 0 ∷ []) (omega (arith, length-scale g₀ divisor, length-append g (0 ∷ []))) ∙ ap (λ (v : List ℕ). onto v (scale c (g ++ 0 ∷ []))) (scale-scale c g₀ divisor))
+      ∙ onto-assoc (scale (mul c g₀) divisor) (scale c (g ++ 0 ∷ [])) (onto (scale d divisor) both) (omega (arith, length-scale (mul c g₀) divisor, length-scale c (g ++ 0 ∷ []), length-append g (0 ∷ []))))
+
+-- ---- values stay
+zeros-before : (a n : ℕ) (p : List ℕ) → eval (replicate n 0 ++ p) a ≡ eval p a
+unfolding eval
+zeros-before a n p = horner-append a 0 (replicate n 0) p ∙ ap (λ (t : ℕ). horner a t p) (eval-zeros a n)
+
+divide-value : (a n : ℕ) (g p : List ℕ) → eval (1 ∷ g) a ≡ 0 → Bytes p → length p ≡ n + length g → eval (divide n (1 ∷ g) p) a ≡ eval p a
+divide-value a n g p z b l =
+    sym
+    (ap (λ (q : List ℕ). eval q a) (sym (divide-whole n g p b l))
+    ∙ eval-add a (product q (1 ∷ g)) (replicate n 0 ++ d) same
+    ∙ ap₂ add (eval-product a q (1 ∷ g) (bytes-quotient n g p b) (omega arith) ∙ ap (mul (eval q a)) z ∙ mul-zero _) (zeros-before a n d)
+    ∙ zero-add _)
+  where
+    q : List ℕ
+    q = quotient n (1 ∷ g) p
+
+    d : List ℕ
+    d = divide n (1 ∷ g) p
+
+    same : length (product q (1 ∷ g)) ≡ length (replicate n 0 ++ d)
+    same =
+        omega (arith, length-product q (1 ∷ g) (omega arith), length-quotient n g p (omega arith), length-append (replicate n 0) d, length-replicate {A = ℕ} n 0, length-divide n g p (omega arith))
+
+-- zeros before what is divided do nothing
+divide-zeros : (k n : ℕ) (g p : List ℕ) → divide (k + n) (1 ∷ g) (replicate k 0 ++ p) ≡ divide n (1 ∷ g) p
+divide-zeros zero n g p = ap (λ (m : ℕ). divide m (1 ∷ g) p) (zero-plus n)
+  where
+    zero-plus : (n : ℕ) → 0 + n ≡ n
+    zero-plus n = omega arith
+divide-zeros (suc k) n g p =
+    ap (λ (m : ℕ). divide m (1 ∷ g) (0 ∷ replicate k 0 ++ p)) more
+    ∙ divide-step (k + n) 0 g (replicate k 0 ++ p)
+    ∙ ap (divide (k + n) (1 ∷ g)) (ap (λ (z : List ℕ). onto z (replicate k 0 ++ p)) (scale-zero g) ∙ zeros-onto (length g) (replicate k 0 ++ p))
+    ∙ divide-zeros k n g p
+  where
+    more : suc k + n ≡ suc (k + n)
+    more = omega arith
+
+-- ---- nothing left
+zero-is : (xs : List ℕ) → isZero xs ≡ true → xs ≡ replicate (length xs) 0
+unfolding isZero
+zero-is [] h = refl
+zero-is (x ∷ xs) h = let p = and-parts (eqb x 0) (isZero xs) h in ap₂ _∷_ (eqb-true x 0 (p .0)) (zero-is xs (p .1))
+
+is-zero : (n : ℕ) → isZero (replicate n 0) ≡ true
+unfolding isZero
+is-zero zero = refl
+is-zero (suc n) = is-zero n
+
+-- two tests that hold together are one
+same-test : (s t : Bool) → (s ≡ true → t ≡ true) → (t ≡ true → s ≡ true) → s ≡ t
+same-test true t f h = sym (f refl)
+same-test false true f h = h refl
+same-test false false f h = refl
+
+-- ---- by the generator
+module _ (r : ℕ) (w : List ℕ) where
+  abbrev g : List ℕ
+  g = drop 1 (generator r)
+
+  long-g : length g ≡ r
+  long-g = omega (arith, ap length (generator-monic r), length-generator r)
+
+  long : length (replicate r 0 ++ w) ≡ length w + length g
+  long = length-append (replicate r 0) w ∙ omega (arith, length-replicate {A = ℕ} r 0, long-g)
+
+  is : residue r w ≡ divide (length w) (1 ∷ g) (replicate r 0 ++ w)
+  unfolding residue
+  is = ap (λ (d : List ℕ). divide (length w) d (replicate r 0 ++ w)) (generator-monic r)
+
+  residue-fed : 0 < r → fedAll g (replicate r 0) w ≡ residue r w
+  residue-fed h = fed-divide g (replicate r 0) w (length-replicate r 0 ∙ sym long-g) (omega (arith, long-g)) ∙ sym is
+
+  pub length-residue : length (residue r w) ≡ r
+  length-residue = ap length is ∙ length-divide (length w) g (replicate r 0 ++ w) (omega (arith, long)) ∙ omega (arith, long, long-g)
+
+  module _ (b : Bytes w) where
+    bytes : Bytes (replicate r 0 ++ w)
+    bytes = each-append IsByte (replicate r 0) w (each-replicate IsByte r 0 (omega arith)) b
+
+    pub bytes-residue : Bytes (residue r w)
+    bytes-residue = rw is (bytes-divide (length w) g (replicate r 0 ++ w) bytes)
+
+    pub residue-value : (j : ℕ) → 0 < j → j ≤ r → eval (residue r w) (pow alpha j) ≡ eval w (pow alpha j)
+    residue-value j p q =
+        ap (λ (l : List ℕ). eval l (pow alpha j)) is
+        ∙ divide-value (pow alpha j) (length w) g (replicate r 0 ++ w) (ap (λ (l : List ℕ). eval l (pow alpha j)) (sym (generator-monic r)) ∙ generator-root r j p q) bytes long
+        ∙ zeros-before (pow alpha j) r w
+
+    pub residue-clean : r < 255 → isZero (residue r w) ≡ clean r w
+    residue-clean k = same-test (isZero (residue r w)) (clean r w) (λ z. roots-clean r w (λ j p q. sym (residue-value j p q) ∙ gone z j)) (λ c. ap isZero (nothing c) ∙ is-zero r)
+      where
+        gone : isZero (residue r w) ≡ true → (j : ℕ) → eval (residue r w) (pow alpha j) ≡ 0
+        gone z j = ap (λ (l : List ℕ). eval l (pow alpha j)) (zero-is (residue r w) z) ∙ eval-zeros (pow alpha j) (length (residue r w))
+
+        nothing : clean r w ≡ true → residue r w ≡ replicate r 0
+        nothing c = zeros r k (residue r w) length-residue bytes-residue (λ j p q. residue-value j p q ∙ clean-roots r w c j p q)
+
+-- the division begins with the first n bytes laid down behind zeros
+pub fed-start : (w : List ℕ) (n : ℕ) {xs : List ℕ} → n ≤ laneRoots → n ≤ length w → xs ≡ replicate (laneRoots - n) 0 ++ take n w → fedAll below xs (drop n w) ≡ residue laneRoots w
+fed-start w n h k e = ap (λ (v : List ℕ). fedAll below v (drop n w)) e ∙ fed-begun below laneRoots n w h k ∙ residue-fed laneRoots w (omega arith)
+
+-- the values at the first n roots, from any of them on
+pub residue-values : (r : ℕ) (w : List ℕ) → Bytes w → (n j : ℕ) → 0 < j → j + n ≤ suc r → valuesFrom (residue r w) j n ≡ valuesFrom w j n
+unfolding valuesFrom
+residue-values r w b zero j p q = refl
+residue-values r w b (suc n) j p q = ap₂ _∷_ (residue-value r w b j p (omega arith)) (residue-values r w b n (suc j) (omega arith) (omega arith))
+
+pub residue-parity : (r : ℕ) (m : List ℕ) → residue r (m ++ replicate r 0) ≡ remainder r m
+unfolding remainder
+residue-parity r m =
+    is r (m ++ replicate r 0)
+    ∙ ap (λ (n : ℕ). divide n (1 ∷ g r (m ++ replicate r 0)) (replicate r 0 ++ (m ++ replicate r 0))) long-m
+    ∙ divide-zeros r (length m) (g r m) (m ++ replicate r 0)
+    ∙ ap (λ (d : List ℕ). divide (length m) d (m ++ replicate r 0)) (sym (generator-monic r))
+  where
+    long-m : length (m ++ replicate r 0) ≡ r + length m
+    long-m = length-append m (replicate r 0) ∙ omega (arith, length-replicate {A = ℕ} r 0)
