@@ -1,13 +1,13 @@
 //! Cases for the comparison: how they are written, which are asked, and what the second program answers.
-//! crates/answers/src/main.rt has the form of a case and of an answer, crates/pieces/src that of an answer in pieces; crates/turns/src/main.rt
-//! what is asked of the interleaver, whose states are carried over from case to case.
+//! crates/answers/src/main.rt has the form of a case and of an answer, crates/pieces/src and crates/listings/src that of an answer in
+//! pieces; crates/turns/src/main.rt what is asked of the interleaver, whose states are carried over from case to case.
 
 use crate::interleaver::{Sender, Sides, CELLS};
-use crate::packet::{Fault, Frame, FLAG, RAW_LIMIT};
+use crate::packet::{Delivery, Fault, Frame, Packet, FLAG, RAW_LIMIT};
 use crate::parity::WORD;
 use crate::repair::altered;
 use crate::stream::Reader;
-use crate::{channel, channel_cases, fcs, listing_cases, packet, parity, repair, stream};
+use crate::{channel, channel_cases, fcs, key_cases, listing_cases, packet, parity, repair, stream};
 
 pub struct Case {
     pub asked: u8,
@@ -18,6 +18,7 @@ pub struct Case {
 
 impl Case {
     pub fn write(&self, to: &mut Vec<u8>) {
+        assert!(self.bytes.len() <= 65535, "a case is too long");
         to.push(self.asked);
         to.extend(self.number.to_le_bytes());
         to.extend(self.space.to_le_bytes());
@@ -25,10 +26,12 @@ impl Case {
         to.extend(&self.bytes);
     }
 
-    /// Which program answers it: `pieces` a stream, a channel or a recording, `turns` the interleaver, `calls` each other single call.
+    /// Which program answers it: `pieces` a stream or a channel, `listings` a recording, `turns` the interleaver, `calls` each other single
+    /// call. A letter belongs to one of them.
     pub fn kind(&self) -> &'static str {
         match self.asked {
-            b'S' | b'O' | b'L' => "pieces",
+            b'S' | b'O' => "pieces",
+            b'L' => "listings",
             b'I' | b'J' | b'Z' | b'N' | b'X' | b'V' => "turns",
             _ => "calls",
         }
@@ -41,6 +44,7 @@ impl Case {
             b'S' => self.stream_in_pieces(&mut out),
             b'O' => channel_cases::channel_in_pieces(self.number, &self.bytes, &mut out),
             b'L' => listing_cases::recording_in_pieces(self.number, &self.bytes, &mut out),
+            b'Q' => self.closed_frame(&mut out),
             _ if self.kind() == "turns" => self.turn(sides, &mut out).to_le_bytes().to_vec(),
             _ => self.number_of_call(&mut out).to_le_bytes().to_vec(),
         };
@@ -68,14 +72,26 @@ impl Case {
                 let at = out.len().min((self.number >> 32) as usize);
                 answer_in(packet::escaped_packet(low, next, &self.bytes, out.len() - at), &mut out[at..])
             }
-            b'Q' => {
-                lay(&self.bytes, out);
-                frame_number(packet::frame_call(out, self.number as usize))
+            b'k' => answer_in(key_cases::packet_in(self.number, &self.bytes).escaped(out.len()), out),
+            b'a' => {
+                let at = out.len().min((self.number >> 32) as usize);
+                answer_in(key_cases::packet_in(self.number, &self.bytes).escaped(out.len() - at), &mut out[at..])
             }
+            b'D' => part(key_cases::delivery_in(self.number).payload(&self.bytes), out),
+            b'H' => part(key_cases::delivery_in(self.number).key(&self.bytes), out),
             b'M' => answer_in(channel::marked_block(&self.bytes, out.len()), out),
-            b'N' => answer_in(channel::in_blocks(&self.bytes, out.len()), out),
+            b'R' => answer_in(channel::in_blocks(&self.bytes, out.len()), out),
             _ => 0,
         }
+    }
+
+    /// A closed frame, of raw bytes that the output holds from its start: two numbers.
+    fn closed_frame(&self, out: &mut [u8]) -> Vec<u8> {
+        lay(&self.bytes, out);
+        let result = packet::frame_call(out, self.number as usize);
+        let mut told = Vec::new();
+        push_all(&mut told, &[frame_number(result), result.map_or(0, key_numbers)]);
+        told
     }
 
     /// The interleaver: both sides as they stand behind this case.
@@ -118,7 +134,7 @@ impl Case {
             push_all(&mut told, &[taken as u64, result.map_or_else(refusal, |(answer, _)| answer.map_or(0, frame_number))]);
             match result {
                 Err(_) => break,
-                Ok((Some(Ok(packet)), _)) => told.extend(&buffer[5..5 + packet.payload_length]),
+                Ok((Some(Ok(packet)), _)) => push_delivered(&mut told, &packet, buffer),
                 Ok((Some(Err(_)), _)) => {}
                 Ok((None, _)) if end == bytes.len() => break,
                 Ok((None, _)) => {
@@ -146,6 +162,18 @@ pub fn frame_number(result: Frame) -> u64 {
     result.map_or_else(fault_number, |p| p.port as u64 | (p.sequence as u64) << 16 | (p.payload_length as u64) << 32 | 1 << 56)
 }
 
+/// What else is told of a packet: format, key number and key length.
+fn key_numbers(packet: Delivery) -> u64 {
+    packet.format as u64 | (packet.key_number as u64) << 8 | (packet.key_length as u64) << 16
+}
+
+/// The same, and key and payload.
+pub fn push_delivered(told: &mut Vec<u8>, packet: &Delivery, buffer: &[u8]) {
+    push_all(told, &[key_numbers(*packet)]);
+    told.extend(packet.key(buffer));
+    told.extend(packet.payload(buffer));
+}
+
 /// A broken escape has its place above its number.
 fn fault_number(fault: Fault) -> u64 {
     match fault {
@@ -171,6 +199,12 @@ pub fn push_all(told: &mut Vec<u8>, numbers: &[u64]) {
 fn lay(bytes: &[u8], out: &mut [u8]) {
     let n = out.len().min(bytes.len());
     out[..n].copy_from_slice(&bytes[..n]);
+}
+
+/// The length of a part that is handed out; it is laid into the output.
+fn part(bytes: &[u8], out: &mut [u8]) -> u64 {
+    lay(bytes, out);
+    bytes.len() as u64
 }
 
 /// The answer of a call that writes its result to the start of the output.
@@ -226,7 +260,8 @@ pub fn all(seed: u64) -> Vec<Case> {
     repairs(&mut random, &mut cases);
     matrices(&mut random, &mut cases);
     packets(&mut random, &mut cases);
-    frames(&mut random, &mut cases);
+    frames_of(&raws(&mut random), &mut cases);
+    key_cases::all(&mut random, &mut cases);
     streams(&mut random, &mut cases);
     broken_escapes(&mut cases);
     channel_cases::all(&mut random, &mut cases);
@@ -408,7 +443,7 @@ pub const PORTS: [u16; 21] = [
 ];
 
 /// Payloads: at the limits, full of escapes, and random ones.
-fn payloads(random: &mut Random) -> Vec<Vec<u8>> {
+pub fn payloads(random: &mut Random) -> Vec<Vec<u8>> {
     let mut all = vec![vec![], vec![0x41], vec![0x7E], vec![0x7D], vec![0x7D, 0x5E], vec![0; 8191], vec![0; 8192], vec![0; 8193]];
     all.extend([vec![0x7E; 4096], vec![0x7E; 4097], vec![0x7D; 4095], [vec![0x7D; 4095], vec![0; 2]].concat(), vec![0x7E; 9000]]);
     for _ in 0..12 {
@@ -445,25 +480,24 @@ fn packets(random: &mut Random, cases: &mut Vec<Case>) {
     }
 }
 
-/// Raw bytes of frames: right ones, damaged ones, every refusal.
+/// Raw bytes of frames in both formats: right ones, damaged ones, every refusal.
 pub fn raws(random: &mut Random) -> Vec<Vec<u8>> {
     let mut all = vec![];
     for payload in payloads(random) {
         for port in [0x5100, 0x7D80, random.next() as u16] {
-            let mut raw = packet::escape(&packet::contents(port, random.next() as u16, &payload));
-            all.push(raw.clone());
-            let mut other = packet::contents(port, 7, &payload);
-            other.truncate(other.len() - 2);
-            other[0] = 0x26;
-            other.extend(fcs::check(&other).to_le_bytes());
-            all.push(packet::escape(&other));
-            let at = random.below(raw.len());
-            raw[at] ^= 1 << random.below(8);
-            all.push(raw.clone());
-            raw.push(0x7D);
-            all.push(raw.clone());
-            raw.truncate(random.below(raw.len()));
-            all.push(raw);
+            let packet = Packet::new(port, random.next() as u16, &payload);
+            let keyed = key_cases::with_key(random, packet.clone());
+            all.extend([Packet { format: 0x27, ..packet.clone() }.raw(), Packet { format: 0x26, ..packet.clone() }.raw()]);
+            for mut raw in [packet.raw(), keyed.raw()] {
+                all.push(raw.clone());
+                let at = random.below(raw.len());
+                raw[at] ^= 1 << random.below(8);
+                all.push(raw.clone());
+                raw.push(0x7D);
+                all.push(raw.clone());
+                raw.truncate(random.below(raw.len()));
+                all.push(raw);
+            }
         }
     }
     for n in [1, 7, 8, RAW_LIMIT - 1, RAW_LIMIT, RAW_LIMIT + 1, 9000] {
@@ -476,8 +510,8 @@ pub fn raws(random: &mut Random) -> Vec<Vec<u8>> {
 }
 
 /// Closed frames, of raw counts one off and beyond their limit, in receive buffers that are long enough and not.
-fn frames(random: &mut Random, cases: &mut Vec<Case>) {
-    for bytes in raws(random) {
+pub fn frames_of(raws: &[Vec<u8>], cases: &mut Vec<Case>) {
+    for bytes in raws {
         let n = bytes.len();
         let long = n.max(RAW_LIMIT);
         for (raw, space) in [(n, long), (n + 1, long + 7), (n - n.min(1), long), (n, n.min(RAW_LIMIT - 1)), (RAW_LIMIT + 1, long), (RAW_LIMIT + 2, n)] {
@@ -520,7 +554,7 @@ fn streams(random: &mut Random, cases: &mut Vec<Case>) {
 }
 
 /// A stream to be read: the state, the length of the first piece, how the rest is cut, the receive buffer's length and the bytes.
-fn stream_case(reader: &Reader, first: usize, seed: u64, space: usize, stream: &[u8]) -> Case {
+pub fn stream_case(reader: &Reader, first: usize, seed: u64, space: usize, stream: &[u8]) -> Case {
     let mut bytes = Vec::new();
     bytes.extend((reader.broken as u16).to_le_bytes());
     bytes.extend((first as u16).to_le_bytes());

@@ -3,7 +3,8 @@
 
 use crate::cases::{self, Case, Random};
 use crate::channel::{self, Answer, Receiver, BLOCK, MARKER, MESSAGE, ROOTS};
-use crate::packet::{self, FLAG, RAW_LIMIT};
+use crate::key_cases::{self, told_length, with_key};
+use crate::packet::{self, Packet, FLAG, RAW_LIMIT};
 use crate::parity::{self, WORD};
 use crate::stream::{self, Reader};
 
@@ -59,7 +60,7 @@ pub fn channel_in_pieces(number: u64, bytes: &[u8], buffer: &mut [u8]) -> Vec<u8
         cases::push_all(&mut told, &[taken as u64, result.map_or_else(cases::refusal, |(answer, _)| answer.map_or(0, answer_number))]);
         match result {
             Err(_) => break,
-            Ok((Some(Answer::Frame(Ok(packet))), _)) => told.extend(&buffer[5..5 + packet.payload_length]),
+            Ok((Some(Answer::Frame(Ok(packet))), _)) => cases::push_delivered(&mut told, &packet, buffer),
             Ok((Some(_), _)) => {}
             Ok((None, _)) if end == stream.len() => break,
             Ok((None, _)) => {
@@ -122,13 +123,13 @@ fn senders(random: &mut Random, cases: &mut Vec<Case>) {
         let result = n.div_ceil(MESSAGE) * BLOCK;
         for bytes in [random.bytes(n), vec![FLAG; n], packets(random, n)] {
             for space in [result, result.saturating_sub(1), result + 1, result + 40, 0] {
-                cases.push(Case { asked: b'N', number: 0, space: space as u16, bytes: bytes.clone() });
+                cases.push(Case { asked: b'R', number: 0, space: space as u16, bytes: bytes.clone() });
             }
         }
     }
 }
 
-/// One packet as the stream has it, half of them full of escapes.
+/// One packet as the stream has it, half of them full of escapes, half of them for subscribers.
 pub fn packet(random: &mut Random) -> Vec<u8> {
     let n = 1 + random.below(90);
     let mut payload = random.bytes(n);
@@ -136,7 +137,8 @@ pub fn packet(random: &mut Random) -> Vec<u8> {
         payload.iter_mut().for_each(|b| *b = [0x7D, 0x7E, 0x5D, 0x5E, *b][*b as usize % 5]);
     }
     let port = if random.below(12) == 0 { 0x7E00 } else { 0x5100 + random.below(256) as u16 };
-    let mut bytes = packet::escape(&packet::contents(port, random.next() as u16, &payload));
+    let packet = Packet::new(port, random.next() as u16, &payload);
+    let mut bytes = if random.below(2) == 0 { packet.raw() } else { with_key(random, packet).raw() };
     bytes.push(FLAG);
     bytes
 }
@@ -145,8 +147,13 @@ pub fn packet(random: &mut Random) -> Vec<u8> {
 pub fn packets(random: &mut Random, n: usize) -> Vec<u8> {
     let mut bytes = vec![FLAG];
     while bytes.len() < n {
-        match random.below(14) {
+        match random.below(15) {
             0 => bytes.extend([FLAG; 3]),
+            4 => {
+                let (length, n) = (random.below(40) as u8, 3 + random.below(50));
+                bytes.extend(packet::escape(&told_length(length, 1, &random.bytes(n))));
+                bytes.push(FLAG);
+            }
             1 => bytes.extend(MARKER),
             2 => bytes.extend([0x7D, FLAG]),
             3 => {
@@ -419,10 +426,13 @@ fn buffers(random: &mut Random, runs: &mut Vec<Run>) {
 
 /// Frames of the greatest length and beyond, over many blocks: as sent, with a word repaired, and with one beyond repair.
 fn longest(random: &mut Random, runs: &mut Vec<Run>) {
-    let escaped = packet::escape(&packet::contents(0x5100, 0x7E7D, &[0x7E; 4096]));
-    let plain = packet::escape(&packet::contents(0x5101, 2, &[0x41; 8192]));
-    let beyond = packet::escape(&packet::contents(0x5102, 3, &[0x41; 8193]));
-    for frame in [escaped, plain, beyond, vec![0x41; RAW_LIMIT], vec![0x41; RAW_LIMIT + 1], vec![0x7D; 9000]] {
+    let escaped = Packet::new(0x5100, 0x7E7D, &[0x7E; 4096]);
+    let plain = Packet::new(0x5101, 2, &[0x41; 8192]);
+    let beyond = Packet::new(0x5102, 3, &[0x41; 8193]);
+    let keyed = [&escaped, &plain, &beyond].map(|packet| packet.clone().restricted(0x7E, &[0x7D; 32]).raw());
+    let greatest = key_cases::longest(0x507D, &[0x41; 8192]).raw();
+    let other = [vec![0x41; RAW_LIMIT], vec![0x41; RAW_LIMIT + 1], vec![0x7D; 9000]];
+    for frame in [vec![greatest, escaped.raw(), plain.raw(), beyond.raw()], keyed.to_vec(), other.to_vec()].concat() {
         let bytes = [&[FLAG][..], &frame, &[FLAG], &packet(random)].concat();
         for places in [0, 1, 16, 17] {
             let mut bytes = channel::in_blocks(&bytes, usize::MAX).unwrap();

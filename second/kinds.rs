@@ -9,7 +9,7 @@ const PLACES: [&str; 16] = [
     "B 1", "B 2", "B 3", "B 4", "B 5", "B 6", "B 7", "B 8", "B 9", "B 10", "B 11", "B 12", "B 13", "B 14", "B 15", "B 16",
 ];
 const DELIVERED: [&str; 3] = ["P behind B clean", "P behind B repaired", "P behind B beyond repair"];
-const REFUSALS: [&str; 8] = ["R 1", "R 2", "R 3", "R 4", "R 5", "R 6", "R 7", "R 8"];
+const REFUSALS: [&str; 9] = ["R 1", "R 2", "R 3", "R 4", "R 5", "R 6", "R 12", "R 7", "R 8"];
 const CLASSES: [&str; 5] = ["class S", "class A", "class M", "class D", "class F"];
 /// The stream limit is not among them: no test hands in 4 GiB.
 const ENDINGS: [&str; 9] = [
@@ -33,7 +33,7 @@ fn add_kinds(recording: &[u8], counts: &mut BTreeMap<String, usize>) {
     for line in text.lines() {
         match line.as_bytes()[0] {
             b'P' => kinds.extend(["P".to_string(), format!("class {}", &line[line.len() - 1..]), format!("P behind {block}")]),
-            b'R' => kinds.extend(["R".to_string(), line[..3].to_string()]),
+            b'R' => kinds.extend(["R".to_string(), line.split(' ').take(2).collect::<Vec<_>>().join(" ")]),
             b'B' => {
                 block = match line {
                     "B 0" => "B clean",

@@ -3,7 +3,7 @@
 
 use crate::channel::{BLOCK, MARKER, MESSAGE, ROOTS};
 use crate::fcs;
-use crate::packet::{self, Delivery, Fault, Frame, ESCAPE, FLAG, PAYLOAD_LIMIT, RAW_LIMIT};
+use crate::packet::{self, Delivery, Fault, Frame, ESCAPE, FLAG, FORMAT, PAYLOAD_LIMIT, RAW_LIMIT, RESTRICTED};
 use crate::parity::{self, WORD};
 use crate::repair;
 use std::io::{ErrorKind, Read, Write};
@@ -146,7 +146,7 @@ struct Page {
 impl Page {
     fn frame(&mut self, result: Frame) {
         match result {
-            Ok(Delivery { port, sequence, payload_length }) => {
+            Ok(Delivery { port, sequence, payload_length, .. }) => {
                 self.totals[0] += 1;
                 let letter = packet::class_letter(port).expect("a port that may be used");
                 self.print_line(b'P', &[port as u64, sequence as u64, payload_length as u64], &[b' ', letter]);
@@ -373,21 +373,28 @@ fn delivery_of_contents(bytes: &[u8]) -> Result<Delivery, u8> {
         return Err(4);
     }
     let (covered, check) = bytes.split_at(bytes.len() - 2);
-    let payload = &covered[5..];
-    let port = u16::from_le_bytes([bytes[1], bytes[2]]);
     if fcs::check(covered).to_le_bytes() != check {
         return Err(5);
     }
-    if bytes[0] != 0x21 {
-        return Err(6);
+    let (key_number, key_length, rest) = match *covered {
+        [FORMAT, ref rest @ ..] => (0, 0, rest),
+        [RESTRICTED, length @ 2..=32, number, ref rest @ ..] => (number, length as usize, rest.get(length as usize..).unwrap_or(&[])),
+        [RESTRICTED, ..] => return Err(12),
+        _ => return Err(6),
+    };
+    // in format 0x21 a byte of payload at least stands here
+    let [a, b, c, d, ref payload @ ..] = *rest else { return Err(12) };
+    if payload.is_empty() {
+        return Err(12);
     }
+    let (port, sequence) = (u16::from_le_bytes([a, b]), u16::from_le_bytes([c, d]));
     if packet::class_letter(port).is_none() {
         return Err(7);
     }
     if payload.len() + payload.iter().filter(|b| matches!(b, 0x7D | 0x7E)).count() > PAYLOAD_LIMIT {
         return Err(8);
     }
-    Ok(Delivery { port, sequence: u16::from_le_bytes([bytes[3], bytes[4]]), payload_length: payload.len() })
+    Ok(Delivery { format: covered[0], key_number, key_length, port, sequence, payload_length: payload.len() })
 }
 
 /// The listing of a whole recording.

@@ -1,12 +1,13 @@
 //! Recordings to be listed: clean, damaged, random and malformed ones, as files for the program and as cases for the library.
-//! crates/pieces/src/listing.rt has the form of a case and of its answer.
+//! crates/listings/src/listing.rt has the form of a case and of its answer.
 
 use crate::cases::{self, Case, Random};
 use crate::channel::{self, BLOCK, MARKER};
 use crate::channel_cases::{alter, damage, damage_all, packet, packets, sent, stray};
 use crate::listing::{Scribe, STREAM_LIMIT};
-use crate::packet::{self, FLAG, RAW_LIMIT};
-use crate::{fcs, stream};
+use crate::key_cases::{self, told_length};
+use crate::packet::{self, Packet, FLAG, RAW_LIMIT};
+use crate::stream;
 
 pub const PLAIN: u8 = 0x50;
 pub const OPPORTUNISTIC: u8 = 0x4F;
@@ -41,32 +42,33 @@ fn cut(random: &mut Random, letter: u8, stream: &[u8]) -> Vec<u8> {
     if random.below(4) == 0 { [&bytes[..], &[0xF5, 0x5F, 0, 0]].concat() } else { bytes }
 }
 
-/// A closed frame with any format byte.
-fn frame(format: u8, port: u16, sequence: u16, payload: &[u8]) -> Vec<u8> {
-    let mut bytes = packet::contents(port, sequence, payload);
-    bytes.truncate(bytes.len() - 2);
-    bytes[0] = format;
-    bytes.extend(fcs::check(&bytes).to_le_bytes());
-    let mut raw = packet::escape(&bytes);
-    raw.push(FLAG);
-    raw
+/// A packet for each edge of a class, in both formats, then a frame for each refusal.
+fn faults() -> Vec<u8> {
+    let bid = |sequence: u16| Packet::new(0x5100, sequence, b"bid");
+    let mut raws = Vec::new();
+    for (i, port) in cases::PORTS.into_iter().enumerate() {
+        let packet = Packet::new(port, 0x7D7C + i as u16, b"~}bid");
+        raws.extend([packet.raw(), packet.restricted(0x7C + i as u8, &[0x7E; 32][..2 + i]).raw()]);
+    }
+    let mut altered = [bid(1).raw(), bid(1).restricted(7, b"key").raw()];
+    altered.iter_mut().for_each(|raw| raw[7] ^= 1);
+    raws.extend(altered);
+    raws.extend([0x20, 0x27, 0x7E].map(|format| Packet { format, ..bid(2) }.raw()));
+    raws.extend([0, 1, 2, 32, 33, 255].map(|length| bid(3).restricted(7, &vec![0x41; length]).raw()));
+    raws.push(packet::escape(&told_length(2, 7, b"ke\x00\x51\x00\x00")));
+    raws.extend([&[0x21][..], &[0x21, 0x7D], &[0x7D, 0x21], &[]].map(<[u8]>::to_vec));
+    raws.push(vec![0x41; RAW_LIMIT + 1]);
+    between_flags(&raws)
 }
 
-/// A packet for each edge of a class, then a frame for each refusal.
-fn faults() -> Vec<u8> {
-    let mut bytes = vec![FLAG];
-    for (i, port) in cases::PORTS.into_iter().enumerate() {
-        bytes.extend(frame(0x21, port, 0x7D7C + i as u16, b"~}bid"));
-    }
-    let mut altered = frame(0x21, 0x5100, 1, b"bid");
-    altered[7] ^= 1;
-    bytes.extend(altered);
-    bytes.extend(frame(0x26, 0x5100, 2, b"bid"));
-    bytes.extend([0x21, FLAG, 0x21, 0x7D, FLAG, 0x7D, 0x21, FLAG, FLAG]);
-    bytes.extend(frame(0x21, 0x5100, 0, &[0x41; 8193]));
-    bytes.extend([0x41; RAW_LIMIT + 1]);
-    bytes.push(FLAG);
-    bytes
+/// The greatest frame that is delivered, and a payload that is too long in each format.
+fn long_faults() -> Vec<u8> {
+    let long = Packet::new(0x5100, 0, &[0x41; 8193]);
+    between_flags(&[key_cases::longest(0x507D, &[0x41; 8192]).raw(), long.raw(), long.restricted(7, b"key").raw()])
+}
+
+fn between_flags(raws: &[Vec<u8>]) -> Vec<u8> {
+    [&[FLAG][..], &raws.join(&FLAG), &[FLAG]].concat()
 }
 
 /// Clean packets, n bytes at least.
@@ -173,9 +175,10 @@ pub fn small(seed: u64) -> Vec<Named> {
         bytes[at] ^= 0x0A;
         all.push((format!("paper-wrong-{at:02}"), bytes));
     }
-    let faults = faults();
-    all.push(("faults-plain".to_string(), cut(&mut random, PLAIN, &faults)));
-    all.push(("faults-channel".to_string(), cut(&mut random, OPPORTUNISTIC, &channel::in_blocks(&faults, usize::MAX).unwrap())));
+    for (name, faults) in [("faults", faults()), ("long", long_faults())] {
+        all.push((format!("{name}-plain"), cut(&mut random, PLAIN, &faults)));
+        all.push((format!("{name}-channel"), cut(&mut random, OPPORTUNISTIC, &channel::in_blocks(&faults, usize::MAX).unwrap())));
+    }
     for places in 0..=20 {
         let stream = altered(&mut random, places);
         all.push((format!("altered-{places:02}"), cut(&mut random, OPPORTUNISTIC, &stream)));
@@ -223,7 +226,7 @@ pub fn steady(letter: u8, length: usize) -> Vec<u8> {
 }
 
 /// Where a recording may stand at first (bytes read, stream bytes, each total): fresh; near the stream's limit; with the offset, or the
-/// totals, near their width. crates/pieces/src/listing.rt has the same.
+/// totals, near their width. crates/listings/src/listing.rt has the same.
 const STARTS: [[u64; 3]; 4] = [[0, 0, 0], [0, STREAM_LIMIT - 300, 0], [u64::MAX - 300, 0, 0], [0, 0, u64::MAX - 140]];
 
 /// A recording to be listed by calls: how it is cut, the receive buffer, where it stands at first, the space for lines.
@@ -332,7 +335,8 @@ pub fn all(random: &mut Random, cases: &mut Vec<Case>) {
         run.start = if random.below(3) == 0 { random.below(4) } else { 0 };
         runs.push(run);
     }
-    for stream in [faults(), channel::in_blocks(&faults(), usize::MAX).unwrap()] {
+    let [marked, long_marked] = [faults(), long_faults()].map(|faults| channel::in_blocks(&faults, usize::MAX).unwrap());
+    for stream in [faults(), marked, long_faults(), long_marked] {
         let letter = if stream[0] == FLAG { PLAIN } else { OPPORTUNISTIC };
         for (space, seed) in [(128, 0), (128, 5), (135, 9), (200, 6), (1000, 7)] {
             for start in 0..STARTS.len() {

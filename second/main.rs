@@ -16,8 +16,9 @@
 //!   second steady plain|marked MIB
 //!                            a clean recording to be timed, to standard output
 //!   second samples DIR       the recordings of samples/ with their listings
-//!   second cases calls|pieces|turns [SEED]
-//!                            cases for the proved code, to standard output: single calls, what is read in pieces, or the interleaver
+//!   second cases calls|turns|pieces|listings [SEED]
+//!                            cases for the proved code, to standard output: single calls, the interleaver, what is read in pieces, or
+//!                            recordings
 //!   second words R PLACES N  N cases for repair: words altered in so many places
 //!   second time N M          times of N words made and checked, and of M words of each kind repaired (time.rs)
 //!   second compare CASES ANSWERS ..
@@ -29,6 +30,7 @@ mod channel;
 mod channel_cases;
 mod fcs;
 mod interleaver;
+mod key_cases;
 mod kinds;
 mod listing;
 mod listing_cases;
@@ -61,8 +63,8 @@ fn main() {
         ["recordings", dir, seed] => number(seed).map(|seed| write_recordings(dir, seed)),
         ["steady", kind, mib] => first_byte(kind).zip(number(mib)).map(|(letter, mib)| write_steady(letter, mib)),
         ["samples", dir] => Some(samples::write(dir).expect(dir)),
-        ["cases", kind @ ("calls" | "pieces" | "turns")] => Some(write_cases(kind, 1)),
-        ["cases", kind @ ("calls" | "pieces" | "turns"), seed] => number(seed).map(|seed| write_cases(kind, seed)),
+        ["cases", kind] if KINDS.contains(&kind) => Some(write_cases(kind, 1)),
+        ["cases", kind, seed] if KINDS.contains(&kind) => number(seed).map(|seed| write_cases(kind, seed)),
         ["words", r, places, n] => three(r, places, n).map(|(r, places, n)| write(cases::altered_words(r, places, n))),
         ["time", n, m] => number(n).zip(number(m)).map(|(n, m)| time::run(n as usize, m as usize)),
         ["compare", _, _, ref more @ ..] if more.len() % 2 == 0 => std::process::exit(compare(&words[1..])),
@@ -70,7 +72,7 @@ fn main() {
     };
     if done.is_none() {
         eprintln!("usage: second fcs HEX | parity R HEX | word R HEX | repair R HEX | interleave push|pull DEPTH | list | kinds FILE..");
-        eprintln!("  | recordings DIR [SEED] | steady plain|marked MIB | samples DIR | cases calls|pieces|turns [SEED] | compare CASES ANSWERS .. | test [SEED] | words R PLACES N | time N M");
+        eprintln!("  | recordings DIR [SEED] | steady plain|marked MIB | samples DIR | cases calls|turns|pieces|listings [SEED] | compare CASES ANSWERS .. | test [SEED] | words R PLACES N | time N M");
         std::process::exit(2);
     }
 }
@@ -149,6 +151,9 @@ fn write_steady(letter: u8, mib: u64) {
     let bytes = listing_cases::steady(letter, (mib as usize) << 20);
     std::io::stdout().write_all(&bytes).expect("standard output");
 }
+
+/// The programs that answer cases, `answers` the single calls.
+const KINDS: [&str; 4] = ["calls", "turns", "pieces", "listings"];
 
 fn write_cases(kind: &str, seed: u64) {
     write(cases::all(seed).into_iter().filter(|case| case.kind() == kind).collect());

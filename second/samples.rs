@@ -1,10 +1,10 @@
-//! The recordings of samples/: a morning of bids on the opportunistic channel, the same morning damaged on the way, the same in the plain
-//! stream with two escapes broken, and a recording that breaks off.
+//! The recordings of samples/: a morning of bids on the opportunistic channel, the same morning damaged on the way, the same with some bids
+//! for subscribers only, the same in the plain stream with two escapes broken, and a recording that breaks off.
 
 use crate::channel::{self, BLOCK};
 use crate::listing;
 use crate::listing_cases::{recorded, OPPORTUNISTIC, PLAIN};
-use crate::packet::{self, FLAG};
+use crate::packet::{self, Packet, FLAG};
 
 /// Port, sequence and text: bids on ports for applications, between them the station's own packets.
 const MORNING: [(u16, u16, &str); 13] = [
@@ -31,8 +31,28 @@ fn stream() -> Vec<u8> {
     bytes
 }
 
+/// The keys of a month, each with its number: of the least length, of the greatest, full of escapes, and one between.
+const KEYS: [(u8, &[u8]); 4] = [(7, &[0xAA, 0xBB]), (8, b"SUBSCRIBERS OF YARD 6 AND YARD 9"), (0x7E, &[0x7D, 0x7E, 0x7D, 0x7E]), (0, b"OATS AND RYE")];
+
+/// The same morning; what stands on ports 0x1401 to 0x1404 is for subscribers, each port with a key of its own. The bid on the last of these
+/// comes twice, at first from a sender that keeps a single byte of the key.
+fn restricted_stream() -> Vec<u8> {
+    let mut bytes = vec![FLAG];
+    for (port, sequence, text) in MORNING {
+        let mut packet = Packet::new(port, sequence, text.as_bytes());
+        if let Some((number, key)) = KEYS.get(port.wrapping_sub(0x1401) as usize) {
+            packet = packet.restricted(*number, key);
+            if *number == 0 {
+                bytes.extend([&packet.clone().restricted(0, &key[..1]).raw()[..], &[FLAG]].concat());
+            }
+        }
+        bytes.extend(packet.escaped(usize::MAX).unwrap());
+    }
+    bytes
+}
+
 /// Each recording by name.
-fn all() -> [(&'static str, Vec<u8>); 4] {
+fn all() -> [(&'static str, Vec<u8>); 5] {
     let clean = channel::in_blocks(&stream(), usize::MAX).unwrap();
     let mut damaged = clean.clone();
     // twenty bytes around the first price, beyond repair; two digits of the last price, repaired; a marker that is lost
@@ -51,6 +71,7 @@ fn all() -> [(&'static str, Vec<u8>); 4] {
     [
         ("morning", recorded(OPPORTUNISTIC, &clean, || 96)),
         ("morning-damaged", recorded(OPPORTUNISTIC, &damaged, || 96)),
+        ("morning-restricted", recorded(OPPORTUNISTIC, &channel::in_blocks(&restricted_stream(), usize::MAX).unwrap(), || 96)),
         ("morning-escapes", recorded(PLAIN, &escapes, || 250)),
         ("malformed", malformed),
     ]

@@ -7,7 +7,8 @@ use crate::channel_cases::alter;
 use crate::interleaver::{self, Receiver as Back, Sender};
 use crate::listing::Scribe;
 use crate::listing_cases::{any, recorded, small, OPPORTUNISTIC, PAPER, PLAIN};
-use crate::packet::{self, Fault, ESCAPE, FLAG, RAW_LIMIT};
+use crate::key_cases::{self, checked, told_length, with_check, with_key};
+use crate::packet::{self, Fault, Packet, ESCAPE, FLAG, FORMAT, RAW_LIMIT, RESTRICTED};
 use crate::parity::{self, WORD};
 use crate::stream::{self, Reader};
 use crate::{fcs, listing, repair};
@@ -16,6 +17,8 @@ pub fn run(seed: u64) {
     let mut random = Random::new(seed);
     numbers();
     edges();
+    keys();
+    longest_frames();
     places();
     slips();
     println!("the paper's numbers, its case, edges and slips: held");
@@ -113,8 +116,8 @@ fn edges() {
         assert_eq!(read(&raw), if passes { Ok(payload.len()) } else { Err(8) });
     }
     assert_eq!(sent(&[]), Err(20));
-    assert_eq!(read(&[0x41; 8205]), Err(5));
-    assert_eq!(read(&[0x41; 8206]), Err(1));
+    assert_eq!(read(&[0x41; 8272]), Err(5));
+    assert_eq!(read(&[0x41; 8273]), Err(1));
     for b in (0..=255).filter(|b| *b != FLAG) {
         assert_eq!(read(&[ESCAPE, b, 0x21]), if b == 0x5E || b == 0x5D { Err(4) } else { Err(3) });
     }
@@ -133,6 +136,78 @@ fn edges() {
     }
     assert_eq!(near_stream_limit(&[0x50, 0xF5, 0x5F, 3, 0, 0x7E, 0x00, 0x7E]), b"R 4\nE 4294967295 0 1 0 0\n");
     assert_eq!(near_stream_limit(&[0x50, 0xF5, 0x5F, 5, 0, 0x7E, 0x00, 0x7E, 0x00, 0x7E]), b"R 4\nX 8\n");
+}
+
+/// Format 0x26: a packet written by hand, every length of a key on writing and on reading, and 12 and 24 in their order.
+fn keys() {
+    let hand = Packet::new(0x1234, 0x0102, b"A").restricted(0x07, &[0xAA, 0xBB]);
+    assert_eq!(hand.contents(), [0x26, 0x02, 0x07, 0xAA, 0xBB, 0x34, 0x12, 0x02, 0x01, 0x41, 0x8E, 0x3F]);
+    let mut buffer = hand.contents();
+    let delivered = packet::closing_flag(&mut buffer, 12).unwrap();
+    assert_eq!((delivered.packet(&buffer), delivered.key(&buffer), delivered.payload(&buffer)), (hand.clone(), &[0xAA, 0xBB][..], &b"A"[..]));
+    assert_eq!([delivered.key(&buffer[..4]), delivered.payload(&buffer[..9])], [&[][..]; 2]);
+    for length in 0..=300 {
+        let packet = hand.clone().restricted(0x7E, &vec![0x7D; length]);
+        let passes = (2..=32).contains(&length);
+        assert_eq!(packet.escaped(999).err(), if passes { None } else { Some(24) });
+        assert_eq!(Packet { format: FORMAT, key_number: 0, ..packet.clone() }.escaped(999).err(), if length == 0 { None } else { Some(24) });
+        if length < 256 {
+            assert_eq!(read(&packet.raw()), if passes { Ok(1) } else { Err(12) });
+            for behind in 5..9 {
+                let contents = told_length(length as u8, 9, &vec![0x14; length + behind - 2]);
+                let told = if passes && behind > 6 { Ok(behind - 6) } else { Err(12) };
+                assert_eq!(read(&packet::escape(&contents)), told);
+            }
+        }
+    }
+    for format in (0..=255).filter(|format| ![FORMAT, RESTRICTED].contains(format)) {
+        assert_eq!(Packet { format, key_number: 0, key: vec![], ..hand.clone() }.escaped(99), Err(24));
+        assert_eq!(Packet { format, ..hand.clone() }.escaped(99), Err(24));
+        assert_eq!(read(&Packet { format, ..hand.clone() }.raw()), Err(6));
+    }
+    for (key_number, format, passes) in [(0, FORMAT, true), (1, FORMAT, false), (255, FORMAT, false), (0, RESTRICTED, true), (255, RESTRICTED, true)] {
+        let key = if format == FORMAT { vec![] } else { hand.key.clone() };
+        assert_eq!(Packet { format, key_number, key, ..hand.clone() }.escaped(99).err(), if passes { None } else { Some(24) });
+    }
+    orders(&hand);
+}
+
+/// One fault after the other taken away from a packet: what is told is the first that is left.
+fn orders(hand: &Packet) {
+    let wrong = Packet { key: vec![1], port: 0x7D00, payload: vec![], ..hand.clone() };
+    let long = Packet { payload: vec![0x41; 8193], ..wrong.clone() };
+    let barred = Packet { payload: vec![0x41], ..wrong.clone() };
+    let keyless = Packet { port: 0x5100, ..barred.clone() };
+    assert_eq!([&wrong, &long, &barred, &keyless, hand].map(|packet| packet.escaped(0)), [Err(20), Err(21), Err(22), Err(24), Err(23)]);
+    // reading: check, format, key, port, payload
+    let mut all = [&[0x27, 33, 9][..], &[0x14; 32], &[0x7E; 2], &[0x41; 2 + 8193]].concat();
+    assert_eq!(read(&packet::escape(&[&all[..], &[0, 0]].concat())), Err(5));
+    for (at, right, number) in [(0, 0x27, 6), (0, 0x26, 12), (1, 32, 7)] {
+        all[at] = right;
+        assert_eq!(read(&packet::escape(&checked(all.clone()))), Err(number));
+    }
+    all[36] = 0x14;
+    assert_eq!(read(&packet::escape(&checked(all.clone()))), Err(8));
+    all.pop();
+    assert_eq!(read(&packet::escape(&checked(all))), Ok(8192));
+}
+
+/// The greatest frames: 8,271 raw bytes are delivered in format 0x26 and 8,204 in 0x21; a byte more only where the port is barred.
+fn longest_frames() {
+    for payload in [vec![0x41; 8192], [vec![0x7E; 4095], vec![0x41; 2]].concat()] {
+        for (port, barred) in [(0x507D, 0), (0x7D7D, 1)] {
+            let told = if barred == 0 { Ok(payload.len()) } else { Err(7) };
+            let keyed = key_cases::longest(port, &payload).raw();
+            assert_eq!((keyed.len(), read(&keyed)), (8271 + barred, told));
+            let plain = with_check(Packet::new(port, 0x7E7D, &payload), [0x7D, 0x7D]).raw();
+            assert_eq!((plain.len(), read(&plain)), (8204 + barred, told));
+        }
+    }
+    // in format 0x21 only a payload that is too long has more than 8,205 raw bytes, and is told so up to 8,272
+    for (n, number) in [(8206, 8), (8271, 8), (8272, 8), (8273, 1)] {
+        let raw = Packet::new(0x5100, 0, &vec![0x41; n - 7]).raw();
+        assert_eq!((raw.len(), read(&raw)), (n, Err(number)));
+    }
 }
 
 /// The listing where the stream may have three bytes more.
@@ -234,7 +309,7 @@ fn both_deliveries(raw: &[u8]) -> packet::Frame {
 
 /// Frames as sent, damaged, too long and at random: every refusal and a delivery are among them.
 fn frames(random: &mut Random) -> usize {
-    let mut given = [0; 9];
+    let mut given = [0; 13];
     for mut raw in cases::raws(random) {
         for _ in 0..3 {
             if !raw.is_empty() {
@@ -244,7 +319,7 @@ fn frames(random: &mut Random) -> usize {
             }
         }
     }
-    assert!(!given.contains(&0));
+    assert!([0, 1, 2, 3, 4, 5, 6, 7, 8, 12].iter().all(|number| given[*number] > 0));
     given.iter().sum()
 }
 
@@ -340,16 +415,19 @@ impl Plain {
     }
 }
 
-/// Packets sent in blocks, up to sixteen bytes of each word altered, read in odd pieces: just what was sent is delivered.
+/// Packets of both formats sent in blocks, up to sixteen bytes of each word altered, read in odd pieces: just what was sent is delivered.
 fn deliveries(random: &mut Random) -> usize {
     let mut packets = Vec::new();
     let mut stream = vec![FLAG];
     while packets.len() < 200 {
         let n = 1 + random.below(300);
-        let (port, sequence, payload) = (random.next() as u16, random.next() as u16, random.bytes(n));
-        if let Ok(bytes) = packet::escaped_packet(port, sequence, &payload, usize::MAX) {
+        let mut packet = Packet::new(random.next() as u16, random.next() as u16, &random.bytes(n));
+        if random.below(2) == 0 {
+            packet = with_key(random, packet);
+        }
+        if let Ok(bytes) = packet.escaped(usize::MAX) {
             stream.extend(bytes);
-            packets.push((port, sequence, payload));
+            packets.push(packet);
         }
     }
     let mut blocks = channel::in_blocks(&stream, usize::MAX).unwrap();
@@ -361,14 +439,14 @@ fn deliveries(random: &mut Random) -> usize {
     packets.len()
 }
 
-fn delivered(blocks: &[u8], mut seed: u64) -> Vec<(u16, u16, Vec<u8>)> {
+fn delivered(blocks: &[u8], mut seed: u64) -> Vec<Packet> {
     let (mut receiver, mut buffer, mut word) = (Receiver::new(), vec![0; RAW_LIMIT], vec![0; WORD]);
     let (mut at, mut end, mut packets) = (0, 0, Vec::new());
     loop {
         let (answer, taken) = receiver.call(&mut buffer, &mut word, &blocks[at..end]).expect("buffers that pass");
         at += taken;
         match answer {
-            Some(Answer::Frame(Ok(p))) => packets.push((p.port, p.sequence, buffer[5..5 + p.payload_length].to_vec())),
+            Some(Answer::Frame(Ok(p))) => packets.push(p.packet(&buffer)),
             Some(_) => {}
             None if end == blocks.len() => return packets,
             None => {

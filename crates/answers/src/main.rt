@@ -2,12 +2,13 @@
 //! for one call; crates/pieces has those that ask for many, and crates/turns those of the interleaver.
 //!
 //! A case: what is asked (a letter), a number (8 bytes), how many bytes are lent as output and how many follow (2 bytes each),
-//! and those that follow. An answer: a number (8 bytes), and all bytes of the output. Numbers stand low byte first; the output
-//! is lent filled with 0xA5; a refusal n is told as 65,536 + n.
+//! and those that follow. An answer: a number (8 bytes; two of a closed frame), and all bytes of the output. Numbers stand low byte
+//! first; the output is lent filled with 0xA5; a refusal n is told as 65,536 + n.
 use base::Refusal;
 use base::Written;
 use fcs::Register;
 use packet::Class;
+use packet::Delivery;
 use packet::Judged;
 use parity::Checked;
 use repair::Mended;
@@ -32,6 +33,11 @@ fn answer(bytes: &mut [u8], out: &mut [u8]) -> bool {
     if io::read_full(0, &mut head) != HEAD {
         return false;
     }
+    behind(head, bytes, out)
+}
+
+// Reads what stands behind a head.
+fn behind(head: [u8; 13], bytes: &mut [u8], out: &mut [u8]) -> bool {
     let room = pair(head[9], head[10]);
     let n = pair(head[11], head[12]);
     follow(head[0], number(head), room, n, bytes, out)
@@ -119,9 +125,123 @@ fn tell(asked: u8, number: u64, bytes: &[u8], out: &mut [u8]) -> u64 {
         b'A' => appended(number, bytes, out),
         b'Q' => closed(number as usize, bytes, out),
         b'M' => written(channel::mark(bytes, out)),
-        b'N' => written(channel::send(bytes, out)),
+        b'R' => written(channel::send(bytes, out)),
+        _ => tell_keyed(asked, number, bytes, out),
+    }
+}
+
+// Packets of either format, and the parts of one that are handed out.
+fn tell_keyed(asked: u8, number: u64, bytes: &[u8], out: &mut [u8]) -> u64 {
+    match asked {
+        b'k' => keyed(number, bytes, out),
+        b'a' => keyed_at(number, bytes, out),
+        b'D' => part(stream::payload(bytes, delivery(number)), out),
+        b'H' => part(stream::key(bytes, delivery(number)), out),
         _ => 0,
     }
+}
+
+// A packet written. Port and sequence are the number's; the bytes begin with format, key number and, in 16 bits, the key's length, and
+// key and payload follow.
+fn keyed(number: u64, bytes: &[u8], out: &mut [u8]) -> u64 {
+    if bytes.len() < 4 {
+        return 0;
+    }
+    let n = pair(bytes[2], bytes[3]);
+    write_parts(
+        bytes[0],
+        bytes[1],
+        n,
+        half(number),
+        half(number / 0x10000),
+        &bytes[4..],
+        out,
+    )
+}
+
+fn write_parts(
+    format: u8,
+    number: u8,
+    n: usize,
+    port: u16,
+    sequence: u16,
+    bytes: &[u8],
+    out: &mut [u8],
+) -> u64 {
+    if bytes.len() < n {
+        return 0;
+    }
+    written(packet::write_as(
+        format,
+        number,
+        &bytes[0..n],
+        port,
+        sequence,
+        &bytes[n..],
+        out,
+    ))
+}
+
+// The same appended, at the place that the number has above port and sequence.
+fn keyed_at(number: u64, bytes: &[u8], out: &mut [u8]) -> u64 {
+    if bytes.len() < 4 {
+        return 0;
+    }
+    let n = pair(bytes[2], bytes[3]);
+    let at = (number / 0x100000000) as usize;
+    append_parts(
+        at,
+        bytes[0],
+        bytes[1],
+        n,
+        half(number),
+        half(number / 0x10000),
+        &bytes[4..],
+        out,
+    )
+}
+
+fn append_parts(
+    at: usize,
+    format: u8,
+    number: u8,
+    n: usize,
+    port: u16,
+    sequence: u16,
+    bytes: &[u8],
+    out: &mut [u8],
+) -> u64 {
+    if bytes.len() < n {
+        return 0;
+    }
+    written(stream::append_as(
+        out,
+        at,
+        format,
+        number,
+        &bytes[0..n],
+        port,
+        sequence,
+        &bytes[n..],
+    ))
+}
+
+// What is told of a packet: key length, format, and the payload's length above them.
+fn delivery(number: u64) -> Delivery {
+    Delivery {
+        format: low(number / 0x100),
+        number: 0,
+        key: low(number),
+        port: 0,
+        sequence: 0,
+        length: (number / 0x10000) as usize,
+    }
+}
+
+// The length of a part, which is copied to the output.
+fn part(bytes: &[u8], out: &mut [u8]) -> u64 {
+    base::copy(bytes, out);
+    bytes.len() as u64
 }
 
 // A packet appended: port, sequence, and the place in 32 bits.
@@ -130,10 +250,12 @@ fn appended(number: u64, bytes: &[u8], out: &mut [u8]) -> u64 {
     written(stream::append(out, at, half(number), half(number / 0x10000), bytes))
 }
 
-// A closed frame, of raw bytes that the output holds from its start.
+// A closed frame, of raw bytes that the output holds from its start: what it is judged to be, and its format and key.
 fn closed(raw: usize, bytes: &[u8], out: &mut [u8]) -> u64 {
     base::copy(bytes, out);
-    judged(packet::judge(out, raw))
+    let j = packet::judge(out, raw);
+    print(judged(j));
+    kind(j)
 }
 
 fn written(w: Written) -> u64 {
@@ -181,6 +303,19 @@ fn judged(j: Judged) -> u64 {
 
 fn sum(port: u64, sequence: u64, length: u64) -> u64 {
     port | sequence << 16 | length << 32 | 1 << 56
+}
+
+// A packet's format, key number and key length.
+fn kind(j: Judged) -> u64 {
+    match j {
+        Judged::Packet(d) => kind_sum(d.format as u64, d.number as u64, d.key as u64),
+        Judged::Refused(_) => 0,
+        Judged::Broken(_) => 0,
+    }
+}
+
+fn kind_sum(format: u64, number: u64, key: u64) -> u64 {
+    format | number << 8 | key << 16
 }
 
 fn refused(n: u8) -> u64 {

@@ -1,11 +1,13 @@
 //! A channel heard in pieces. The number of the case is as for a stream (reading.rt). Its bytes begin with a head: whether the
 //! receiver is locked, its four hunted bytes, then in 16 bits each the counts of word, handed on and marker, the length of the first
-//! piece, that of the word buffer, and the remembered place. The word buffer's bytes follow, then those to be heard; the output is the receive buffer. Each
-//! call is told as the bytes taken and its answer (0: more wanted, 1: clean, 2: beyond repair, 3: lock lost, 256 + n: repaired in n
-//! places), a delivered payload behind it; at the end the state's numbers, the hunted bytes and the word buffer.
+//! piece, that of the word buffer, and the remembered place. The word buffer's bytes follow, then those to be heard; the output is the
+//! receive buffer. Each call is told as the bytes taken and its answer (0: more wanted, 1: clean, 2: beyond repair, 3: lock lost, 256 + n:
+//! repaired in n places), a packet's format and key, and its payload, behind it; at the end the state's numbers, the hunted bytes and the
+//! word buffer.
 use crate::reading;
 use channel::Answer;
 use channel::Condition;
+use channel::Hearing;
 use channel::Hunting;
 use channel::Locked;
 use channel::Receiver;
@@ -58,29 +60,36 @@ fn lent(number: u64, head: [u8; 17], bytes: &[u8], recv: &mut [u8], word: &mut [
 
 // The first piece, of n bytes at most.
 fn start(number: u64, head: [u8; 17], n: usize) -> Place {
+    Place {
+        receiver: receiver(number, head),
+        seed: number % 0x80000000,
+        at: 0,
+        end: base::least(crate::pair(head[11], head[12]), n),
+        go: true,
+    }
+}
+
+// The receiver of a head.
+fn receiver(number: u64, head: [u8; 17]) -> Receiver {
     let hunting = Hunting {
         a: head[1],
         b: head[2],
         c: head[3],
         d: head[4],
     };
-    let lock = Locked {
+    Receiver {
+        locked: head[0] == 1,
+        hunting,
+        lock: lock(head),
+        frame: reading::frame(number, crate::pair(head[15], head[16])),
+    }
+}
+
+fn lock(head: [u8; 17]) -> Locked {
+    Locked {
         word: crate::pair(head[5], head[6]),
         handed: crate::pair(head[7], head[8]),
         marker: crate::pair(head[9], head[10]),
-    };
-    let receiver = Receiver {
-        locked: head[0] == 1,
-        hunting,
-        lock,
-        frame: reading::frame(number, crate::pair(head[15], head[16])),
-    };
-    Place {
-        receiver,
-        seed: number % 0x80000000,
-        at: 0,
-        end: base::least(crate::pair(head[11], head[12]), n),
-        go: true,
     }
 }
 
@@ -102,18 +111,21 @@ fn finish(r: Receiver) {
     let lock = r.lock;
     let frame = r.frame;
     let hunting = r.hunting;
-    crate::print(r.locked as u64);
-    crate::print(lock.word as u64);
-    crate::print(lock.handed as u64);
-    crate::print(lock.marker as u64);
-    crate::print(frame.opened as u64);
-    crate::print(frame.raw as u64);
-    crate::print(frame.stored as u64);
-    crate::print(frame.place as u64);
-    crate::print(hunting.a as u64);
-    crate::print(hunting.b as u64);
-    crate::print(hunting.c as u64);
-    crate::print(hunting.d as u64);
+    let numbers = [
+        r.locked as u64,
+        lock.word as u64,
+        lock.handed as u64,
+        lock.marker as u64,
+        frame.opened as u64,
+        frame.raw as u64,
+        frame.stored as u64,
+        frame.place as u64,
+        hunting.a as u64,
+        hunting.b as u64,
+        hunting.c as u64,
+        hunting.d as u64,
+    ];
+    crate::print_all(&numbers);
 }
 
 // One call, and what follows from its answer.
@@ -121,7 +133,6 @@ fn call(p: Place, bytes: &[u8], recv: &mut [u8], word: &mut [u8]) -> Place {
     let at = p.at;
     let end = p.end;
     let receiver = p.receiver;
-    let seed = p.seed;
     if bytes.len() < end {
         return stop(receiver);
     }
@@ -129,16 +140,20 @@ fn call(p: Place, bytes: &[u8], recv: &mut [u8], word: &mut [u8]) -> Place {
         return stop(receiver);
     }
     let h = receiver.hear(recv, word, &bytes[at..end]);
-    let r = h.receiver;
-    let next = std::num::wrapping_add_usize(at, h.taken);
+    follow(p, h, bytes.len(), recv)
+}
+
+// Tells a call, of n bytes in all.
+fn follow(p: Place, h: Hearing, n: usize, recv: &[u8]) -> Place {
+    let at = std::num::wrapping_add_usize(p.at, h.taken);
     let answer = h.answer;
     crate::print(h.taken as u64);
     crate::print(code(answer));
     match answer {
-        Answer::More => more(r, seed, next, end, bytes.len()),
-        Answer::Said(j) => onward(r, seed, next, end, reading::deliver(j, recv)),
-        Answer::Block(_) => onward(r, seed, next, end, true),
-        Answer::LockLost => onward(r, seed, next, end, true),
+        Answer::More => more(h.receiver, p.seed, at, p.end, n),
+        Answer::Said(j) => onward(h.receiver, p.seed, at, p.end, reading::deliver(j, recv)),
+        Answer::Block(_) => onward(h.receiver, p.seed, at, p.end, true),
+        Answer::LockLost => onward(h.receiver, p.seed, at, p.end, true),
     }
 }
 

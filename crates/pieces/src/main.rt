@@ -1,14 +1,12 @@
 //! Answers cases from standard input, one after the other, so that tests/compare can hold the code to the second program. Each is
-//! read in pieces: a stream (S, reading.rt), a channel (O, hearing.rt) or a recording (L, listing.rt).
+//! read in pieces: a stream (S, reading.rt) or a channel (O, hearing.rt).
 //!
 //! A case, a number and a refusal stand as crates/answers/src/main.rt has them. An answer: what is told of each call, and all bytes
 //! of the output, which is lent filled with 0xA5.
 mod hearing;
-mod listing;
 mod reading;
 
 use base::Refusal;
-use base::Written;
 use packet::Judged;
 
 const HEAD: usize = 13;
@@ -31,6 +29,11 @@ fn answer(bytes: &mut [u8], out: &mut [u8]) -> bool {
     if io::read_full(0, &mut head) != HEAD {
         return false;
     }
+    behind(head, bytes, out)
+}
+
+// Reads what stands behind a head.
+fn behind(head: [u8; 13], bytes: &mut [u8], out: &mut [u8]) -> bool {
     let room = pair(head[9], head[10]);
     let n = pair(head[11], head[12]);
     follow(head[0], number(head), room, n, bytes, out)
@@ -57,11 +60,7 @@ fn respond(asked: u8, number: u64, bytes: &[u8], out: &mut [u8]) -> bool {
         reading::read(number, bytes, out);
         return io::write_all(1, out);
     }
-    if asked == b'O' {
-        hearing::hear(number, bytes, out);
-        return io::write_all(1, out);
-    }
-    listing::list(number, bytes, out);
+    hearing::hear(number, bytes, out);
     io::write_all(1, out)
 }
 
@@ -103,15 +102,17 @@ fn print(n: u64) {
     io::write_all(1, &text);
 }
 
-fn low(n: u64) -> u8 {
-    (n % 256) as u8
+// Writes numbers, one behind the other.
+fn print_all(numbers: &[u64]) {
+    let mut i: usize = 0;
+    while i < numbers.len() {
+        print(numbers[i]);
+        i += 1;
+    }
 }
 
-fn written(w: Written) -> u64 {
-    match w {
-        Written::Wrote(n) => n as u64,
-        Written::Refused(n) => refused(n),
-    }
+fn low(n: u64) -> u8 {
+    (n % 256) as u8
 }
 
 // A packet: port, sequence, length, and 1 above them; a broken escape: its place above the number.
@@ -129,6 +130,11 @@ fn judged(j: Judged) -> u64 {
 
 fn sum(port: u64, sequence: u64, length: u64) -> u64 {
     port | sequence << 16 | length << 32 | 1 << 56
+}
+
+// A packet's format, key number and key length.
+fn kind(format: u64, number: u64, key: u64) -> u64 {
+    format | number << 8 | key << 16
 }
 
 fn refused(n: u8) -> u64 {

@@ -1,10 +1,13 @@
 //! A stream read in pieces. The number of the case: 31 bits that say how it is cut behind the first piece (0: not at all), whether the
 //! frame is open, then raw and stored count in 16 bits each. Its bytes begin with a head, in 16 bits each: the remembered place, and the
 //! length of the first piece. Those to be read follow; the output is the receive buffer. Each call is told as the bytes taken and its
-//! answer (0: more wanted), a delivered payload behind it; at the end the state's four numbers.
+//! answer (0: more wanted), a packet's format and key, and its payload, behind it; at the end the state's four numbers.
+use base::Refusal;
+use packet::Delivery;
 use packet::Judged;
 use stream::Frame;
 use stream::Heard;
+use stream::Read;
 
 const HEAD: usize = 4;
 
@@ -54,15 +57,23 @@ fn run(first: Place, bytes: &[u8], recv: &mut [u8]) {
     let mut calls = u64::MAX;
     while calls > 0 {
         if !place.go {
-            crate::print(place.frame.opened as u64);
-            crate::print(place.frame.raw as u64);
-            crate::print(place.frame.stored as u64);
-            crate::print(place.frame.place as u64);
+            finish(place.frame);
             return;
         }
         place = call(place, bytes, recv);
         calls -= 1;
     }
+}
+
+// Writes the state's numbers.
+fn finish(f: Frame) {
+    let numbers = [
+        f.opened as u64,
+        f.raw as u64,
+        f.stored as u64,
+        f.place as u64,
+    ];
+    crate::print_all(&numbers);
 }
 
 fn next_piece(frame: Frame, seed: u64, at: usize, n: usize) -> Place {
@@ -76,24 +87,37 @@ fn next_piece(frame: Frame, seed: u64, at: usize, n: usize) -> Place {
     }
 }
 
-// Cuts the next piece: often of 0 bytes or 1, else of up to 300.
+// A number that looks random, from a seed.
+fn drawn(seed: u64) -> u64 {
+    seed % 0x80000000 * 1103515245 % 0x80000000 / 8
+}
+
+// The length of a piece that is wanted: often 0 bytes or 1, else up to 300.
+fn wanted(drawn: u64) -> usize {
+    let kind = drawn / 256 % 8;
+    if kind < 2 {
+        return 0;
+    }
+    if kind < 4 {
+        return 1;
+    }
+    (drawn / 2048 % 300) as usize
+}
+
+// Where a piece that begins at a place and wants so many bytes ends, of n in all.
+fn piece_end(at: usize, wants: usize, n: usize) -> usize {
+    let from = base::least(at, n);
+    from + base::least(wants, n - from)
+}
+
+// Cuts the next piece.
 pub fn cut(seed: u64, at: usize, n: usize) -> Piece {
     if seed == 0 {
         return Piece { seed, end: n };
     }
-    let drawn = seed % 0x80000000 * 1103515245 % 0x80000000 / 8;
-    let kind = drawn / 256 % 8;
-    let next = seed % 0x80000000 * 69069 % 0x80000000 + 1;
-    let long = (drawn / 2048 % 300) as usize;
-    let want = if kind < 2 {
-        0
-    } else {
-        if kind < 4 { 1 } else { long }
-    };
-    let left = n - base::least(at, n);
     Piece {
-        seed: next,
-        end: base::least(at, n) + base::least(want, left),
+        seed: seed % 0x80000000 * 69069 % 0x80000000 + 1,
+        end: piece_end(at, wanted(drawn(seed)), n),
     }
 }
 
@@ -102,7 +126,6 @@ fn call(p: Place, bytes: &[u8], recv: &mut [u8]) -> Place {
     let at = p.at;
     let end = p.end;
     let frame = p.frame;
-    let seed = p.seed;
     if bytes.len() < end {
         return stop(frame);
     }
@@ -110,28 +133,38 @@ fn call(p: Place, bytes: &[u8], recv: &mut [u8]) -> Place {
         return stop(frame);
     }
     let r = frame.read(recv, &bytes[at..end]);
-    let f = r.frame;
-    let next = std::num::wrapping_add_usize(at, r.taken);
+    follow(p, r, bytes.len(), recv)
+}
+
+// Tells a call, of n bytes in all.
+fn follow(p: Place, r: Read, n: usize, recv: &[u8]) -> Place {
+    let at = std::num::wrapping_add_usize(p.at, r.taken);
     crate::print(r.taken as u64);
     let h = r.heard;
     match h {
-        Heard::More => {
-            crate::print(0);
-            if end == bytes.len() {
-                return stop(f);
-            }
-            next_piece(f, seed, next, bytes.len())
-        }
-        Heard::Said(j) => {
-            crate::print(crate::judged(j));
-            Place {
-                frame: f,
-                seed,
-                at: next,
-                end,
-                go: deliver(j, recv),
-            }
-        }
+        Heard::More => more(r.frame, p.seed, at, p.end, n),
+        Heard::Said(j) => said(r.frame, p.seed, at, p.end, j, recv),
+    }
+}
+
+// Behind a piece: the next one, or the end.
+fn more(frame: Frame, seed: u64, at: usize, end: usize, n: usize) -> Place {
+    crate::print(0);
+    if end == n {
+        return stop(frame);
+    }
+    next_piece(frame, seed, at, n)
+}
+
+// Behind an answer: the rest of the piece.
+fn said(frame: Frame, seed: u64, at: usize, end: usize, j: Judged, recv: &[u8]) -> Place {
+    crate::print(crate::judged(j));
+    Place {
+        frame,
+        seed,
+        at,
+        end,
+        go: deliver(j, recv),
     }
 }
 
@@ -145,11 +178,22 @@ fn stop(frame: Frame) -> Place {
     }
 }
 
-// Writes a delivered payload; false where the call was refused.
+// Writes what else is told of a packet; false where the call was refused: by 10 or 11.
 pub fn deliver(j: Judged, recv: &[u8]) -> bool {
     match j {
-        Judged::Packet(delivery) => io::write_all(1, stream::payload(recv, delivery)),
-        Judged::Refused(n) => n < 10,
+        Judged::Packet(d) => parts(d, recv),
+        Judged::Refused(n) => n != Refusal::STATE && n != Refusal::BUFFER,
         Judged::Broken(_) => true,
     }
+}
+
+fn kind(d: Delivery) -> u64 {
+    crate::kind(d.format as u64, d.number as u64, d.key as u64)
+}
+
+// Format, key number and key length, then key and payload.
+fn parts(d: Delivery, recv: &[u8]) -> bool {
+    crate::print(kind(d));
+    io::write_all(1, stream::key(recv, d));
+    io::write_all(1, stream::payload(recv, d))
 }

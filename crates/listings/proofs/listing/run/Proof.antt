@@ -1,9 +1,9 @@
--- `pieces::listing::run` is safe and ends: the calls that may come grow fewer.
+-- `listings::listing::run` is safe and ends: the calls that may come grow fewer.
 use mathlib.Core.Path.{_≡_, refl}
 use lib.ListN.{length}
 use borrow.Author.Needs.{needs}
-use Rattle.pieces.proofs.listing.run.Statement.{statement}
-use Rattle.pieces.proofs.listing.run.Tie as tie
+use Rattle.listings.proofs.listing.run.Statement.{statement}
+use Rattle.listings.proofs.listing.run.Tie as tie
 
 abbrev Inv-loop : tie.InvT-loop
 Inv-loop bytes recv₀ word₀ out₀ place₀ calls₀ recv word out place calls =

@@ -3,7 +3,6 @@
 //! lines, lent to each call anew; the first piece is empty. Each call is told as the bytes taken, what it wants (0: more, 1: room) and how
 //! many bytes it wrote, and those. The last line stands in the output; told are its length, then the answers where just that length is
 //! lent, and a byte less.
-use crate::reading;
 use base::Written;
 use channel::Receiver;
 use listed::Spot;
@@ -24,6 +23,12 @@ struct Place {
     at: usize,
     end: usize,
     go: bool,
+}
+
+// The next piece: where it ends, and how the rest is cut.
+struct Piece {
+    seed: u64,
+    end: usize,
 }
 
 pub fn list(number: u64, bytes: &[u8], out: &mut [u8]) {
@@ -166,16 +171,44 @@ fn more(recording: Recording, size: usize, seed: u64, at: usize, end: usize, n: 
         return stop(recording);
     }
     if 0 < size {
-        return onward(recording, size, seed, at, behind(size, at, n), true);
+        return onward(recording, size, seed, at, piece_end(at, size, n), true);
     }
-    let c = reading::cut(seed, at, n);
+    let c = cut(seed, at, n);
     onward(recording, size, c.seed, at, c.end, true)
 }
 
-// Where a piece of this size ends.
-fn behind(size: usize, at: usize, n: usize) -> usize {
-    let left = n - base::least(at, n);
-    base::least(at, n) + base::least(size, left)
+// A number that looks random, from a seed.
+fn drawn(seed: u64) -> u64 {
+    seed % 0x80000000 * 1103515245 % 0x80000000 / 8
+}
+
+// The length of a piece that is wanted: often 0 bytes or 1, else up to 300.
+fn wanted(drawn: u64) -> usize {
+    let kind = drawn / 256 % 8;
+    if kind < 2 {
+        return 0;
+    }
+    if kind < 4 {
+        return 1;
+    }
+    (drawn / 2048 % 300) as usize
+}
+
+// Where a piece that begins at a place and wants so many bytes ends, of n in all.
+fn piece_end(at: usize, wants: usize, n: usize) -> usize {
+    let from = base::least(at, n);
+    from + base::least(wants, n - from)
+}
+
+// Cuts the next piece.
+fn cut(seed: u64, at: usize, n: usize) -> Piece {
+    if seed == 0 {
+        return Piece { seed, end: n };
+    }
+    Piece {
+        seed: seed % 0x80000000 * 69069 % 0x80000000 + 1,
+        end: piece_end(at, wanted(drawn(seed)), n),
+    }
 }
 
 fn onward(recording: Recording, size: usize, seed: u64, at: usize, end: usize, go: bool) -> Place {
