@@ -24,8 +24,4 @@ run-spec =
     (search needs)
     (search needs)
     (search needs)
-    (search needs)
-    (search needs)
-    (search needs)
-    (search needs)
     (search needs))
