@@ -1,6 +1,6 @@
 -- What the paper prints: its fixed numbers and letters said a second time, in the form of Numbers, so that a slip is seen even where code and
 -- definition slip together. The fresh states stand in proofs/Promises, the rows of refusals in proofs/Demand1, and what a law says for all numbers
--- (classes, interleaver) in proofs/Demand2.
+-- in proofs/Demand2 (classes) and proofs/Interleaving.
 -- printed    the rows
 use Prim.Native.Nat.{ℕ, zero, suc, _-_}
 use mathlib.Core.Path.{_≡_, refl}
