@@ -235,8 +235,7 @@ small-by (broken n) h = tt
 pub small : (recv : List ℕ) (m : ℕ) → Small (closed recv m .told)
 small recv m =
     small-by (closed recv m .told) λ n e.
-    first-each OfFrame ((1, rawLimit < m) ∷ frameRows (take m recv))
-    (
+    first-each OfFrame ((1, rawLimit < m) ∷ frameRows (take m recv)) (
       inl (omega arith, omega arith),
       (
         inl (omega arith, omega arith),

@@ -60,7 +60,7 @@ module _ (format number : ℕ) (key rest bs : List ℕ) (whole : head format num
   only-of : Only (packet (unpacked format number key rest)) bs
   only-of = (
     append-assoc (head format number key) (two (wordAt rest 0) ++ two (wordAt rest 2)) (drop 4 rest)
-    ∙ ap (λ (l : List ℕ). head format number key ++ l) (rest-back rest bytes (omega arith)) ∙ whole,
+        ∙ ap (λ (l : List ℕ). head format number key ++ l) (rest-back rest bytes (omega arith)) ∙ whole,
     record {
       some = λ e. omega (arith, length-drop 4 rest);
       short = short;
@@ -126,10 +126,9 @@ only-contents cs h = go (ltb (length cs) 8) refl (eqb (fcs (body cs)) (wordAt cs
     told (broken n) e l f = tt
     told (packet p) e l f =
         let m : length (body cs) ≡ length cs - 2 = length-take-le (length cs - 2) cs (omega arith) in
-        let o = body-only (body cs) (each-take IsByte (length cs - 2) cs h) (omega arith) p e in
-        (
+        let o = body-only (body cs) (each-take IsByte (length cs - 2) cs h) (omega arith) p e in (
           ap withCheck (o .0) ∙ ap (λ (n : ℕ). body cs ++ two n) f ∙ ap (λ (l : List ℕ). body cs ++ l) (last-two cs h (omega arith))
-          ∙ take-append-drop (length cs - 2) cs,
+              ∙ take-append-drop (length cs - 2) cs,
           o .1,
         )
 

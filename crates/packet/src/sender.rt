@@ -69,7 +69,14 @@ fn put_two(out: &mut [u8], at: usize, n: u16) -> usize
 }
 
 // Stores format byte to sequence; how many bytes.
-fn put_opening(out: &mut [u8], format: u8, number: u8, key: &[u8], port: u16, sequence: u16) -> usize
+fn put_opening(
+    out: &mut [u8],
+    format: u8,
+    number: u8,
+    key: &[u8],
+    port: u16,
+    sequence: u16,
+) -> usize
     requires { ⌜ (length (now key) ≤ keyMost) × (openingMost ≤ length (now out)) ⌝ }
     ensures { λ r. ⌜ Laid (now (out .entry)) 0 (opening (record { format = format; number = number; key = now (key .entry); port = port; sequence = sequence; payload = [] })) (now (out .exit)) r ⌝ }
 {
@@ -102,7 +109,15 @@ fn put_frame(opening: &[u8], payload: &[u8], tail: &[u8; 2], out: &mut [u8]) -> 
 }
 
 // Stores a packet's frame, where there is room.
-fn put_packet(format: u8, number: u8, key: &[u8], port: u16, sequence: u16, payload: &[u8], out: &mut [u8]) -> Written
+fn put_packet(
+    format: u8,
+    number: u8,
+    key: &[u8],
+    port: u16,
+    sequence: u16,
+    payload: &[u8],
+    out: &mut [u8],
+) -> Written
     requires { ⌜ (length (now key) ≤ keyMost) × (length (escape (now payload)) ≤ payloadLimit) ⌝ }
     ensures { λ w. ⌜ outcome w (now (out .exit)) ≡ write (frameOf (record { format = format; number = number; key = now (key .entry); port = port; sequence = sequence; payload = now (payload .entry) })) (now (out .entry)) ⌝ }
 {
@@ -113,7 +128,15 @@ fn put_packet(format: u8, number: u8, key: &[u8], port: u16, sequence: u16, payl
 }
 
 /// Writes a packet of either format: its escaped contents, and one flag behind them.
-pub fn write_as(format: u8, number: u8, key: &[u8], port: u16, sequence: u16, payload: &[u8], out: &mut [u8]) -> Written
+pub fn write_as(
+    format: u8,
+    number: u8,
+    key: &[u8],
+    port: u16,
+    sequence: u16,
+    payload: &[u8],
+    out: &mut [u8],
+) -> Written
     ensures { λ w. ⌜ outcome w (now (out .exit)) ≡ writing (record { format = format; number = number; key = now (key .entry); port = port; sequence = sequence; payload = now (payload .entry) }) (now (out .entry)) ⌝ }
 {
     if payload.len() == 0 {
@@ -135,5 +158,13 @@ pub fn write_as(format: u8, number: u8, key: &[u8], port: u16, sequence: u16, pa
 pub fn write(port: u16, sequence: u16, payload: &[u8], out: &mut [u8]) -> Written
     ensures { λ w. ⌜ outcome w (now (out .exit)) ≡ writing (plainPacket port sequence (now (payload .entry))) (now (out .entry)) ⌝ }
 {
-    write_as(Packet::PLAIN_FORMAT, 0, &payload[0..0], port, sequence, payload, out)
+    write_as(
+        Packet::PLAIN_FORMAT,
+        0,
+        &payload[0..0],
+        port,
+        sequence,
+        payload,
+        out,
+    )
 }

@@ -264,7 +264,11 @@ impl Frame {
 fn payload_at(key: u8) -> usize
     ensures { λ r. ⌜ r ≡ payloadAt key ⌝ }
 {
-    if key == 0 { 5 } else { Packet::KEY_AT + key as usize + 4 }
+    if key == 0 {
+        5
+    } else {
+        Packet::KEY_AT + key as usize + 4
+    }
 }
 
 // Bytes of the receive buffer from `at` on; an empty part where it is too short to hold them.

@@ -21,16 +21,42 @@ pub fn begin(out: &mut [u8]) -> Written
 }
 
 /// Appends a packet of either format to a stream, which is the first `at` bytes of the output.
-pub fn append_as(out: &mut [u8], at: usize, format: u8, number: u8, key: &[u8], port: u16, sequence: u16, payload: &[u8]) -> Written
+pub fn append_as(
+    out: &mut [u8],
+    at: usize,
+    format: u8,
+    number: u8,
+    key: &[u8],
+    port: u16,
+    sequence: u16,
+    payload: &[u8],
+) -> Written
     ensures { λ w. ⌜ outcome w (now (out .exit)) ≡ appending at (record { format = format; number = number; key = now (key .entry); port = port; sequence = sequence; payload = now (payload .entry) }) (now (out .entry)) ⌝ }
 {
     let from = base::least(at, out.len());
-    packet::write_as(format, number, key, port, sequence, payload, &mut out[from..])
+    packet::write_as(
+        format,
+        number,
+        key,
+        port,
+        sequence,
+        payload,
+        &mut out[from..],
+    )
 }
 
 /// Appends a packet of format 0x21.
 pub fn append(out: &mut [u8], at: usize, port: u16, sequence: u16, payload: &[u8]) -> Written
     ensures { λ w. ⌜ outcome w (now (out .exit)) ≡ appending at (plainPacket port sequence (now (payload .entry))) (now (out .entry)) ⌝ }
 {
-    append_as(out, at, Packet::PLAIN_FORMAT, 0, &payload[0..0], port, sequence, payload)
+    append_as(
+        out,
+        at,
+        Packet::PLAIN_FORMAT,
+        0,
+        &payload[0..0],
+        port,
+        sequence,
+        payload,
+    )
 }

@@ -39,8 +39,7 @@ judge-body-spec =
     let t = c .before .before .before .before .before in
     let bs = t .before .before .before .before .before .before .args .body .now in
     let k = c .before .before .before .wide .result in
-    let f = key-fits bs (sym (t .before .key-fits .ensures) ∙ t .if3 .taken) in
-    (
+    let f = key-fits bs (sym (t .before .key-fits .ensures) ∙ t .if3 .taken) in (
       omega (arith, length-take (keyAt + k - keyAt) (drop keyAt bs), c .before .before .before .wide .ensures .1),
       omega (arith, length-take (length bs - (keyAt + k)) (drop (keyAt + k) bs), length-drop (keyAt + k) bs, f .2, c .before .before .before .wide .ensures .0),
     ))

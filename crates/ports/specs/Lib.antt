@@ -1,0 +1,4 @@
+pub mod Distance
+pub mod Ports
+pub mod Private
+pub mod Refusing
