@@ -10,6 +10,11 @@
 //!   second interleave DEPTH HEX, second restore DEPTH HEX
 //!                            the bytes of a matrix, there and back
 //!   second list              the listing of the recording on standard input
+//!   second missed            which bids were missed in the recording on standard input (ports.rs)
+//!   second numbered FILE [SEED]
+//!                            a recording with distances of every kind between sequence numbers
+//!   second tables CASES ANSWERS [SEED]
+//!                            calls on tables of ports, and what they answer, into two files
 //!   second kinds FILE..      how often each kind of line occurs in the listings of recordings; fails where one never does
 //!   second recordings DIR [SEED]
 //!                            recordings to be listed, into a folder
@@ -34,6 +39,7 @@ mod listing;
 mod listing_cases;
 mod packet;
 mod parity;
+mod ports;
 mod repair;
 mod samples;
 mod selftest;
@@ -56,6 +62,11 @@ fn main() {
         ["restore", d, bytes] => both(d, bytes).map(|(d, b)| show(interleaver::permute(true, d, &b, b.len()))),
         ["bids", ref rest @ ..] => std::process::exit(bids::run(rest)),
         ["list"] => Some(listing::list_input().expect("standard input and output")),
+        ["missed"] => std::process::exit(ports::show_missed()),
+        ["numbered", file] => Some(ports::write_numbered(file, 1)),
+        ["numbered", file, seed] => number(seed).map(|seed| ports::write_numbered(file, seed)),
+        ["tables", asked, told] => Some(ports::write_cases(asked, told, 1)),
+        ["tables", asked, told, seed] => number(seed).map(|seed| ports::write_cases(asked, told, seed)),
         ["kinds", ref files @ ..] => std::process::exit(kinds::show(files)),
         ["recordings", dir] => Some(write_recordings(dir, 1)),
         ["recordings", dir, seed] => number(seed).map(|seed| write_recordings(dir, seed)),
@@ -69,8 +80,8 @@ fn main() {
         _ => None,
     };
     if done.is_none() {
-        eprintln!("usage: second fcs HEX | parity R HEX | word R HEX | repair R HEX | interleave DEPTH HEX | restore DEPTH HEX | list | kinds FILE..");
-        eprintln!("  | recordings DIR [SEED] | steady plain|marked MIB | samples DIR | cases calls|pieces [SEED] | compare CASES ANSWERS .. | test [SEED] | words R PLACES N | time N M");
+        eprintln!("usage: second fcs HEX | parity R HEX | word R HEX | repair R HEX | interleave DEPTH HEX | restore DEPTH HEX | list | missed | kinds FILE..");
+        eprintln!("  | recordings DIR [SEED] | steady plain|marked MIB | samples DIR | cases calls|pieces [SEED] | compare CASES ANSWERS .. | test [SEED] | words R PLACES N | time N M | numbered FILE [SEED] | tables CASES ANSWERS [SEED]");
         std::process::exit(2);
     }
 }

@@ -9,7 +9,7 @@ use crate::listing_cases::{any, recorded, small, OPPORTUNISTIC, PAPER, PLAIN};
 use crate::packet::{self, Fault, ESCAPE, FLAG, RAW_LIMIT};
 use crate::parity::{self, WORD};
 use crate::stream::{self, Reader};
-use crate::{fcs, interleaver, listing, repair};
+use crate::{fcs, interleaver, listing, ports, repair};
 
 pub fn run(seed: u64) {
     let mut random = Random::new(seed);
@@ -18,6 +18,8 @@ pub fn run(seed: u64) {
     places();
     slips();
     println!("the paper's numbers, its case, edges and slips: held");
+    ports::test();
+    println!("request W1's distances and tables: held");
     checks(&mut random);
     elements();
     matrices(&mut random);
