@@ -9,6 +9,7 @@ use channel::Receiver;
 use lines::Line;
 use packet::Delivery;
 use packet::Judged;
+use ports::Noted;
 use ports::Ports;
 use tape::Tape;
 
@@ -89,12 +90,13 @@ fn call(start: Tape, ports: Ports, recv: &mut [u8], word: &mut [u8], piece: &[u8
     let tape = heard.tape;
     let answer = heard.answer;
     let passed = pass(answer, ports);
+    let behind = passed.ports;
     Turn {
         again: passed.again,
         go: passed.go,
         taken,
         tape,
-        ports: passed.ports,
+        ports: behind,
     }
 }
 
@@ -146,15 +148,21 @@ fn judge(judged: Judged, ports: Ports) -> Passed {
 fn note(delivery: Delivery, ports: Ports) -> Passed {
     let told = ports.note(delivery.port, delivery.sequence);
     let noted = told.noted;
+    let behind = told.ports;
     let mut text = [0u8; Line::LONGEST];
-    let go = match lines::print_noted(delivery.port, delivery.sequence, noted, &mut text) {
-        Written::Wrote(n) => print(&text[0..n]),
-        Written::Refused(_) => false,
-    };
+    let go = show(delivery.port, delivery.sequence, noted, &mut text);
     Passed {
         again: go,
         go,
-        ports: told.ports,
+        ports: behind,
+    }
+}
+
+// The line of a packet noted; whether it went to standard output.
+fn show(port: u16, sequence: u16, noted: Noted, out: &mut [u8]) -> bool {
+    match lines::print_noted(port, sequence, noted, out) {
+        Written::Wrote(n) => print(&out[0..n]),
+        Written::Refused(_) => false,
     }
 }
 
@@ -166,10 +174,13 @@ fn finish(tape: Tape) {
     let at = tape.spot;
     let mut text = [0u8; Line::LONGEST];
     fail(b"missed: no whole recording: ");
-    match lines::print_wrong(at.offset, &mut text) {
-        Written::Wrote(n) => {
-            fail(&text[0..n]);
-        }
+    show_wrong(at.offset, &mut text);
+}
+
+// `X offset`, to standard error.
+fn show_wrong(offset: u64, out: &mut [u8]) {
+    match lines::print_wrong(offset, out) {
+        Written::Wrote(n) => fail(&out[0..n]),
         Written::Refused(_) => {}
     }
 }
