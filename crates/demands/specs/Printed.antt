@@ -34,6 +34,14 @@ use Rattle.listed.specs.Listing.{heard as heardAs, totalLine, lastLine, listed 
 use Rattle.listed.specs.declared.Place.the-variants.{Mark}
 use Rattle.recording.specs.declared.recording.Recording.{Recording}
 use Rattle.recording.specs.Printed.{lastOf}
+use Rattle.lines.specs.Noted.{notedLine}
+use Rattle.ports.specs.Distance.{around, half, ruled, lastBehind}
+use Rattle.ports.specs.Ports.{placeLimit, freed, entry, noting, forgetting}
+use Rattle.ports.specs.declared.Entry.{Entry}
+use Rattle.ports.specs.declared.Noted.{Noted}
+use Rattle.ports.specs.declared.Noted.the-variants.{First, InOrder, Repeated, Missing, Late, Refused as NotNoted}
+use Rattle.ports.specs.declared.Forgot.{Forgot}
+use Rattle.ports.specs.declared.Forgot.the-variants.{Forgotten, Refused as Unforgotten}
 use Rattle.demands.specs.Numbers.{Line, inNumbers, heard}
 
 -- the number of a refusal; 0 of a packet
@@ -89,6 +97,25 @@ placeOf (broken n) = n ∷ []
 abbrev places : List ℕ → List ℕ
 places bs = joined (map placeOf (reads waiting bs .0))
 
+-- what a packet is to its port: a letter and, of missing ones, how many; the number of a refusal
+abbrev toldOf : Noted → List ℕ
+toldOf First = 70 ∷ []
+toldOf InOrder = 73 ∷ []
+toldOf Repeated = 82 ∷ []
+toldOf (Missing n) = 77 ∷ n ∷ []
+toldOf Late = 76 ∷ []
+toldOf (NotNoted n) = n ∷ []
+
+-- the number by which a port is not forgotten
+abbrev unforgottenOf : Forgot → List ℕ
+unforgottenOf Forgotten = []
+unforgottenOf (Unforgotten n) = n ∷ []
+
+-- so many ports, all held
+abbrev tableOf : ℕ → List Entry
+tableOf zero = []
+tableOf (suc n) = entry n 7 ∷ tableOf n
+
 -- the number of a row, what the definitions give, what the paper prints
 abbrev pub printed : List Line
 printed =
@@ -128,4 +155,12 @@ printed =
     (34, heard (0x7E ∷ 0x26 ∷ 0x02 ∷ 0x07 ∷ 0xAA ∷ 0xBB ∷ 0x34 ∷ 0x12 ∷ 0x02 ∷ 0x01 ∷ 0x41 ∷ 0x8E ∷ 0x3F ∷ 0x7E ∷ []), 0 ∷ 0x26 ∷ 7 ∷ 2 ∷ 0xAA ∷ 0xBB ∷ 0x1234 ∷ 0x0102 ∷ 0x41 ∷ []) ∷  -- .. and taken apart
     (35, keyRefusal 0 7 ∷ keyRefusal 1 7 ∷ keyRefusal 2 7 ∷ keyRefusal 32 7 ∷ keyRefusal 33 7 ∷ keyRefusal 2 6 ∷ keyRefusal 32 6 ∷ [], 12 ∷ 12 ∷ 0 ∷ 0 ∷ 12 ∷ 12 ∷ 12 ∷ []) ∷  -- 12: a key length outside 2 to 32, fewer than seven bytes behind the key
     (36, map refusalOf (headed 0x26 0 1 ∷ headed 0x26 0 2 ∷ headed 0x26 255 32 ∷ headed 0x26 0 33 ∷ headed 0x26 0 258 ∷ headed 0x21 0 0 ∷ headed 0x21 0 2 ∷ headed 0x21 1 0 ∷ headed 0x22 0 2 ∷ []), 24 ∷ 0 ∷ 0 ∷ 24 ∷ 24 ∷ 0 ∷ 24 ∷ 24 ∷ 24 ∷ []) ∷  -- 24: such a length, a key length or number above zero in format 0x21, another format
+    (40, placeLimit ∷ around ∷ half ∷ [], 16 ∷ 65536 ∷ 32768 ∷ []) ∷  -- "up to 16"; "from -32,768 to 32,767, around 65,536"
+    (41, joined (map toldOf (ruled 0 1 ∷ ruled 65535 0 ∷ ruled 7 7 ∷ ruled 7 9 ∷ ruled 65535 2 ∷ ruled 0 32767 ∷ ruled 0 32768 ∷ ruled 7 6 ∷ ruled 0 65535 ∷ [])), 73 ∷ 73 ∷ 82 ∷ 77 ∷ 1 ∷ 77 ∷ 2 ∷ 77 ∷ 32766 ∷ 76 ∷ 76 ∷ 76 ∷ []) ∷  -- in order, repeated, missing, late
+    (42, lastBehind 0 1 ∷ lastBehind 7 7 ∷ lastBehind 65535 2 ∷ lastBehind 0 32767 ∷ lastBehind 0 32768 ∷ lastBehind 7 6 ∷ [], 1 ∷ 7 ∷ 2 ∷ 32767 ∷ 0 ∷ 7 ∷ []) ∷  -- "negative is late and leaves the last number"
+    (43, joined (toldOf (noting (replicate 17 freed) 20 1 .0) ∷ toldOf (noting (entry 5 1 ∷ entry 5 2 ∷ []) 20 1 .0) ∷ toldOf (noting (tableOf 16) 20 1 .0) ∷ toldOf (noting (freed ∷ tableOf 15) 20 1 .0) ∷ []), 43 ∷ 43 ∷ 40 ∷ 70 ∷ []) ∷  -- 43, 40, and a first packet
+    (44, joined (unforgottenOf (forgetting (replicate 17 freed) 20 .0) ∷ unforgottenOf (forgetting (entry 5 1 ∷ entry 5 2 ∷ []) 20 .0) ∷ unforgottenOf (forgetting (tableOf 16) 20 .0) ∷ unforgottenOf (forgetting (tableOf 16) 3 .0) ∷ []), 43 ∷ 43 ∷ 41 ∷ []) ∷  -- 43, 41, and a port forgotten
+    (45, notedLine 20736 411 First, 50 ∷ 48 ∷ 55 ∷ 51 ∷ 54 ∷ 32 ∷ 52 ∷ 49 ∷ 49 ∷ 32 ∷ 102 ∷ 105 ∷ 114 ∷ 115 ∷ 116 ∷ 10 ∷ []) ∷  -- `PORT SEQUENCE first`: 20736 411 first
+    (46, joined (map (notedLine 1 2) (InOrder ∷ Repeated ∷ Late ∷ [])), 49 ∷ 32 ∷ 50 ∷ 32 ∷ 105 ∷ 110 ∷ 32 ∷ 111 ∷ 114 ∷ 100 ∷ 101 ∷ 114 ∷ 10 ∷ 49 ∷ 32 ∷ 50 ∷ 32 ∷ 114 ∷ 101 ∷ 112 ∷ 101 ∷ 97 ∷ 116 ∷ 101 ∷ 100 ∷ 10 ∷ 49 ∷ 32 ∷ 50 ∷ 32 ∷ 108 ∷ 97 ∷ 116 ∷ 101 ∷ 10 ∷ []) ∷  -- `in order`, `repeated`, `late`
+    (47, joined (map (notedLine 1 2) (Missing 32766 ∷ NotNoted 40 ∷ [])), 49 ∷ 32 ∷ 50 ∷ 32 ∷ 109 ∷ 105 ∷ 115 ∷ 115 ∷ 105 ∷ 110 ∷ 103 ∷ 32 ∷ 51 ∷ 50 ∷ 55 ∷ 54 ∷ 54 ∷ 10 ∷ 49 ∷ 32 ∷ 50 ∷ 32 ∷ 114 ∷ 101 ∷ 102 ∷ 117 ∷ 115 ∷ 101 ∷ 100 ∷ 32 ∷ 52 ∷ 48 ∷ 10 ∷ []) ∷  -- `missing N`, `refused 40`
     []

@@ -17,7 +17,7 @@ use Rattle.base.specs.Choice.{pick}
 use Rattle.ports.specs.declared.Entry.{Entry}
 use Rattle.ports.specs.declared.Noted.{Noted}
 use Rattle.ports.specs.declared.Noted.the-variants.{First, InOrder, Repeated, Missing, Late, Refused}
-use Rattle.ports.specs.Distance.{gap, ruled, lastBehind}
+use Rattle.ports.specs.Distance.{half, gap, ruled, lastBehind}
 use Rattle.ports.specs.Ports.{freed, entry, holds, placeOf, freePlace, twice, unfit, noting, forgetting}
 
 module _ (last new : ℕ) {d : ℕ} (e : d ≡ gap last new) where
@@ -29,19 +29,19 @@ module _ (last new : ℕ) {d : ℕ} (e : d ≡ gap last new) where
     rule-one h = rw (ne-eqb _ _ (λ z. n (e ∙ z)), eq-eqb _ _ (sym e ∙ h)) refl
 
     module _ (m : d ≢ 1) where
-      pub rule-missing : d < 32768 → Missing (d - 1) ≡ ruled last new
+      pub rule-missing : d < half → Missing (d - 1) ≡ ruled last new
       rule-missing h =
-          rw (ne-eqb _ _ (λ z. n (e ∙ z)), ne-eqb _ _ (λ z. m (e ∙ z)), lt-ltb (gap last new) 32768 (subst (λ (k : ℕ). k < 32768) e h)) (ap (λ (k : ℕ). Missing (k - 1)) e)
+          rw (ne-eqb _ _ (λ z. n (e ∙ z)), ne-eqb _ _ (λ z. m (e ∙ z)), lt-ltb (gap last new) half (subst (λ (k : ℕ). k < half) e h)) (ap (λ (k : ℕ). Missing (k - 1)) e)
 
-      pub rule-late : 32768 ≤ d → Late ≡ ruled last new
+      pub rule-late : half ≤ d → Late ≡ ruled last new
       rule-late h =
-          rw (ne-eqb _ _ (λ z. n (e ∙ z)), ne-eqb _ _ (λ z. m (e ∙ z)), le-ltb (gap last new) 32768 (subst (λ (k : ℕ). 32768 ≤ k) e h)) refl
+          rw (ne-eqb _ _ (λ z. n (e ∙ z)), ne-eqb _ _ (λ z. m (e ∙ z)), le-ltb (gap last new) half (subst (λ (k : ℕ). half ≤ k) e h)) refl
 
-  pub last-new : d < 32768 → new ≡ lastBehind last new
-  last-new h = rw (lt-ltb (gap last new) 32768 (subst (λ (k : ℕ). k < 32768) e h)) refl
+  pub last-new : d < half → new ≡ lastBehind last new
+  last-new h = rw (lt-ltb (gap last new) half (subst (λ (k : ℕ). k < half) e h)) refl
 
-  pub last-late : 32768 ≤ d → last ≡ lastBehind last new
-  last-late h = rw (le-ltb (gap last new) 32768 (subst (λ (k : ℕ). 32768 ≤ k) e h)) refl
+  pub last-late : half ≤ d → last ≡ lastBehind last new
+  last-late h = rw (le-ltb (gap last new) half (subst (λ (k : ℕ). half ≤ k) e h)) refl
 
 -- ---- the loops: what is left from place i on, of the first n places
 part-next : (t : List Entry) (i n : ℕ) → i < n → n ≤ length t → drop i (take n t) ≡ getD t i freed ∷ drop (i + 1) (take n t)

@@ -28,23 +28,23 @@ use Rattle.ports.specs.declared.Noted.the-variants.{First, Refused}
 use Rattle.ports.specs.declared.Forgot.{Forgot}
 use Rattle.ports.specs.declared.Forgot.the-variants.{Forgotten, Refused as Unforgotten}
 use Rattle.ports.specs.Distance.{ruled, lastBehind}
-use Rattle.ports.specs.Ports.{placeLimit, freed, entry, unheld, holds, placeOf, freePlace, lastOf, twice, unfit, lastAt, noting, forgetting}
+use Rattle.ports.specs.Ports.{placeLimit, freed, entry, unheld, holds, placeOf, freePlace, lastOf, twice, unfit, lastAt, further, taken, without, noting, forgetting}
 
 -- ---- the two calls as their tests go
 abbrev pub notingBy : Bool → Bool → Bool → List Entry → ℕ → ℕ → Noted × List Entry
 notingBy a b c es port sequence =
     pick a (Refused 43, es)
-    (pick b (ruled (lastAt es port) sequence, set es (placeOf port es) (entry port (lastBehind (lastAt es port) sequence)))
-    (pick c (First, set es (freePlace es) (entry port sequence)) (Refused 40, es)))
+    (pick b (ruled (lastAt es port) sequence, further es port sequence)
+    (pick c (First, taken es port sequence) (Refused 40, es)))
 
 abbrev pub forgettingBy : Bool → Bool → List Entry → ℕ → Forgot × List Entry
-forgettingBy a b es port = pick a (Unforgotten 43, es) (pick b (Forgotten, set es (placeOf port es) (unheld port (lastAt es port))) (Unforgotten 41, es))
+forgettingBy a b es port = pick a (Unforgotten 43, es) (pick b (Forgotten, without es port) (Unforgotten 41, es))
 
 -- what holds of a call whatever its tests find, and of each way it may go: fit, the port held or not, a place free or not
 module _ (es : List Entry) (port sequence : ℕ) (P : Noted × List Entry → Type 0) where
   pub noting-ways : P (Refused 43, es)
-      → (placeOf port es < length es → P (ruled (lastAt es port) sequence, set es (placeOf port es) (entry port (lastBehind (lastAt es port) sequence))))
-      → (length es ≤ placeOf port es → freePlace es < length es → P (First, set es (freePlace es) (entry port sequence)))
+      → (placeOf port es < length es → P (ruled (lastAt es port) sequence, further es port sequence))
+      → (length es ≤ placeOf port es → freePlace es < length es → P (First, taken es port sequence))
       → P (Refused 40, es) → P (noting es port sequence)
   unfolding noting
   noting-ways over held new full = go (unfit es) (ltb (placeOf port es) (length es)) refl (ltb (freePlace es) (length es)) refl
@@ -56,7 +56,7 @@ module _ (es : List Entry) (port sequence : ℕ) (P : Noted × List Entry → Ty
       go false false h false k = full
 
 module _ (es : List Entry) (port : ℕ) (P : Forgot × List Entry → Type 0) where
-  pub forgetting-ways : P (Unforgotten 43, es) → (placeOf port es < length es → P (Forgotten, set es (placeOf port es) (unheld port (lastAt es port)))) → P (Unforgotten 41, es)
+  pub forgetting-ways : P (Unforgotten 43, es) → (placeOf port es < length es → P (Forgotten, without es port)) → P (Unforgotten 41, es)
       → P (forgetting es port)
   unfolding forgetting
   forgetting-ways over held away = go (unfit es) (ltb (placeOf port es) (length es)) refl

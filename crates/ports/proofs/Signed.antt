@@ -8,7 +8,7 @@ use native.Mathlib.Omega.{arith}
 use Rattle.base.proofs.Tests.{by-le}
 use Rattle.ports.specs.declared.Noted.{Noted}
 use Rattle.ports.specs.declared.Noted.the-variants.{First, InOrder, Repeated, Missing, Late, Refused}
-use Rattle.ports.specs.Distance.{around, half, gap, ruled, lastBehind, Distance, ahead, behind, Leads, meaning, follows}
+use Rattle.ports.specs.Distance.{around, gap, ruled, lastBehind, Distance, ahead, behind, Leads, meaning, follows}
 use Rattle.ports.proofs.Finding.{rule-zero, rule-one, rule-missing, rule-late, last-new, last-late}
 
 -- gap is the number below 65,536 that leads from last to new, and the only one
@@ -30,7 +30,7 @@ leads-steps last new (behind n) h k d = omega (arith, d .0, d .1, d .2)
 pub distance-is : (last new : ℕ) → last < around → new < around → (d : Distance) × Leads last new d
 distance-is last new h k =
     let g = gap-leads last new h k in
-    by-le half (gap last new) (λ l. (behind (around - gap last new), (omega (arith, g .0), omega (arith, l), omega (arith, l, g .0, g .1))))
+    by-le 32768 (gap last new) (λ l. (behind (around - gap last new), (omega (arith, g .0), omega (arith, l), omega (arith, l, g .0, g .1))))
     (λ l. (ahead (gap last new), (omega (arith, l), g .1)))
 
 same-steps : (d e : Distance) (last new : ℕ) → Leads last new d → Leads last new e → steps d ≡ steps e → d ≡ e

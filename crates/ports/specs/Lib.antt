@@ -1,3 +1,4 @@
+pub mod ByHand
 pub mod Distance
 pub mod Ports
 pub mod Private

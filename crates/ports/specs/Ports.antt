@@ -4,6 +4,7 @@
 -- placeOf, freePlace       where a port is held, and the first free place; the table's length where there is none
 -- lastOf                   a port's last number, if it is held
 -- twice, unfit             43: more than 16 places, or one port held twice
+-- further, taken, without  the table behind a packet, the first of a new port, a port forgotten
 -- noting, forgetting       what the two calls answer and leave
 -- freshPorts, notedIn, ..  the same of a table by value
 use Prim.Native.Nat.{ℕ, zero, suc}
@@ -71,21 +72,29 @@ unfit es = ltb placeLimit (length es) || twice es
 abbrev pub lastAt : List Entry → ℕ → ℕ
 lastAt es port = getD es (placeOf port es) freed .last
 
+-- the table behind a further packet of a port that is held: its last number, where the packet is not late
+abbrev pub further : List Entry → ℕ → ℕ → List Entry
+further es port sequence = set es (placeOf port es) (entry port (lastBehind (lastAt es port) sequence))
+
+-- .. behind the first packet of a new port: it takes the first free place
+abbrev pub taken : List Entry → ℕ → ℕ → List Entry
+taken es port sequence = set es (freePlace es) (entry port sequence)
+
+-- .. and behind a port forgotten: its place is freed, and nothing else changes
+abbrev pub without : List Entry → ℕ → List Entry
+without es port = set es (placeOf port es) (unheld port (lastAt es port))
+
 -- a delivered packet: 43 as above; a port that is held, by its last number; a new port takes the first free place, 40 where there is none
 unfoldable pub noting : List Entry → ℕ → ℕ → Noted × List Entry
 noting es port sequence =
     pick (unfit es) (Refused 43, es)
-    (pick (ltb (placeOf port es) (length es))
-    (ruled (lastAt es port) sequence, set es (placeOf port es) (entry port (lastBehind (lastAt es port) sequence)))
-    (pick (ltb (freePlace es) (length es)) (First, set es (freePlace es) (entry port sequence)) (Refused 40, es)))
+    (pick (ltb (placeOf port es) (length es)) (ruled (lastAt es port) sequence, further es port sequence)
+    (pick (ltb (freePlace es) (length es)) (First, taken es port sequence) (Refused 40, es)))
 
--- a port forgotten: 43 as above; its place is freed and nothing else changes, 41 where it is not held
+-- a port forgotten: 43 as above; 41 where it is not held
 unfoldable pub forgetting : List Entry → ℕ → Forgot × List Entry
 forgetting es port =
-    pick (unfit es) (Unforgotten 43, es)
-    (pick (ltb (placeOf port es) (length es))
-    (Forgotten, set es (placeOf port es) (unheld port (lastAt es port)))
-    (Unforgotten 41, es))
+    pick (unfit es) (Unforgotten 43, es) (pick (ltb (placeOf port es) (length es)) (Forgotten, without es port) (Unforgotten 41, es))
 
 -- ---- a table by value
 abbrev pub freshPorts : Ports
