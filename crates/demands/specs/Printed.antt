@@ -36,7 +36,7 @@ use Rattle.recording.specs.declared.recording.Recording.{Recording}
 use Rattle.recording.specs.Printed.{lastOf}
 use Rattle.lines.specs.Noted.{notedLine}
 use Rattle.ports.specs.Distance.{around, half, ruled, lastBehind}
-use Rattle.ports.specs.Ports.{placeLimit, freed, entry, noting, forgetting}
+use Rattle.ports.specs.Ports.{placeLimit as mostPorts, freed, entry, noting, forgetting}
 use Rattle.ports.specs.declared.Entry.{Entry}
 use Rattle.ports.specs.declared.Noted.{Noted}
 use Rattle.ports.specs.declared.Noted.the-variants.{First, InOrder, Repeated, Missing, Late, Refused as NotNoted}
@@ -155,7 +155,7 @@ printed =
     (34, heard (0x7E ∷ 0x26 ∷ 0x02 ∷ 0x07 ∷ 0xAA ∷ 0xBB ∷ 0x34 ∷ 0x12 ∷ 0x02 ∷ 0x01 ∷ 0x41 ∷ 0x8E ∷ 0x3F ∷ 0x7E ∷ []), 0 ∷ 0x26 ∷ 7 ∷ 2 ∷ 0xAA ∷ 0xBB ∷ 0x1234 ∷ 0x0102 ∷ 0x41 ∷ []) ∷  -- .. and taken apart
     (35, keyRefusal 0 7 ∷ keyRefusal 1 7 ∷ keyRefusal 2 7 ∷ keyRefusal 32 7 ∷ keyRefusal 33 7 ∷ keyRefusal 2 6 ∷ keyRefusal 32 6 ∷ [], 12 ∷ 12 ∷ 0 ∷ 0 ∷ 12 ∷ 12 ∷ 12 ∷ []) ∷  -- 12: a key length outside 2 to 32, fewer than seven bytes behind the key
     (36, map refusalOf (headed 0x26 0 1 ∷ headed 0x26 0 2 ∷ headed 0x26 255 32 ∷ headed 0x26 0 33 ∷ headed 0x26 0 258 ∷ headed 0x21 0 0 ∷ headed 0x21 0 2 ∷ headed 0x21 1 0 ∷ headed 0x22 0 2 ∷ []), 24 ∷ 0 ∷ 0 ∷ 24 ∷ 24 ∷ 0 ∷ 24 ∷ 24 ∷ 24 ∷ []) ∷  -- 24: such a length, a key length or number above zero in format 0x21, another format
-    (40, placeLimit ∷ around ∷ half ∷ [], 16 ∷ 65536 ∷ 32768 ∷ []) ∷  -- "up to 16"; "from -32,768 to 32,767, around 65,536"
+    (40, mostPorts ∷ around ∷ half ∷ [], 16 ∷ 65536 ∷ 32768 ∷ []) ∷  -- "up to 16"; "from -32,768 to 32,767, around 65,536"
     (41, joined (map toldOf (ruled 0 1 ∷ ruled 65535 0 ∷ ruled 7 7 ∷ ruled 7 9 ∷ ruled 65535 2 ∷ ruled 0 32767 ∷ ruled 0 32768 ∷ ruled 7 6 ∷ ruled 0 65535 ∷ [])), 73 ∷ 73 ∷ 82 ∷ 77 ∷ 1 ∷ 77 ∷ 2 ∷ 77 ∷ 32766 ∷ 76 ∷ 76 ∷ 76 ∷ []) ∷  -- in order, repeated, missing, late
     (42, lastBehind 0 1 ∷ lastBehind 7 7 ∷ lastBehind 65535 2 ∷ lastBehind 0 32767 ∷ lastBehind 0 32768 ∷ lastBehind 7 6 ∷ [], 1 ∷ 7 ∷ 2 ∷ 32767 ∷ 0 ∷ 7 ∷ []) ∷  -- "negative is late and leaves the last number"
     (43, joined (toldOf (noting (replicate 17 freed) 20 1 .0) ∷ toldOf (noting (entry 5 1 ∷ entry 5 2 ∷ []) 20 1 .0) ∷ toldOf (noting (tableOf 16) 20 1 .0) ∷ toldOf (noting (freed ∷ tableOf 15) 20 1 .0) ∷ []), 43 ∷ 43 ∷ 40 ∷ 70 ∷ []) ∷  -- 43, 40, and a first packet
