@@ -6,7 +6,7 @@ use mathlib.Core.Path.{_≡_, refl, sym, subst, _∙_}
 use mathlib.Core.Bool.{Bool, true, false, _&&_, _||_, false≢true, true≢false}
 use mathlib.Core.Logic.{_⊎_, inl, inr, ⊎-elim}
 use mathlib.Core.List.{List, [], _∷_}
-use Prim.Native.Nat.{ℕ, zero, suc, _-_, _≤_, _<_}
+use Prim.Native.Nat.{ℕ, zero, suc, _≤_, _<_}
 use native.Mathlib.Omega.{arith}
 use native.Mathlib.Nat.{le-of-suc-le-suc, not-suc-le-zero}
 use borrow.Author.Tests.{eqb-true, eq-eqb, lt-ltb, ltb-true}
@@ -103,13 +103,13 @@ isUnforgotten (Unforgotten n) = true
 
 -- the rule refuses nothing
 rule-passes : (last new : ℕ) → isRefused (ruled last new) ≡ false
-rule-passes last new = go (eqb (gap last new) 0) (eqb (gap last new) 1) (ltb (gap last new) half)
+rule-passes last new = go (eqb (gap last new) 0) (eqb (gap last new) 1) (ltb (gap last new) half) _
   where
-    go : (a b c : Bool) → isRefused (pick a Repeated (pick b InOrder (pick c (Missing (gap last new - 1)) Late))) ≡ false
-    go true b c = refl
-    go false true c = refl
-    go false false true = refl
-    go false false false = refl
+    go : (a b c : Bool) (n : ℕ) → isRefused (pick a Repeated (pick b InOrder (pick c (Missing n) Late))) ≡ false
+    go true b c n = refl
+    go false true c n = refl
+    go false false true n = refl
+    go false false false n = refl
 
 pub rule-given : (last new n : ℕ) → ruled last new ≡ Refused n → ⊥
 rule-given last new n e = true≢false (subst (λ (x : Noted). isRefused x ≡ false) e (rule-passes last new))

@@ -23,7 +23,8 @@ Statement T = (κs : Lfts (T .signature .lifetimes)) → Args (T .signature) κs
 
 abbrev pub Promises : (T : Ended) → Contract T → Statement T → Type 2
 Promises T contract says =
-    (M : Type 1) (𝓤 : URA M) (H : Heap 𝓤) (A : Atoms 𝓤) (mem : Memory → SProp 𝓤) (run : Routine → Fun 𝓤) (κs : Lfts (T .signature .lifetimes)) (a : Args (T .signature) κs)
+    (M : Type 1) (𝓤 : URA M) (H : Heap 𝓤) (A : Atoms 𝓤) (mem : Memory → SProp 𝓤) (run : Routine → Fun 𝓤)
+    (κs : Lfts (T .signature .lifetimes)) (a : Args (T .signature) κs)
     → _≡_ {A = ClausesAt 𝓤 T κs} (contract M 𝓤 H A mem run κs a) (record { ghost = Unit {0}; requires = λ g. emp 𝓤; ensures = λ g r e. fact 𝓤 (says κs a r e) })
 
 abbrev pub Determines : (T : Ended) → Statement T → Type 0

@@ -61,4 +61,6 @@ notingOf t port sequence =
       place = placeOf port (inTable t);
       entry = entry port (lastBehind (lastIn t port) sequence);
     })
-    (pick (ltb (freePlace (inTable t)) (t .places)) (record { noted = First; place = freePlace (inTable t); entry = entry port sequence }) (unnoted (t .places) 40))))
+    (pick (ltb (freePlace (inTable t)) (t .places))
+    (record { noted = First; place = freePlace (inTable t); entry = entry port sequence })
+    (unnoted (t .places) 40))))

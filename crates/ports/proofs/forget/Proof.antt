@@ -1,4 +1,5 @@
--- `ports::forget` meets its contract: a walk of its MIR, by hand. The lent slice is shared for the call of `gather` and comes back (`Shared.antt`), `decide_forget` decides on the values, and the slice is lent again to `put_or` and comes back (`Again.antt`).
+-- `ports::forget` meets its contract: a walk of its code, by hand. The lent slice is shared for the call of `gather` and comes back, `decide_forget` decides on
+-- the values, and the slice is lent again to `put_or` and comes back (Lending).
 -- All that the proof knows of the three is that each meets its contract.
 -- Assumes nothing.
 use mathlib.Core.Path.{_≡_, refl, sym, _∙_, ap, subst}
