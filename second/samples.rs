@@ -70,7 +70,7 @@ fn restricted_stream() -> Vec<u8> {
 }
 
 /// Each recording by name.
-fn all() -> [(&'static str, Vec<u8>); 5] {
+fn all() -> [(&'static str, Vec<u8>); 6] {
     let clean = channel::in_blocks(&stream(), usize::MAX).unwrap();
     let mut damaged = clean.clone();
     // twenty bytes around the first price, beyond repair; two digits of the last price, repaired; a marker that is lost
