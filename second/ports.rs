@@ -128,12 +128,12 @@ pub fn write_numbered(path: &str, seed: u64) {
     std::fs::write(path, recorded(PLAIN, &stream, || 500)).expect(path);
 }
 
-// ---- cases for the proved calls (try/lent has their form): N and F on a lent table, V and G on one by value
+// ---- cases for the proved calls on a table by value (crates/tables has their form)
 pub struct Case {
     asked: u8,
     port: u16,
     sequence: u16,
-    table: Vec<Place>,
+    table: [Place; MOST],
 }
 
 impl Case {
@@ -141,15 +141,14 @@ impl Case {
         to.push(self.asked);
         to.extend(self.port.to_le_bytes());
         to.extend(self.sequence.to_le_bytes());
-        to.push(self.table.len() as u8);
         write_table(&self.table, to);
     }
 
     /// The number that is told of a call, and the table then.
     fn answer(&self, to: &mut Vec<u8>) {
-        let mut table = self.table.clone();
+        let mut table = self.table;
         let told = match self.asked {
-            b'N' | b'V' => note(&mut table, self.port, self.sequence).map(|verdict| verdict.number()),
+            b'N' => note(&mut table, self.port, self.sequence).map(|verdict| verdict.number()),
             _ => forget(&mut table, self.port).map(|()| 0),
         };
         to.extend(told.unwrap_or_else(|number| 0x100_0000 + number as u32).to_le_bytes());
@@ -157,9 +156,8 @@ impl Case {
     }
 }
 
-/// Room for 17 places, those behind the table all zero.
 fn write_table(table: &[Place], to: &mut Vec<u8>) {
-    for place in table.iter().chain(&[FREE; MOST + 1]).take(MOST + 1) {
+    for place in table {
         to.push(place.held as u8);
         to.extend(place.port.to_le_bytes());
         to.extend(place.last.to_le_bytes());
@@ -179,41 +177,36 @@ pub fn write_cases(asked: &str, told: &str, seed: u64) {
     println!("{} calls on tables of ports", all.len());
 }
 
-/// Both calls, on a lent table and, where it has 16 places, on one by value.
-fn asks(port: u16, sequence: u16, table: &[Place], cases: &mut Vec<Case>) {
-    let letters: &[u8] = if table.len() == MOST { b"NFVG" } else { b"NF" };
-    cases.extend(letters.iter().map(|asked| Case { asked: *asked, port, sequence, table: table.to_vec() }));
+/// Both calls.
+fn asks(port: u16, sequence: u16, table: [Place; MOST], cases: &mut Vec<Case>) {
+    cases.extend(b"NF".iter().map(|asked| Case { asked: *asked, port, sequence, table }));
 }
 
 fn cases(seed: u64) -> Vec<Case> {
     let mut random = Random::new(seed);
     let mut cases = Vec::new();
     distances(&mut cases);
-    for places in [0, 1, 2, 15, 16, 17] {
-        // free, full, with one place free at each end, and any
-        let full: Vec<Place> = (0..places).map(|i| Place { held: true, port: 0x1400 + i as u16, last: i as u16 }).collect();
-        let mut tables = vec![vec![FREE; places], full.clone()];
-        for i in [0, places.saturating_sub(1)] {
-            let mut table = full.clone();
-            table.get_mut(i).map(|place| place.held = false);
-            tables.push(table);
-        }
-        // one port at two places: held at both, at the first and at the second alone
-        if places > 1 {
-            for (first, second) in [(true, true), (true, false), (false, true)] {
-                let mut table = full.clone();
-                table[0] = Place { held: first, port: 0x5100, last: 7 };
-                table[places - 1] = Place { held: second, port: 0x5100, last: 9 };
-                tables.push(table);
-            }
-        }
-        for _ in 0..12 {
-            tables.push((0..places).map(|_| any(&mut random)).collect());
-        }
-        for table in tables {
-            for port in [0x1400, 0x1400 + places as u16 / 2, 0x13FF + places as u16, 0x5100, 0xFFFF] {
-                asks(port, 8, &table, &mut cases);
-            }
+    // free, full, with one place free
+    let full: [Place; MOST] = std::array::from_fn(|i| Place { held: true, port: 0x1400 + i as u16, last: i as u16 });
+    let mut tables = vec![[FREE; MOST], full];
+    for i in 0..MOST {
+        let mut table = full;
+        table[i].held = false;
+        tables.push(table);
+    }
+    // one port at two places: held at both, at the first and at the second alone
+    for (first, second) in [(true, true), (true, false), (false, true)] {
+        let mut table = full;
+        table[0] = Place { held: first, port: 0x5100, last: 7 };
+        table[MOST - 1] = Place { held: second, port: 0x5100, last: 9 };
+        tables.push(table);
+    }
+    for _ in 0..200 {
+        tables.push(std::array::from_fn(|_| any(&mut random)));
+    }
+    for table in tables {
+        for port in [0x1400, 0x1408, 0x140F, 0x5100, 0xFFFF] {
+            asks(port, 8, table, &mut cases);
         }
     }
     cases
@@ -225,7 +218,7 @@ fn distances(cases: &mut Vec<Case>) {
         for distance in [0u16, 1, 2, 3, 100, 32_766, 32_767, 32_768, 32_769, 65_534, 65_535] {
             let mut table = [FREE; MOST];
             table[3] = Place { held: true, port: 0x5100, last };
-            asks(0x5100, last.wrapping_add(distance), &table, cases);
+            asks(0x5100, last.wrapping_add(distance), table, cases);
         }
     }
 }
