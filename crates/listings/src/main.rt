@@ -58,18 +58,14 @@ fn respond(number: u64, bytes: &[u8], out: &mut [u8]) -> bool {
     io::write_all(1, out)
 }
 
-fn wide(b: u8) -> u64 {
-    b as u64
-}
-
 fn pair(low: u8, high: u8) -> usize {
-    (wide(low) | wide(high) << 8) as usize
+    low as usize | (high as usize) << 8
 }
 
 // The number of a case.
 fn number(head: [u8; 13]) -> u64 {
-    let low = wide(head[1]) | wide(head[2]) << 8 | wide(head[3]) << 16 | wide(head[4]) << 24;
-    let high = wide(head[5]) | wide(head[6]) << 8 | wide(head[7]) << 16 | wide(head[8]) << 24;
+    let low = head[1] as u64 | (head[2] as u64) << 8 | (head[3] as u64) << 16 | (head[4] as u64) << 24;
+    let high = head[5] as u64 | (head[6] as u64) << 8 | (head[7] as u64) << 16 | (head[8] as u64) << 24;
     low | high << 32
 }
 
@@ -84,20 +80,16 @@ fn fill(out: &mut [u8]) {
 // Writes a number, its low byte first.
 fn print(n: u64) {
     let text = [
-        low(n),
-        low(n / 0x100),
-        low(n / 0x10000),
-        low(n / 0x1000000),
-        low(n / 0x100000000),
-        low(n / 0x10000000000),
-        low(n / 0x1000000000000),
-        low(n / 0x100000000000000),
+        (n % 256) as u8,
+        (n / 0x100 % 256) as u8,
+        (n / 0x10000 % 256) as u8,
+        (n / 0x1000000 % 256) as u8,
+        (n / 0x100000000 % 256) as u8,
+        (n / 0x10000000000 % 256) as u8,
+        (n / 0x1000000000000 % 256) as u8,
+        (n / 0x100000000000000 % 256) as u8,
     ];
     io::write_all(1, &text);
-}
-
-fn low(n: u64) -> u8 {
-    (n % 256) as u8
 }
 
 fn written(w: Written) -> u64 {
