@@ -64,8 +64,14 @@ fn pair(low: u8, high: u8) -> usize {
 
 // The number of a case.
 fn number(head: [u8; 13]) -> u64 {
-    let low = head[1] as u64 | (head[2] as u64) << 8 | (head[3] as u64) << 16 | (head[4] as u64) << 24;
-    let high = head[5] as u64 | (head[6] as u64) << 8 | (head[7] as u64) << 16 | (head[8] as u64) << 24;
+    let low = head[1] as u64
+        | (head[2] as u64) << 8
+        | (head[3] as u64) << 16
+        | (head[4] as u64) << 24;
+    let high = head[5] as u64
+        | (head[6] as u64) << 8
+        | (head[7] as u64) << 16
+        | (head[8] as u64) << 24;
     low | high << 32
 }
 
