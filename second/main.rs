@@ -10,6 +10,11 @@
 //!   second interleave push|pull DEPTH
 //!                            standard input through the interleaver, with the closing push, or back
 //!   second list              the listing of the recording on standard input
+//!   second missed            which bids were missed in the recording on standard input (ports.rs)
+//!   second numbered FILE [SEED]
+//!                            a recording with distances of every kind between sequence numbers
+//!   second tables CASES ANSWERS [SEED]
+//!                            calls on tables of ports, and what they answer, into two files
 //!   second kinds FILE..      how often each kind of line occurs in the listings of recordings; fails where one never does
 //!   second recordings DIR [SEED]
 //!                            recordings to be listed, into a folder
@@ -36,6 +41,7 @@ mod listing;
 mod listing_cases;
 mod packet;
 mod parity;
+mod ports;
 mod repair;
 mod samples;
 mod selftest;
@@ -58,6 +64,11 @@ fn main() {
         ["interleave", side @ ("push" | "pull"), depth] => number(depth).filter(|d| *d <= 64).map(|d| interleave(side == "push", d)),
         ["bids", ref rest @ ..] => std::process::exit(bids::run(rest)),
         ["list"] => Some(listing::list_input().expect("standard input and output")),
+        ["missed"] => std::process::exit(ports::show_missed()),
+        ["numbered", file] => Some(ports::write_numbered(file, 1)),
+        ["numbered", file, seed] => number(seed).map(|seed| ports::write_numbered(file, seed)),
+        ["tables", asked, told] => Some(ports::write_cases(asked, told, 1)),
+        ["tables", asked, told, seed] => number(seed).map(|seed| ports::write_cases(asked, told, seed)),
         ["kinds", ref files @ ..] => std::process::exit(kinds::show(files)),
         ["recordings", dir] => Some(write_recordings(dir, 1)),
         ["recordings", dir, seed] => number(seed).map(|seed| write_recordings(dir, seed)),
@@ -71,8 +82,8 @@ fn main() {
         _ => None,
     };
     if done.is_none() {
-        eprintln!("usage: second fcs HEX | parity R HEX | word R HEX | repair R HEX | interleave push|pull DEPTH | list | kinds FILE..");
-        eprintln!("  | recordings DIR [SEED] | steady plain|marked MIB | samples DIR | cases calls|turns|pieces|channels|listings [SEED] | compare CASES ANSWERS .. | test [SEED] | words R PLACES N | time N M");
+        eprintln!("usage: second fcs HEX | parity R HEX | word R HEX | repair R HEX | interleave push|pull DEPTH | list | missed | kinds FILE..");
+        eprintln!("  | recordings DIR [SEED] | steady plain|marked MIB | samples DIR | cases calls|turns|pieces|channels|listings [SEED] | compare CASES ANSWERS .. | test [SEED] | words R PLACES N | time N M | numbered FILE [SEED] | tables CASES ANSWERS [SEED]");
         std::process::exit(2);
     }
 }

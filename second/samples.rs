@@ -1,10 +1,12 @@
 //! The recordings of samples/: a morning of bids on the opportunistic channel, the same morning damaged on the way, the same with some bids
-//! for subscribers only, the same in the plain stream with two escapes broken, and a recording that breaks off.
+//! for subscribers only, the same in the plain stream with two escapes broken, a morning with bids that were never sent, and a recording that
+//! breaks off.
 
 use crate::channel::{self, BLOCK};
 use crate::listing;
 use crate::listing_cases::{recorded, OPPORTUNISTIC, PLAIN};
 use crate::packet::{self, Packet, FLAG};
+use crate::ports;
 
 /// Port, sequence and text: bids on ports for applications, between them the station's own packets.
 const MORNING: [(u16, u16, &str); 13] = [
@@ -24,8 +26,24 @@ const MORNING: [(u16, u16, &str); 13] = [
 ];
 
 fn stream() -> Vec<u8> {
+    stream_of(&MORNING)
+}
+
+/// The corn bids 89 and 90 are never sent, the second bid for soybeans is sent twice, and the first for wheat behind the second.
+fn missed() -> Vec<u8> {
+    let mut bids = MORNING.to_vec();
+    bids.retain(|bid| !matches!((bid.0, bid.1), (0x1401, 89) | (0x1401, 90)));
+    let at = |bids: &[(u16, u16, &str)], port, sequence| bids.iter().position(|bid| (bid.0, bid.1) == (port, sequence)).unwrap();
+    let again = at(&bids, 0x1402, 52);
+    bids.insert(again, bids[again]);
+    let early = bids.remove(at(&bids, 0x1403, 19));
+    bids.insert(at(&bids, 0x1403, 20) + 1, early);
+    stream_of(&bids)
+}
+
+fn stream_of(bids: &[(u16, u16, &str)]) -> Vec<u8> {
     let mut bytes = vec![FLAG];
-    for (port, sequence, text) in MORNING {
+    for &(port, sequence, text) in bids {
         bytes.extend(packet::escaped_packet(port, sequence, text.as_bytes(), usize::MAX).unwrap());
     }
     bytes
@@ -52,7 +70,7 @@ fn restricted_stream() -> Vec<u8> {
 }
 
 /// Each recording by name.
-fn all() -> [(&'static str, Vec<u8>); 5] {
+fn all() -> [(&'static str, Vec<u8>); 6] {
     let clean = channel::in_blocks(&stream(), usize::MAX).unwrap();
     let mut damaged = clean.clone();
     // twenty bytes around the first price, beyond repair; two digits of the last price, repaired; a marker that is lost
@@ -73,15 +91,17 @@ fn all() -> [(&'static str, Vec<u8>); 5] {
         ("morning-damaged", recorded(OPPORTUNISTIC, &damaged, || 96)),
         ("morning-restricted", recorded(OPPORTUNISTIC, &channel::in_blocks(&restricted_stream(), usize::MAX).unwrap(), || 96)),
         ("morning-escapes", recorded(PLAIN, &escapes, || 250)),
+        ("morning-missed", recorded(OPPORTUNISTIC, &channel::in_blocks(&missed(), usize::MAX).unwrap(), || 96)),
         ("malformed", malformed),
     ]
 }
 
-/// Writes the recordings, each with its listing.
+/// Writes the recordings, each with its listing and the bids that it misses.
 pub fn write(dir: &str) -> std::io::Result<()> {
     for (name, bytes) in all() {
         std::fs::write(format!("{dir}/{name}.rec"), &bytes)?;
         std::fs::write(format!("{dir}/{name}.listing"), listing::listing(&bytes))?;
+        std::fs::write(format!("{dir}/{name}.missed"), ports::missed(&bytes).0)?;
     }
     Ok(())
 }

@@ -32,7 +32,7 @@ use Rattle.packet.proofs.Judging.{key-fits}
 use Rattle.packet.proofs.Round.{by-format}
 use Rattle.packet.proofs.Faults.{Scanned, scan-says, broken-followed}
 use Rattle.demands.specs.Table.{Row, Exact}
-use Rattle.demands.specs.Refusals.{Unusable, KeyBeyond, portAt, payloadOf, contentsRows, frameRows, Unfit, OfFrame, OfCall, ByFrame}
+use Rattle.demands.specs.Refusals.{Unusable, KeyBeyond, KeyWrong, portAt, payloadOf, bodyRows, contentsRows, frameRows, Unfit, OfFrame, OfCall, ByFrame}
 use Rattle.demands.proofs.Rows.{applies, over, row, row-not, passed, not-both, not-less, not-same, first-each}
 
 pub barred-is : (port : ℕ) → barred port ≡ true → Unusable port
@@ -56,19 +56,12 @@ is-broken : (m n : ℕ) → ByFrame (broken m) n ↔ n ≡ 3
 is-broken m n = (λ e. let k : 3 ≡ n = cc in sym k, λ e i. some (sym e i))
 
 -- ---- keys, as facts
-pub sized-not : (k : ℕ) → keySized k ≡ false → KeyBeyond k
+sized-not : (k : ℕ) → keySized k ≡ false → KeyBeyond k
 sized-not k = go (leb keyLeast k) refl
   where
     go : (t : Bool) → leb keyLeast k ≡ t → t && leb k keyMost ≡ false → KeyBeyond k
     go true e h = inr (leb-false _ _ h)
     go false e h = inl (leb-false _ _ e)
-
-pub sized-is : (k : ℕ) → keySized k ≡ true → KeyBeyond k → ⊥
-sized-is k e =
-    let p = and-parts (leb keyLeast k) (leb k keyMost) e in
-    let low : keyLeast ≤ k = leb-true _ _ (p .0) in
-    let high : k ≤ keyMost = leb-true _ _ (p .1) in
-    ⊎-elim (λ h. omega (arith, h)) (λ h. omega (arith, h))
 
 pub unfit-is : (p : Packet) → headFits (p .format) (p .number) (length (p .key)) ≡ false → Unfit p
 unfit-is p = go (eqb (p .format) plainFormat) refl (eqb (p .format) keyFormat) refl
@@ -97,12 +90,6 @@ fit-is p h =
     ⊎-elim (λ u. ⊎-elim (λ z. omega (arith, z)) (λ z. omega (arith, z)) (u .1)) (⊎-elim (λ u. u .1 f) (λ u. omega (arith, u .0))))
 
 -- ---- format byte to last payload byte, seen from the contents
-bodyRows : List ℕ → List Row
-bodyRows cs =
-    (6, (getD cs 0 0 ≢ plainFormat) × (getD cs 0 0 ≢ keyFormat))
-    ∷ (12, (getD cs 0 0 ≡ keyFormat) × (KeyBeyond (keyLength cs) ⊎ (length cs < keyAt + keyLength cs + 7)))
-    ∷ (7, Unusable (wordAt cs (portAt cs))) ∷ (8, payloadLimit < length (escape (payloadOf cs))) ∷ []
-
 module _ (cs : List ℕ) (long : 8 ≤ length cs) where
   body-at : (i : ℕ) → i < length cs - 2 → getD (body cs) i 0 ≡ getD cs i 0
   body-at i h = getD-take (length cs - 2) cs i 0 h
@@ -132,7 +119,7 @@ module _ (cs : List ℕ) (long : 8 ≤ length cs) where
   key-same = body-at 1 (omega arith)
 
   body-exact : Exact ByFrame (judgeBody (body cs)) (bodyRows cs)
-  unfolding judgeBody bodyRows
+  unfolding judgeBody
   body-exact = go (eqb (getD (body cs) 0 0) plainFormat) refl (eqb (getD (body cs) 0 0) keyFormat) refl (keyFits (body cs)) refl
     where
       plain-port : getD cs 0 0 ≡ plainFormat → portAt cs ≡ 1
@@ -141,13 +128,13 @@ module _ (cs : List ℕ) (long : 8 ≤ length cs) where
       key-port : getD cs 0 0 ≡ keyFormat → portAt cs ≡ keyAt + keyLength (body cs)
       key-port f = ap (λ (t : Bool). pick t (keyAt + keyLength cs) 1) (eq-eqb _ _ f) ∙ ap (λ (k : ℕ). keyAt + k) (sym key-same)
 
-      unfit : keyFits (body cs) ≡ false → KeyBeyond (keyLength cs) ⊎ (length cs < keyAt + keyLength cs + 7)
+      unfit : keyFits (body cs) ≡ false → KeyWrong cs
       unfit e =
           ⊎-elim (λ h. inl (subst KeyBeyond key-same (sized-not (keyLength (body cs)) h)))
           (λ h. let m : length (body cs) < keyAt + keyLength (body cs) + restLeast = leb-false _ _ h in inr (omega (arith, body-length, key-same)))
           (not-both (keySized (keyLength (body cs))) (leb (keyAt + keyLength (body cs) + restLeast) (length (body cs))) e)
 
-      fit : keyFits (body cs) ≡ true → KeyBeyond (keyLength cs) ⊎ (length cs < keyAt + keyLength cs + 7) → ⊥
+      fit : keyFits (body cs) ≡ true → KeyWrong cs → ⊥
       fit e =
           let f = key-fits (body cs) e in
           ⊎-elim (⊎-elim (λ h. omega (arith, h, f .0, key-same)) (λ h. omega (arith, h, f .1, key-same))) (λ h. omega (arith, h, f .2, body-length, key-same))
@@ -169,7 +156,7 @@ module _ (cs : List ℕ) (long : 8 ≤ length cs) where
           applies ByFrame _ (is 6) (λ f. eqb-false _ _ e (first-same ∙ f), λ f. eqb-false _ _ g (first-same ∙ f))
 
 contents-exact : (cs : List ℕ) → Exact ByFrame (judgeContents cs) (contentsRows cs)
-unfolding judgeContents bodyRows
+unfolding judgeContents
 contents-exact cs = go (ltb (length cs) 8) refl
   where
     go : (t : Bool) → ltb (length cs) 8 ≡ t

@@ -14,3 +14,4 @@ pub mod Demand3
 pub mod Altered
 pub mod Guarantee
 pub mod Numbers
+pub mod Missed

@@ -46,7 +46,13 @@ use Rattle.office.specs.declared.Answer.the-variants as office-answer
 use Rattle.office.specs.declared.Started.{Started}
 use Rattle.office.specs.declared.Started.the-variants.{Ready, Refused as Denied}
 use Rattle.office.specs.Called as office
-use Rattle.demands.specs.Means.{Means}
+use Rattle.lines.specs.Noted.{notedLine}
+use Rattle.ports.specs.declared.Entry.{Entry}
+use Rattle.ports.specs.declared.Noted.{Noted}
+use Rattle.ports.specs.declared.Forgot.{Forgot}
+use Rattle.ports.specs.Distance.{ruled}
+use Rattle.ports.specs.Ports.{noting, forgetting}
+use Rattle.demands.specs.Means.{Means, MeansByHand}
 use Rattle.packet.proofs.write_as as packet-write-as
 use Rattle.packet.proofs.write as packet-write
 use Rattle.stream.proofs.begin as stream-begin
@@ -84,6 +90,13 @@ use Rattle.recording.proofs.recording.Recording.finish as recording-finish
 use Rattle.lines.proofs.print as lines-print
 use Rattle.lines.proofs.print_end as lines-print-end
 use Rattle.lines.proofs.print_wrong as lines-print-wrong
+use Rattle.lines.proofs.print_noted as lines-print-noted
+use Rattle.ports.proofs.rule as ports-rule
+use Rattle.ports.proofs.by_value.Ports.fresh as ports-fresh
+use Rattle.ports.proofs.by_value.Ports.note as ports-ports-note
+use Rattle.ports.proofs.by_value.Ports.forget as ports-ports-forget
+use Rattle.ports.proofs.note as ports-note
+use Rattle.ports.proofs.forget as ports-forget
 use Rattle.office.proofs.Office.start as office-start
 use Rattle.office.proofs.Office.hear as office-hear
 use Rattle.office.proofs.Office.close as office-close
@@ -313,6 +326,38 @@ pub lines-print-wrong-means : Means lines-print-wrong.Statement.statement lines-
 lines-print-wrong-means = (λ M. lines-print-wrong.Met.met, λ κs a. tt, λ κs a z ws. (λ p. p, λ p. p))
 
 -- ---- the office. Before the first line one flag is held, in a buffer of 8,428 bytes or more
+pub lines-print-noted-means : Means lines-print-noted.Statement.statement lines-print-noted.Kinds.ps lines-print-noted.Kinds.r lines-print-noted.Reads.Asked lines-print-noted.Reads.Learnt
+    λ κs port sequence noted out w. outcome w (now (out .exit)) ≡ write (notedLine port sequence noted) (now (out .entry))
+lines-print-noted-means = (λ M. lines-print-noted.Met.met, λ κs a. tt, λ κs a z ws. (λ p. p, λ p. p))
+
+-- ---- a table of ports: by value ..
+pub ports-rule-means : Means ports-rule.Statement.statement ports-rule.Kinds.ps ports-rule.Kinds.r ports-rule.Reads.Asked ports-rule.Reads.Learnt
+    λ κs last new r. r ≡ ruled last new
+ports-rule-means = (λ M. ports-rule.Met.met, λ κs a. tt, λ κs a z ws. (λ p. p, λ p. p))
+
+pub ports-fresh-means : Means ports-fresh.Statement.statement ports-fresh.Kinds.ps ports-fresh.Kinds.r ports-fresh.Reads.Asked ports-fresh.Reads.Learnt
+    λ κs r. r ≡ record { entries = replicate 16 (record { held = false; port = 0; last = 0 }) }
+ports-fresh-means = (λ M. ports-fresh.Met.met, λ κs a. tt, λ κs a z ws. (λ p. p, λ p. p))
+
+pub ports-ports-note-means : Means ports-ports-note.Statement.statement ports-ports-note.Kinds.ps ports-ports-note.Kinds.r ports-ports-note.Reads.Asked ports-ports-note.Reads.Learnt
+    λ κs self port sequence r.
+    let x = noting (self .entries) port sequence in r ≡ record { noted = x .0; ports = record { entries = x .1 } }
+ports-ports-note-means = (λ M. ports-ports-note.Met.met, λ κs a. tt, λ κs a z ws. (λ p. p, λ p. p))
+
+pub ports-ports-forget-means : Means ports-ports-forget.Statement.statement ports-ports-forget.Kinds.ps ports-ports-forget.Kinds.r ports-ports-forget.Reads.Asked ports-ports-forget.Reads.Learnt
+    λ κs self port r.
+    let x = forgetting (self .entries) port in r ≡ record { forgot = x .0; ports = record { entries = x .1 } }
+ports-ports-forget-means = (λ M. ports-ports-forget.Met.met, λ κs a. tt, λ κs a z ws. (λ p. p, λ p. p))
+
+-- .. and lent, of any length: of the parameters a (table, port, sequence), the answer r and the parameters e at the end
+pub ports-note-means : MeansByHand ports-note.Statement.statement ports-note.ended (λ M. ports-note.clauses)
+    λ κs a r e. _≡_ {A = Noted × List Entry} (r, now (e .0)) (noting (now (a .0)) (a .1 .0) (a .1 .1 .0))
+ports-note-means = (λ M. ports-note.Met.met, λ M 𝓤 H A mem run κs a. refl)
+
+pub ports-forget-means : MeansByHand ports-forget.Statement.statement ports-forget.ended (λ M. ports-forget.clauses)
+    λ κs a r e. _≡_ {A = Forgot × List Entry} (r, now (e .0)) (forgetting (now (a .0)) (a .1 .0))
+ports-forget-means = (λ M. ports-forget.Met.met, λ M 𝓤 H A mem run κs a. refl)
+
 pub office-start-means : Means office-start.Statement.statement office-start.Kinds.ps office-start.Kinds.r office-start.Reads.Asked office-start.Reads.Learnt
     λ κs hold r.
     _≡_ {A = Started × List ℕ}

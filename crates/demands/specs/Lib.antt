@@ -5,3 +5,4 @@ pub mod Desks
 pub mod Guarantee
 pub mod Numbers
 pub mod Printed
+pub mod Missed

@@ -1,6 +1,7 @@
 -- Means   what a public function is bound to, said of what Rattle makes of its contract: it ends, it asks nothing of its caller, and its promise
 --         is exactly this statement of its arguments, its result and what each lent buffer then holds. A law of this form is refused when
 --         the promise in src/ says more, less or other, whether or not the body keeps it
+-- MeansByHand   the same of a function that is proved by hand
 use Prim.Native.Nat.{ℕ}
 use mathlib.Core.Logic.{_↔_}
 use mathlib.Core.List.{List, [], _∷_}
@@ -9,7 +10,8 @@ use borrow.Fn.Kinds.{PK, RK, In, Out, Den, Dens, slotOf, slots, kepts, resT, end
 use denote.Exit.{Exit, unchanged, leaves, Last}
 use denote.Triple.Both.{Both}
 use denote.Triple.End.{Fins}
-use denote.Triple.Clauses.{Lasts, atExit}
+use denote.Triple.Clauses.{Ended, Lasts, atExit}
+use Rattle.ports.specs.ByHand.{Contract, Statement, Promises}
 
 -- a parameter as a promise names it: one that the call cannot change as it was passed, a lent buffer by its .entry and its .exit
 abbrev pub Named : {D : Type 0} → Exit D → Type 0
@@ -45,3 +47,7 @@ Means statement {n} ps r Asked Learnt says =
     × ((κs : Lfts n) (a : Dens κs ps) → Asked κs a)
     × ((κs : Lfts n) (a : Dens κs ps) (z : resT r κs .Denot) (ws : Lasts (endedOf n ps r) κs a) →
     Learnt κs a z (atExit (endedOf n ps r) κs a ws) ↔ given κs ps (says κs) a ws z)
+
+-- of a function proved by hand Rattle makes no reading: its clauses ask nothing and ensure exactly what is said
+abbrev pub MeansByHand : (Type 1 → Type 2) → (T : Ended) → Contract T → Statement T → Type 2
+MeansByHand statement T contract says = ((M : Type 1) → statement M) × Promises T contract says

@@ -1,6 +1,6 @@
 -- What the paper prints: its fixed numbers and letters said a second time, in the form of Numbers, so that a slip is seen even where code and
 -- definition slip together. The fresh states stand in proofs/Promises, the rows of refusals in proofs/Demand1, and what a law says for all numbers
--- (classes, interleaver) in proofs/Demand2.
+-- in proofs/Demand2 (classes) and proofs/Interleaving.
 -- printed    the rows
 use Prim.Native.Nat.{ℕ, zero, suc, _-_}
 use mathlib.Core.Path.{_≡_, refl}
@@ -38,6 +38,14 @@ use Rattle.listed.specs.Listing.{heard as heardAs, totalLine, lastLine, listed 
 use Rattle.listed.specs.declared.Place.the-variants.{Mark}
 use Rattle.recording.specs.declared.recording.Recording.{Recording}
 use Rattle.recording.specs.Printed.{lastOf}
+use Rattle.lines.specs.Noted.{notedLine}
+use Rattle.ports.specs.Distance.{around, half, ruled, lastBehind}
+use Rattle.ports.specs.Ports.{placeLimit as mostPorts, freed, entry, noting, forgetting}
+use Rattle.ports.specs.declared.Entry.{Entry}
+use Rattle.ports.specs.declared.Noted.{Noted}
+use Rattle.ports.specs.declared.Noted.the-variants.{First, InOrder, Repeated, Missing, Late, Refused as NotNoted}
+use Rattle.ports.specs.declared.Forgot.{Forgot}
+use Rattle.ports.specs.declared.Forgot.the-variants.{Forgotten, Refused as Unforgotten}
 use Rattle.demands.specs.Numbers.{Line, inNumbers, heard}
 
 -- the number by which a frame is refused; 0 where it is a packet
@@ -102,6 +110,25 @@ numberOf (Refused n) = n
 abbrev refusalAt : ℕ → ℕ → ℕ
 refusalAt d p = numberOf (interleaver.pushing d (interleaver.matrix p []) [] [] .0 .answer)
 
+-- what a packet is to its port: a letter and, of missing ones, how many; the number of a refusal
+abbrev toldOf : Noted → List ℕ
+toldOf First = 70 ∷ []
+toldOf InOrder = 73 ∷ []
+toldOf Repeated = 82 ∷ []
+toldOf (Missing n) = 77 ∷ n ∷ []
+toldOf Late = 76 ∷ []
+toldOf (NotNoted n) = n ∷ []
+
+-- the number by which a port is not forgotten
+abbrev unforgottenOf : Forgot → List ℕ
+unforgottenOf Forgotten = []
+unforgottenOf (Unforgotten n) = n ∷ []
+
+-- so many ports, all held
+abbrev tableOf : ℕ → List Entry
+tableOf zero = []
+tableOf (suc n) = entry n 7 ∷ tableOf n
+
 -- the number of a row, what the definitions give, what the paper prints
 abbrev pub printed : List Line
 printed =
@@ -145,4 +172,12 @@ printed =
     (38, map interleaver.closingBytes (0 ∷ 1 ∷ 2 ∷ 64 ∷ []), 0 ∷ 0 ∷ 509 ∷ 16319 ∷ []) ∷  -- the closing push: N - 1 bytes, none at depth 0 and 1
     (39, map (refusalAt 2) (509 ∷ 510 ∷ []) ++ (map (refusalAt 64) (16319 ∷ 16320 ∷ []) ++ map (refusalAt 65) (16574 ∷ 16575 ∷ [])), 0 ∷ 10 ∷ 0 ∷ 10 ∷ 32 ∷ 10 ∷ []) ∷  -- 10 for a cell place of N or more; depth 64 passes, 65 gets 32, behind 10
     (40, map (refusalAt 0) (0 ∷ 16320 ∷ []) ++ map (refusalAt 1) (255 ∷ 16320 ∷ []), 0 ∷ 0 ∷ 0 ∷ 0 ∷ []) ∷  -- depth 0 and 1 use no cell
+    (41, mostPorts ∷ around ∷ half ∷ [], 16 ∷ 65536 ∷ 32768 ∷ []) ∷  -- "up to 16"; "from -32,768 to 32,767, around 65,536"
+    (42, joined (map toldOf (ruled 0 1 ∷ ruled 65535 0 ∷ ruled 7 7 ∷ ruled 7 9 ∷ ruled 65535 2 ∷ ruled 0 32767 ∷ ruled 0 32768 ∷ ruled 7 6 ∷ ruled 0 65535 ∷ [])), 73 ∷ 73 ∷ 82 ∷ 77 ∷ 1 ∷ 77 ∷ 2 ∷ 77 ∷ 32766 ∷ 76 ∷ 76 ∷ 76 ∷ []) ∷  -- in order, repeated, missing, late
+    (43, lastBehind 0 1 ∷ lastBehind 7 7 ∷ lastBehind 65535 2 ∷ lastBehind 0 32767 ∷ lastBehind 0 32768 ∷ lastBehind 7 6 ∷ [], 1 ∷ 7 ∷ 2 ∷ 32767 ∷ 0 ∷ 7 ∷ []) ∷  -- "negative is late and leaves the last number"
+    (44, joined (toldOf (noting (replicate 17 freed) 20 1 .0) ∷ toldOf (noting (entry 5 1 ∷ entry 5 2 ∷ []) 20 1 .0) ∷ toldOf (noting (tableOf 16) 20 1 .0) ∷ toldOf (noting (freed ∷ tableOf 15) 20 1 .0) ∷ []), 43 ∷ 43 ∷ 40 ∷ 70 ∷ []) ∷  -- 43, 40, and a first packet
+    (45, joined (unforgottenOf (forgetting (replicate 17 freed) 20 .0) ∷ unforgottenOf (forgetting (entry 5 1 ∷ entry 5 2 ∷ []) 20 .0) ∷ unforgottenOf (forgetting (tableOf 16) 20 .0) ∷ unforgottenOf (forgetting (tableOf 16) 3 .0) ∷ []), 43 ∷ 43 ∷ 41 ∷ []) ∷  -- 43, 41, and a port forgotten
+    (46, notedLine 20736 411 First, 50 ∷ 48 ∷ 55 ∷ 51 ∷ 54 ∷ 32 ∷ 52 ∷ 49 ∷ 49 ∷ 32 ∷ 102 ∷ 105 ∷ 114 ∷ 115 ∷ 116 ∷ 10 ∷ []) ∷  -- `PORT SEQUENCE first`: 20736 411 first
+    (47, joined (map (notedLine 1 2) (InOrder ∷ Repeated ∷ Late ∷ [])), 49 ∷ 32 ∷ 50 ∷ 32 ∷ 105 ∷ 110 ∷ 32 ∷ 111 ∷ 114 ∷ 100 ∷ 101 ∷ 114 ∷ 10 ∷ 49 ∷ 32 ∷ 50 ∷ 32 ∷ 114 ∷ 101 ∷ 112 ∷ 101 ∷ 97 ∷ 116 ∷ 101 ∷ 100 ∷ 10 ∷ 49 ∷ 32 ∷ 50 ∷ 32 ∷ 108 ∷ 97 ∷ 116 ∷ 101 ∷ 10 ∷ []) ∷  -- `in order`, `repeated`, `late`
+    (48, joined (map (notedLine 1 2) (Missing 32766 ∷ NotNoted 40 ∷ [])), 49 ∷ 32 ∷ 50 ∷ 32 ∷ 109 ∷ 105 ∷ 115 ∷ 115 ∷ 105 ∷ 110 ∷ 103 ∷ 32 ∷ 51 ∷ 50 ∷ 55 ∷ 54 ∷ 54 ∷ 10 ∷ 49 ∷ 32 ∷ 50 ∷ 32 ∷ 114 ∷ 101 ∷ 102 ∷ 117 ∷ 115 ∷ 101 ∷ 100 ∷ 32 ∷ 52 ∷ 48 ∷ 10 ∷ []) ∷  -- `missing N`, `refused 40`
     []

@@ -52,6 +52,10 @@ Unusable port = (0x7D00 ≤ port) × (port ≤ 0x7EFF)
 abbrev pub KeyBeyond : ℕ → Type 0
 KeyBeyond k = (k < keyLeast) ⊎ (keyMost < k)
 
+-- .. or fewer than seven bytes behind the key
+abbrev pub KeyWrong : List ℕ → Type 0
+KeyWrong cs = KeyBeyond (keyLength cs) ⊎ (length cs < keyAt + keyLength cs + 7)
+
 -- where the port stands in contents: behind the format byte or, in format 0x26, behind the key
 abbrev pub portAt : List ℕ → ℕ
 portAt cs = pick (eqb (getD cs 0 0) keyFormat) (keyAt + keyLength cs) 1
@@ -60,16 +64,21 @@ portAt cs = pick (eqb (getD cs 0 0) keyFormat) (keyAt + keyLength cs) 1
 abbrev pub payloadOf : List ℕ → List ℕ
 payloadOf cs = take (length cs - 2 - (portAt cs + 4)) (drop (portAt cs + 4) cs)
 
+-- of contents cs whose check agrees
+abbrev pub bodyRows : List ℕ → List Row
+bodyRows cs =
+    (6, (getD cs 0 0 ≢ plainFormat) × (getD cs 0 0 ≢ keyFormat)) ∷  -- neither format
+    (12, (getD cs 0 0 ≡ keyFormat) × KeyWrong cs) ∷  -- a 0x26 key length outside 2 to 32 or fewer than seven bytes behind the key
+    (7, Unusable (wordAt cs (portAt cs))) ∷  -- port 7D00-7EFF
+    (8, payloadLimit < length (escape (payloadOf cs))) ∷  -- payload above 8,192 bytes as escaped
+    []
+
 -- of contents cs, the bytes after undoing escapes
 abbrev pub contentsRows : List ℕ → List Row
 contentsRows cs =
     (4, length cs < 8) ∷  -- fewer than 8 bytes after undoing escapes
     (5, fcs (take (length cs - 2) cs) ≢ wordAt cs (length cs - 2)) ∷  -- check differs
-    (6, (getD cs 0 0 ≢ plainFormat) × (getD cs 0 0 ≢ keyFormat)) ∷  -- neither format
-    (12, (getD cs 0 0 ≡ keyFormat) × (KeyBeyond (keyLength cs) ⊎ (length cs < keyAt + keyLength cs + 7))) ∷  -- a 0x26 key length outside 2 to 32 or fewer than seven bytes behind the key
-    (7, Unusable (wordAt cs (portAt cs))) ∷  -- port 7D00-7EFF
-    (8, payloadLimit < length (escape (payloadOf cs))) ∷  -- payload above 8,192 bytes as escaped
-    []
+    bodyRows cs
 
 -- of raw bytes
 abbrev pub frameRows : List ℕ → List Row

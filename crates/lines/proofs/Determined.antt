@@ -6,6 +6,8 @@ use Rattle.lines.proofs.print.Kinds as print-kinds
 use Rattle.lines.proofs.print.Reads as print-reads
 use Rattle.lines.proofs.print_end.Kinds as print-end-kinds
 use Rattle.lines.proofs.print_end.Reads as print-end-reads
+use Rattle.lines.proofs.noted.print_noted.Kinds as print-noted-kinds
+use Rattle.lines.proofs.noted.print_noted.Reads as print-noted-reads
 use Rattle.lines.proofs.print_wrong.Kinds as print-wrong-kinds
 use Rattle.lines.proofs.print_wrong.Reads as print-wrong-reads
 
@@ -18,3 +20,6 @@ print-end-determined κs a z z′ ws ws′ pre p q =
 
 pub print-wrong-determined : Determined print-wrong-kinds.ps print-wrong-kinds.r print-wrong-reads.Asked print-wrong-reads.Learnt
 print-wrong-determined κs a z z′ ws ws′ pre p q = (same-answer p q, skip (buffer (same-output p q) refl))
+
+pub print-noted-determined : Determined print-noted-kinds.ps print-noted-kinds.r print-noted-reads.Asked print-noted-reads.Learnt
+print-noted-determined κs a z z′ ws ws′ pre p q = (same-answer p q, skip (skip (skip (buffer (same-output p q) refl))))

@@ -1,4 +1,5 @@
 pub mod Digits
 pub mod Writes
 pub mod Short
+pub mod Noting
 pub mod Determined

@@ -44,7 +44,7 @@ pub number-short : {l after : List ℕ} {at end : ℕ} (n : ℕ) → Laid l at (
 number-short n d = omega (arith, d .ends, digits-short n)
 
 -- the letter, a space; and a number with a byte behind it: what a line is put together from
-abbrev Item : List ℕ → ℕ → ℕ → ℕ → List ℕ → ℕ → Type 0
+abbrev pub Item : List ℕ → ℕ → ℕ → ℕ → List ℕ → ℕ → Type 0
 Item l at n b after end = Laid l at (decimal n ++ (b ∷ [])) after end × (end ≤ at + 21)
 
 -- a line from the start on, within 128 bytes

@@ -1,4 +1,4 @@
-//! The lines of a listing, written.
+//! The lines of a listing, and of packets noted in a table of ports, written.
 ghost use mathlib.Core.Path.{_≡_};
 ghost use Prim.Native.Nat.{_+_, _≤_};
 ghost use mathlib.Core.List.{[], _∷_, _++_};
@@ -15,6 +15,10 @@ use channel::Condition;
 use packet::Class;
 use packet::Delivery;
 use packet::Judged;
+
+mod noted;
+
+pub use noted::print_noted;
 
 /// Lines.
 pub struct Line;

@@ -167,7 +167,7 @@ impl Office {
     pub const HELD: usize = Block::MESSAGE - 1;
 
     /// The buffer that holds them, and a packet behind them, has at least so many bytes.
-    pub const HOLD: usize = Self::HELD + Packet::PLAIN + 1;
+    pub const HOLD: usize = Self::HELD + Packet::PLAIN_RAW + 1;
 
     /// The output has at least so many bytes.
     pub const OUTPUT: usize = Self::HOLD / Block::MESSAGE * Block::LENGTH;

@@ -1,11 +1,10 @@
 -- What is judged to be a packet is what the sender would send: its own bytes, and a packet that it accepts.
--- body-only       of format byte to last payload byte
--- contents-only   .. with their check
--- judge-only      of raw bytes
+-- body-only    of format byte to last payload byte
+-- judge-only   of raw bytes
 use mathlib.Core.Path.{_≡_, refl, sym, ap, subst, _∙_}
 use mathlib.Core.Bool.{Bool, true, false}
 use mathlib.Core.List.{List, [], _∷_, _++_, append-assoc}
-use Prim.Native.Nat.{ℕ, zero, suc, _+_, _-_, _*_, _/_, _%_, _≤_, _<_}
+use Prim.Native.Nat.{ℕ, zero, suc, _+_, _-_, _/_, _%_, _≤_, _<_}
 use native.Mathlib.Omega.{arith}
 use borrow.Author.Tests.{eq-eqb, ne-eqb, le-leb, eqb-true, ltb-false}
 use lib.Dec.{eqb, ltb}
@@ -137,9 +136,6 @@ only-contents cs h = go (ltb (length cs) 8) refl (eqb (fcs (body cs)) (wordAt cs
     go true e u f = tt
     go false e false f = tt
     go false e true f = told (judgeBody (body cs)) refl (ltb-false _ _ e) (eqb-true _ _ f)
-
-pub contents-only : (cs : List ℕ) → Bytes cs → (p : Packet) → judgeContents cs ≡ packet p → (contents p ≡ cs) × Accepted p
-contents-only cs h p e = subst (λ (t : Told). OnlyIn t cs) e (only-contents cs h)
 
 -- ---- of raw bytes
 mutual

@@ -19,18 +19,18 @@ impl Packet {
     pub const PLAIN_FORMAT: u8 = 0x21;
     /// .. and of one for subscribers: it carries a key.
     pub const KEY_FORMAT: u8 = 0x26;
-    /// Key bytes of the latter, at least.
-    pub const KEY_LEAST: usize = 2;
-    /// .. and at most.
-    pub const KEY_MOST: usize = 32;
+    // Key bytes of the latter, at least.
+    const KEY_LEAST: usize = 2;
+    // .. and at most.
+    const KEY_MOST: usize = 32;
     /// Where its key stands: behind format byte, key length and key number.
     pub const KEY_AT: usize = 3;
-    /// Bytes behind it, at least, before the check: port, sequence, one of payload.
-    pub const REST_LEAST: usize = 5;
+    // Bytes behind it, at least, before the check: port, sequence, one of payload.
+    const REST_LEAST: usize = 5;
     /// Format byte to sequence, at most.
     pub const OPENING: usize = Self::KEY_AT + Self::KEY_MOST + 4;
     /// Raw bytes of a packet of format 0x21, at most.
-    pub const PLAIN: usize = 8205;
+    pub const PLAIN_RAW: usize = 8205;
     /// Raw bytes of a frame, at most, in either format.
     pub const RAW: usize = 8272;
     /// The raw count that means "over".

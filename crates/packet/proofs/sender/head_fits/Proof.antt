@@ -1,5 +1,4 @@
 -- `packet::sender::head_fits` meets its contract: each return by the tests that led there.
-use mathlib.Core.Path.{ap, sym, _∙_}
 use borrow.Author.Needs.{needs}
 use borrow.Author.Tests.{eq-eqb, ne-eqb}
 use Rattle.packet.proofs.sender.head_fits.Statement.{statement}

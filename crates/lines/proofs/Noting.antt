@@ -1,0 +1,57 @@
+-- The line of a packet noted, as it is written.
+-- words-put, count-put   the words, and words with a number behind them
+-- noted-put              the line from its parts
+-- noted-short            how long it is
+use Prim.Native.Nat.{ℕ, _+_, _≤_}
+use native.Mathlib.Omega.{arith}
+use mathlib.Core.Path.{_≡_, sym, ap}
+use mathlib.Core.List.{List, [], _∷_, _++_, append-assoc}
+use lib.ListN.{length, length-append}
+use Rattle.base.specs.Private.{Laid}
+use Rattle.base.proofs.Laid.{laid-append}
+use Rattle.listed.specs.Lines.{decimal, longest}
+use Rattle.ports.specs.declared.Noted.{Noted}
+use Rattle.ports.specs.declared.Noted.the-variants.{First, InOrder, Repeated, Missing, Late, Refused}
+use Rattle.lines.specs.Noted.{words, notedLine}
+use Rattle.lines.proofs.Digits.{digits-short}
+use Rattle.lines.proofs.Writes.{laid-as, Item, Put}
+
+-- the words from a place on, within 32 bytes
+abbrev Words : List ℕ → ℕ → Noted → List ℕ → ℕ → Type 0
+Words l at n after end = Laid l at (words n) after end × (end ≤ at + 32)
+
+pub words-put : {l bs after : List ℕ} {at end : ℕ} {n m : Noted} → Laid l at bs after end → length bs ≤ 32 → bs ≡ words m → n ≡ m → Words l at n after end
+words-put h k e same = (laid-as (laid-as h e) (sym (ap words same)), omega (arith, h .ends, k))
+
+pub count-put : {l l₁ l₂ bs : List ℕ} {at a b : ℕ} {n m : Noted} (k : ℕ) → Laid l at bs l₁ a → length bs ≤ 11 → Item l₁ a k 10 l₂ b → bs ++ (decimal k ++ (10 ∷ [])) ≡ words m → n ≡ m
+    → Words l at n l₂ b
+count-put k u short v e same = (laid-as (laid-as (laid-append u (v .0)) e) (sym (ap words same)), omega (arith, u .ends, short, v .1))
+
+parts : (port sequence : ℕ) (n : Noted) → (decimal port ++ (32 ∷ [])) ++ (decimal sequence ++ (32 ∷ [])) ++ words n ≡ notedLine port sequence n
+unfolding notedLine
+parts port sequence n = simp append-assoc
+
+pub noted-put : {l l₁ l₂ l₃ : List ℕ} {a b c : ℕ} (port sequence : ℕ) (n : Noted) → Item l 0 port 32 l₁ a → Item l₁ a sequence 32 l₂ b → Words l₂ b n l₃ c
+    → Put l (notedLine port sequence n) l₃ c
+noted-put port sequence n u v w =
+    (laid-as (laid-append (laid-append (u .0) (v .0)) (w .0)) (parts port sequence n), omega (arith, u .1, v .1, w .1))
+
+words-short : (n : Noted) → length (words n) ≤ 29
+words-short First = omega arith
+words-short InOrder = omega arith
+words-short Repeated = omega arith
+words-short (Missing n) = omega (arith, length-append (decimal n) (10 ∷ []), digits-short n)
+words-short Late = omega arith
+words-short (Refused n) = omega (arith, length-append (decimal n) (10 ∷ []), digits-short n)
+
+pub noted-short : (port sequence : ℕ) (n : Noted) → length (notedLine port sequence n) ≤ longest
+unfolding notedLine
+noted-short port sequence n =
+    omega (
+      arith,
+      words-short n,
+      digits-short port,
+      digits-short sequence,
+      length-append (decimal port) (32 ∷ (decimal sequence ++ 32 ∷ words n)),
+      length-append (decimal sequence) (32 ∷ words n),
+    )

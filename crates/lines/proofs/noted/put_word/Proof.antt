@@ -1,0 +1,18 @@
+-- `lines::noted::put_word` meets its contract.
+use native.Mathlib.Omega.{arith}
+use borrow.Author.Needs.{needs}
+use Rattle.base.proofs.Laid.{laid-copied}
+use Rattle.lines.proofs.noted.put_word.Statement.{statement}
+use Rattle.lines.proofs.noted.put_word.Tie as tie
+
+pub put-word-spec : {M : Type 1} → statement M
+put-word-spec =
+    tie.close
+    (tie.spec
+    (search needs)
+    (search needs)
+    (search needs)
+    (λ c κs. search needs)
+    (search needs)
+    (search needs)
+    (λ c. laid-copied (omega (arith, c .before .before .before .before .before .before .pre)) (c .before .before .copy .ensures)))

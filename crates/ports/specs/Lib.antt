@@ -1,0 +1,5 @@
+pub mod ByHand
+pub mod Distance
+pub mod Ports
+pub mod Private
+pub mod Refusing
