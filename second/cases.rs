@@ -1,6 +1,6 @@
 //! Cases for the comparison: how they are written, which are asked, and what the second program answers.
-//! crates/answers/src/main.rt has the form of a case and of an answer, crates/pieces/src and crates/listings/src that of an answer in
-//! pieces; crates/turns/src/main.rt what is asked of the interleaver, whose states are carried over from case to case.
+//! crates/answers/src/main.rt has the form of a case and of an answer, crates/pieces/src, crates/channels/src and crates/listings/src that
+//! of an answer in pieces; crates/turns/src/main.rt what is asked of the interleaver, whose states are carried over from case to case.
 
 use crate::interleaver::{Sender, Sides, CELLS};
 use crate::packet::{Delivery, Fault, Frame, Packet, FLAG, RAW_LIMIT};
@@ -26,11 +26,12 @@ impl Case {
         to.extend(&self.bytes);
     }
 
-    /// Which program answers it: `pieces` a stream or a channel, `listings` a recording, `turns` the interleaver, `calls` each other single
+    /// Which program answers it: `pieces` a stream, `channels` a channel, `listings` a recording, `turns` the interleaver, `calls` each other single
     /// call. A letter belongs to one of them.
     pub fn kind(&self) -> &'static str {
         match self.asked {
-            b'S' | b'O' => "pieces",
+            b'S' => "pieces",
+            b'O' => "channels",
             b'L' => "listings",
             b'I' | b'J' | b'Z' | b'N' | b'X' | b'V' => "turns",
             _ => "calls",

@@ -21,9 +21,9 @@
 //!   second steady plain|marked MIB
 //!                            a clean recording to be timed, to standard output
 //!   second samples DIR       the recordings of samples/ with their listings
-//!   second cases calls|turns|pieces|listings [SEED]
-//!                            cases for the proved code, to standard output: single calls, the interleaver, what is read in pieces, or
-//!                            recordings
+//!   second cases calls|turns|pieces|channels|listings [SEED]
+//!                            cases for the proved code, to standard output: single calls, the interleaver, streams and channels in pieces,
+//!                            or recordings
 //!   second words R PLACES N  N cases for repair: words altered in so many places
 //!   second time N M          times of N words made and checked, and of M words of each kind repaired (time.rs)
 //!   second compare CASES ANSWERS ..
@@ -83,7 +83,7 @@ fn main() {
     };
     if done.is_none() {
         eprintln!("usage: second fcs HEX | parity R HEX | word R HEX | repair R HEX | interleave push|pull DEPTH | list | missed | kinds FILE..");
-        eprintln!("  | recordings DIR [SEED] | steady plain|marked MIB | samples DIR | cases calls|turns|pieces|listings [SEED] | compare CASES ANSWERS .. | test [SEED] | words R PLACES N | time N M | numbered FILE [SEED] | tables CASES ANSWERS [SEED]");
+        eprintln!("  | recordings DIR [SEED] | steady plain|marked MIB | samples DIR | cases calls|turns|pieces|channels|listings [SEED] | compare CASES ANSWERS .. | test [SEED] | words R PLACES N | time N M | numbered FILE [SEED] | tables CASES ANSWERS [SEED]");
         std::process::exit(2);
     }
 }
@@ -164,7 +164,7 @@ fn write_steady(letter: u8, mib: u64) {
 }
 
 /// The programs that answer cases, `answers` the single calls.
-const KINDS: [&str; 4] = ["calls", "turns", "pieces", "listings"];
+const KINDS: [&str; 5] = ["calls", "turns", "pieces", "channels", "listings"];
 
 fn write_cases(kind: &str, seed: u64) {
     write(cases::all(seed).into_iter().filter(|case| case.kind() == kind).collect());

@@ -61,7 +61,7 @@ impl Reader {
     }
 }
 
-/// How a stream is cut (crates/pieces/src/reading.rt and crates/listings/src/listing.rt have the same): the length of the next piece, and the next seed.
+/// How a stream is cut (crates/pieces, crates/channels and crates/listings have the same): the length of the next piece, and the next seed.
 pub fn piece_length(seed: u64, left: usize) -> (usize, u64) {
     if seed == 0 {
         return (left, 0);

@@ -1,9 +1,8 @@
-//! Answers cases from standard input, one after the other, so that tests/compare can hold the code to the second program. Each is
-//! read in pieces: a stream (S, reading.rt) or a channel (O, hearing.rt).
+//! Answers cases from standard input, one after the other, so that tests/compare can hold the code to the second program. Each is a
+//! plain stream (S), read in pieces (reading.rt).
 //!
 //! A case, a number and a refusal stand as crates/answers/src/main.rt has them. An answer: what is told of each call, and all bytes
 //! of the output, which is lent filled with 0xA5.
-mod hearing;
 mod reading;
 
 use base::Refusal;
@@ -23,7 +22,7 @@ fn main() {
     }
 }
 
-// Reads one case and writes its answer; false at the end of the input.
+// Reads one case and writes its answer; false at the end of the input. The letter is not looked at: every case is a stream.
 fn answer(bytes: &mut [u8], out: &mut [u8]) -> bool {
     let mut head = [0u8; 13];
     if io::read_full(0, &mut head) != HEAD {
@@ -36,11 +35,11 @@ fn answer(bytes: &mut [u8], out: &mut [u8]) -> bool {
 fn behind(head: [u8; 13], bytes: &mut [u8], out: &mut [u8]) -> bool {
     let room = pair(head[9], head[10]);
     let n = pair(head[11], head[12]);
-    follow(head[0], number(head), room, n, bytes, out)
+    follow(number(head), room, n, bytes, out)
 }
 
 // Reads the n bytes that follow a head, and writes the answer.
-fn follow(asked: u8, number: u64, room: usize, n: usize, bytes: &mut [u8], out: &mut [u8]) -> bool {
+fn follow(number: u64, room: usize, n: usize, bytes: &mut [u8], out: &mut [u8]) -> bool {
     if bytes.len() < n {
         return false;
     }
@@ -50,32 +49,30 @@ fn follow(asked: u8, number: u64, room: usize, n: usize, bytes: &mut [u8], out: 
     if io::read_full(0, &mut bytes[0..n]) != n {
         return false;
     }
-    respond(asked, number, &bytes[0..n], &mut out[0..room])
+    respond(number, &bytes[0..n], &mut out[0..room])
 }
 
 // Writes the answer to one case.
-fn respond(asked: u8, number: u64, bytes: &[u8], out: &mut [u8]) -> bool {
+fn respond(number: u64, bytes: &[u8], out: &mut [u8]) -> bool {
     fill(out);
-    if asked == b'S' {
-        reading::read(number, bytes, out);
-        return io::write_all(1, out);
-    }
-    hearing::hear(number, bytes, out);
+    reading::read(number, bytes, out);
     io::write_all(1, out)
 }
 
-fn wide(b: u8) -> u64 {
-    b as u64
-}
-
 fn pair(low: u8, high: u8) -> usize {
-    (wide(low) | wide(high) << 8) as usize
+    low as usize | (high as usize) << 8
 }
 
 // The number of a case.
 fn number(head: [u8; 13]) -> u64 {
-    let low = wide(head[1]) | wide(head[2]) << 8 | wide(head[3]) << 16 | wide(head[4]) << 24;
-    let high = wide(head[5]) | wide(head[6]) << 8 | wide(head[7]) << 16 | wide(head[8]) << 24;
+    let low = head[1] as u64
+        | (head[2] as u64) << 8
+        | (head[3] as u64) << 16
+        | (head[4] as u64) << 24;
+    let high = head[5] as u64
+        | (head[6] as u64) << 8
+        | (head[7] as u64) << 16
+        | (head[8] as u64) << 24;
     low | high << 32
 }
 
@@ -90,14 +87,14 @@ fn fill(out: &mut [u8]) {
 // Writes a number, its low byte first.
 fn print(n: u64) {
     let text = [
-        low(n),
-        low(n / 0x100),
-        low(n / 0x10000),
-        low(n / 0x1000000),
-        low(n / 0x100000000),
-        low(n / 0x10000000000),
-        low(n / 0x1000000000000),
-        low(n / 0x100000000000000),
+        (n % 256) as u8,
+        (n / 0x100 % 256) as u8,
+        (n / 0x10000 % 256) as u8,
+        (n / 0x1000000 % 256) as u8,
+        (n / 0x100000000 % 256) as u8,
+        (n / 0x10000000000 % 256) as u8,
+        (n / 0x1000000000000 % 256) as u8,
+        (n / 0x100000000000000 % 256) as u8,
     ];
     io::write_all(1, &text);
 }
@@ -111,32 +108,14 @@ fn print_all(numbers: &[u64]) {
     }
 }
 
-fn low(n: u64) -> u8 {
-    (n % 256) as u8
-}
-
 // A packet: port, sequence, length, and 1 above them; a broken escape: its place above the number.
 fn judged(j: Judged) -> u64 {
     match j {
-        Judged::Packet(d) => sum(
-            d.port as u64,
-            d.sequence as u64,
-            d.length as u64 % 0x1000000,
-        ),
-        Judged::Refused(n) => refused(n),
-        Judged::Broken(place) => refused(Refusal::ESCAPE) | (place as u64 % 65536) << 32,
+        Judged::Packet(d) => d.port as u64
+            | (d.sequence as u64) << 16
+            | (d.length as u64 % 0x1000000) << 32
+            | 1 << 56,
+        Judged::Refused(n) => 65536 + n as u64,
+        Judged::Broken(place) => 65536 + Refusal::ESCAPE as u64 | (place as u64 % 65536) << 32,
     }
-}
-
-fn sum(port: u64, sequence: u64, length: u64) -> u64 {
-    port | sequence << 16 | length << 32 | 1 << 56
-}
-
-// A packet's format, key number and key length.
-fn kind(format: u64, number: u64, key: u64) -> u64 {
-    format | number << 8 | key << 16
-}
-
-fn refused(n: u8) -> u64 {
-    65536 + n as u64
 }

@@ -21,13 +21,13 @@ struct Place {
 }
 
 // The next piece: where it ends, and how the rest is cut.
-pub struct Piece {
-    pub seed: u64,
-    pub end: usize,
+struct Piece {
+    seed: u64,
+    end: usize,
 }
 
 // The frame state in the number of a case, with its place.
-pub fn frame(number: u64, place: usize) -> Frame {
+fn frame(number: u64, place: usize) -> Frame {
     Frame {
         opened: number / 0x80000000 % 2 == 1,
         raw: (number / 0x100000000 % 65536) as usize,
@@ -76,17 +76,6 @@ fn finish(f: Frame) {
     crate::print_all(&numbers);
 }
 
-fn next_piece(frame: Frame, seed: u64, at: usize, n: usize) -> Place {
-    let c = cut(seed, at, n);
-    Place {
-        frame,
-        seed: c.seed,
-        at,
-        end: c.end,
-        go: true,
-    }
-}
-
 // A number that looks random, from a seed.
 fn drawn(seed: u64) -> u64 {
     seed % 0x80000000 * 1103515245 % 0x80000000 / 8
@@ -111,7 +100,7 @@ fn piece_end(at: usize, wants: usize, n: usize) -> usize {
 }
 
 // Cuts the next piece.
-pub fn cut(seed: u64, at: usize, n: usize) -> Piece {
+fn cut(seed: u64, at: usize, n: usize) -> Piece {
     if seed == 0 {
         return Piece { seed, end: n };
     }
@@ -153,7 +142,14 @@ fn more(frame: Frame, seed: u64, at: usize, end: usize, n: usize) -> Place {
     if end == n {
         return stop(frame);
     }
-    next_piece(frame, seed, at, n)
+    let c = cut(seed, at, n);
+    Place {
+        frame,
+        seed: c.seed,
+        at,
+        end: c.end,
+        go: true,
+    }
 }
 
 // Behind an answer: the rest of the piece.
@@ -179,7 +175,7 @@ fn stop(frame: Frame) -> Place {
 }
 
 // Writes what else is told of a packet; false where the call was refused: by 10 or 11.
-pub fn deliver(j: Judged, recv: &[u8]) -> bool {
+fn deliver(j: Judged, recv: &[u8]) -> bool {
     match j {
         Judged::Packet(d) => parts(d, recv),
         Judged::Refused(n) => n != Refusal::STATE && n != Refusal::BUFFER,
@@ -187,13 +183,9 @@ pub fn deliver(j: Judged, recv: &[u8]) -> bool {
     }
 }
 
-fn kind(d: Delivery) -> u64 {
-    crate::kind(d.format as u64, d.number as u64, d.key as u64)
-}
-
 // Format, key number and key length, then key and payload.
 fn parts(d: Delivery, recv: &[u8]) -> bool {
-    crate::print(kind(d));
+    crate::print(d.format as u64 | (d.number as u64) << 8 | (d.key as u64) << 16);
     io::write_all(1, stream::key(recv, d));
     io::write_all(1, stream::payload(recv, d))
 }

@@ -1,16 +1,19 @@
-//! A channel heard in pieces. The number of the case is as for a stream (reading.rt). Its bytes begin with a head: whether the
+//! A channel heard in pieces. The number of the case is as for a stream (crates/pieces/src/reading.rt). Its bytes begin with a head: whether the
 //! receiver is locked, its four hunted bytes, then in 16 bits each the counts of word, handed on and marker, the length of the first
 //! piece, that of the word buffer, and the remembered place. The word buffer's bytes follow, then those to be heard; the output is the
 //! receive buffer. Each call is told as the bytes taken and its answer (0: more wanted, 1: clean, 2: beyond repair, 3: lock lost, 256 + n:
 //! repaired in n places), a packet's format and key, and its payload, behind it; at the end the state's numbers, the hunted bytes and the
 //! word buffer.
-use crate::reading;
+use base::Refusal;
 use channel::Answer;
 use channel::Condition;
 use channel::Hearing;
 use channel::Hunting;
 use channel::Locked;
 use channel::Receiver;
+use packet::Delivery;
+use packet::Judged;
+use stream::Frame;
 
 const HEAD: usize = 17;
 
@@ -21,6 +24,12 @@ struct Place {
     at: usize,
     end: usize,
     go: bool,
+}
+
+// The next piece: where it ends, and how the rest is cut.
+struct Piece {
+    seed: u64,
+    end: usize,
 }
 
 pub fn hear(number: u64, bytes: &[u8], recv: &mut [u8]) {
@@ -81,7 +90,7 @@ fn receiver(number: u64, head: [u8; 17]) -> Receiver {
         locked: head[0] == 1,
         hunting,
         lock: lock(head),
-        frame: reading::frame(number, crate::pair(head[15], head[16])),
+        frame: frame(number, crate::pair(head[15], head[16])),
     }
 }
 
@@ -90,6 +99,16 @@ fn lock(head: [u8; 17]) -> Locked {
         word: crate::pair(head[5], head[6]),
         handed: crate::pair(head[7], head[8]),
         marker: crate::pair(head[9], head[10]),
+    }
+}
+
+// The frame state in the number of a case, with its place.
+fn frame(number: u64, place: usize) -> Frame {
+    Frame {
+        opened: number / 0x80000000 % 2 == 1,
+        raw: (number / 0x100000000 % 65536) as usize,
+        stored: (number / 0x1000000000000) as usize,
+        place,
     }
 }
 
@@ -151,7 +170,7 @@ fn follow(p: Place, h: Hearing, n: usize, recv: &[u8]) -> Place {
     crate::print(code(answer));
     match answer {
         Answer::More => more(h.receiver, p.seed, at, p.end, n),
-        Answer::Said(j) => onward(h.receiver, p.seed, at, p.end, reading::deliver(j, recv)),
+        Answer::Said(j) => onward(h.receiver, p.seed, at, p.end, deliver(j, recv)),
         Answer::Block(_) => onward(h.receiver, p.seed, at, p.end, true),
         Answer::LockLost => onward(h.receiver, p.seed, at, p.end, true),
     }
@@ -184,7 +203,7 @@ fn more(receiver: Receiver, seed: u64, at: usize, end: usize, n: usize) -> Place
     if end == n {
         return stop(receiver);
     }
-    let c = reading::cut(seed, at, n);
+    let c = cut(seed, at, n);
     Place {
         receiver,
         seed: c.seed,
@@ -207,4 +226,54 @@ fn onward(receiver: Receiver, seed: u64, at: usize, end: usize, go: bool) -> Pla
 
 fn stop(receiver: Receiver) -> Place {
     onward(receiver, 0, 0, 0, false)
+}
+
+// A number that looks random, from a seed.
+fn drawn(seed: u64) -> u64 {
+    seed % 0x80000000 * 1103515245 % 0x80000000 / 8
+}
+
+// The length of a piece that is wanted: often 0 bytes or 1, else up to 300.
+fn wanted(drawn: u64) -> usize {
+    let kind = drawn / 256 % 8;
+    if kind < 2 {
+        return 0;
+    }
+    if kind < 4 {
+        return 1;
+    }
+    (drawn / 2048 % 300) as usize
+}
+
+// Where a piece that begins at a place and wants so many bytes ends, of n in all.
+fn piece_end(at: usize, wants: usize, n: usize) -> usize {
+    let from = base::least(at, n);
+    from + base::least(wants, n - from)
+}
+
+// Cuts the next piece.
+fn cut(seed: u64, at: usize, n: usize) -> Piece {
+    if seed == 0 {
+        return Piece { seed, end: n };
+    }
+    Piece {
+        seed: seed % 0x80000000 * 69069 % 0x80000000 + 1,
+        end: piece_end(at, wanted(drawn(seed)), n),
+    }
+}
+
+// Writes what else is told of a packet; false where the call was refused: by 10 or 11.
+fn deliver(j: Judged, recv: &[u8]) -> bool {
+    match j {
+        Judged::Packet(d) => parts(d, recv),
+        Judged::Refused(n) => n != Refusal::STATE && n != Refusal::BUFFER,
+        Judged::Broken(_) => true,
+    }
+}
+
+// Format, key number and key length, then key and payload.
+fn parts(d: Delivery, recv: &[u8]) -> bool {
+    crate::print(d.format as u64 | (d.number as u64) << 8 | (d.key as u64) << 16);
+    io::write_all(1, stream::key(recv, d));
+    io::write_all(1, stream::payload(recv, d))
 }

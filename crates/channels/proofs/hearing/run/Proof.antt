@@ -1,9 +1,9 @@
--- `pieces::hearing::run` is safe and ends: the calls that may come grow fewer.
+-- `channels::hearing::run` is safe and ends: the calls that may come grow fewer.
 use mathlib.Core.Path.{_≡_, refl}
 use lib.ListN.{length}
 use borrow.Author.Needs.{needs}
-use Rattle.pieces.proofs.hearing.run.Statement.{statement}
-use Rattle.pieces.proofs.hearing.run.Tie as tie
+use Rattle.channels.proofs.hearing.run.Statement.{statement}
+use Rattle.channels.proofs.hearing.run.Tie as tie
 
 abbrev Inv-loop : tie.InvT-loop
 Inv-loop bytes recv₀ word₀ place₀ calls₀ recv word place calls = (length recv ≡ length recv₀) × (length word ≡ length word₀)
