@@ -223,20 +223,24 @@ module _ (port sequence : ℕ) (payload : List ℕ) (short : length (escape payl
   key-raw : (number : ℕ) (key : List ℕ) → length key ≤ keyMost → length (escape (contents (keyPacket number key port sequence payload))) ≤ rawLimit
   unfolding contents withCheck escape
   key-raw number key high =
-      simp (length-append, escape-append)
-      (omega (
+      let c = fcs (packed (keyPacket number key port sequence payload)) in
+      let tail = rest port sequence payload ++ two c in
+      let e : contents (keyPacket number key port sequence payload) ≡ keyFormat ∷ length key ∷ number ∷ (key ++ tail) =
+      ap (λ (l : List ℕ). l ++ two c) (packed-key port sequence payload number key)
+      ∙ ap (λ (l : List ℕ). keyFormat ∷ length key ∷ number ∷ l) (append-assoc key (rest port sequence payload) (two c)) in
+      let l : length (escape (keyFormat ∷ length key ∷ number ∷ (key ++ tail)))
+      ≡ length (escapeByte keyFormat) + (length (escapeByte (length key)) + (length (escapeByte number) + (length (escape key) + length (escape tail)))) =
+      simp (length-append, escape-append) in
+      omega (
         arith,
+        ap (λ (x : List ℕ). length (escape x)) e,
+        l,
+        rest-fits c,
         ap length (escape-other keyFormat (omega arith) (omega arith)),
         ap length (escape-other (length key) (λ z. absurd (omega (arith, z))) (λ z. absurd (omega (arith, z)))),
         width-most number,
         escape-most key,
-        width-most (port % 256),
-        width-most (port / 256),
-        width-most (sequence % 256),
-        width-most (sequence / 256),
-        width-most (fcs (packed (keyPacket number key port sequence payload)) % 256),
-        width-most (fcs (packed (keyPacket number key port sequence payload)) / 256),
-      ))
+      )
 
 module _ (p : Packet) (a : Accepted p) where
   pub raw-fits : length (escape (contents p)) ≤ rawLimit

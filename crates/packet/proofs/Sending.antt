@@ -7,13 +7,13 @@
 -- writing-keeps               a refused call leaves the output as it was
 -- wrote-is                    what a packet that was written shows
 use mathlib.Core.Path.{_≡_, refl, sym, ap, ap₂, subst, _∙_}
-use mathlib.Core.Bool.{Bool, true, false, _&&_, false≢true}
+use mathlib.Core.Bool.{Bool, true, false}
 use mathlib.Core.List.{List, [], _∷_, _++_, append-assoc}
 use Prim.Native.Nat.{ℕ, _+_, _-_, _<_, _≤_}
 use native.Mathlib.Nat.{sub-zero}
 use native.Mathlib.Omega.{arith}
-use lib.Dec.{eqb, ltb, leb}
-use borrow.Author.Tests.{eq-eqb, ne-eqb, lt-ltb, le-ltb, eqb-true, eqb-false, ltb-false, leb-true}
+use lib.Dec.{eqb, ltb}
+use borrow.Author.Tests.{eq-eqb, ne-eqb, lt-ltb, le-ltb, eqb-false, ltb-false}
 use lib.ListN.{length, take, drop, set, length-append, length-set}
 use borrow.Rule.Slice.PartMut.{putMid, same-len-mid}
 use Rattle.base.specs.Choice.{pick}
@@ -21,15 +21,15 @@ use Rattle.base.specs.Private.{Laid}
 use Rattle.base.specs.Written.{Outcome, outcome, refused, write, copied, Keeps}
 use Rattle.base.specs.declared.Written.the-variants.{Wrote, Refused}
 use Rattle.base.proofs.Laid.{laid-none, laid-more, laid-append, laid-start, laid-take, laid-copied}
-use Rattle.base.proofs.Tests.{and-parts}
 use Rattle.base.proofs.Writing.{refused-keeps, write-keeps, pick-keeps}
 use Rattle.fcs.specs.Fcs.{fcs}
 use Rattle.packet.specs.Port.{barred}
-use Rattle.packet.specs.Contents.{Packet, plainFormat, keyFormat, keyLeast, keyMost, keySized, keyAt, payloadLimit, contents, withCheck, head, opening, two}
+use Rattle.packet.specs.Contents.{Packet, packetOf, keyFormat, keyMost, keyAt, payloadLimit, contents, withCheck, head, opening, two}
 use Rattle.packet.specs.Escape.{flag, escape}
 use Rattle.packet.specs.Sender.{flagged, frameOf, headFits, refusing, writing}
 use Rattle.packet.specs.Private.{openingMost}
 use Rattle.packet.proofs.Escaping.{escape-append}
+use Rattle.packet.proofs.Round.{by-format}
 
 module _ {A : Type 0} (p : Packet) (refuse : ℕ → A) (send : A) where
   pub refusing-empty : length (p .payload) ≡ 0 → refusing p refuse send ≡ refuse 20
@@ -126,15 +126,9 @@ laid-opening p {l} {m₃ = m} {e₃ = e} h₁ h₂ h₃ =
 
 -- a key that fits its head is no longer than a key may be
 pub fits-most : (format number : ℕ) (key : List ℕ) → headFits format number (length key) ≡ true → length key ≤ keyMost
-fits-most format number key = go (eqb format plainFormat) (eqb format keyFormat)
-  where
-    k : ℕ
-    k = length key
-
-    go : (t u : Bool) → pick t (eqb k 0 && eqb number 0) (pick u (keySized k) false) ≡ true → k ≤ keyMost
-    go true u h = let e = eqb-true k 0 (and-parts (eqb k 0) (eqb number 0) h .0) in omega (arith, e)
-    go false true h = leb-true _ _ (and-parts (leb keyLeast k) (leb k keyMost) h .1)
-    go false false h = absurd (false≢true h)
+fits-most format number key h =
+    by-format (packetOf format number key 0 0 []) h
+    (λ e. let k : length key ≡ 0 = ap (λ (p : Packet). length (p .key)) e in omega arith) (λ e low high. high)
 
 pub head-most : (format number : ℕ) (key : List ℕ) → length key ≤ keyMost → length (head format number key) ≤ keyAt + keyMost
 head-most format number key h = go (eqb format keyFormat)
