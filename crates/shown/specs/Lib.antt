@@ -1,0 +1,4 @@
+pub mod Text
+pub mod Board
+pub mod Parts
+pub mod Typed
