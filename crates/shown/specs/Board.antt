@@ -15,7 +15,10 @@ use Rattle.channel.specs.Channel.{Event, said, block, lost, answers}
 use Rattle.channel.specs.declared.answer.Condition.{Condition}
 use Rattle.channel.specs.declared.answer.Condition.the-variants.{Clean, Repaired, Beyond}
 use Rattle.bid.specs.Line.{feed, space}
+use Rattle.listed.specs.declared.Spot.{Spot}
+use Rattle.listed.specs.Apart.{freshSpot, apart, well, onChannel}
 use Rattle.listed.specs.Lines.{decimal}
+use Rattle.listed.specs.Listing.{heard}
 use Rattle.ports.specs.declared.Entry.{Entry}
 use Rattle.ports.specs.declared.Noted.{Noted}
 use Rattle.ports.specs.declared.Noted.the-variants.{First, InOrder, Repeated, Missing, Late, Refused}
@@ -175,3 +178,11 @@ shows b es = writtenAll (boardLines b freshTable es)
 -- .. of the bytes of an opportunistic channel
 abbrev pub boardText : Bool → List ℕ → List ℕ
 boardText b bs = shows b (answers bs)
+
+-- behind a recording that does not end as one: the offset of the first wrong byte, or its length where it ends early
+abbrev pub ending : Spot → List Line
+ending p = pick (well (p .place)) [] (wrongAt (p .offset) ∷ [])
+
+-- .. of a recording
+abbrev pub recordingText : Bool → List ℕ → List ℕ
+recordingText b file = shows b (heard (onChannel file) (apart freshSpot file .0)) ++ writtenAll (ending (apart freshSpot file .1))
