@@ -17,8 +17,10 @@ use packet::Delivery;
 use packet::Judged;
 
 mod noted;
+mod piece;
 
 pub use noted::print_noted;
+pub use piece::Piece;
 
 /// Lines.
 pub struct Line;

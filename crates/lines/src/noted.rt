@@ -13,7 +13,7 @@ use base::Written;
 use ports::Noted;
 
 // The bytes of a word.
-fn put_word(text: &mut [u8], at: usize, word: &[u8]) -> usize
+pub(crate) fn put_word(text: &mut [u8], at: usize, word: &[u8]) -> usize
     requires { ⌜ at + length (now word) ≤ length (now text) ⌝ }
     ensures { λ r. ⌜ Laid (now (text .entry)) at (now (word .entry)) (now (text .exit)) r ⌝ }
 {
