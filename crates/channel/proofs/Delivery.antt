@@ -1,4 +1,5 @@
--- payload-there   a delivered payload is the part of the receive buffer that a call of its own hands out
+-- hand-there, eat-there   a delivered payload is the part of the receive buffer that a call of its own hands out: behind one move ..
+-- payload-there           .. and behind a call
 use Prim.Native.Nat.{ℕ, suc}
 use mathlib.Core.Bool.{Bool, true, false}
 use mathlib.Core.List.{List}
@@ -38,14 +39,18 @@ there-eat false t c b = tt
 there-eat true true c b = there-word (ltb (suc (c .st .lock .word)) wordBytes) c (set (c .word) (c .st .lock .word) b)
 there-eat true false c b = there-mark (ltb (suc (c .st .lock .marker)) 4) (shift (c .st .hunting) b) c
 
+pub hand-there : (c : Board) → With ThereEvent (handOn c .0) (handOn c .1)
+hand-there c =
+    let b : ℕ = getD (c .word) (c .st .lock .handed) 0 in
+    there-as (takeByte (heldIn c) b .0) (handOn c .1) (there-byte (heldIn c) b)
+
+pub eat-there : (c : Board) (b : ℕ) → With ThereEvent (eatByte c b .0) (eatByte c b .1)
+eat-there c b = there-eat (c .st .locked) (ltb (c .st .lock .word) wordBytes) c b
+
 there-by-call : (s r : Bool) (c : Board) (bs : List ℕ) → With ThereEvent (hearBy s r c bs .0) (hearBy s r c bs .2)
 there-by-call false r c bs = tt
 there-by-call true false c bs = tt
-there-by-call true true c bs =
-    with-hear owed handOn eatByte hand-one ThereEvent
-    (λ d. there-as (takeByte (heldIn d) (getD (d .word) (d .st .lock .handed) 0) .0) (handOn d .1)
-    (there-byte (heldIn d) (getD (d .word) (d .st .lock .handed) 0)))
-    (λ d b. there-eat (d .st .locked) (ltb (d .st .lock .word) wordBytes) d b) c bs
+there-by-call true true c bs = with-hear owed handOn eatByte hand-one ThereEvent hand-there eat-there c bs
 
 -- a delivered payload is the part of the receive buffer that a call of its own hands out
 pub payload-there : (c : Board) (bs : List ℕ) → With ThereEvent (hearCall c bs .0) (hearCall c bs .2)

@@ -33,7 +33,7 @@ noDelivery = record { format = 0; number = 0; key = 0; port = 0; sequence = 0; l
 
 -- a piece, and nothing behind it
 abbrev pub alone : Piece → Owed
-alone p = record { piece = p; out = 0; open = false; delivery = noDelivery; at = 0 }
+alone p = record { piece = p; out = 0; text = false; delivery = noDelivery; at = 0 }
 
 -- nothing
 abbrev pub nothing : Owed
@@ -41,7 +41,7 @@ nothing = alone (pieceOf [])
 
 -- a piece, and a packet's text behind it
 abbrev pub withText : Piece → Delivery → Owed
-withText p d = record { piece = p; out = 0; open = true; delivery = d; at = 0 }
+withText p d = record { piece = p; out = 0; text = true; delivery = d; at = 0 }
 
 -- a packet: a text has only one that everybody may read
 abbrev pub owedPacket : Noted → Delivery → Owed
@@ -71,24 +71,28 @@ leftBehind false text = []
 
 -- all that is owed
 unfoldable pub left : Owed → List ℕ → List ℕ
-left o recv = pick (owes o) (drop (o .out) (textOf (o .piece)) ++ leftBehind (o .open) (drop (o .at) (payloadIn (o .delivery) recv))) []
+left o recv = pick (owes o) (drop (o .out) (textOf (o .piece)) ++ leftBehind (o .text) (drop (o .at) (payloadIn (o .delivery) recv))) []
 
--- the next piece of a text: a byte of it, or where it is out its line feed
+-- the next byte of a text
+abbrev pub textByte : Owed → List ℕ → Owed
+textByte o text =
+    record { piece = pieceOf (shownByte (getD text (o .at) 0)); out = 0; text = true; delivery = o .delivery; at = suc (o .at) }
+
+-- .. or where it is out its line feed
 abbrev pub textPiece : Owed → List ℕ → Owed
-textPiece o text =
-    pick (ltb (o .at) (length text))
-    (record { piece = pieceOf (shownByte (getD text (o .at) 0)); out = 0; open = true; delivery = o .delivery; at = suc (o .at) })
-    (alone (pieceOf (feed ∷ [])))
+textPiece o text = pick (ltb (o .at) (length text)) (textByte o text) (alone (pieceOf (feed ∷ [])))
 
 -- the next piece
 unfoldable pub nextPiece : Owed → List ℕ → Owed
-nextPiece o recv = pick (o .open) (textPiece o (payloadIn (o .delivery) recv)) nothing
+nextPiece o recv = pick (o .text) (textPiece o (payloadIn (o .delivery) recv)) nothing
+
+-- the same piece, a byte further
+abbrev pub further : Owed → Owed
+further o = record { piece = o .piece; out = suc (o .out); text = o .text; delivery = o .delivery; at = o .at }
 
 -- a byte is out
 unfoldable pub forth : Owed → List ℕ → Owed
-forth o recv =
-    pick (ltb (suc (o .out)) (o .piece .length))
-    (record { piece = o .piece; out = suc (o .out); open = o .open; delivery = o .delivery; at = o .at }) (nextPiece o recv)
+forth o recv = pick (ltb (suc (o .out)) (o .piece .length)) (further o) (nextPiece o recv)
 
 -- n bytes are out
 unfoldable pub forthBy : ℕ → Owed → List ℕ → Owed

@@ -13,7 +13,7 @@ pub struct Owed {
     /// Bytes of the piece that are out.
     pub out: usize,
     /// A packet's text is owed behind it.
-    pub open: bool,
+    pub text: bool,
     /// .. of this packet, whose payload stands in the receive buffer.
     pub delivery: Delivery,
     /// Bytes of the payload that are out, or in the piece.
@@ -48,7 +48,7 @@ impl Owed {
         Owed {
             piece,
             out: 0,
-            open: false,
+            text: false,
             delivery: no_delivery(),
             at: 0,
         }
@@ -68,7 +68,7 @@ impl Owed {
         Owed {
             piece,
             out: 0,
-            open: true,
+            text: true,
             delivery,
             at: 0,
         }
@@ -94,7 +94,7 @@ impl Owed {
     fn next_piece(self, recv: &[u8]) -> Owed
         ensures { λ r. ⌜ r ≡ nextPiece self (now (recv .entry)) ⌝ }
     {
-        if !self.open {
+        if !self.text {
             return Owed::nothing();
         }
         let delivery = self.delivery;
@@ -103,7 +103,7 @@ impl Owed {
             return Owed {
                 piece: Piece::shown_byte(payload[self.at]),
                 out: 0,
-                open: true,
+                text: true,
                 delivery,
                 at: self.at + 1,
             };
@@ -123,7 +123,7 @@ impl Owed {
             return Owed {
                 piece,
                 out: next,
-                open: self.open,
+                text: self.text,
                 delivery,
                 at: self.at,
             };

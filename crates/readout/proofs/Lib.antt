@@ -1,0 +1,4 @@
+pub mod Sources
+pub mod Left
+pub mod Means
+pub mod Ends
