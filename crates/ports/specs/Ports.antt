@@ -100,10 +100,6 @@ forgetting es port =
 abbrev pub freshPorts : Ports
 freshPorts = record { entries = replicate placeLimit freed }
 
--- no port is held twice
-abbrev pub soundPorts : Ports → Bool
-soundPorts p = pick (unfit (p .entries)) false true
-
 -- what a call on it gives
 abbrev pub notedIn : Noted × List Entry → NotedIn
 notedIn x = record { noted = x .0; ports = record { entries = x .1 } }

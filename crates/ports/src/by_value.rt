@@ -1,14 +1,13 @@
 //! A table of ports by value.
 ghost use mathlib.Core.Path.{_≡_};
 ghost use lib.ListN.{length, set};
-ghost use Rattle.ports.specs.Ports.{noting, forgetting, freshPorts, soundPorts, notedIn, forgotIn};
+ghost use Rattle.ports.specs.Ports.{noting, forgetting, freshPorts, notedIn, forgotIn};
 use crate::Entry;
 use crate::Forgot;
 use crate::Noted;
 use crate::Table;
 use crate::decide_forget;
 use crate::decide_note;
-use crate::places::is_twice;
 
 /// A table of 16 places, by value.
 pub struct Ports {
@@ -54,14 +53,6 @@ impl Ports {
         };
         let entries = [free; 16];
         Ports { entries }
-    }
-
-    /// Whether no port is held twice.
-    pub fn sound(self) -> bool
-        ensures { λ r. ⌜ r ≡ soundPorts self ⌝ }
-    {
-        let es = self.entries;
-        !is_twice(es, Ports::PLACES)
     }
 
     /// A delivered packet, as `note`.
