@@ -1,5 +1,6 @@
 //! The lines of the board, in pieces: by value, so that a piece can be written in parts.
 ghost use mathlib.Core.Path.{_≡_};
+ghost use mathlib.Core.Bool.{true};
 ghost use Prim.Native.Nat.{_+_, _/_, _%_, _≤_, _<_};
 ghost use mathlib.Core.List.{[], _∷_, _++_};
 ghost use lib.ListN.{length};
@@ -101,7 +102,7 @@ fn sixteenth(n: u8) -> u8
 // A byte by its number.
 fn put_numbered(text: &mut [u8], b: u8) -> usize
     requires { ⌜ longest ≤ length (now text) ⌝ }
-    ensures { λ r. ⌜ Laid (now (text .entry)) 0 (92 ∷ 120 ∷ sixteenth (b / 16) ∷ sixteenth (b % 16) ∷ []) (now (text .exit)) r ⌝ }
+    ensures { λ r. ⌜ Laid (now (text .entry)) 0 (92 ∷ 120 ∷ sixteenth (b / 16) ∷ sixteenth (b % 16) ∷ []) (now (text .exit)) r × (r ≤ longest) ⌝ }
 {
     let high = sixteenth(b / 16);
     let low = sixteenth(b % 16);
@@ -112,7 +113,7 @@ fn put_numbered(text: &mut [u8], b: u8) -> usize
 // A byte as it is shown.
 fn put_shown(text: &mut [u8], b: u8) -> usize
     requires { ⌜ longest ≤ length (now text) ⌝ }
-    ensures { λ r. ⌜ Laid (now (text .entry)) 0 (shownByte b) (now (text .exit)) r ⌝ }
+    ensures { λ r. ⌜ Laid (now (text .entry)) 0 (shownByte b) (now (text .exit)) r × (r ≤ longest) ⌝ }
 {
     if b == b'\\' {
         return put_word(text, 0, b"\\\\");
