@@ -1,17 +1,19 @@
 -- Pieces of the board's text, as they are written.
--- Within, begun, part, wrote   bytes stored from a place on and at most so many: a word, a part more, and what it comes to
--- by-case, by-both             the same of a text that is chosen by cases
--- whole-line                   one line, written
--- heading-is                   `PORT SEQUENCE ` of two numbers, each with its space
--- nothing-put, numbered-put, shown-.., missing-put, unwatched-put, lead-.., remark-.., block-..   texts from their parts
--- piece-put                    a buffer of zeros with a text at its start, and the text's length, are its piece
+-- Within, begun, part, wrote      bytes stored from a place on, at most so many: a word, a part behind it, and what they come to
+-- by-case                         the same of a text that is chosen by cases
+-- heading-put, own-put, ..        `PORT SEQUENCE `, and words before it
+-- missing-put, unwatched-put, ..  lines ahead of a packet's own
+-- lead-restricted, lead-own       all before a packet's text
+-- numbered-put, shown-..          a byte as it is shown
+-- refused-line, said-line, ..     lines of answers that are no packet
+-- piece-put                       a buffer of zeros with a text at its start, and the text's length, are its piece
 use Prim.Native.Nat.{ℕ, zero, suc, _+_, _-_, _/_, _%_, _≤_, _<_}
 use native.Mathlib.Nat.{sub-zero, zero-sub, suc-sub-suc}
 use native.Mathlib.Omega.{arith}
 use mathlib.Core.Path.{_≡_, refl, sym, ap, ap₂, _∙_}
 use mathlib.Core.Bool.{Bool, true, false}
 use mathlib.Core.List.{List, [], _∷_, _++_, append-assoc, append-nil}
-use lib.ListN.{length, drop, replicate, length-append, length-replicate}
+use lib.ListN.{length, drop, replicate, length-replicate}
 use borrow.Author.Tests.{eq-eqb, ne-eqb, le-leb, lt-leb}
 use Rattle.base.specs.Private.{Laid}
 use Rattle.base.proofs.Laid.{laid-none, laid-append, laid-start}
@@ -27,7 +29,7 @@ use Rattle.listed.specs.Lines.{decimal, longest}
 use Rattle.ports.specs.declared.Noted.{Noted}
 use Rattle.shown.specs.Text.{sixteenth, shownByte, heading}
 use Rattle.shown.specs.Board.{Line, missing, unwatched, restricted, refusedFrame, brokenFrame, cleanBlock, repairedBlock, beyondRepair, lockLost, wrongAt}
-use Rattle.shown.specs.Board.{missingWord, unwatchedWord, lateWord, repeatedWord, restrictedWord, refusedWord, cleanWord, repairedWord, beyondWord, lostWord, wrongWord}
+use Rattle.shown.specs.Board.{missingWord, unwatchedWord, restrictedWord, refusedWord, cleanWord, repairedWord, beyondWord, lostWord, wrongWord}
 use Rattle.shown.specs.Board.{number, written, writtenAll, aheadOf, blockLines}
 use Rattle.shown.specs.Parts.{ownLead, lead, remark}
 use Rattle.lines.specs.Piece.{pieceOf}
@@ -35,25 +37,25 @@ use Rattle.lines.specs.declared.piece.Piece.{Piece}
 use Rattle.lines.proofs.Writes.{laid-as, Item, Put, put-as}
 
 -- bytes stored from `at` on, k of them at most
-pub record Within (l : List ℕ) (at : ℕ) (bs after : List ℕ) (end k : ℕ) : Type 0 where
-  pub laid : Laid l at bs after end
-  pub short : end ≤ at + k
+record Within (l : List ℕ) (at : ℕ) (bs after : List ℕ) (end k : ℕ) : Type 0 where
+  laid : Laid l at bs after end
+  short : end ≤ at + k
 
 -- .. as a promise says it
-abbrev Short : List ℕ → ℕ → List ℕ → List ℕ → ℕ → ℕ → Type 0
-Short l at bs after end k = Laid l at bs after end × (end ≤ at + k)
+abbrev Fits : List ℕ → ℕ → List ℕ → List ℕ → ℕ → ℕ → Type 0
+Fits l at bs after end k = Laid l at bs after end × (end ≤ at + k)
 
 module _ {l bs after : List ℕ} {at end : ℕ} where
-  pub begun : Laid l at bs after end → Within l at bs after end (length bs)
+  begun : Laid l at bs after end → Within l at bs after end (length bs)
   begun h = record { laid = h; short = omega (arith, h .ends) }
 
-  pub promised : (k : ℕ) → Short l at bs after end k → Within l at bs after end k
+  promised : (k : ℕ) → Fits l at bs after end k → Within l at bs after end k
   promised k h = record { laid = h .0; short = h .1 }
 
-  pub part : {cs last : List ℕ} {stop k : ℕ} (m : ℕ) → Within l at bs after end k → Short after end cs last stop m → Within l at (bs ++ cs) last stop (k + m)
+  part : {cs last : List ℕ} {stop k : ℕ} (m : ℕ) → Within l at bs after end k → Fits after end cs last stop m → Within l at (bs ++ cs) last stop (k + m)
   part m u v = record { laid = laid-append (u .laid) (v .0); short = omega (arith, u .short, v .1) }
 
-  pub wrote : {cs : List ℕ} {k : ℕ} (m : ℕ) → Within l at bs after end k → k ≤ m → bs ≡ cs → Short l at cs after end m
+  wrote : {cs : List ℕ} {k : ℕ} (m : ℕ) → Within l at bs after end k → k ≤ m → bs ≡ cs → Fits l at cs after end m
   wrote m u h e = (laid-as (u .laid) e, omega (arith, u .short, h))
 
 -- a text chosen by v, written where v is known to be w
@@ -70,29 +72,29 @@ heading-is : (port sequence : ℕ) → number port 32 ++ number sequence 32 ≡ 
 heading-is port sequence = sym (append-assoc (number port 32) (decimal sequence) (32 ∷ []))
 
 pub heading-put : {l l₁ l₂ : List ℕ} {at a e : ℕ} (port sequence : ℕ) → Item l at port 32 l₁ a → Item l₁ a sequence 32 l₂ e
-    → Laid l at (heading port sequence) l₂ e × (e ≤ at + 42)
+    → Fits l at (heading port sequence) l₂ e 42
 heading-put port sequence u v = wrote 42 (part 21 (promised 21 u) v) (omega arith) (heading-is port sequence)
 
 module _ {l after : List ℕ} {at e : ℕ} (port sequence : ℕ) where
-  pub own-as : {v w : Noted} → v ≡ w → Laid l at (ownLead w port sequence) after e × (e ≤ at + 53) → Laid l at (ownLead v port sequence) after e × (e ≤ at + 53)
+  pub own-as : {v w : Noted} → v ≡ w → Fits l at (ownLead w port sequence) after e 53 → Fits l at (ownLead v port sequence) after e 53
   own-as = by-case (λ (v : Noted). ownLead v port sequence)
 
-  pub heading-only : Laid l at (heading port sequence) after e × (e ≤ at + 42) → Laid l at (heading port sequence) after e × (e ≤ at + 53)
+  pub heading-only : Fits l at (heading port sequence) after e 42 → Fits l at (heading port sequence) after e 53
   heading-only u = wrote 53 (promised 42 u) (omega arith) refl
 
 -- a word before a heading
 pub own-put : {l l₁ l₂ : List ℕ} {at a e : ℕ} (word : List ℕ) (port sequence : ℕ) → length word ≤ 11 → Laid l at word l₁ a
-    → Laid l₁ a (heading port sequence) l₂ e × (e ≤ a + 42) → Laid l at (word ++ heading port sequence) l₂ e × (e ≤ at + 53)
+    → Fits l₁ a (heading port sequence) l₂ e 42 → Fits l at (word ++ heading port sequence) l₂ e 53
 own-put word port sequence h u v = wrote 53 (part 42 (begun u) v) (omega (arith, h)) refl
 
 pub restricted-put : {l l₁ l₂ l₃ l₄ : List ℕ} {at a b c e : ℕ} (port sequence key : ℕ) → Laid l at restrictedWord l₁ a → Item l₁ a port 32 l₂ b
-    → Item l₂ b sequence 32 l₃ c → Item l₃ c key 10 l₄ e → Laid l at (written (restricted port sequence key)) l₄ e × (e ≤ at + 76)
+    → Item l₂ b sequence 32 l₃ c → Item l₃ c key 10 l₄ e → Fits l at (written (restricted port sequence key)) l₄ e 76
 unfolding written
 restricted-put port sequence key u v w x = wrote 76 (part 21 (part 21 (part 21 (begun u) v) w) x) (omega arith) refl
 
 -- lines ahead of a packet's own
 abbrev Ahead : List ℕ → List Line → List ℕ → ℕ → Type 0
-Ahead l ls after end = Laid l 0 (writtenAll ls) after end × (end ≤ 52)
+Ahead l ls after end = Fits l 0 (writtenAll ls) after end 52
 
 pub ahead-as : {l after : List ℕ} {e : ℕ} {v w : Noted} (port : ℕ) → v ≡ w → Ahead l (aheadOf w port) after e → Ahead l (aheadOf v port) after e
 ahead-as port = by-case (λ (v : Noted). writtenAll (aheadOf v port))
@@ -112,11 +114,11 @@ unwatched-put port u v = wrote 52 (part 21 (begun u) v) (omega arith) (whole-lin
 
 -- all before a packet's text
 pub lead-restricted : {l l₁ l₂ : List ℕ} {a e : ℕ} (v : Noted) (d : Delivery) → d .format ≡ keyFormat → Ahead l (aheadOf v (d .port)) l₁ a
-    → Laid l₁ a (written (restricted (d .port) (d .sequence) (d .number))) l₂ e × (e ≤ a + 76) → Put l (lead v d) l₂ e
+    → Fits l₁ a (written (restricted (d .port) (d .sequence) (d .number))) l₂ e 76 → Put l (lead v d) l₂ e
 lead-restricted v d same u w = rw (eq-eqb (d .format) keyFormat same) (wrote longest (part 76 (promised 52 u) w) (omega arith) refl)
 
 pub lead-own : {l l₁ l₂ : List ℕ} {a e : ℕ} (v : Noted) (d : Delivery) → (d .format ≡ keyFormat → ⊥) → Ahead l (aheadOf v (d .port)) l₁ a
-    → Laid l₁ a (ownLead v (d .port) (d .sequence)) l₂ e × (e ≤ a + 53) → Put l (lead v d) l₂ e
+    → Fits l₁ a (ownLead v (d .port) (d .sequence)) l₂ e 53 → Put l (lead v d) l₂ e
 lead-own v d other u w = rw (ne-eqb (d .format) keyFormat other) (wrote longest (part 53 (promised 52 u) w) (omega arith) refl)
 
 -- a line of a word, and of a word and a number
@@ -126,12 +128,15 @@ nothing-put l = (laid-none l 0, omega arith)
 pub word-put : {l bs after : List ℕ} {e : ℕ} → Laid l 0 bs after e → length bs ≤ longest → Put l bs after e
 word-put u h = wrote longest (begun u) h refl
 
-pub count-line : {l bs l₁ l₂ : List ℕ} {a e : ℕ} (n : ℕ) → Laid l 0 bs l₁ a → length bs ≤ 107 → Item l₁ a n 10 l₂ e → Put l (bs ++ number n 10) l₂ e
+count-line : {l bs l₁ l₂ : List ℕ} {a e : ℕ} (n : ℕ) → Laid l 0 bs l₁ a → length bs ≤ 107 → Item l₁ a n 10 l₂ e → Put l (bs ++ number n 10) l₂ e
 count-line n u h v = wrote longest (part 21 (begun u) v) (omega (arith, h)) refl
 
 -- a byte by its number
+abbrev byNumber : ℕ → List ℕ
+byNumber b = 92 ∷ 120 ∷ sixteenth (b / 16) ∷ sixteenth (b % 16) ∷ []
+
 pub numbered-put : {l after : List ℕ} {high low e : ℕ} (b : ℕ) → high ≡ sixteenth (b / 16) → low ≡ sixteenth (b % 16)
-    → Laid l 0 (92 ∷ 120 ∷ high ∷ low ∷ []) after e → Put l (92 ∷ 120 ∷ sixteenth (b / 16) ∷ sixteenth (b % 16) ∷ []) after e
+    → Laid l 0 (92 ∷ 120 ∷ high ∷ low ∷ []) after e → Put l (byNumber b) after e
 numbered-put b h k u = wrote longest (begun u) (omega arith) (ap₂ (λ (x y : ℕ). 92 ∷ 120 ∷ x ∷ y ∷ []) h k)
 
 -- a byte as it is shown, by what it is
@@ -140,11 +145,11 @@ module _ (b : ℕ) where
   unfolding shownByte
   shown-backslash h = rw (eq-eqb b 92 h)
 
-  pub shown-low : (b ≡ 92 → ⊥) → b < 32 → 92 ∷ 120 ∷ sixteenth (b / 16) ∷ sixteenth (b % 16) ∷ [] ≡ shownByte b
+  pub shown-low : (b ≡ 92 → ⊥) → b < 32 → byNumber b ≡ shownByte b
   unfolding shownByte
   shown-low n h = rw (ne-eqb b 92 n, lt-leb 32 b h)
 
-  pub shown-high : (b ≡ 92 → ⊥) → 32 ≤ b → 126 < b → 92 ∷ 120 ∷ sixteenth (b / 16) ∷ sixteenth (b % 16) ∷ [] ≡ shownByte b
+  pub shown-high : (b ≡ 92 → ⊥) → 32 ≤ b → 126 < b → byNumber b ≡ shownByte b
   unfolding shownByte
   shown-high n h k = rw (ne-eqb b 92 n, le-leb 32 b h, lt-leb b 126 k)
 
@@ -170,6 +175,7 @@ pub lost-line : {l after : List ℕ} {e : ℕ} → Laid l 0 (lostWord ++ (10 ∷
 unfolding written
 lost-line u = word-put u (omega arith)
 
+-- a frame's line is the same whether or not blocks are told
 either : (b : Bool) (j : Judged) → remark b (Said j) ≡ remark true (Said j)
 either b (Packet d) = refl
 either b (Refused n) = refl

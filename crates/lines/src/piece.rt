@@ -2,15 +2,14 @@
 ghost use mathlib.Core.Path.{_≡_};
 ghost use mathlib.Core.Bool.{true};
 ghost use Prim.Native.Nat.{_+_, _/_, _%_, _≤_, _<_};
-ghost use mathlib.Core.List.{[], _∷_, _++_};
+ghost use mathlib.Core.List.{[], _∷_};
 ghost use lib.ListN.{length};
 ghost use Rattle.base.specs.Private.{Laid};
 ghost use Rattle.listed.specs.Lines.{longest};
 ghost use Rattle.bid.specs.Line.{feed};
 ghost use Rattle.shown.specs.Text.{sixteenth, shownByte, heading};
-ghost use Rattle.shown.specs.Board.{restricted, refusedFrame, brokenFrame, cleanBlock, repairedBlock, wrongAt, written, writtenAll, aheadOf, blockLines};
+ghost use Rattle.shown.specs.Board.{restricted, wrongAt, written, writtenAll, aheadOf, blockLines};
 ghost use Rattle.shown.specs.Parts.{ownLead, lead, remark};
-ghost use Rattle.packet.specs.declared.frame.Judged.the-variants.{Refused, Broken};
 ghost use Rattle.channel.specs.declared.answer.Answer.the-variants.{Said};
 ghost use Rattle.lines.specs.Piece.{pieceOf};
 use crate::Line;

@@ -11,7 +11,15 @@ put-lead-spec =
     (λ c κs. search needs)
     (λ c κs. search needs)
     (λ c. search needs)
-    (λ c. lead-restricted (c .before .before .before .before .before .before .before .before .before .before .before .args .noted) (c .before .before .before .before .before .before .before .before .before .before .before .args .delivery) (c .before .before .before .before .if1 .taken) (c .before .before .before .before .before .before .before .before .put-ahead .ensures) (c .before .before .put-restricted .ensures))
+    (λ c.
+    lead-restricted (c .before .before .before .before .before .before .before .before .before .before .before .args .noted)
+    (c .before .before .before .before .before .before .before .before .before .before .before .args .delivery)
+    (c .before .before .before .before .if1 .taken) (c .before .before .before .before .before .before .before .before .put-ahead .ensures)
+    (c .before .before .put-restricted .ensures))
     (λ c κs. search needs)
     (λ c. search needs)
-    (λ c. lead-own (c .before .before .before .before .before .before .before .before .before .before .before .args .noted) (c .before .before .before .before .before .before .before .before .before .before .before .args .delivery) (c .before .before .before .before .if1 .left) (c .before .before .before .before .before .before .before .before .put-ahead .ensures) (c .before .before .put-own .ensures)))
+    (λ c.
+    lead-own (c .before .before .before .before .before .before .before .before .before .before .before .args .noted)
+    (c .before .before .before .before .before .before .before .before .before .before .before .args .delivery)
+    (c .before .before .before .before .if1 .left) (c .before .before .before .before .before .before .before .before .put-ahead .ensures)
+    (c .before .before .put-own .ensures)))

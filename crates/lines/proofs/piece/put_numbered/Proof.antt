@@ -13,4 +13,7 @@ put-numbered-spec =
     (search needs)
     (λ c κs. search needs)
     (λ c. search needs)
-    (λ c. numbered-put (c .before .before .before .before .before .before .before .before .args .b) (c .before .before .before .before .before .before .sixteenth .ensures) (c .before .before .before .before .before .sixteenth2 .ensures) (c .before .before .put-word .ensures)))
+    (λ c.
+    numbered-put (c .before .before .before .before .before .before .before .before .args .b)
+    (c .before .before .before .before .before .before .sixteenth .ensures) (c .before .before .before .before .before .sixteenth2 .ensures)
+    (c .before .before .put-word .ensures)))

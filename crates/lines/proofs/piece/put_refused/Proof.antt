@@ -26,6 +26,13 @@ put-refused-spec =
     (λ c κs. search needs)
     (λ c. by-case (λ (j : Judged). remark true (Said j)) (c .enum-told .given .1) (nothing-put _))
     (λ c. search needs)
-    (λ c. by-case (λ (j : Judged). remark true (Said j)) (c .before .before .before .before .before .before .before .before .before .before .judged .given .1) (refused-line (c .before .before .before .before .before .before .put-word .ensures) _ (c .before .before .put-item .ensures)))
+    (λ c.
+    by-case (λ (j : Judged). remark true (Said j))
+    (c .before .before .before .before .before .before .before .before .before .before .judged .given .1)
+    (refused-line (c .before .before .before .before .before .before .put-word .ensures) _ (c .before .before .put-item .ensures)))
     (λ c. search needs)
-    (λ c. by-case (λ (j : Judged). remark true (Said j)) (c .before .before .before .before .before .before .before .before .before .before .before .before .before .before .judged2 .given .1) (broken-line (c .before .before .before .before .before .before .before .before .before .before .put-word2 .ensures) _ (c .before .before .before .before .before .before .put-item2 .ensures) (c .before .before .put-item3 .ensures))))
+    (λ c.
+    by-case (λ (j : Judged). remark true (Said j))
+    (c .before .before .before .before .before .before .before .before .before .before .before .before .before .before .judged2 .given .1)
+    (broken-line (c .before .before .before .before .before .before .before .before .before .before .put-word2 .ensures) _
+    (c .before .before .before .before .before .before .put-item2 .ensures) (c .before .before .put-item3 .ensures))))

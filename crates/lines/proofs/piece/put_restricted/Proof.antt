@@ -14,4 +14,8 @@ put-restricted-spec =
     (λ c κs. search needs)
     (λ c κs. search needs)
     (λ c. search needs)
-    (λ c. restricted-put _ _ _ (c .before .before .before .before .before .before .before .before .before .before .before .before .before .before .put-word .ensures) (c .before .before .before .before .before .before .before .before .before .before .put-item .ensures) (c .before .before .before .before .before .before .put-item2 .ensures) (c .before .before .put-item3 .ensures)))
+    (λ c.
+    restricted-put _ _ _
+    (c .before .before .before .before .before .before .before .before .before .before .before .before .before .before .put-word .ensures)
+    (c .before .before .before .before .before .before .before .before .before .before .put-item .ensures)
+    (c .before .before .before .before .before .before .put-item2 .ensures) (c .before .before .put-item3 .ensures)))

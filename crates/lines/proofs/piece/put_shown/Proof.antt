@@ -16,11 +16,19 @@ put-shown-spec =
     (λ c. put-as (word-put (c .before .before .put-word .ensures) (omega arith)) (shown-backslash _ (c .before .before .before .before .before .if1 .taken)))
     (λ c κs. search needs)
     (λ c. search needs)
-    (λ c. put-as (c .before .before .put-numbered .ensures) (shown-low _ (c .before .before .before .before .before .if1 .left) (c .before .before .before .before .if2 .taken)))
+    (λ c.
+    put-as (c .before .before .put-numbered .ensures)
+    (shown-low _ (c .before .before .before .before .before .if1 .left) (c .before .before .before .before .if2 .taken)))
     (λ c κs. search needs)
     (λ c. search needs)
-    (λ c. put-as (c .before .before .put-numbered2 .ensures) (shown-high _ (c .before .before .before .before .before .before .if1 .left) (c .before .before .before .before .before .if2 .left) (c .before .before .before .before .if3 .taken)))
+    (λ c.
+    put-as (c .before .before .put-numbered2 .ensures)
+    (shown-high _ (c .before .before .before .before .before .before .if1 .left) (c .before .before .before .before .before .if2 .left)
+    (c .before .before .before .before .if3 .taken)))
     (search needs)
     (λ c κs. search needs)
     (λ c. search needs)
-    (λ c. put-as (word-put (c .before .before .put-word2 .ensures) (omega arith)) (shown-plain _ (c .before .before .before .before .before .before .before .if1 .left) (c .before .before .before .before .before .before .if2 .left) (c .before .before .before .before .before .if3 .left))))
+    (λ c.
+    put-as (word-put (c .before .before .put-word2 .ensures) (omega arith))
+    (shown-plain _ (c .before .before .before .before .before .before .before .if1 .left)
+    (c .before .before .before .before .before .before .if2 .left) (c .before .before .before .before .before .if3 .left))))
