@@ -1,15 +1,15 @@
 //! The lines of the board, in pieces: by value, so that a piece can be written in parts.
 ghost use mathlib.Core.Path.{_≡_};
+ghost use mathlib.Core.Bool.{true};
 ghost use Prim.Native.Nat.{_+_, _/_, _%_, _≤_, _<_};
-ghost use mathlib.Core.List.{[], _∷_, _++_};
+ghost use mathlib.Core.List.{[], _∷_};
 ghost use lib.ListN.{length};
 ghost use Rattle.base.specs.Private.{Laid};
 ghost use Rattle.listed.specs.Lines.{longest};
 ghost use Rattle.bid.specs.Line.{feed};
 ghost use Rattle.shown.specs.Text.{sixteenth, shownByte, heading};
-ghost use Rattle.shown.specs.Board.{restricted, refusedFrame, brokenFrame, cleanBlock, repairedBlock, wrongAt, written, writtenAll, aheadOf, blockLines};
+ghost use Rattle.shown.specs.Board.{restricted, wrongAt, written, writtenAll, aheadOf, blockLines};
 ghost use Rattle.shown.specs.Parts.{ownLead, lead, remark};
-ghost use Rattle.packet.specs.declared.frame.Judged.the-variants.{Refused, Broken};
 ghost use Rattle.channel.specs.declared.answer.Answer.the-variants.{Said};
 ghost use Rattle.lines.specs.Piece.{pieceOf};
 use crate::Line;
@@ -101,7 +101,7 @@ fn sixteenth(n: u8) -> u8
 // A byte by its number.
 fn put_numbered(text: &mut [u8], b: u8) -> usize
     requires { ⌜ longest ≤ length (now text) ⌝ }
-    ensures { λ r. ⌜ Laid (now (text .entry)) 0 (92 ∷ 120 ∷ sixteenth (b / 16) ∷ sixteenth (b % 16) ∷ []) (now (text .exit)) r ⌝ }
+    ensures { λ r. ⌜ Laid (now (text .entry)) 0 (92 ∷ 120 ∷ sixteenth (b / 16) ∷ sixteenth (b % 16) ∷ []) (now (text .exit)) r × (r ≤ longest) ⌝ }
 {
     let high = sixteenth(b / 16);
     let low = sixteenth(b % 16);
@@ -112,7 +112,7 @@ fn put_numbered(text: &mut [u8], b: u8) -> usize
 // A byte as it is shown.
 fn put_shown(text: &mut [u8], b: u8) -> usize
     requires { ⌜ longest ≤ length (now text) ⌝ }
-    ensures { λ r. ⌜ Laid (now (text .entry)) 0 (shownByte b) (now (text .exit)) r ⌝ }
+    ensures { λ r. ⌜ Laid (now (text .entry)) 0 (shownByte b) (now (text .exit)) r × (r ≤ longest) ⌝ }
 {
     if b == b'\\' {
         return put_word(text, 0, b"\\\\");

@@ -6,6 +6,8 @@ use Rattle.ports.proofs.distance.rule.Kinds as rule-kinds
 use Rattle.ports.proofs.distance.rule.Reads as rule-reads
 use Rattle.ports.proofs.by_value.Ports.fresh.Kinds as fresh-kinds
 use Rattle.ports.proofs.by_value.Ports.fresh.Reads as fresh-reads
+use Rattle.ports.proofs.by_value.Ports.sound.Kinds as sound-kinds
+use Rattle.ports.proofs.by_value.Ports.sound.Reads as sound-reads
 use Rattle.ports.proofs.by_value.Ports.note.Kinds as note-kinds
 use Rattle.ports.proofs.by_value.Ports.note.Reads as note-reads
 use Rattle.ports.proofs.by_value.Ports.forget.Kinds as forget-kinds
@@ -22,3 +24,6 @@ note-determined κs a z z′ ws ws′ pre p q = (same p q, refl)
 
 pub forget-determined : Determined forget-kinds.ps forget-kinds.r forget-reads.Asked forget-reads.Learnt
 forget-determined κs a z z′ ws ws′ pre p q = (same p q, refl)
+
+pub sound-determined : Determined sound-kinds.ps sound-kinds.r sound-reads.Asked sound-reads.Learnt
+sound-determined κs a z z′ ws ws′ pre p q = (same p q, refl)

@@ -3,8 +3,9 @@
 -- whole          the places gathered are the table
 -- free-.., note-..         the decisions, way by way; freed-.., noted-.. as the functions come to them
 -- freeing-is, noting-is     the decision on the value, put, is what the two calls are to answer and leave; freeing-in, noting-in of a table by value
+-- sound-in                  .. whether it is fit
 use mathlib.Core.Path.{_≡_, refl, sym, ap, subst, _∙_}
-use mathlib.Core.Bool.{Bool, true, false}
+use mathlib.Core.Bool.{Bool, true, false, not, _||_}
 use mathlib.Core.Logic.{_⊎_, inl, inr, ⊎-elim}
 use Prim.Native.Nat.{ℕ, zero, suc, _+_, _≤_, _<_}
 use native.Mathlib.Nat.{le-of-suc-le-suc, not-suc-le-zero}
@@ -273,3 +274,6 @@ module _ (es : List Entry) (size : length es ≡ 16) where
 
   pub notes-in : (port sequence : ℕ) {d : Noting} {z : List Entry} → d ≡ notingOf (sixteen 16) port sequence → z ≡ set es (d .place) (d .entry) → notedIn (d .noted, z) ≡ notedIn (noting es port sequence)
   notes-in port sequence {d} {z} ed ez = ap notedIn ((λ i. (d .noted, ez i)) ∙ ap (λ (c : Noting). Put c es) ed ∙ noting-in port sequence)
+
+  pub sound-in : {t : Bool} → t ≡ twice (take 16 es) → not t ≡ not (unfit es)
+  sound-in e = ap not (e ∙ ap twice (take-all 16 es (omega (arith, size))) ∙ sym (ap (λ (b : Bool). b || twice es) (le-ltb 16 (length es) (omega (arith, size)))))

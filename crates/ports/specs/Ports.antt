@@ -7,8 +7,9 @@
 -- further, taken, without  the table behind a packet, the first of a new port, a port forgotten
 -- noting, forgetting       what the two calls answer and leave
 -- freshPorts, notedIn, ..  the same of a table by value
+-- soundPorts               whether it is fit: no port is held twice
 use Prim.Native.Nat.{ℕ, zero, suc}
-use mathlib.Core.Bool.{Bool, true, false, _&&_, _||_}
+use mathlib.Core.Bool.{Bool, true, false, not, _&&_, _||_}
 use mathlib.Core.List.{List, [], _∷_}
 use mathlib.Core.Option.{Option, some, none}
 use lib.Dec.{eqb, ltb}
@@ -99,6 +100,10 @@ forgetting es port =
 -- ---- a table by value
 abbrev pub freshPorts : Ports
 freshPorts = record { entries = replicate placeLimit freed }
+
+-- no port is held twice in it: 43 is no answer then
+abbrev pub soundPorts : Ports → Bool
+soundPorts t = not (unfit (t .entries))
 
 -- what a call on it gives
 abbrev pub notedIn : Noted × List Entry → NotedIn

@@ -1,13 +1,15 @@
 //! A table of ports by value.
 ghost use mathlib.Core.Path.{_≡_};
+ghost use mathlib.Core.Bool.{not};
 ghost use lib.ListN.{length, set};
-ghost use Rattle.ports.specs.Ports.{noting, forgetting, freshPorts, notedIn, forgotIn};
+ghost use Rattle.ports.specs.Ports.{noting, forgetting, freshPorts, notedIn, forgotIn, unfit, soundPorts};
 use crate::Entry;
 use crate::Forgot;
 use crate::Noted;
 use crate::Table;
 use crate::decide_forget;
 use crate::decide_note;
+use crate::places::is_twice;
 
 /// A table of 16 places, by value.
 pub struct Ports {
@@ -38,6 +40,13 @@ fn put_in(t: [Entry; 16], i: usize, e: Entry) -> [Entry; 16]
     t
 }
 
+// Whether no port is held twice.
+fn held_once(t: [Entry; 16]) -> bool
+    ensures { λ r. ⌜ r ≡ not (unfit t) ⌝ }
+{
+    !is_twice(t, Ports::PLACES)
+}
+
 impl Ports {
     /// How many places.
     pub const PLACES: usize = 16;
@@ -53,6 +62,14 @@ impl Ports {
         };
         let entries = [free; 16];
         Ports { entries }
+    }
+
+    /// Whether no port is held twice.
+    pub fn sound(self) -> bool
+        ensures { λ r. ⌜ r ≡ soundPorts self ⌝ }
+    {
+        let es = self.entries;
+        held_once(es)
     }
 
     /// A delivered packet, as `note`.

@@ -1,0 +1,14 @@
+-- `lines::piece::sixteenth` meets its contract.
+use borrow.Author.Needs.{needs}
+use borrow.Author.Tests.{lt-ltb, le-ltb}
+use Rattle.lines.proofs.piece.sixteenth.Statement.{statement}
+use Rattle.lines.proofs.piece.sixteenth.Tie as tie
+
+pub sixteenth-spec : {M : Type 1} → statement M
+sixteenth-spec =
+    tie.close
+    (tie.spec
+    (search needs)
+    (λ c. simp (lt-ltb _ _ (c .if1 .taken)))
+    (search needs)
+    (λ c. simp (le-ltb _ _ (c .if1 .left))))
