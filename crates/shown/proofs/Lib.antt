@@ -2,3 +2,4 @@ pub mod Decimal
 pub mod Text
 pub mod Line
 pub mod Split
+pub mod Marks
