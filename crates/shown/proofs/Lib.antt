@@ -3,3 +3,4 @@ pub mod Text
 pub mod Line
 pub mod Split
 pub mod Marks
+pub mod Typed
