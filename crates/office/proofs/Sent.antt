@@ -6,13 +6,12 @@
 use Prim.Native.Nat.{ℕ, suc, _+_, _-_, _*_, _/_, _≤_, min}
 use native.Mathlib.Omega.{arith}
 use mathlib.Core.Path.{_≡_, refl, sym, _∙_, ap, subst}
-use mathlib.Core.Bool.{Bool, true, _&&_}
+use mathlib.Core.Bool.{true, _&&_}
 use mathlib.Core.List.{List, [], _∷_, _++_, map, append-assoc, append-nil}
 use mathlib.Core.Option.{Option, none}
 use lib.ListN.{length, take, drop, length-append, length-drop, length-take}
 use lib.Seq.{sets, length-sets, take-nil, take-all, take-at, length-take-le, take-append-le, take-suc-set}
 use borrow.Author.Tests.{le-leb}
-use Rattle.base.specs.Choice.{pick}
 use Rattle.base.specs.Calls.{tell}
 use Rattle.base.proofs.Tests.{by-eq, by-le}
 use Rattle.base.proofs.Writing.{copied-fits}

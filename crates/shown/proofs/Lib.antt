@@ -4,3 +4,4 @@ pub mod Line
 pub mod Split
 pub mod Marks
 pub mod Typed
+pub mod Ordered
