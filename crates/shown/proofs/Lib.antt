@@ -5,3 +5,5 @@ pub mod Split
 pub mod Marks
 pub mod Typed
 pub mod Ordered
+pub mod Sixteen
+pub mod Numbers

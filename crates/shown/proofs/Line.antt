@@ -22,7 +22,10 @@ use Rattle.bid.specs.Line.{feed, space, past, noNumber, port, sequence, text, n
 use Rattle.listed.specs.Lines.{decimal}
 use Rattle.shown.specs.Text.{shownText, bidText}
 use Rattle.shown.specs.Typed.{Plainly, isBid}
-use Rattle.shown.specs.Board.{Line, bid, missing, unwatched, late, repeated, restricted, refusedFrame, brokenFrame, cleanBlock, repairedBlock, beyondRepair, lockLost, wrongAt, missingWord, unwatchedWord, lateWord, repeatedWord, restrictedWord, refusedWord, cleanWord, repairedWord, beyondWord, lostWord, wrongWord, number, written}
+use Rattle.shown.specs.Board.{Line, bid, missing, unwatched, late, repeated, restricted, refusedFrame, brokenFrame}
+use Rattle.shown.specs.Board.{cleanBlock, repairedBlock, beyondRepair, lockLost, wrongAt, number, written}
+use Rattle.shown.specs.Board.{missingWord, unwatchedWord, lateWord, repeatedWord, restrictedWord}
+use Rattle.shown.specs.Board.{refusedWord, cleanWord, repairedWord, beyondWord, lostWord, wrongWord}
 use Rattle.shown.proofs.Text.{Printable, all-printable, text-apart, text-printable, text-plain}
 use Rattle.shown.proofs.Decimal.{printedLimit, IsDigit, decimal-each, decimal-some, number-decimal, decimal-number}
 
@@ -121,18 +124,18 @@ decimal-printable n h = digit-printable (decimal n) (decimal-each n h)
 last-number : (n : ℕ) → Low n → Closed (number n feed)
 last-number n h = (decimal n, refl, decimal-printable n h)
 
+spaced : (n : ℕ) (x : List ℕ) → Low n → Each Printable x → Each Printable (decimal n ++ space ∷ x)
+spaced n x h k = each-append Printable (decimal n) (space ∷ x) (decimal-printable n h) ((omega arith, omega arith), k)
+
 one-number : (n : ℕ) → Low n → Each Printable (number n space)
-one-number n h = each-append Printable (decimal n) (space ∷ []) (decimal-printable n h) ((omega arith, omega arith), tt)
+one-number n h = spaced n [] h tt
 
 whole-bid : (p s : ℕ) (t : List ℕ) → Low p × Low s × Bytes t → Closed (bidText p s t ++ feed ∷ [])
-whole-bid p s t f =
-    (
-      bidText p s t,
-      refl,
-      subst (Each Printable) (sym (text-is p s t))
-          (each-append Printable (decimal p) (space ∷ rest p s t) (decimal-printable p (f .0))
-          ((omega arith, omega arith), each-append Printable (decimal s) (space ∷ shownText t) (decimal-printable s (f .1)) ((omega arith, omega arith), text-printable t (f .2)))),
-    )
+whole-bid p s t f = (
+  bidText p s t,
+  refl,
+  subst (Each Printable) (sym (text-is p s t)) (spaced p (rest p s t) (f .0) (spaced s (shownText t) (f .1) (text-printable t (f .2)))),
+)
 
 pub line-printable : (l : Line) → Fits l → Closed (written l)
 unfolding written
@@ -142,8 +145,8 @@ line-printable (unwatched p) f = ahead unwatchedWord (all-printable unwatchedWor
 line-printable (late p s t) f = ahead lateWord (all-printable lateWord tt) (whole-bid p s t f)
 line-printable (repeated p s t) f = ahead repeatedWord (all-printable repeatedWord tt) (whole-bid p s t f)
 line-printable (restricted p s k) f =
-    ahead restrictedWord (all-printable restrictedWord tt)
-    (ahead (number p space ++ number s space) (each-append Printable (number p space) (number s space) (one-number p (f .0)) (one-number s (f .1))) (last-number k (f .2)))
+    let both = each-append Printable (number p space) (number s space) (one-number p (f .0)) (one-number s (f .1)) in
+    ahead restrictedWord (all-printable restrictedWord tt) (ahead (number p space ++ number s space) both (last-number k (f .2)))
 line-printable (refusedFrame n) f = ahead refusedWord (all-printable refusedWord tt) (last-number n f)
 line-printable (brokenFrame n) f = ahead refusedWord (all-printable refusedWord tt) (ahead (number 3 space) (one-number 3 (omega arith)) (last-number n f))
 line-printable cleanBlock f = (cleanWord, refl, all-printable cleanWord tt)
@@ -160,7 +163,8 @@ first-digit (b ∷ w) x h d = d .0
 pub bid-first : (p s : ℕ) (t : List ℕ) → Low p → IsDigit (getD (written (bid p s t)) 0 0)
 unfolding written
 bid-first p s t h =
-    subst (λ (l : List ℕ). IsDigit (getD l 0 0)) (sym (ap (λ (l : List ℕ). l ++ feed ∷ []) (text-is p s t) ∙ append-assoc (decimal p) (space ∷ rest p s t) (feed ∷ [])))
+    subst (λ (l : List ℕ). IsDigit (getD l 0 0))
+    (sym (ap (λ (l : List ℕ). l ++ feed ∷ []) (text-is p s t) ∙ append-assoc (decimal p) (space ∷ rest p s t) (feed ∷ [])))
     (first-digit (decimal p) ((space ∷ rest p s t) ++ feed ∷ []) (decimal-some p) (decimal-each p h))
 
 -- .. and any other with `! `
@@ -201,7 +205,8 @@ line-plain l hp hs some plain =
     let a : past space r ≡ [] → ⊥ = λ e. some (ap length e) in
     let b : r ≡ [] → ⊥ = λ e. some (ap (λ (x : List ℕ). length (past space x)) e ∙ nothing) in
     text-is (port l) (sequence l) (text l)
-    ∙ (λ i. decimal-number (upTo space l) hp (plain .port) i ++ space ∷ (decimal-number (upTo space r) hs (plain .sequence) i ++ space ∷ text-plain (text l) (plain .text) i))
+    ∙ (λ i. decimal-number (upTo space l) hp (plain .port) i ++ space ∷
+    (decimal-number (upTo space r) hs (plain .sequence) i ++ space ∷ text-plain (text l) (plain .text) i))
     ∙ ap (λ (x : List ℕ). upTo space l ++ space ∷ x) (sym (split-word r a)) ∙ sym (split-word l b)
   where
     nothing : length (past space []) ≡ 0

@@ -45,7 +45,8 @@ Older (behind n) = Unit {0}
 module _ (b : Bool) (t : List Entry) (p : Packet) (l : ℕ) (fit : unfit t ≡ false) (last : lastOf (p .port) t ≡ some l)
     (low : l < around) (fits : p .sequence < around) where
   by-distance : (d : Distance) → Leads l (p .sequence) d → eventLines b t (said (packet p)) ≡ packetLines (meaning d) p
-  by-distance d leads = ap (λ (v : Noted). packetLines v p) (noted-last t (p .port) (p .sequence) l fit last .0 ∙ rule-means l (p .sequence) d low fits leads .0)
+  by-distance d leads =
+      ap (λ (v : Noted). packetLines v p) (noted-last t (p .port) (p .sequence) l fit last .0 ∙ rule-means l (p .sequence) d low fits leads .0)
 
   -- an older price never passes for the current one
   pub old-marked : (d : Distance) → Leads l (p .sequence) d → Older d → bidsAmong (eventLines b t (said (packet p))) ≡ []

@@ -30,7 +30,7 @@ use Rattle.ports.specs.declared.Entry.{Entry}
 use Rattle.ports.specs.declared.Noted.{Noted}
 use Rattle.ports.specs.declared.Noted.the-variants.{First, InOrder, Repeated, Missing, Late, Refused}
 use Rattle.shown.specs.Text.{heading, shownText, bidText}
-use Rattle.shown.specs.Board.{Line, restricted, lateWord, repeatedWord, number, written, writtenAll, aheadOf, ownLine, packetLines, blockLines, eventLines}
+use Rattle.shown.specs.Board.{Line, restricted, lateWord, repeatedWord, number, written, writtenAll, aheadOf, ownLine, packetLines, eventLines}
 use Rattle.shown.specs.Parts.{ownLead, lead, behind, remark}
 
 -- lines joined

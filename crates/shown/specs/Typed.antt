@@ -7,6 +7,7 @@
 -- packetsAmong        the packets among frame answers
 -- asBid, currentFrom  a packet's bid; the packets that are shown as bids: neither late nor repeated, and for everybody
 -- numbersOf, ByOne    a port's sequence numbers, and that they rise by one
+-- Among               packets of these ports alone
 use Prim.Native.Nat.{ℕ, _+_, _%_}
 use mathlib.Core.Path.{_≡_}
 use mathlib.Core.Bool.{Bool, true, false}
@@ -26,7 +27,8 @@ use Rattle.ports.specs.declared.Noted.{Noted}
 use Rattle.ports.specs.declared.Noted.the-variants.{First, InOrder, Repeated, Missing, Late, Refused}
 use Rattle.ports.specs.Ports.{noting}
 use Rattle.shown.specs.Text.{backslash, printable, bidText}
-use Rattle.shown.specs.Board.{Line, bid, missing, unwatched, late, repeated, restricted, refusedFrame, brokenFrame, cleanBlock, repairedBlock, beyondRepair, lockLost, wrongAt}
+use Rattle.shown.specs.Board.{Line, bid, missing, unwatched, late, repeated, restricted, refusedFrame, brokenFrame}
+use Rattle.shown.specs.Board.{cleanBlock, repairedBlock, beyondRepair, lockLost, wrongAt}
 
 -- the sender accepts it
 abbrev pub isAccepted : Verdict → Bool
@@ -133,3 +135,7 @@ ByOne (s ∷ r ∷ ss) = (r ≡ (s + 1) % 65536) × ByOne (r ∷ ss)
 abbrev pub Member : ℕ → List ℕ → Type 0
 Member q [] = ⊥
 Member q (r ∷ rs) = (q ≡ r) ⊎ Member q rs
+
+-- each packet's port is one of these
+abbrev pub Among : List ℕ → List Packet → Type 0
+Among qs ps = Each (λ p. Member (p .port) qs) ps
