@@ -1,8 +1,8 @@
 pub mod Decimal
 pub mod Text
 pub mod Line
-pub mod Split
 pub mod Marks
+pub mod Split
 pub mod Typed
 pub mod Ordered
 pub mod Sixteen

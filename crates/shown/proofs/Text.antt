@@ -38,14 +38,12 @@ abbrev isBack : List ℕ → ℕ → Bool
 isBack x b = eqb (firstOf (shownByte b ++ x)) b && (eqb (length (shownByte b)) (widthOf (shownByte b ++ x)) && leb 1 (length (shownByte b)))
 
 module _ (b : ℕ) (x : List ℕ) (h : b < 256) where
-  byte-test : T (isBack x b)
-  unfolding shownByte
-  byte-test = all-at 256 (isBack x) tt b h
-
   pub byte-back : (firstOf (shownByte b ++ x) ≡ b) × (drop (widthOf (shownByte b ++ x)) (shownByte b ++ x) ≡ x) × (1 ≤ length (shownByte b))
+  unfolding shownByte
   byte-back =
-      let t = and-r (eqb (firstOf (shownByte b ++ x)) b) _ byte-test in (
-        eqb→eq _ _ (and-l (eqb (firstOf (shownByte b ++ x)) b) _ byte-test),
+      let s : T (isBack x b) = all-at 256 (isBack x) tt b h in
+      let t = and-r (eqb (firstOf (shownByte b ++ x)) b) _ s in (
+        eqb→eq _ _ (and-l (eqb (firstOf (shownByte b ++ x)) b) _ s),
         drop-at (shownByte b) x _ (eqb→eq _ _ (and-l (eqb (length (shownByte b)) (widthOf (shownByte b ++ x))) _ t)),
         leb→le _ _ (and-r (eqb (length (shownByte b)) (widthOf (shownByte b ++ x))) _ t),
       )
