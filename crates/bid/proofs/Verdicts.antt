@@ -2,7 +2,8 @@
 -- judged-empty .. judged-free    the first refusal that applies, or none
 -- verdict-none, verdict-bid      by what the line is read as
 -- verdict-first                  the first 8,205 bytes of a line decide
--- accepted-is                    an accepted line is a packet that the sender takes
+-- accepted-bid                   an accepted line is a bid of which nothing is refused ..
+-- accepted-is                    .. and of bytes it is a packet that the sender takes
 use Prim.Native.Nat.{ℕ, _+_, _-_, _≤_, _<_}
 use native.Mathlib.Omega.{arith}
 use mathlib.Core.Path.{_≡_, refl, sym, _∙_, ap, subst}
@@ -19,7 +20,7 @@ use Rattle.base.proofs.Lists.{drop-take}
 use Rattle.base.proofs.UpTo.{up-to-take, up-to-long}
 use Rattle.base.proofs.Tests.{by-eq, by-le, by-test}
 use Rattle.packet.specs.Port.{barred}
-use Rattle.packet.specs.Contents.{payloadLimit, Packet, plainPacket}
+use Rattle.packet.specs.Contents.{payloadLimit, Packet}
 use Rattle.packet.specs.Escape.{escape}
 use Rattle.packet.proofs.Escaping.{plain-short}
 use Rattle.packet.proofs.Round.{plain-undoes}
@@ -131,35 +132,55 @@ verdict-first n l h =
     (λ g. by-le (length (upTo space (past space l))) 5 (λ f. too-long l n h k g f) (λ f. no-second l n h k g f))
     (λ g. no-port l n h k g))
 
--- ---- an accepted line
+-- ---- an accepted line is a bid of which nothing is refused
 not-accepted : (p : Packet) (n : ℕ) → refused n ≡ accepted p → ⊥
 not-accepted p n e = let z : _≡_ {A = ℕ} 0 1 = cc in omega arith
-
-same-packet : (q p : Packet) → accepted q ≡ accepted p → q ≡ p
-same-packet q p e = cc
-
-judged-is : (to at : ℕ) (payload : List ℕ) (p : Packet) → judged (plainPacket to at payload) ≡ accepted p → to < 65536 → at < 65536 → Bytes payload → Accepted p
-judged-is to at payload p e h k b =
-    let q = plainPacket to at payload in
-    by-eq (length payload) 0 (λ z. absurd (not-accepted p 20 (sym (judged-empty q z) ∙ e)))
-    (λ z.
-    by-le (length (escape payload)) payloadLimit
-    (λ s.
-    by-test (barred to) (λ t. absurd (not-accepted p 22 (sym (judged-barred q z s t) ∙ e)))
-    (λ t.
-    subst Accepted (same-packet q p (sym (judged-free q z s t refl) ∙ e))
-    (record { some = z; short = s; free = t; fits = refl; number-fits = omega arith; key-bytes = tt; port-fits = h; sequence-fits = k; bytes = b })))
-    (λ s. absurd (not-accepted p 21 (sym (judged-long q z s) ∙ e))))
 
 none-accepted : (p : Packet) → noBid ≡ accepted p → ⊥
 none-accepted p e = let z : _≡_ {A = ℕ} 0 1 = cc in omega arith
 
-pub accepted-is : (l : List ℕ) (p : Packet) → Bytes l → verdict l ≡ accepted p → Accepted p
-accepted-is l p b e =
+same-packet : (q p : Packet) → accepted q ≡ accepted p → q ≡ p
+same-packet q p e = cc
+
+pub record AcceptedLine (l : List ℕ) (p : Packet) : Type 0 where
+  pub is : bidOf l ≡ p
+  pub port-fits : port l < noNumber
+  pub sequence-fits : sequence l < noNumber
+  pub some : length (text l) ≡ 0 → ⊥
+  pub short : length (escape (text l)) ≤ payloadLimit
+  pub free : barred (port l) ≡ false
+
+judged-bid : (l : List ℕ) (p : Packet) → port l < noNumber → sequence l < noNumber → judged (bidOf l) ≡ accepted p → AcceptedLine l p
+judged-bid l p h k e =
+    let q = bidOf l in
+    by-eq (length (text l)) 0 (λ z. absurd (not-accepted p 20 (sym (judged-empty q z) ∙ e)))
+    (λ z.
+    by-le (length (escape (text l))) payloadLimit
+    (λ s.
+    by-test (barred (port l)) (λ t. absurd (not-accepted p 22 (sym (judged-barred q z s t) ∙ e)))
+    (λ t. record { is = same-packet q p (sym (judged-free q z s t refl) ∙ e); port-fits = h; sequence-fits = k; some = z; short = s; free = t }))
+    (λ s. absurd (not-accepted p 21 (sym (judged-long q z s) ∙ e))))
+
+pub accepted-bid : (l : List ℕ) (p : Packet) → verdict l ≡ accepted p → AcceptedLine l p
+accepted-bid l p e =
     by-le noNumber (port l) (λ h. absurd (none-accepted p (sym (verdict-none l (bid-no-port l h)) ∙ e)))
     (λ h.
     by-le noNumber (sequence l) (λ k. absurd (none-accepted p (sym (verdict-none l (bid-no-sequence l k)) ∙ e)))
-    (λ k.
-    let t : isBid l ≡ true = bid-both l h k in
-    judged-is (port l) (sequence l) (text l) p (sym (verdict-bid l t) ∙ e) h k
-    (each-drop IsByte (length (upTo space (past space l)) + 1) (past space l) (each-drop IsByte (length (upTo space l) + 1) l b))))
+    (λ k. judged-bid l p h k (sym (verdict-bid l (bid-both l h k)) ∙ e)))
+
+-- .. and of bytes it is a packet that the sender takes
+pub accepted-is : (l : List ℕ) (p : Packet) → Bytes l → verdict l ≡ accepted p → Accepted p
+accepted-is l p b e =
+    let a = accepted-bid l p e in
+    subst Accepted (a .is)
+    (record {
+      some = a .some;
+      short = a .short;
+      free = a .free;
+      fits = refl;
+      number-fits = omega arith;
+      key-bytes = tt;
+      port-fits = a .port-fits;
+      sequence-fits = a .sequence-fits;
+      bytes = each-drop IsByte (length (upTo space (past space l)) + 1) (past space l) (each-drop IsByte (length (upTo space l) + 1) l b);
+    })

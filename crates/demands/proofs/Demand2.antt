@@ -78,7 +78,7 @@ use Rattle.recording.proofs.Ends.{listing-ends, finish-ends}
 use Rattle.office.specs.Desk.{Said, Desk}
 use Rattle.office.specs.Called.{hearCall, closeCall}
 use Rattle.demands.proofs.Desk.{office-line-number, office-close-number}
-use Rattle.demands.proofs.Digits.{decimal-digits}
+use Rattle.shown.proofs.Decimal.{decimal-digits}
 use Rattle.demands.proofs.Trips.{packet-back, judged-back, plain-listed, channel-listed}
 
 -- ---- "for each packet the sender accepts, a packet written and read back is the same packet.": where n bytes are written of a packet (a key

@@ -6,7 +6,6 @@ pub mod Taken
 pub mod Trips
 pub mod Promises
 pub mod Calling
-pub mod Digits
 pub mod Demand1
 pub mod Interleaving
 pub mod Demand2

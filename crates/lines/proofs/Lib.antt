@@ -1,4 +1,3 @@
-pub mod Digits
 pub mod Writes
 pub mod Short
 pub mod Noting

@@ -13,7 +13,7 @@ use Rattle.listed.specs.Lines.{decimal, longest}
 use Rattle.ports.specs.declared.Noted.{Noted}
 use Rattle.ports.specs.declared.Noted.the-variants.{First, InOrder, Repeated, Missing, Late, Refused}
 use Rattle.lines.specs.Noted.{words, notedLine}
-use Rattle.lines.proofs.Digits.{digits-short}
+use Rattle.listed.proofs.Digits.{digits-short}
 use Rattle.lines.proofs.Writes.{laid-as, Item, Put}
 
 -- the words from a place on, within 32 bytes

@@ -15,7 +15,7 @@ use Rattle.channel.specs.declared.answer.Condition.the-variants.{Clean, Repaire
 use Rattle.channel.specs.declared.answer.Answer.{Answer}
 use Rattle.channel.specs.declared.answer.Answer.the-variants.{More, Said, Block, LockLost}
 use Rattle.listed.specs.Lines.{decimal, letter, told, line, given, endLine, wrongLine, longest}
-use Rattle.lines.proofs.Digits.{digits-short}
+use Rattle.listed.proofs.Digits.{digits-short}
 
 item-short : (n k : ℕ) (rest : List ℕ) → length rest ≤ k → length (decimal n ++ rest) ≤ 20 + k
 item-short n k rest h = omega (arith, length-append (decimal n) rest, digits-short n)

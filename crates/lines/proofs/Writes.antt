@@ -16,7 +16,7 @@ use Rattle.packet.specs.declared.frame.Delivery.{Delivery}
 use Rattle.packet.specs.declared.frame.Judged.the-variants.{Packet, Refused, Broken}
 use Rattle.channel.specs.declared.answer.Condition.the-variants.{Repaired}
 use Rattle.listed.specs.Lines.{decimal, letter, told, endLine, wrongLine, longest, blockLine}
-use Rattle.lines.proofs.Digits.{wide, last-digit, more-digits, digits-short}
+use Rattle.listed.proofs.Digits.{wide, last-digit, more-digits, digits-short}
 
 laid-one : (l : List ℕ) (at b : ℕ) → Laid l at (b ∷ []) (set l at b) (at + 1)
 laid-one l at b = record { ends = refl; holds = refl }

@@ -2,3 +2,4 @@ pub mod Apart
 pub mod Totals
 pub mod Numbers
 pub mod Offsets
+pub mod Digits

@@ -17,9 +17,9 @@ use Rattle.channel.specs.declared.answer.Condition.the-variants.{Clean as clean
 use Rattle.channel.proofs.Streaming.{whole-stream}
 use Rattle.bid.specs.Line.{feed, Verdict, noBid, refused, accepted, verdict}
 use Rattle.bid.specs.Input.{linesFrom, linesOf, packets, packetsOf}
+use Rattle.bid.proofs.Lines.{lines-feed, lines-other, lines-none, lines-one}
 use Rattle.bid.proofs.Verdicts.{accepted-is}
 use Rattle.office.specs.Desk.{sentFor}
-use Rattle.office.proofs.Sent.{lines-feed, lines-other, lines-none, lines-one}
 
 -- the bytes of each line are bytes
 line-bytes : (bs l : List ℕ) → Bytes l → Bytes bs → Each Bytes (linesFrom l bs)

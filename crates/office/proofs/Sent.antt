@@ -6,13 +6,12 @@
 use Prim.Native.Nat.{ℕ, suc, _+_, _-_, _*_, _/_, _≤_, min}
 use native.Mathlib.Omega.{arith}
 use mathlib.Core.Path.{_≡_, refl, sym, _∙_, ap, subst}
-use mathlib.Core.Bool.{Bool, true, _&&_}
+use mathlib.Core.Bool.{true, _&&_}
 use mathlib.Core.List.{List, [], _∷_, _++_, map, append-assoc, append-nil}
 use mathlib.Core.Option.{Option, none}
 use lib.ListN.{length, take, drop, length-append, length-drop, length-take}
 use lib.Seq.{sets, length-sets, take-nil, take-all, take-at, length-take-le, take-append-le, take-suc-set}
-use borrow.Author.Tests.{eq-eqb, ne-eqb, le-leb}
-use Rattle.base.specs.Choice.{pick}
+use borrow.Author.Tests.{le-leb}
 use Rattle.base.specs.Calls.{tell}
 use Rattle.base.proofs.Tests.{by-eq, by-le}
 use Rattle.base.proofs.Writing.{copied-fits}
@@ -22,6 +21,7 @@ use Rattle.channel.specs.Sender.{marked}
 use Rattle.bid.specs.Line.{feed, lineLimit, Verdict, noBid, refused, accepted, verdict}
 use Rattle.bid.specs.Input.{linesFrom, packets, numbered, complaintsFrom}
 use Rattle.bid.proofs.Verdicts.{verdict-first}
+use Rattle.bid.proofs.Lines.{lines-feed, lines-other, lines-none, lines-one}
 use Rattle.office.specs.Desk.{Spoken, blocks, unread, refusal, Said, putOut, endingBy, Desk, soFar, waiting, kept, endingOf, ended, eat, deskAll, sentBy, complaintsBy}
 use Rattle.channel.specs.Sender.{wholes, restOf, messageBytes}
 use Rattle.office.specs.Called.{heldLimit, holdLimit, sound, roomy, hearOn, endBytes, Fine, lastOf}
@@ -166,23 +166,6 @@ module _ (d : Desk) (l : List ℕ) (f : Fine d) (w : Shows d l) where
 
   pub some-stored : (d .st .stored ≡ 0 → ⊥) → length l ≡ 0 → ⊥
   some-stored n e = n (stored-is ∙ length-take lineLimit l ∙ omega arith)
-
--- ---- the lines of an input
-pub lines-feed : (l : List ℕ) (b : ℕ) (bs : List ℕ) → b ≡ feed → linesFrom l (b ∷ bs) ≡ l ∷ linesFrom [] bs
-unfolding linesFrom
-lines-feed l b bs e = ap (λ (t : Bool). pick t (l ∷ []) [] ++ linesFrom (pick t [] (l ++ b ∷ [])) bs) (eq-eqb b feed e)
-
-pub lines-other : (l : List ℕ) (b : ℕ) (bs : List ℕ) → (b ≡ feed → ⊥) → linesFrom l (b ∷ bs) ≡ linesFrom (l ++ b ∷ []) bs
-unfolding linesFrom
-lines-other l b bs n = ap (λ (t : Bool). pick t (l ∷ []) [] ++ linesFrom (pick t [] (l ++ b ∷ [])) bs) (ne-eqb b feed n)
-
-pub lines-none : (l : List ℕ) → length l ≡ 0 → linesFrom l [] ≡ []
-unfolding linesFrom
-lines-none l e = ap (λ (t : Bool). pick t [] (l ∷ [])) (eq-eqb _ _ e)
-
-pub lines-one : (l : List ℕ) → (length l ≡ 0 → ⊥) → linesFrom l [] ≡ l ∷ []
-unfolding linesFrom
-lines-one l n = ap (λ (t : Bool). pick t [] (l ∷ [])) (ne-eqb _ _ n)
 
 abbrev streamFrom : List (List ℕ) → List ℕ
 streamFrom ls = framesOf (packets (map verdict ls))

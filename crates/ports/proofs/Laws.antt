@@ -4,7 +4,7 @@
 -- others-noted, others-forgotten   another port's last number stays
 -- entries-noted                    every place that holds another port stays
 -- noted-last                       a port that is held: what a packet is told, and its last number then
--- noted-first, first-last          a new port
+-- noted-first, first-last          a new port that finds a free place; noted-full: one that finds none
 -- only-full                        what a packet is told hangs on its port's own last number and, of a new port, on whether a place is free
 -- forgotten-none                   a port forgotten is not held
 -- forgotten-at, forgotten-else     its place is freed, and nothing else changes
@@ -231,7 +231,7 @@ pub first-last : (es : List Entry) (port sequence : ℕ) → unfit es ≡ false 
 first-last es port sequence f e k = rw (noted-first es port sequence f e k) (free-last es port sequence e k)
 
 -- .. and with none
-noted-full : (es : List Entry) (port sequence : ℕ) → unfit es ≡ false → lastOf port es ≡ none → length es ≤ freePlace es → noting es port sequence ≡ (Refused 40, es)
+pub noted-full : (es : List Entry) (port sequence : ℕ) → unfit es ≡ false → lastOf port es ≡ none → length es ≤ freePlace es → noting es port sequence ≡ (Refused 40, es)
 unfolding noting
 noted-full es port sequence f e k = rw (f, le-ltb _ _ (away-by es port e), le-ltb _ _ k) refl
 

@@ -1,0 +1,9 @@
+pub mod Decimal
+pub mod Text
+pub mod Line
+pub mod Marks
+pub mod Split
+pub mod Typed
+pub mod Ordered
+pub mod Sixteen
+pub mod Numbers

@@ -4,7 +4,10 @@
 -- typed               lines as they were typed, each with its line feed
 -- Plainly             a line typed plainly: numbers without leading zeros, the text printable and without a backslash
 -- bidsAmong           the bids among lines shown
+-- packetsAmong        the packets among frame answers
+-- asBid, currentFrom  a packet's bid; the packets that are shown as bids: neither late nor repeated, and for everybody
 -- numbersOf, ByOne    a port's sequence numbers, and that they rise by one
+-- Among               packets of these ports alone
 use Prim.Native.Nat.{ℕ, _+_, _%_}
 use mathlib.Core.Path.{_≡_}
 use mathlib.Core.Bool.{Bool, true, false}
@@ -15,11 +18,17 @@ use lib.ListN.{length, getD}
 use Rattle.base.specs.Bytes.{Each}
 use Rattle.base.specs.Choice.{pick}
 use Rattle.base.specs.UpTo.{upTo}
-use Rattle.packet.specs.Contents.{Packet}
+use Rattle.packet.specs.Contents.{Packet, keyFormat}
+use Rattle.packet.specs.Frame.{Told, packet, refusal, broken}
 use Rattle.bid.specs.Line.{feed, space, past, port, sequence, text, Verdict, noBid, refused, accepted, verdict}
 use Rattle.bid.specs.Input.{linesOf}
+use Rattle.ports.specs.declared.Entry.{Entry}
+use Rattle.ports.specs.declared.Noted.{Noted}
+use Rattle.ports.specs.declared.Noted.the-variants.{First, InOrder, Repeated, Missing, Late, Refused}
+use Rattle.ports.specs.Ports.{noting}
 use Rattle.shown.specs.Text.{backslash, printable, bidText}
-use Rattle.shown.specs.Board.{Line, bid, missing, unwatched, late, repeated, restricted, refusedFrame, brokenFrame, cleanBlock, repairedBlock, beyondRepair, lockLost, wrongAt}
+use Rattle.shown.specs.Board.{Line, bid, missing, unwatched, late, repeated, restricted, refusedFrame, brokenFrame}
+use Rattle.shown.specs.Board.{cleanBlock, repairedBlock, beyondRepair, lockLost, wrongAt}
 
 -- the sender accepts it
 abbrev pub isAccepted : Verdict → Bool
@@ -81,6 +90,36 @@ unfoldable pub bidsAmong : List Line → List Line
 bidsAmong [] = []
 bidsAmong (l ∷ ls) = pick (isBid l) (l ∷ bidsAmong ls) (bidsAmong ls)
 
+-- the packets among frame answers
+unfoldable pub packetsAmong : List Told → List Packet
+packetsAmong [] = []
+packetsAmong (packet p ∷ ts) = p ∷ packetsAmong ts
+packetsAmong (refusal n ∷ ts) = packetsAmong ts
+packetsAmong (broken n ∷ ts) = packetsAmong ts
+
+-- a packet's bid
+abbrev pub asBid : Packet → Line
+asBid p = bid (p .port) (p .sequence) (p .payload)
+
+-- by what a packet is to its port: neither late nor repeated
+abbrev pub isCurrent : Noted → Bool
+isCurrent First = true
+isCurrent InOrder = true
+isCurrent Repeated = false
+isCurrent (Missing n) = true
+isCurrent Late = false
+isCurrent (Refused n) = true
+
+-- .. and everybody may read it
+abbrev pub isShown : Noted → Packet → Bool
+isShown v p = pick (eqb (p .format) keyFormat) false (isCurrent v)
+
+-- such packets among these, each by the table behind those before it
+unfoldable pub currentFrom : List Entry → List Packet → List Packet
+currentFrom t [] = []
+currentFrom t (p ∷ ps) =
+    pick (isShown (noting t (p .port) (p .sequence) .0) p) (p ∷ []) [] ++ currentFrom (noting t (p .port) (p .sequence) .1) ps
+
 -- a port's sequence numbers among packets
 unfoldable pub numbersOf : ℕ → List Packet → List ℕ
 numbersOf q [] = []
@@ -96,3 +135,7 @@ ByOne (s ∷ r ∷ ss) = (r ≡ (s + 1) % 65536) × ByOne (r ∷ ss)
 abbrev pub Member : ℕ → List ℕ → Type 0
 Member q [] = ⊥
 Member q (r ∷ rs) = (q ≡ r) ⊎ Member q rs
+
+-- each packet's port is one of these
+abbrev pub Among : List ℕ → List Packet → Type 0
+Among qs ps = Each (λ p. Member (p .port) qs) ps
