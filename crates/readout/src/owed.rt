@@ -99,13 +99,14 @@ impl Owed {
         }
         let delivery = self.delivery;
         let payload = stream::payload(recv, delivery);
-        if self.at < payload.len() {
+        let at = self.at;
+        if at < payload.len() {
             return Owed {
-                piece: Piece::shown_byte(payload[self.at]),
+                piece: Piece::shown_byte(payload[at]),
                 out: 0,
                 text: true,
                 delivery,
-                at: self.at + 1,
+                at: at + 1,
             };
         }
         Owed::alone(Piece::line_feed())
@@ -144,7 +145,8 @@ impl Owed {
             }
             let piece = owed.piece;
             let bytes = piece.bytes;
-            out[w] = bytes[owed.out];
+            let i = owed.out;
+            out[w] = bytes[i];
             owed = owed.forth(recv);
             w += 1;
         }
