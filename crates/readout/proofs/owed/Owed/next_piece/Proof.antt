@@ -1,0 +1,23 @@
+-- `readout::owed::Owed::next_piece` meets its contract.
+use borrow.Author.Needs.{needs}
+use mathlib.Core.Path.{_≡_, refl, sym, _∙_, ap}
+use native.Mathlib.Omega.{arith}
+use borrow.Author.Tests.{not-true, not-false}
+use Rattle.readout.proofs.Returns.{next-none, next-byte, next-feed}
+use Rattle.readout.proofs.owed.Owed.next_piece.Statement.{statement}
+use Rattle.readout.proofs.owed.Owed.next_piece.Tie as tie
+
+pub next-piece-spec : {M : Type 1} → statement M
+next-piece-spec =
+    tie.close
+    (tie.spec
+    (search needs)
+    (λ c. let s = c .before .before .before .before in next-none (s .args .self) (s .args .recv .now) (not-true _ (c .before .if1 .taken)) (c .nothing .ensures))
+    (search needs)
+    (search needs)
+    (search needs)
+    (search needs)
+    (λ c. ?)
+    (search needs)
+    (search needs)
+    (λ c. ?))
