@@ -29,8 +29,9 @@ use Rattle.ports.specs.Distance.{lastBehind}
 use Rattle.ports.specs.Ports.{placeLimit, holds, placeOf, freePlace, lastOf, twice, unfit, entry, lastAt, noting}
 use Rattle.ports.proofs.Laws.{noting-ways, others-noted, away-by, once, or-right}
 use Rattle.ports.proofs.Keeping.{fit-noted, fresh-fit, fresh-none}
-use Rattle.shown.specs.Board.{Line, aheadOf, ownLine, restricted, packetLines, refusedFrame, brokenFrame, boardLines, freshTable}
+use Rattle.shown.specs.Board.{Line, packetLines, refusedFrame, brokenFrame, boardLines, freshTable}
 use Rattle.shown.specs.Typed.{asBid, numbersOf, ByOne, Member, Among}
+use Rattle.shown.proofs.Marks.{plain-lines}
 use Rattle.shown.proofs.Ordered.{IsOpen, Ready, InTurn, ready-fresh, ready-step}
 
 -- ---- blocks clean or repaired, and no lock lost
@@ -144,17 +145,14 @@ noted-length t port sequence =
 
 -- ---- packets in order
 module _ (t : List Entry) (p : Packet) (room : lastOf (p .port) t ≡ none → length t ≤ freePlace t → ⊥) (plain : p .format ≡ plainFormat) where
-  plain-lines : (v : Noted) → packetLines v p ≡ aheadOf v (p .port) ++ (ownLine v (p .port) (p .sequence) (p .payload) ∷ [])
-  plain-lines v =
-      ap
-      (λ (n : ℕ). aheadOf v (p .port)
-      ++ (pick (eqb n keyFormat) (restricted (p .port) (p .sequence) (p .number)) (ownLine v (p .port) (p .sequence) (p .payload)) ∷ [])) plain
+  other : p .format ≢ keyFormat
+  other e = omega arith
 
   in-turn : (v : Noted) → InTurn t p v → packetLines v p ≡ asBid p ∷ []
   in-turn v o =
-      ⊎-elim (λ (e : v ≡ First). ap (λ (x : Noted). packetLines x p) e ∙ plain-lines First)
+      ⊎-elim (λ (e : v ≡ First). ap (λ (x : Noted). packetLines x p) e ∙ plain-lines First p other)
       (λ (o : (v ≡ InOrder) ⊎ ((v ≡ Refused 40) × (lastOf (p .port) t ≡ none) × (length t ≤ freePlace t))).
-      ⊎-elim (λ (e : v ≡ InOrder). ap (λ (x : Noted). packetLines x p) e ∙ plain-lines InOrder)
+      ⊎-elim (λ (e : v ≡ InOrder). ap (λ (x : Noted). packetLines x p) e ∙ plain-lines InOrder p other)
       (λ (e : (v ≡ Refused 40) × (lastOf (p .port) t ≡ none) × (length t ≤ freePlace t)). absurd (room (e .1) (e .2))) o) o
 
 module _ (qs : List ℕ) (few : length qs ≤ placeLimit) where
