@@ -29,11 +29,7 @@ use Rattle.ports.proofs.Keeping.{fit-noted, fresh-fit, fresh-none}
 use Rattle.shown.specs.Board.{boardLines, freshTable}
 use Rattle.shown.specs.Typed.{bidsAmong, packetsAmong, asBid, isCurrent, isShown, currentFrom, numbersOf, ByOne}
 use Rattle.shown.proofs.Marks.{bids-current}
-
--- a packet as the office sends it: for everybody, with a sequence number of 16 bits
-pub record IsOpen (p : Packet) : Type 0 where
-  pub format : p .format ≡ plainFormat
-  pub low : p .sequence < around
+use Rattle.shown.proofs.Typed.{IsOpen}
 
 -- ---- a port's numbers behind its last one
 abbrev pub Follows : Option ℕ → List ℕ → Type 0

@@ -32,7 +32,8 @@ use Rattle.ports.proofs.Keeping.{fit-noted, fresh-fit, fresh-none}
 use Rattle.shown.specs.Board.{Line, packetLines, refusedFrame, brokenFrame, boardLines, freshTable}
 use Rattle.shown.specs.Typed.{asBid, numbersOf, ByOne, Member, Among}
 use Rattle.shown.proofs.Marks.{plain-lines}
-use Rattle.shown.proofs.Ordered.{IsOpen, Ready, InTurn, ready-fresh, ready-step}
+use Rattle.shown.proofs.Typed.{IsOpen}
+use Rattle.shown.proofs.Ordered.{Ready, InTurn, ready-fresh, ready-step}
 
 -- ---- blocks clean or repaired, and no lock lost
 abbrev pub Good : Condition → Type 0
