@@ -3,11 +3,10 @@
 -- airs-there    what goes out may come in as it is
 use Prim.Native.Nat.{ℕ, zero, suc, _≤_}
 use native.Mathlib.Omega.{arith}
-use mathlib.Core.Path.{refl, sym}
+use mathlib.Core.Path.{_≡_, refl, sym}
 use mathlib.Core.List.{List, [], _∷_, _++_}
 use lib.ListN.{length, getD}
 use borrow.Author.Tests.{eq-eqb}
-use mathlib.Core.Path.{_≡_}
 use Rattle.base.specs.Bytes.{Each, Bytes}
 use Rattle.base.specs.Calls.{joined}
 use Rattle.repair.specs.Promise.{CleanWord}
@@ -66,6 +65,7 @@ pub airs-there : {input out : List ℕ} → Bytes input → Sends input out → 
 airs-there {input} b s =
     let taken = packets-accepted input b in
     let ws : List (List ℕ) = sentWords (packetsOf input) in
+    let clean = sent-clean-words (messagesOf (stream (packetsOf input))) (sent-messages (packetsOf input) taken) in
     record {
       stray = [];
       first = λ xs ys e. omega arith;
@@ -73,6 +73,6 @@ airs-there {input} b s =
       whole = sent-each (packetsOf input) taken;
       blocks = sym (went-out s);
       came = ws;
-      altered = unaltered ws (sent-each (packetsOf input) taken) (sent-clean-words (messagesOf (stream (packetsOf input))) (sent-messages (packetsOf input) taken));
+      altered = unaltered ws (sent-each (packetsOf input) taken) clean;
       heard = sym (went-out s);
     }
