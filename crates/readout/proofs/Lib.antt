@@ -3,3 +3,5 @@ pub mod Left
 pub mod Means
 pub mod Ends
 pub mod Returns
+pub mod Putting
+pub mod Taking

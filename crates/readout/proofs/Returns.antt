@@ -1,13 +1,15 @@
 -- The board's code, return by return.
 -- next-none .. next-feed      the next piece
--- packet-owed, text-owed      a packet
--- told-other, told-packet ..  an answer
+-- forth-on, forth-next        a byte further
+-- packet-alone, packet-text   a packet
+-- answer-other, answer-none   an answer that is no packet
+-- finish-bare ..              behind the last byte
 -- bare-is, heard-bare, heard-taped   one call on what comes in
 use Prim.Native.Nat.{ℕ, suc, _+_, _≤_, _<_}
 use native.Mathlib.Omega.{arith}
 use mathlib.Core.Path.{_≡_, refl, sym, _∙_, ap, subst}
 use mathlib.Core.Bool.{Bool, true, false, _&&_}
-use mathlib.Core.List.{List, [], _∷_}
+use mathlib.Core.List.{List, [], _∷_, append-nil}
 use mathlib.Core.Option.{Option}
 use lib.Dec.{eqb, ltb}
 use lib.ListN.{length, getD}
@@ -16,13 +18,20 @@ use Rattle.base.specs.Choice.{pick}
 use Rattle.base.proofs.Tests.{and-parts}
 use Rattle.packet.specs.Contents.{keyFormat}
 use Rattle.packet.specs.declared.frame.Delivery.{Delivery}
+use Rattle.packet.specs.declared.frame.Judged.the-variants.{Packet as Delivered, Refused, Broken}
 use Rattle.channel.specs.Channel.{Event}
 use Rattle.channel.specs.Called.{Board, board, sound, roomy, hearOn, hearBy, hearCall, answered, HearingIs}
+use Rattle.channel.specs.declared.answer.Answer.{Answer}
+use Rattle.channel.specs.declared.answer.Answer.the-variants.{More, Said, Block, LockLost}
 use Rattle.channel.specs.declared.answer.Hearing.{Hearing}
 use Rattle.bid.specs.Line.{feed}
+use Rattle.listed.specs.Apart.{well}
+use Rattle.ports.specs.declared.Entry.{Entry}
 use Rattle.ports.specs.declared.Noted.{Noted}
+use Rattle.ports.specs.declared.by_value.Ports.{Ports}
 use Rattle.shown.specs.Text.{shownByte}
-use Rattle.shown.specs.Parts.{lead}
+use Rattle.shown.specs.Board.{wrongAt, written, writtenAll}
+use Rattle.shown.specs.Parts.{lead, remark}
 use Rattle.lines.specs.declared.piece.Piece.{Piece}
 use Rattle.lines.specs.Piece.{pieceOf}
 use Rattle.tape.specs.declared.tape.Tape.{Tape}
@@ -33,9 +42,9 @@ use Rattle.tape.proofs.Next.{next-heard}
 use Rattle.readout.specs.declared.owed.Owed.{Owed}
 use Rattle.readout.specs.declared.readout.Readout.{Readout}
 use Rattle.readout.specs.Source.{Source, source, boardIn, withBoard, sourceHear}
-use Rattle.readout.specs.Owed.{alone, nothing, withText, owedPacket, payloadIn, textByte, textPiece, nextPiece}
-use Rattle.readout.specs.Called.{nearBy, soundState}
-use Rattle.readout.specs.Private.{BareIs, HeardIs}
+use Rattle.readout.specs.Owed.{alone, nothing, withText, owedPacket, owing, payloadIn, textByte, textPiece, nextPiece, further, forth}
+use Rattle.readout.specs.Called.{nearBy, soundState, lastBy, lastLines}
+use Rattle.readout.specs.Private.{BareIs, HeardIs, portsBy, answeredBy}
 use Rattle.readout.proofs.Sources.{hear-bare, hear-taped}
 
 -- ---- the next piece: none, a byte of the text, its line feed
@@ -59,6 +68,19 @@ module _ (o : Owed) (recv : List ℕ) where
         e ∙ ap alone k ∙ ap (λ t. pick t (textByte o text) (alone (pieceOf (feed ∷ [])))) (sym (le-ltb (o .at) (length text) h))
         ∙ ap (textPiece o) is ∙ ap (λ t. pick t (textPiece o (payloadIn (o .delivery) recv)) nothing) (sym on)
 
+-- ---- a byte is out
+module _ (o : Owed) (recv : List ℕ) where
+  pub forth-on : {n : ℕ} → n ≡ suc (o .out) → n < o .piece .length
+      → record { piece = o .piece; out = n; text = o .text; delivery = o .delivery; at = o .at } ≡ forth o recv
+  unfolding forth
+  forth-on e h =
+      (λ i. record { piece = o .piece; out = e i; text = o .text; delivery = o .delivery; at = o .at })
+      ∙ ap (λ t. pick t (further o) (nextPiece o recv)) (sym (lt-ltb (suc (o .out)) (o .piece .length) (subst (λ k. k < o .piece .length) e h)))
+
+  pub forth-next : {n : ℕ} {r : Owed} → o .piece .length ≤ n → n ≡ suc (o .out) → r ≡ nextPiece o recv → r ≡ forth o recv
+  unfolding forth
+  forth-next h k e = e ∙ ap (λ t. pick t (further o) (nextPiece o recv)) (sym (le-ltb (suc (o .out)) (o .piece .length) (subst (λ m. o .piece .length ≤ m) k h)))
+
 -- ---- a packet
 module _ (v : Noted) (d : Delivery) {r : Owed} {p : Piece} (is : p ≡ pieceOf (lead v d)) where
   pub packet-alone : d .format ≡ keyFormat → r ≡ alone p → r ≡ owedPacket v d
@@ -67,6 +89,65 @@ module _ (v : Noted) (d : Delivery) {r : Owed} {p : Piece} (is : p ≡ pieceOf (
   pub packet-text : (d .format ≡ keyFormat → ⊥) → r ≡ withText p d → r ≡ owedPacket v d
   packet-text e h =
       h ∙ ap (λ q. withText q d) is ∙ ap (λ t. pick t (alone (pieceOf (lead v d))) (withText (pieceOf (lead v d)) d)) (sym (ne-eqb (d .format) keyFormat e))
+
+-- ---- an answer that is no packet: its remark is owed, and the table stays
+abbrev pub Other : Answer → Type 0
+Other More = Unit {0}
+Other (Said (Delivered d)) = ⊥
+Other (Said (Refused n)) = Unit {0}
+Other (Said (Broken n)) = Unit {0}
+Other (Block c) = Unit {0}
+Other LockLost = Unit {0}
+
+other-owing : (b : Bool) (t : List Entry) (a : Answer) → Other a → alone (pieceOf (remark b a)) ≡ owing b t a
+other-owing b t More h = refl
+other-owing b t (Said (Delivered d)) h = absurd h
+other-owing b t (Said (Refused n)) h = refl
+other-owing b t (Said (Broken n)) h = refl
+other-owing b t (Block c) h = refl
+other-owing b t LockLost h = refl
+
+other-ports : (p : Ports) (a : Answer) → Other a → p ≡ portsBy p a
+other-ports p More h = refl
+other-ports p (Said (Delivered d)) h = absurd h
+other-ports p (Said (Refused n)) h = refl
+other-ports p (Said (Broken n)) h = refl
+other-ports p (Block c) h = refl
+other-ports p LockLost h = refl
+
+-- with something else owed
+abbrev owingOf : Readout → Owed → Readout
+owingOf r o = record { bare = r .bare; blocks = r .blocks; tape = r .tape; ports = r .ports; owed = o }
+
+pub answer-other : (r : Readout) (a : Answer) {p : Piece} {o : Owed} {x : Readout} → Other a → p ≡ pieceOf (remark (r .blocks) a) → o ≡ alone p → x ≡ owingOf r o
+    → x ≡ answeredBy r a
+answer-other r a h e f g =
+    let q = f ∙ ap alone e ∙ other-owing (r .blocks) (r .ports .entries) a h in
+    g ∙ (λ i. record { bare = r .bare; blocks = r .blocks; tape = r .tape; ports = other-ports (r .ports) a h i; owed = q i })
+
+pub answer-none : (r : Readout) (a : Answer) {o : Owed} {x : Readout} → a ≡ More → o ≡ nothing → x ≡ owingOf r o → x ≡ answeredBy r a
+answer-none r a {o} e f g =
+    g ∙ ap (owingOf r) f ∙ ap (answeredBy r) (sym e)
+
+-- ---- behind the last byte
+module _ (r : Readout) {p : Piece} where
+  pub finish-bare : r .bare ≡ true → p ≡ pieceOf [] → p ≡ pieceOf (writtenAll (lastLines r))
+  unfolding writtenAll
+  finish-bare e h = h ∙ ap (λ t. pieceOf (writtenAll (lastBy t (r .tape .spot)))) (sym e)
+
+  pub finish-well : r .bare ≡ false → well (r .tape .spot .place) ≡ true → p ≡ pieceOf [] → p ≡ pieceOf (writtenAll (lastLines r))
+  unfolding writtenAll
+  finish-well e f h =
+      h ∙ ap (λ t. pieceOf (writtenAll (pick t [] (wrongAt (r .tape .spot .offset) ∷ [])))) (sym f)
+      ∙ ap (λ t. pieceOf (writtenAll (lastBy t (r .tape .spot)))) (sym e)
+
+  pub finish-wrong : r .bare ≡ false → well (r .tape .spot .place) ≡ false → p ≡ pieceOf (written (wrongAt (r .tape .spot .offset)))
+      → p ≡ pieceOf (writtenAll (lastLines r))
+  unfolding writtenAll
+  finish-wrong e f h =
+      h ∙ ap pieceOf (sym (append-nil (written (wrongAt (r .tape .spot .offset)))))
+      ∙ ap (λ t. pieceOf (writtenAll (pick t [] (wrongAt (r .tape .spot .offset) ∷ [])))) (sym f)
+      ∙ ap (λ t. pieceOf (writtenAll (lastBy t (r .tape .spot)))) (sym e)
 
 -- ---- what comes in
 pub bare-is : (t : Tape) (recv word bs : List ℕ) {h : Hearing} {l k : List ℕ} → HearingIs (hearCall (board (t .receiver) recv word) bs) h l k

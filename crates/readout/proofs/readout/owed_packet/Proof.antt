@@ -1,6 +1,6 @@
 -- `readout::readout::owed_packet` meets its contract.
 use borrow.Author.Needs.{needs}
-use mathlib.Core.Path.{_≡_, refl, sym, _∙_, ap}
+use mathlib.Core.Path.{_≡_, refl, sym, _∙_, ap, subst}
 use Rattle.readout.proofs.Returns.{packet-alone, packet-text}
 use Rattle.readout.proofs.readout.owed_packet.Statement.{statement}
 use Rattle.readout.proofs.readout.owed_packet.Tie as tie
@@ -11,6 +11,6 @@ owed-packet-spec =
     (tie.spec
     (search needs)
     (search needs)
-    (λ c. let s = c .before .before .before .before in packet-alone (s .args .noted) (s .args .delivery) (c .before .before .lead .ensures) (c .before .if1 .taken) (c .alone .ensures))
+    (λ c. let s = c .before .before .before .before in packet-alone (s .args .noted) (s .args .delivery) (c .before .before .before .lead .ensures) (c .before .if1 .taken) (c .alone .ensures))
     (search needs)
-    (λ c. let s = c .before .before .before .before in packet-text (s .args .noted) (s .args .delivery) (c .before .before .lead .ensures) (c .before .if1 .left) (c .with-text .ensures)))
+    (λ c. let s = c .before .before .before .before in packet-text (s .args .noted) (s .args .delivery) (c .before .before .before .lead .ensures) (c .before .if1 .left) (c .with-text .ensures)))

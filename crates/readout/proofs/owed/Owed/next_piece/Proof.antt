@@ -1,6 +1,6 @@
 -- `readout::owed::Owed::next_piece` meets its contract.
 use borrow.Author.Needs.{needs}
-use mathlib.Core.Path.{_≡_, refl, sym, _∙_, ap}
+use mathlib.Core.Path.{_≡_, refl, sym, _∙_, ap, subst}
 use native.Mathlib.Omega.{arith}
 use borrow.Author.Tests.{not-true, not-false}
 use Rattle.readout.proofs.Returns.{next-none, next-byte, next-feed}
@@ -17,7 +17,11 @@ next-piece-spec =
     (search needs)
     (search needs)
     (search needs)
-    (λ c. ?)
+    (λ c.
+    let s = c .before .before .before .before .before .before .before .before in
+    next-byte (s .args .self) (s .args .recv .now) (not-false _ (c .before .before .before .before .before .if1 .left)) (c .before .before .before .payload .ensures) (c .before .before .if2 .taken) (c .shown-byte .ensures) (omega arith))
     (search needs)
     (search needs)
-    (λ c. ?))
+    (λ c.
+    let s = c .before .before .before .before .before .before .before .before in
+    next-feed (s .args .self) (s .args .recv .now) (not-false _ (c .before .before .before .before .before .if1 .left)) (c .before .before .before .payload .ensures) (c .before .before .if2 .left) (c .alone .ensures) (c .before .line-feed .ensures)))
