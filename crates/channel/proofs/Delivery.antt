@@ -7,7 +7,7 @@ use lib.ListN.{getD, set}
 use lib.Dec.{ltb}
 use Rattle.base.specs.Calls.{With}
 use Rattle.base.proofs.Calls.{with-hear}
-use Rattle.packet.specs.Frame.{Told, There}
+use Rattle.frames.specs.Frame.{Told, There}
 use Rattle.stream.specs.Called.{takeByte}
 use Rattle.stream.proofs.Delivery.{ThereIf, there-byte}
 use Rattle.channel.specs.declared.hunting.Hunting.{Hunting}

@@ -14,13 +14,13 @@ use lib.ListN.{length, replicate}
 use Rattle.base.specs.Bytes.{Each}
 use Rattle.base.specs.Calls.{joined, Yields}
 use Rattle.base.proofs.Calls.{yields-so}
-use Rattle.packet.specs.Escape.{flag}
-use Rattle.packet.specs.Contents.{rawLimit, Packet}
-use Rattle.packet.specs.Frame.{broken}
+use Rattle.frames.specs.Escape.{flag}
+use Rattle.frames.specs.Contents.{rawLimit, Packet}
+use Rattle.frames.specs.Frame.{broken}
 use Rattle.stream.specs.Reader.{waiting, reads}
 use Rattle.stream.specs.Called.{takeByte}
 use Rattle.stream.proofs.Remembered.{held-told}
-use Rattle.packet.specs.Sender.{Accepted}
+use Rattle.frames.specs.Sender.{Accepted}
 use Rattle.stream.specs.Sender.{delivered, openedFrom}
 use Rattle.channel.specs.Sender.{wordBytes, framed, sentWords, sent}
 use Rattle.channel.specs.Channel.{condition, Event, Chan, hunting, inWord, inMark, frames, blocks, losses, freshChannel, hears, answers, IsWord, carried, FirstMarker}

@@ -12,7 +12,7 @@ use lib.ListN.{length, getD, set, length-set}
 use lib.Dec.{eqb, ltb, leb}
 use borrow.Author.Tests.{le-leb, ltb-true, leb-true}
 use Rattle.base.proofs.Tests.{and-parts}
-use Rattle.packet.specs.Contents.{rawLimit}
+use Rattle.frames.specs.Contents.{rawLimit}
 use Rattle.stream.specs.Called.{Held, takeByte, Fine as FineFrame}
 use Rattle.stream.proofs.Fine.{fine-take, fine-of as frame-of, fine-is as frame-is}
 use Rattle.channel.specs.declared.hunting.Hunting.{Hunting}

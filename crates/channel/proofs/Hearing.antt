@@ -25,9 +25,9 @@ use Rattle.base.specs.Written.{copied}
 use Rattle.base.proofs.Calls.{after-none, none-owed, FitsBy, fits}
 use Rattle.base.proofs.Writing.{copied-fits}
 use Rattle.base.proofs.Tests.{and-parts}
-use Rattle.packet.specs.Contents.{rawLimit}
-use Rattle.packet.specs.Frame.{Told, judged}
-use Rattle.packet.specs.declared.frame.Judged.{Judged}
+use Rattle.frames.specs.Contents.{rawLimit}
+use Rattle.frames.specs.Frame.{Told, judged}
+use Rattle.frames.specs.declared.Judged.{Judged}
 use Rattle.stream.specs.declared.frame.Frame.{Frame}
 use Rattle.stream.specs.declared.frame.Read.{Read}
 use Rattle.stream.specs.declared.frame.Heard.the-variants as heard

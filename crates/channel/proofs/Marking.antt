@@ -10,7 +10,7 @@ use mathlib.Core.Path.{_≡_, refl, sym, _∙_, ap}
 use mathlib.Core.List.{List, [], _∷_, _++_, map, append-nil, append-assoc}
 use lib.ListN.{length, take, drop, replicate, length-append, length-drop, take-append-drop}
 use lib.Seq.{take-append-le, drop-append-le, length-take-le}
-use Rattle.packet.specs.Escape.{flag}
+use Rattle.frames.specs.Escape.{flag}
 use Rattle.words.specs.Word.{remainder}
 use Rattle.words.proofs.Division.{length-remainder}
 use Rattle.channel.specs.Sender.{marker, wordOf, framed, fillers, filled, cutUp, marked, wholeBytes, wholes, restOf, blockBytes, messageBytes, parityBytes, wordBytes}

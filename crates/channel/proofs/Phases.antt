@@ -19,7 +19,7 @@ use Rattle.base.specs.Choice.{pick}
 use Rattle.base.specs.Calls.{unless, oneMore, after, owesNone, handsNone}
 use Rattle.base.proofs.Calls.{after-one, one-after, none-owed, hear-hand, hear-eat, hear-end}
 use Rattle.base.proofs.Above.{Along, above}
-use Rattle.packet.specs.Frame.{Told}
+use Rattle.frames.specs.Frame.{Told}
 use Rattle.stream.specs.declared.frame.Frame.{Frame}
 use Rattle.stream.specs.Called.{Held, held, takeByte, readOn}
 use Rattle.channel.specs.declared.hunting.Hunting.{Hunting}

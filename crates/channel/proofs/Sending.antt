@@ -23,7 +23,7 @@ use Rattle.base.proofs.Lists.{over}
 use Rattle.base.proofs.Parts.{tail-is, tail-put}
 use Rattle.base.proofs.Tests.{by-le}
 use Rattle.base.proofs.Writing.{write-fits, write-short, copied-fits, write-keeps, refused-keeps, pick-keeps}
-use Rattle.packet.specs.Escape.{flag}
+use Rattle.frames.specs.Escape.{flag}
 use Rattle.words.specs.Word.{remainder}
 use Rattle.parity.specs.Calls.{made}
 use Rattle.words.proofs.Division.{length-remainder}

@@ -14,8 +14,8 @@ use lib.Dec.{ltb, lit<}
 use borrow.Author.Tests.{lt-ltb, ne-eqb, ltb-true, ltb-false}
 use Rattle.base.specs.Calls.{tell, andThen, drain, rest}
 use Rattle.base.proofs.Calls.{all-append}
-use Rattle.packet.specs.Contents.{rawLimit}
-use Rattle.packet.specs.Frame.{Told}
+use Rattle.frames.specs.Contents.{rawLimit}
+use Rattle.frames.specs.Frame.{Told}
 use Rattle.stream.specs.Reader.{Reading, read, reads}
 use Rattle.stream.specs.Called.{Held, takeByte, heldOf}
 use Rattle.stream.proofs.Shown.{shown-byte, tell-end, held-use, held-st}

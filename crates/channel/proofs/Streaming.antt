@@ -18,15 +18,15 @@ use Rattle.base.specs.Calls.{andThen, joined}
 use Rattle.base.proofs.Bytes.{each-append-left, each-append-right, each-append, each-take, each-drop, each-replicate}
 use Rattle.base.proofs.Calls.{run-append}
 use Rattle.base.proofs.Tests.{and-parts}
-use Rattle.packet.specs.Escape.{flag}
-use Rattle.packet.specs.Frame.{Told}
+use Rattle.frames.specs.Escape.{flag}
+use Rattle.frames.specs.Frame.{Told}
 use Rattle.words.specs.Word.{remainder}
 use Rattle.words.proofs.Division.{length-remainder}
 use Rattle.words.proofs.Clean.{parity-clean}
 use Rattle.stream.specs.Reader.{Reading, waiting, read, reads}
-use Rattle.packet.specs.Sender.{Accepted}
+use Rattle.frames.specs.Sender.{Accepted}
 use Rattle.stream.specs.Sender.{rawOf, framesOf, stream, delivered, openedFrom}
-use Rattle.packet.specs.Contents.{Packet}
+use Rattle.frames.specs.Contents.{Packet}
 use Rattle.stream.proofs.Accepting.{raw-bytes}
 use Rattle.stream.proofs.Streaming.{synchronised, stream-read, from-flag}
 use Rattle.channel.specs.declared.hunting.Hunting.{Hunting}

@@ -17,8 +17,8 @@ use mathlib.Core.Option.{Option, some, none}
 use lib.ListN.{length, take, drop, getD, set}
 use lib.Dec.{eqb, ltb, leb}
 use Rattle.base.specs.Calls.{joined, all, hear, Yields}
-use Rattle.packet.specs.Contents.{rawLimit}
-use Rattle.packet.specs.Frame.{Told, refusal, judged, There}
+use Rattle.frames.specs.Contents.{rawLimit}
+use Rattle.frames.specs.Frame.{Told, refusal, judged, There}
 use Rattle.stream.specs.Called.{Held, held, fresh, takeByte, heldOf, sound as soundFrame, Fine as FineFrame}
 use Rattle.channel.specs.declared.hunting.Hunting.{Hunting}
 use Rattle.channel.specs.declared.locked.Locked.{Locked}

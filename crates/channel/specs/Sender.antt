@@ -11,11 +11,11 @@ use lib.Dec.{eqb}
 use lib.ListN.{length, take, drop, replicate}
 use Rattle.base.specs.Choice.{pick}
 use Rattle.base.specs.Written.{Outcome, refused, write}
-use Rattle.packet.specs.Escape.{flag}
+use Rattle.frames.specs.Escape.{flag}
 use Rattle.words.specs.Word.{remainder}
 use Rattle.parity.specs.Calls as parity
 use Rattle.stream.specs.Sender.{stream}
-use Rattle.packet.specs.Contents.{Packet}
+use Rattle.frames.specs.Contents.{Packet}
 
 -- the marker that stands before each word
 abbrev pub marker : List ℕ

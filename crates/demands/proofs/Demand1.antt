@@ -29,12 +29,12 @@ use Rattle.interleaver.specs.Running.{push, pull, pushing, zeros, closing, pull
 use Rattle.interleaver.specs.declared.Matrix.{Matrix}
 use Rattle.interleaver.specs.declared.Back.{Back}
 use Rattle.interleaver.proofs.Pushing.{pushed-length}
-use Rattle.packet.specs.Contents.{Packet, payloadLimit, rawLimit}
-use Rattle.packet.specs.Escape.{flag, escape, plain}
-use Rattle.packet.specs.Port.{barred}
-use Rattle.packet.specs.Frame.{Told, refusal, closed, judging, judge}
-use Rattle.packet.specs.Sender.{frameOf, headFits, writing}
-use Rattle.packet.proofs.Judging.{closed-keeps}
+use Rattle.frames.specs.Contents.{Packet, payloadLimit, rawLimit}
+use Rattle.frames.specs.Escape.{flag, escape, plain}
+use Rattle.frames.specs.Port.{barred}
+use Rattle.frames.specs.Frame.{Told, refusal, closed, judging, judge}
+use Rattle.frames.specs.Sender.{frameOf, headFits, writing}
+use Rattle.frames.proofs.Judging.{closed-keeps}
 use Rattle.packet.proofs.Sending.{writing-keeps}
 use Rattle.stream.specs.Called.{Held, begun, takeBy, takeByte, shut, readAll, readCall, Fine as FineFrame}
 use Rattle.stream.specs.Sender.{appending}

@@ -40,13 +40,13 @@ use Rattle.words.specs.Word.{clean, remainder, Zero}
 use Rattle.repair.specs.declared.Mended.{Mended}
 use Rattle.repair.specs.Promise.{Promised}
 use Rattle.words.proofs.Clean.{clean-roots, roots-clean, parity-clean, clean-is}
-use Rattle.packet.specs.Escape.{flag, plain, last, BrokenAt}
-use Rattle.packet.specs.Port.{class}
-use Rattle.packet.proofs.Classes.{from-0000, from-0401, from-5100, from-5101, from-5201, from-5208, from-5300, from-7F00, from-FF00}
-use Rattle.packet.specs.Frame.{packet, broken, delivery, judged, closed, judge, part}
-use Rattle.packet.proofs.Faults.{closed-broken, judge-broken}
-use Rattle.packet.specs.Sender.{Accepted, writing}
-use Rattle.packet.specs.declared.frame.Judged.the-variants.{Packet as Delivered}
+use Rattle.frames.specs.Escape.{flag, plain, last, BrokenAt}
+use Rattle.frames.specs.Port.{class}
+use Rattle.frames.proofs.Classes.{from-0000, from-0401, from-5100, from-5101, from-5201, from-5208, from-5300, from-7F00, from-FF00}
+use Rattle.frames.specs.Frame.{packet, broken, delivery, judged, closed, judge, part}
+use Rattle.frames.proofs.Faults.{closed-broken, judge-broken}
+use Rattle.frames.specs.Sender.{Accepted, writing}
+use Rattle.frames.specs.declared.Judged.the-variants.{Packet as Delivered}
 use Rattle.stream.specs.Reader.{waiting, inside, reads}
 use Rattle.stream.specs.Sender.{rawOf, stream, delivered, appending}
 use Rattle.stream.proofs.Streaming.{stream-read}
@@ -62,8 +62,8 @@ use Rattle.listed.specs.Listing.{heard, totalLine, listing}
 use Rattle.listed.specs.declared.Place.the-variants.{Wrong}
 use Rattle.listed.proofs.Offsets.{offset-right, offset-wrong}
 use Rattle.listed.proofs.Totals.{packets-counted, refusals-counted, damaged-counted, lost-counted, sent-counted}
-use Rattle.packet.specs.Contents.{rawLimit, Packet, contents, payloadAt}
-use Rattle.packet.proofs.Only.{judge-only}
+use Rattle.frames.specs.Contents.{rawLimit, Packet, contents, payloadAt}
+use Rattle.frames.proofs.Only.{judge-only}
 use Rattle.base.specs.Choice.{pick}
 use Rattle.channel.specs.Sender.{wordBytes}
 use Rattle.tape.specs.Deck.{Deck, fresh}

@@ -27,12 +27,12 @@ use Rattle.base.specs.Calls.{With, joined, Reads, ReadsAll, Yields}
 use Rattle.base.specs.Calls.Reads.{more, answer}
 use Rattle.base.specs.Calls.ReadsAll.{piece}
 use Rattle.base.proofs.Calls.{yields-so}
-use Rattle.packet.specs.Contents.{rawLimit, Packet}
-use Rattle.packet.specs.Escape.{flag, BrokenAt, NoFlag}
-use Rattle.packet.specs.Frame.{Told, broken}
-use Rattle.packet.proofs.Faults.{broken-there, broken-is}
+use Rattle.frames.specs.Contents.{rawLimit, Packet}
+use Rattle.frames.specs.Escape.{flag, BrokenAt, NoFlag}
+use Rattle.frames.specs.Frame.{Told, broken}
+use Rattle.frames.proofs.Faults.{broken-there, broken-is}
 use Rattle.stream.specs.Reader.{waiting, inside, reads}
-use Rattle.packet.specs.Sender.{Accepted}
+use Rattle.frames.specs.Sender.{Accepted}
 use Rattle.stream.specs.Sender.{rawOf, framesOf, stream, delivered, openedFrom}
 use Rattle.stream.specs.Called.{Held, takeByte, readCall, heldOf, inUse as plainInUse, ThereHeld, EveryCut as EveryPlainCut}
 use Rattle.stream.proofs.Accepting.{clear}

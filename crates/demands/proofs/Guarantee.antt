@@ -22,9 +22,9 @@ use Rattle.repair.specs.Promise.{distance, half, CleanWord, Promised}
 use Rattle.repair.proofs.Apart.{checked-clean, altered-damaged}
 use Rattle.repair.proofs.Promising as promising
 use Rattle.stream.specs.Reader.{waiting, reads}
-use Rattle.packet.specs.Sender.{Accepted}
+use Rattle.frames.specs.Sender.{Accepted}
 use Rattle.stream.specs.Sender.{stream, delivered}
-use Rattle.packet.specs.Contents.{Packet}
+use Rattle.frames.specs.Contents.{Packet}
 use Rattle.stream.proofs.Streaming.{stream-read}
 use Rattle.channel.specs.Sender.{parityBytes, framed, fillers, messagesOf, sentWords, sent}
 use Rattle.channel.specs.Channel.{zeros, frames, blocks, losses, freshChannel, hears, IsWord, FirstMarker}

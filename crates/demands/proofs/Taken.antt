@@ -16,7 +16,7 @@ use borrow.Author.Tests.{leb-false}
 use Rattle.base.specs.Calls.{With}
 use Rattle.base.proofs.Calls.{with-hear}
 use Rattle.base.proofs.Tests.{and-parts}
-use Rattle.packet.specs.Frame.{Told, refusal}
+use Rattle.frames.specs.Frame.{Told, refusal}
 use Rattle.stream.specs.Called.{takeByte}
 use Rattle.channel.specs.Channel.{Event, said, block, lost}
 use Rattle.channel.specs.Called.{Board, heldIn, handOn, eatByte, sound, roomy}

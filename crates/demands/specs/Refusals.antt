@@ -19,9 +19,9 @@ use Rattle.base.specs.Choice.{pick}
 use Rattle.base.specs.Written.{Outcome}
 use Rattle.base.specs.declared.Written.the-variants.{Refused}
 use Rattle.fcs.specs.Fcs.{fcs}
-use Rattle.packet.specs.Contents.{Packet, plainFormat, keyFormat, keyLeast, keyMost, keyAt, keyLength, payloadLimit, rawLimit, wordAt}
-use Rattle.packet.specs.Escape.{escape, plain, last, Followed}
-use Rattle.packet.specs.Frame.{Told, refusal, number}
+use Rattle.frames.specs.Contents.{Packet, plainFormat, keyFormat, keyLeast, keyMost, keyAt, keyLength, payloadLimit, rawLimit, wordAt}
+use Rattle.frames.specs.Escape.{escape, plain, last, Followed}
+use Rattle.frames.specs.Frame.{Told, refusal, number}
 use Rattle.parity.specs.declared.Checked.{Checked}
 use Rattle.parity.specs.declared.Checked.the-variants.{Refused as WordRefused}
 use Rattle.repair.specs.declared.Mended.{Mended}

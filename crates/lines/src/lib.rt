@@ -5,7 +5,7 @@ ghost use mathlib.Core.List.{[], _∷_, _++_};
 ghost use lib.ListN.{length};
 ghost use Rattle.base.specs.Private.{Laid};
 ghost use Rattle.base.specs.Written.{outcome, write};
-ghost use Rattle.packet.specs.declared.frame.Judged.the-variants.{Packet};
+ghost use Rattle.frames.specs.declared.Judged.the-variants.{Packet};
 ghost use Rattle.channel.specs.declared.answer.Condition.the-variants.{Repaired};
 ghost use Rattle.listed.specs.Lines.{decimal, letter, told, blockLine, line, endLine, wrongLine, longest};
 use base::Refusal;

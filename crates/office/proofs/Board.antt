@@ -9,7 +9,7 @@ use lib.ListN.{length, replicate}
 use Rattle.base.specs.Bytes.{Each, IsByte, Bytes}
 use Rattle.base.proofs.Bytes.{each-append}
 use Rattle.base.proofs.Tests.{by-eq}
-use Rattle.packet.specs.Sender.{Accepted}
+use Rattle.frames.specs.Sender.{Accepted}
 use Rattle.stream.specs.Sender.{delivered}
 use Rattle.channel.specs.Sender.{sentWords}
 use Rattle.channel.specs.Channel.{answers, frames, blocks, losses, FirstMarker}

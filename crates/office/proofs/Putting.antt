@@ -16,12 +16,12 @@ use Rattle.base.proofs.Parts.{tail-is}
 use Rattle.base.proofs.Lists.{drop-take}
 use Rattle.base.proofs.Tests.{by-eq, by-le, by-test}
 use Rattle.base.proofs.Writing.{copied-fits, room-wrote, room-never}
-use Rattle.packet.specs.Port.{barred}
-use Rattle.packet.specs.Contents.{payloadLimit, plainLimit, Packet, plainPacket}
-use Rattle.packet.specs.Escape.{flag, escape}
-use Rattle.packet.specs.Sender.{flagged, frameOf, writing}
+use Rattle.frames.specs.Port.{barred}
+use Rattle.frames.specs.Contents.{payloadLimit, plainLimit, Packet, plainPacket}
+use Rattle.frames.specs.Escape.{flag, escape}
+use Rattle.frames.specs.Sender.{flagged, frameOf, writing}
 use Rattle.packet.proofs.Sending.{Wrote-is, wrote-is, write-empty, write-long, write-barred, write-frame}
-use Rattle.packet.proofs.Round.{plain-fits}
+use Rattle.frames.proofs.Round.{plain-fits}
 use Rattle.stream.specs.Sender.{rawOf, appending}
 use Rattle.stream.proofs.Sending.{appending-keeps}
 use Rattle.channel.specs.Sender.{marked, sending}

@@ -16,7 +16,7 @@ use Rattle.base.specs.Choice.{pick}
 use Rattle.base.specs.Calls.{tell}
 use Rattle.base.proofs.Tests.{by-eq, by-le}
 use Rattle.base.proofs.Writing.{copied-fits}
-use Rattle.packet.specs.Escape.{flag}
+use Rattle.frames.specs.Escape.{flag}
 use Rattle.stream.specs.Sender.{rawOf, framesOf}
 use Rattle.channel.specs.Sender.{marked}
 use Rattle.bid.specs.Line.{feed, lineLimit, Verdict, noBid, refused, accepted, verdict}

@@ -16,7 +16,7 @@ use Rattle.base.specs.Choice.{pick}
 use Rattle.base.specs.Calls.{joined}
 use Rattle.base.specs.declared.Written.the-variants.{Wrote}
 use Rattle.base.proofs.Writing.{write-is}
-use Rattle.packet.specs.Contents.{rawLimit}
+use Rattle.frames.specs.Contents.{rawLimit}
 use Rattle.channel.specs.Sender.{wordBytes}
 use Rattle.channel.specs.Channel.{Event}
 use Rattle.channel.specs.Called.{board, freshReceiver}

@@ -16,9 +16,9 @@ use Rattle.base.specs.Calls.{owesNone, handsNone, all}
 use Rattle.base.proofs.Calls.{none-owed}
 use Rattle.base.proofs.Above.{hear-seen, all-seen}
 use Rattle.base.proofs.Tests.{and-parts}
-use Rattle.packet.specs.Contents.{rawLimit}
-use Rattle.packet.specs.Frame.{Told}
-use Rattle.packet.specs.declared.frame.Judged.{Judged}
+use Rattle.frames.specs.Contents.{rawLimit}
+use Rattle.frames.specs.Frame.{Told}
+use Rattle.frames.specs.declared.Judged.{Judged}
 use Rattle.stream.specs.Called.{Held, held, takeByte, readAll, readOn, readCall, ReadIs, sound as soundFrame, answered as heardOf}
 use Rattle.stream.specs.declared.frame.Read.{Read}
 use Rattle.stream.specs.declared.frame.Heard.{Heard}

@@ -11,7 +11,7 @@ use lib.Dec.{eqb, ltb}
 use lib.ListN.{length}
 use Rattle.base.specs.Choice.{pick}
 use Rattle.base.specs.Calls.{tell, drain, rest, all}
-use Rattle.packet.specs.Contents.{rawLimit}
+use Rattle.frames.specs.Contents.{rawLimit}
 use Rattle.stream.specs.Reader.{waiting}
 use Rattle.stream.proofs.Shown.{shown-plain}
 use Rattle.channel.specs.Sender.{wordBytes}

@@ -13,8 +13,8 @@ use mathlib.Core.Option.{Option, some}
 use lib.Dec.{leb}
 use lib.ListN.{length}
 use Rattle.base.specs.Calls.{joined, Yields}
-use Rattle.packet.specs.Contents.{rawLimit}
-use Rattle.packet.specs.Frame.{refusal}
+use Rattle.frames.specs.Contents.{rawLimit}
+use Rattle.frames.specs.Frame.{refusal}
 use Rattle.channel.specs.Sender.{wordBytes}
 use Rattle.channel.specs.Channel.{Event, said}
 use Rattle.channel.specs.Called.{board, sound, roomy, freshReceiver, answered}

@@ -14,8 +14,8 @@ use lib.Dec.{eqb}
 use lib.ListN.{length, getD, drop}
 use Rattle.base.specs.Choice.{pick}
 use Rattle.base.specs.Bytes.{Each}
-use Rattle.packet.specs.declared.escape.Escapes.{Escapes}
-use Rattle.packet.specs.declared.escape.Escapes.the-variants.{Right, Unfinished, Wrong}
+use Rattle.frames.specs.declared.Escapes.{Escapes}
+use Rattle.frames.specs.declared.Escapes.the-variants.{Right, Unfinished, Wrong}
 
 -- the flag, which stands between frames
 abbrev pub flag : ℕ

@@ -11,9 +11,9 @@ use lib.ListN.{length}
 use Rattle.base.specs.Bytes.{Bytes}
 use Rattle.base.specs.Choice.{pick}
 use Rattle.base.specs.Written.{Outcome, refused, write}
-use Rattle.packet.specs.Port.{barred}
-use Rattle.packet.specs.Contents.{Packet, plainFormat, keyFormat, keySized, payloadLimit, contents}
-use Rattle.packet.specs.Escape.{flag, escape}
+use Rattle.frames.specs.Port.{barred}
+use Rattle.frames.specs.Contents.{Packet, plainFormat, keyFormat, keySized, payloadLimit, contents}
+use Rattle.frames.specs.Escape.{flag, escape}
 
 -- escaped, and a flag behind
 unfoldable pub flagged : List ℕ → List ℕ

@@ -16,7 +16,7 @@ use lib.ListN.{length}
 use borrow.Author.Tests.{eq-eqb, ne-eqb, eqb-true, eqb-false}
 use Rattle.base.specs.Choice.{pick}
 use Rattle.base.proofs.Tests.{and-parts}
-use Rattle.packet.specs.Escape.{right, wrongFrom, last}
+use Rattle.frames.specs.Escape.{right, wrongFrom, last}
 
 -- a wrong byte behind 7D is told, whatever stands behind it
 pub wrong-here : (p at b : ℕ) (ys : List ℕ) → p ≡ 0x7D → right b ≡ false → wrongFrom p at (b ∷ ys) ≡ at

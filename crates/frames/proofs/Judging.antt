@@ -25,15 +25,15 @@ use Rattle.base.specs.Choice.{pick}
 use Rattle.base.proofs.Parts.{tail-is}
 use Rattle.base.proofs.Tests.{by-le, and-parts}
 use Rattle.fcs.specs.Fcs.{fcs}
-use Rattle.packet.specs.Port.{barred}
-use Rattle.packet.specs.Contents.{Packet, plainFormat, keyFormat, keyLeast, keyMost, keySized, payloadLimit, rawLimit, wordAt, unpacked, keyAt, restLeast, keyLength, plainly, keyed, body}
-use Rattle.packet.specs.Escape.{escape, scan, plain}
-use Rattle.packet.specs.Frame.{Told, packet, refusal, broken, judged, number, Closed, kept, judgePacket, keyFits, judgeBody, judgeContents, closedBy, closed, judging, judge, part, There}
-use Rattle.packet.specs.declared.escape.Escapes.{Escapes}
-use Rattle.packet.specs.declared.escape.Escapes.the-variants.{Right, Unfinished, Wrong}
-use Rattle.packet.specs.declared.frame.Judged.{Judged}
-use Rattle.packet.specs.declared.frame.Judged.the-variants.{Packet as Delivered, Refused}
-use Rattle.packet.proofs.Escaping.{plain-short}
+use Rattle.frames.specs.Port.{barred}
+use Rattle.frames.specs.Contents.{Packet, plainFormat, keyFormat, keyLeast, keyMost, keySized, payloadLimit, rawLimit, wordAt, unpacked, keyAt, restLeast, keyLength, plainly, keyed, body}
+use Rattle.frames.specs.Escape.{escape, scan, plain}
+use Rattle.frames.specs.Frame.{Told, packet, refusal, broken, judged, number, Closed, kept, judgePacket, keyFits, judgeBody, judgeContents, closedBy, closed, judging, judge, part, There}
+use Rattle.frames.specs.declared.Escapes.{Escapes}
+use Rattle.frames.specs.declared.Escapes.the-variants.{Right, Unfinished, Wrong}
+use Rattle.frames.specs.declared.Judged.{Judged}
+use Rattle.frames.specs.declared.Judged.the-variants.{Packet as Delivered, Refused}
+use Rattle.frames.proofs.Escaping.{plain-short}
 
 -- ---- a packet, taken apart
 module _ (p : Packet) where

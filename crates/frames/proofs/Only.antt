@@ -16,14 +16,14 @@ use Rattle.base.proofs.Bytes.{each-take, each-drop}
 use Rattle.base.proofs.Lists.{next, over}
 use Rattle.base.proofs.Tests.{by-eq}
 use Rattle.fcs.specs.Fcs.{fcs}
-use Rattle.packet.specs.Port.{barred}
-use Rattle.packet.specs.Contents.{Packet, plainFormat, keyFormat, keyLeast, keyMost, keyAt, restLeast, payloadLimit, rawLimit, two, word, wordAt, head, packed, unpacked, plainly, keyed, withCheck, contents, body}
-use Rattle.packet.specs.Escape.{escape, plain, escaped, scan}
-use Rattle.packet.specs.Frame.{Told, packet, refusal, broken, kept, judgeBody, judgeContents, closedBy, closed, judge}
-use Rattle.packet.specs.Sender.{headFits, Accepted}
-use Rattle.packet.specs.declared.escape.Escapes.{Escapes}
-use Rattle.packet.specs.declared.escape.Escapes.the-variants.{Right, Unfinished, Wrong}
-use Rattle.packet.proofs.Judging.{key-fits, body-ways}
+use Rattle.frames.specs.Port.{barred}
+use Rattle.frames.specs.Contents.{Packet, plainFormat, keyFormat, keyLeast, keyMost, keyAt, restLeast, payloadLimit, rawLimit, two, word, wordAt, head, packed, unpacked, plainly, keyed, withCheck, contents, body}
+use Rattle.frames.specs.Escape.{escape, plain, escaped, scan}
+use Rattle.frames.specs.Frame.{Told, packet, refusal, broken, kept, judgeBody, judgeContents, closedBy, closed, judge}
+use Rattle.frames.specs.Sender.{headFits, Accepted}
+use Rattle.frames.specs.declared.Escapes.{Escapes}
+use Rattle.frames.specs.declared.Escapes.the-variants.{Right, Unfinished, Wrong}
+use Rattle.frames.proofs.Judging.{key-fits, body-ways}
 
 -- two bytes are those of their number
 two-word : (x y : ℕ) → x < 256 → y < 256 → two (word x y) ≡ x ∷ y ∷ []

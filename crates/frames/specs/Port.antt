@@ -5,8 +5,8 @@ use Prim.Native.Nat.{ℕ}
 use mathlib.Core.Bool.{Bool, false}
 use lib.Dec.{leb}
 use Rattle.base.specs.Choice.{pick}
-use Rattle.packet.specs.declared.port.Class.{Class}
-use Rattle.packet.specs.declared.port.Class.the-variants.{System, Applications, M, D, Future, Barred}
+use Rattle.frames.specs.declared.Class.{Class}
+use Rattle.frames.specs.declared.Class.the-variants.{System, Applications, M, D, Future, Barred}
 
 -- range after range
 unfoldable pub class : ℕ → Class

@@ -8,7 +8,7 @@ use borrow.Author.Tests.{eq-eqb, ne-eqb}
 use lib.ListN.{length, drop, getD, length-append}
 use Rattle.base.proofs.Lists.{next}
 use Rattle.base.proofs.Tests.{by-eq}
-use Rattle.packet.specs.Escape.{right, last, escape, escapeByte, plain, escaped}
+use Rattle.frames.specs.Escape.{right, last, escape, escapeByte, plain, escaped}
 
 pub right-in : (b : ℕ) → 0x5D ≤ b → b < 0x5F → right b ≡ true
 unfolding right

@@ -14,14 +14,14 @@ use lib.Dec.{eqb, ltb, leb}
 use lib.ListN.{length, getD, take, drop}
 use Rattle.base.specs.Choice.{pick}
 use Rattle.fcs.specs.Fcs.{fcs}
-use Rattle.packet.specs.Port.{barred}
-use Rattle.packet.specs.Contents.{Packet, plainFormat, keyFormat, keySized, restLeast, payloadLimit, rawLimit, wordAt, keyLength, keyAt, payloadAt, plainly, keyed, body}
-use Rattle.packet.specs.Escape.{escape, plain, scan}
-use Rattle.packet.specs.declared.escape.Escapes.{Escapes}
-use Rattle.packet.specs.declared.escape.Escapes.the-variants.{Right, Unfinished, Wrong}
-use Rattle.packet.specs.declared.frame.Delivery.{Delivery}
-use Rattle.packet.specs.declared.frame.Judged.{Judged}
-use Rattle.packet.specs.declared.frame.Judged.the-variants.{Packet as Delivered, Refused, Broken}
+use Rattle.frames.specs.Port.{barred}
+use Rattle.frames.specs.Contents.{Packet, plainFormat, keyFormat, keySized, restLeast, payloadLimit, rawLimit, wordAt, keyLength, keyAt, payloadAt, plainly, keyed, body}
+use Rattle.frames.specs.Escape.{escape, plain, scan}
+use Rattle.frames.specs.declared.Escapes.{Escapes}
+use Rattle.frames.specs.declared.Escapes.the-variants.{Right, Unfinished, Wrong}
+use Rattle.frames.specs.declared.Delivery.{Delivery}
+use Rattle.frames.specs.declared.Judged.{Judged}
+use Rattle.frames.specs.declared.Judged.the-variants.{Packet as Delivered, Refused, Broken}
 
 -- a packet, or refused by its number; refused with 3, by the place of the first wrong byte behind 7D
 pub data Told : Type 0 where

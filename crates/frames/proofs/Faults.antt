@@ -14,13 +14,13 @@ use lib.Seq.{take-all}
 use borrow.Author.Tests.{eq-eqb, ne-eqb, eqb-true, eqb-false}
 use Rattle.base.specs.Choice.{pick}
 use Rattle.base.proofs.Tests.{by-eq, by-le}
-use Rattle.packet.specs.Contents.{rawLimit}
-use Rattle.packet.specs.Escape.{right, wrongFrom, wrongAt, last, scan, Followed, BrokenAt}
-use Rattle.packet.specs.Frame.{Told, packet, refusal, broken, Closed, closedBy, closed, judge}
-use Rattle.packet.specs.declared.escape.Escapes.{Escapes}
-use Rattle.packet.specs.declared.escape.Escapes.the-variants.{Right, Unfinished, Wrong}
-use Rattle.packet.proofs.Judging.{closed-over, closed-as, contents-broken}
-use Rattle.packet.proofs.Places.{wrong-append, wrong-there, wrong-here, wrong-found}
+use Rattle.frames.specs.Contents.{rawLimit}
+use Rattle.frames.specs.Escape.{right, wrongFrom, wrongAt, last, scan, Followed, BrokenAt}
+use Rattle.frames.specs.Frame.{Told, packet, refusal, broken, Closed, closedBy, closed, judge}
+use Rattle.frames.specs.declared.Escapes.{Escapes}
+use Rattle.frames.specs.declared.Escapes.the-variants.{Right, Unfinished, Wrong}
+use Rattle.frames.proofs.Judging.{closed-over, closed-as, contents-broken}
+use Rattle.frames.proofs.Places.{wrong-append, wrong-there, wrong-here, wrong-found}
 
 pub broken-followed : {raw : List ℕ} {n : ℕ} → BrokenAt raw n → Followed raw
 broken-followed w = (w .0, w .1, w .2, w .3, w .4, w .5)

@@ -7,10 +7,10 @@ use mathlib.Core.List.{List, [], _∷_, _++_}
 use Prim.Native.Nat.{ℕ, _-_}
 use lib.ListN.{replicate}
 use Rattle.fcs.specs.Fcs.{fcs, register, entered}
-use Rattle.packet.specs.Contents.{plainPacket, keyPacket, rawLimit, withCheck, contents}
-use Rattle.packet.specs.Escape.{escapeByte, escape, right, wrongFrom, wrongBehind, last, scan}
-use Rattle.packet.specs.Frame.{Told, refusal, broken, closedBy, closed, judge}
-use Rattle.packet.specs.Sender.{refusing}
+use Rattle.frames.specs.Contents.{plainPacket, keyPacket, rawLimit, withCheck, contents}
+use Rattle.frames.specs.Escape.{escapeByte, escape, right, wrongFrom, wrongBehind, last, scan}
+use Rattle.frames.specs.Frame.{Told, refusal, broken, closedBy, closed, judge}
+use Rattle.frames.specs.Sender.{refusing}
 
 pub numbers : contents (plainPacket 0x5100 0 (0x41 ∷ [])) ≡ 0x21 ∷ 0x00 ∷ 0x51 ∷ 0x00 ∷ 0x00 ∷ 0x41 ∷ 0xE4 ∷ 0xEC ∷ []
 unfolding contents withCheck fcs register entered escape escapeByte

@@ -20,14 +20,14 @@ use Rattle.base.specs.Choice.{pick}
 use Rattle.base.proofs.Bytes.{each-append}
 use Rattle.base.proofs.Tests.{and-parts}
 use Rattle.fcs.specs.Fcs.{fcs}
-use Rattle.packet.specs.Escape.{escape, escapeByte, plain, wrongFrom, scannedBy, scan, last, right, NoFlag}
-use Rattle.packet.specs.Contents.{Packet, packetOf, plainPacket, keyPacket, plainFormat, keyFormat, keyLeast, keyMost, keySized, payloadLimit, plainLimit, rawLimit, contents, withCheck, packed, unpacked, keyed, keyAt, restLeast, two, wordAt, body}
-use Rattle.packet.specs.Frame.{Closed, packet, judge, judgePacket, keyFits, judgeBody, judgeContents, closedBy}
-use Rattle.packet.specs.Sender.{headFits, Accepted}
-use Rattle.packet.specs.declared.escape.Escapes.the-variants.{Right}
-use Rattle.packet.proofs.Escaping.Kind.{flag, esc, other}
-use Rattle.packet.proofs.Escaping.{Kind, kind, escape-other, escape-append, escape-most, width-most}
-use Rattle.packet.proofs.Judging.{packet-is, body-plain, body-keyed, judge-body, closed-as}
+use Rattle.frames.specs.Escape.{escape, escapeByte, plain, wrongFrom, scannedBy, scan, last, right, NoFlag}
+use Rattle.frames.specs.Contents.{Packet, packetOf, plainPacket, keyPacket, plainFormat, keyFormat, keyLeast, keyMost, keySized, payloadLimit, plainLimit, rawLimit, contents, withCheck, packed, unpacked, keyed, keyAt, restLeast, two, wordAt, body}
+use Rattle.frames.specs.Frame.{Closed, packet, judge, judgePacket, keyFits, judgeBody, judgeContents, closedBy}
+use Rattle.frames.specs.Sender.{headFits, Accepted}
+use Rattle.frames.specs.declared.Escapes.the-variants.{Right}
+use Rattle.frames.proofs.Escaping.Kind.{flag, esc, other}
+use Rattle.frames.proofs.Escaping.{Kind, kind, escape-other, escape-append, escape-most, width-most}
+use Rattle.frames.proofs.Judging.{packet-is, body-plain, body-keyed, judge-body, closed-as}
 
 -- ---- undoing what escaping did
 plain-byte : {b : ℕ} → Kind b → (t : List ℕ) → plain (escapeByte b ++ t) ≡ b ∷ plain t

@@ -4,8 +4,8 @@ use mathlib.Core.Bool.{true}
 use Prim.Native.Nat.{ℕ, _≤_}
 use native.Mathlib.Omega.{arith}
 use borrow.Author.Tests.{le-leb, lt-leb}
-use Rattle.packet.specs.Port.{barred, class}
-use Rattle.packet.specs.declared.port.Class.the-variants.{System, Applications, M, D, Future, Barred}
+use Rattle.frames.specs.Port.{barred, class}
+use Rattle.frames.specs.declared.Class.the-variants.{System, Applications, M, D, Future, Barred}
 
 module _ (p : ℕ) where
   pub from-0000 : p ≤ 0x0400 → class p ≡ System
