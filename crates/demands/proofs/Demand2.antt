@@ -2,9 +2,9 @@
 --   "Packets, check values, escapes, parity words, interleaving and markers are exactly those of the NRSC-5 transport paper and RFC 1662 as
 --   document 01 condenses them, writing and reading; for each packet the sender accepts, a packet written and read back is the same packet."
 -- What they are is defined once, in the paper's words, and each function promises those definitions:
---   packets         `contents`, `class` (crates/packet/specs/Contents.antt, Port.antt), `stream` (crates/stream/specs/Sender.antt)
+--   packets         `contents`, `class` (crates/frames/specs/Contents.antt, Port.antt), `stream` (crates/stream/specs/Sender.antt)
 --   check values    `fcs` (crates/fcs/specs/Fcs.antt)
---   escapes         `escape`, `plain`, `scan` (crates/packet/specs/Escape.antt), and `reads` (crates/stream/specs/Reader.antt)
+--   escapes         `escape`, `plain`, `scan` (crates/frames/specs/Escape.antt), and `reads` (crates/stream/specs/Reader.antt)
 --   parity words    `generator`, `remainder`, `clean` (crates/words/specs/Word.antt), over the field of crates/field/specs/Field.antt
 --   interleaving    `cell` (crates/interleaver/specs/Places.antt), `push`, `pull`, `pushing`, `closing`, `pulling` (crates/interleaver/specs/Running.antt)
 --   markers         `marked` (crates/channel/specs/Sender.antt), and `answers` (crates/channel/specs/Channel.antt)
