@@ -5,7 +5,7 @@ ghost use mathlib.Core.List.{_++_};
 ghost use lib.ListN.{length, drop, replicate};
 ghost use Rattle.base.specs.Written.{outcome, copied};
 ghost use Rattle.frames.specs.Escape.{flag};
-ghost use Rattle.channel.specs.Sender.{marker, messageBytes, blockBytes, wordOf, fillers, marking, sending};
+ghost use Rattle.blocks.specs.Sender.{marker, messageBytes, blockBytes, wordOf, fillers, marking, sending};
 use crate::block::Block;
 use base::Refusal;
 use base::Written;

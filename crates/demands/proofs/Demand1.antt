@@ -40,9 +40,9 @@ use Rattle.stream.specs.Called.{Held, begun, takeBy, takeByte, shut, readAll, r
 use Rattle.stream.specs.Sender.{appending}
 use Rattle.stream.proofs.Cutting.{read-yields}
 use Rattle.stream.proofs.Sending.{appending-keeps}
-use Rattle.channel.specs.Channel.{said}
+use Rattle.blocks.specs.Channel.{said}
 use Rattle.channel.specs.Called.{Board, hearAll, hearCall, Fine}
-use Rattle.channel.specs.Sender.{marker, messageBytes, wordBytes, wordOf, marked, marking, sending}
+use Rattle.blocks.specs.Sender.{marker, messageBytes, wordBytes, wordOf, marked, marking, sending}
 use Rattle.channel.proofs.Cutting.{hear-yields}
 use Rattle.channel.proofs.Sending.{marking-keeps, sending-keeps}
 use Rattle.tape.specs.Deck.{Deck}

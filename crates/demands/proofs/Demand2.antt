@@ -51,10 +51,10 @@ use Rattle.stream.specs.Reader.{waiting, inside, reads}
 use Rattle.stream.specs.Sender.{rawOf, stream, delivered, appending}
 use Rattle.stream.proofs.Streaming.{stream-read}
 use Rattle.stream.proofs.Sending.{begin-stream, append-stream}
-use Rattle.channel.specs.Sender.{parityBytes, wordOf, fillers, filled, messagesOf, sending, sent}
-use Rattle.channel.specs.Channel.{conditionBy, condition, mend, carried, IsWord, Event, frames, blocks, losses, asMended}
-use Rattle.channel.proofs.Streaming as streaming
-use Rattle.channel.proofs.Words.{block-promised, block-determined}
+use Rattle.blocks.specs.Sender.{parityBytes, wordOf, fillers, filled, messagesOf, sending, sent}
+use Rattle.blocks.specs.Channel.{conditionBy, condition, mend, carried, IsWord, Event, frames, blocks, losses, asMended}
+use Rattle.blocks.proofs.Streaming as streaming
+use Rattle.blocks.proofs.Words.{block-promised, block-determined}
 use Rattle.listed.specs.Apart.{most, freshSpot, apart, onChannel, records}
 use Rattle.bid.specs.Line.{digits, value}
 use Rattle.listed.specs.Lines.{decimal, letter, lines, isPacket, isRefusal, isDamaged, isLost, count, packetsIn, refusalsIn, damagedIn, longest}
@@ -65,7 +65,7 @@ use Rattle.listed.proofs.Totals.{packets-counted, refusals-counted, damaged-cou
 use Rattle.frames.specs.Contents.{rawLimit, Packet, contents, payloadAt}
 use Rattle.frames.proofs.Only.{judge-only}
 use Rattle.base.specs.Choice.{pick}
-use Rattle.channel.specs.Sender.{wordBytes}
+use Rattle.blocks.specs.Sender.{wordBytes}
 use Rattle.tape.specs.Deck.{Deck, fresh}
 use Rattle.tape.specs.Called.{far, deckOf, EveryCut}
 use Rattle.tape.proofs.Demands.{taken-apart}

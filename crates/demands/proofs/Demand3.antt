@@ -41,9 +41,9 @@ use Rattle.stream.proofs.Shown.{shown-plain, held-use, held-st}
 use Rattle.stream.proofs.Remembered as plain
 use Rattle.stream.proofs.Delivery.{payload-held}
 use Rattle.stream.proofs.Streaming.{ignored, stream-read, opened-behind}
-use Rattle.channel.specs.Sender.{marker, wordBytes, framed, sentWords, sent}
-use Rattle.channel.specs.Channel.{condition, Event, lost, frames, blocks, losses, freshChannel, hears, answers, IsWord, carried, wordsGive, FirstMarker}
-use Rattle.channel.specs.declared.answer.Condition.the-variants.{Clean as clean}
+use Rattle.blocks.specs.Sender.{marker, wordBytes, framed, sentWords, sent}
+use Rattle.blocks.specs.Channel.{condition, Event, lost, frames, blocks, losses, freshChannel, hears, answers, IsWord, carried, wordsGive, FirstMarker}
+use Rattle.blocks.specs.declared.Condition.the-variants.{Clean as clean}
 use Rattle.channel.specs.Called.{Board, board, heldIn, freshReceiver, hearCall, EveryCut, ThereEvent, boardOf, inUse}
 use Rattle.channel.proofs.Demands as channel
 use Rattle.channel.proofs.Blocks as blocks-law

@@ -23,7 +23,7 @@ use Rattle.base.proofs.Writing.{write-keeps, refused-keeps}
 use Rattle.frames.specs.Contents.{payloadLimit}
 use Rattle.frames.specs.Escape.{flag, escape}
 use Rattle.frames.specs.Port.{barred}
-use Rattle.channel.specs.Sender.{marked}
+use Rattle.blocks.specs.Sender.{marked}
 use Rattle.channel.specs.declared.answer.Answer.{Answer}
 use Rattle.listed.specs.Lines.{line, endLine, wrongLine}
 use Rattle.bid.specs.Line.{feed, lineLimit, noNumber, port, sequence, text, Verdict, noBid, refused, accepted, judged, isBid, verdict, bidOf}

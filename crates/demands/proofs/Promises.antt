@@ -30,10 +30,10 @@ use Rattle.frames.specs.Sender.{writing}
 use Rattle.stream.specs.Sender.{appending}
 use Rattle.stream.specs.Called as plain
 use Rattle.stream.specs.declared.frame.Heard.the-variants as plain-answer
-use Rattle.channel.specs.Sender.{marking, sending}
+use Rattle.blocks.specs.Sender.{marking, sending}
 use Rattle.channel.specs.Called.{board, sound, roomy, hearCall, answered}
-use Rattle.channel.specs.Channel.{said, block, lost}
-use Rattle.channel.specs.declared.answer.Condition.{Condition}
+use Rattle.blocks.specs.Channel.{said, block, lost}
+use Rattle.blocks.specs.declared.Condition.{Condition}
 use Rattle.channel.specs.declared.answer.Answer.the-variants.{More, Said, Block, LockLost}
 use Rattle.listed.specs.Lines.{line, endLine, wrongLine}
 use Rattle.listed.specs.Apart.{well}

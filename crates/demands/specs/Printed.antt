@@ -24,9 +24,9 @@ use Rattle.frames.specs.Sender.{refusing}
 use Rattle.frames.specs.declared.Judged.the-variants.{Packet as Delivered, Refused as Denied, Broken}
 use Rattle.stream.specs.Reader.{waiting, reads}
 use Rattle.stream.specs.Called.{placeLimit}
-use Rattle.channel.specs.Sender.{marker, messageBytes, parityBytes, wordBytes, blockBytes}
-use Rattle.channel.specs.Channel.{Event, said, block, lost}
-use Rattle.channel.specs.declared.answer.Condition.the-variants.{Clean, Repaired, Beyond}
+use Rattle.blocks.specs.Sender.{marker, messageBytes, parityBytes, wordBytes, blockBytes}
+use Rattle.blocks.specs.Channel.{Event, said, block, lost}
+use Rattle.blocks.specs.declared.Condition.the-variants.{Clean, Repaired, Beyond}
 use Rattle.channel.specs.Called.{freshReceiver}
 use Rattle.channel.specs.declared.answer.Answer.the-variants.{Said, Block, LockLost}
 use Rattle.listed.specs.Apart as listed

@@ -28,9 +28,9 @@ use Rattle.repair.specs.declared.Mended.{Mended}
 use Rattle.repair.specs.declared.Mended.the-variants.{Refused as RepairRefused}
 use Rattle.stream.specs.Called.{Held, placeLimit}
 use Rattle.stream.specs.declared.frame.Frame.{Frame}
-use Rattle.channel.specs.Channel.{Event, said}
+use Rattle.blocks.specs.Channel.{Event, said}
 use Rattle.channel.specs.Called.{Board}
-use Rattle.channel.specs.Sender.{messageBytes, wordBytes}
+use Rattle.blocks.specs.Sender.{messageBytes, wordBytes}
 use Rattle.channel.specs.declared.receiver.Receiver.{Receiver}
 use Rattle.listed.specs.declared.Spot.{Spot}
 use Rattle.tape.specs.Deck.{Deck}

@@ -10,8 +10,8 @@ use Rattle.frames.specs.Port.{class}
 use Rattle.frames.specs.declared.Judged.{Judged}
 use Rattle.frames.specs.declared.Judged.the-variants.{Packet, Refused, Broken}
 use Rattle.frames.specs.Frame.{packet, refusal, broken, delivery}
-use Rattle.channel.specs.Channel.{Event, said, block, lost}
-use Rattle.channel.specs.declared.answer.Condition.the-variants.{Clean, Repaired, Beyond}
+use Rattle.blocks.specs.Channel.{Event, said, block, lost}
+use Rattle.blocks.specs.declared.Condition.the-variants.{Clean, Repaired, Beyond}
 use Rattle.channel.specs.declared.answer.Answer.{Answer}
 use Rattle.channel.specs.declared.answer.Answer.the-variants.{More, Said, Block, LockLost}
 use Rattle.listed.specs.Lines.{decimal, letter, told, line, given, endLine, wrongLine, longest}

@@ -14,7 +14,7 @@ use Rattle.base.proofs.Laid.{laid-append, laid-take}
 use Rattle.frames.specs.Port.{class}
 use Rattle.frames.specs.declared.Delivery.{Delivery}
 use Rattle.frames.specs.declared.Judged.the-variants.{Packet, Refused, Broken}
-use Rattle.channel.specs.declared.answer.Condition.the-variants.{Repaired}
+use Rattle.blocks.specs.declared.Condition.the-variants.{Repaired}
 use Rattle.listed.specs.Lines.{decimal, letter, told, endLine, wrongLine, longest, blockLine}
 use Rattle.lines.proofs.Digits.{wide, last-digit, more-digits, digits-short}
 

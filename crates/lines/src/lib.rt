@@ -6,7 +6,7 @@ ghost use lib.ListN.{length};
 ghost use Rattle.base.specs.Private.{Laid};
 ghost use Rattle.base.specs.Written.{outcome, write};
 ghost use Rattle.frames.specs.declared.Judged.the-variants.{Packet};
-ghost use Rattle.channel.specs.declared.answer.Condition.the-variants.{Repaired};
+ghost use Rattle.blocks.specs.declared.Condition.the-variants.{Repaired};
 ghost use Rattle.listed.specs.Lines.{decimal, letter, told, blockLine, line, endLine, wrongLine, longest};
 use base::Refusal;
 use base::Written;

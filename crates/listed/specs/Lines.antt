@@ -17,11 +17,11 @@ use Rattle.frames.specs.declared.Class.the-variants.{System, Applications, M, D
 use Rattle.frames.specs.declared.Judged.{Judged}
 use Rattle.frames.specs.declared.Judged.the-variants.{Packet, Refused, Broken}
 use Rattle.frames.specs.Frame.{Told, packet, refusal, broken}
-use Rattle.channel.specs.Channel.{Event}
+use Rattle.blocks.specs.Channel.{Event}
 use Rattle.listed.specs.declared.Total.{Total}
 use Rattle.listed.specs.declared.Total.the-variants.{Packets, Refusals, Damaged, Lost, Nothing}
-use Rattle.channel.specs.declared.answer.Condition.{Condition}
-use Rattle.channel.specs.declared.answer.Condition.the-variants.{Clean, Repaired, Beyond}
+use Rattle.blocks.specs.declared.Condition.{Condition}
+use Rattle.blocks.specs.declared.Condition.the-variants.{Clean, Repaired, Beyond}
 use Rattle.channel.specs.Called.{answered}
 use Rattle.channel.specs.declared.answer.Answer.{Answer}
 use Rattle.channel.specs.declared.answer.Answer.the-variants.{More, Said, Block, LockLost}

@@ -24,7 +24,7 @@ use Rattle.packet.proofs.Sending.{Wrote-is, wrote-is, write-empty, write-long, 
 use Rattle.frames.proofs.Round.{plain-fits}
 use Rattle.stream.specs.Sender.{rawOf, appending}
 use Rattle.stream.proofs.Sending.{appending-keeps}
-use Rattle.channel.specs.Sender.{marked, sending}
+use Rattle.blocks.specs.Sender.{marked, sending}
 use Rattle.bid.specs.Line.{text, reading, Verdict, refused, accepted, judged, bidOf, verdict}
 use Rattle.bid.specs.declared.Found.the-variants.{Bid, NoBid}
 use Rattle.bid.proofs.Reading.{text-is, bid-found, bid-missed}
@@ -32,10 +32,10 @@ use Rattle.bid.proofs.Verdicts.{judged-empty, judged-long, judged-barred, judge
 use Rattle.office.specs.declared.Answer.the-variants.{Sent, NoBid as Unread, Refused}
 use Rattle.office.specs.declared.Ended.{Ended}
 use Rattle.office.specs.Desk.{endingBy}
-use Rattle.channel.specs.Sender.{wholeBytes, wholes, restOf, messageBytes}
+use Rattle.blocks.specs.Sender.{wholeBytes, wholes, restOf, messageBytes}
 use Rattle.office.specs.Called.{heldLimit, holdLimit, outLimit}
 use Rattle.office.specs.Private.{EndedIs, PutIs}
-use Rattle.channel.proofs.Marking.{marked-length, wholes-length, rest-short}
+use Rattle.blocks.proofs.Marking.{marked-length, wholes-length, rest-short}
 
 -- a local's zeros
 abbrev zeros : List ℕ

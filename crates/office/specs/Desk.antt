@@ -15,7 +15,7 @@ use Rattle.base.specs.Calls.{owesNone, handsNone, all}
 use Rattle.base.specs.Written.{copied}
 use Rattle.frames.specs.Escape.{flag}
 use Rattle.stream.specs.Sender.{rawOf}
-use Rattle.channel.specs.Sender.{messageBytes, marked, sent, wholes, restOf}
+use Rattle.blocks.specs.Sender.{messageBytes, marked, sent, wholes, restOf}
 use Rattle.bid.specs.Line.{feed, lineLimit, Verdict, noBid, refused, accepted, verdict}
 use Rattle.bid.specs.Input.{numbered, packetsOf}
 use Rattle.office.specs.declared.Office.{Office}

@@ -25,7 +25,7 @@ use Rattle.stream.specs.declared.frame.Heard.{Heard}
 use Rattle.stream.specs.declared.frame.Heard.the-variants.{More as NoMore, Said as Says}
 use Rattle.stream.proofs.Fine.{fine-of as frame-fine}
 use Rattle.stream.proofs.Cutting.{read-agrees}
-use Rattle.channel.specs.Channel.{said}
+use Rattle.blocks.specs.Channel.{said}
 use Rattle.channel.specs.Called.{Board, board, heldIn, owed, handOn, eatByte, asEvent, hearAll, hearOn, hearCall, HearingIs, sound, roomy, answered}
 use Rattle.channel.specs.declared.receiver.Receiver.{Receiver}
 use Rattle.channel.specs.declared.answer.Hearing.{Hearing}

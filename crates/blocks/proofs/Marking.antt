@@ -13,7 +13,7 @@ use lib.Seq.{take-append-le, drop-append-le, length-take-le}
 use Rattle.frames.specs.Escape.{flag}
 use Rattle.words.specs.Word.{remainder}
 use Rattle.words.proofs.Division.{length-remainder}
-use Rattle.channel.specs.Sender.{marker, wordOf, framed, fillers, filled, cutUp, marked, wholeBytes, wholes, restOf, blockBytes, messageBytes, parityBytes, wordBytes}
+use Rattle.blocks.specs.Sender.{marker, wordOf, framed, fillers, filled, cutUp, marked, wholeBytes, wholes, restOf, blockBytes, messageBytes, parityBytes, wordBytes}
 
 framed-append : (us vs : List (List ℕ)) → framed (map wordOf (us ++ vs)) ≡ framed (map wordOf us) ++ framed (map wordOf vs)
 framed-append [] vs = refl

@@ -29,14 +29,14 @@ use Rattle.stream.specs.Sender.{rawOf, framesOf, stream, delivered, openedFrom}
 use Rattle.frames.specs.Contents.{Packet}
 use Rattle.stream.proofs.Accepting.{raw-bytes}
 use Rattle.stream.proofs.Streaming.{synchronised, stream-read, from-flag}
-use Rattle.channel.specs.declared.hunting.Hunting.{Hunting}
-use Rattle.channel.specs.Sender.{marker, messageBytes, parityBytes, wordBytes, wordOf, framed}
-use Rattle.channel.specs.Sender.{fillers, filled, cutUp, messagesOf, sentWords, sent}
-use Rattle.channel.specs.Channel.{condition, mend, Event, said, frames, blocks, losses, message, shift, isMarker, zeros}
-use Rattle.channel.specs.Channel.{Chan, hunting, inWord, inMark, freshChannel, whole, hunt, grow, step, hears, answers}
-use Rattle.channel.specs.Channel.{IsWord, carried, FirstMarker}
-use Rattle.channel.specs.declared.answer.Condition.the-variants.{Clean as clean}
-use Rattle.channel.proofs.Words.{condition-clean, mend-clean}
+use Rattle.blocks.specs.declared.Hunting.{Hunting}
+use Rattle.blocks.specs.Sender.{marker, messageBytes, parityBytes, wordBytes, wordOf, framed}
+use Rattle.blocks.specs.Sender.{fillers, filled, cutUp, messagesOf, sentWords, sent}
+use Rattle.blocks.specs.Channel.{condition, mend, Event, said, frames, blocks, losses, message, shift, isMarker, zeros}
+use Rattle.blocks.specs.Channel.{Chan, hunting, inWord, inMark, freshChannel, whole, hunt, grow, step, hears, answers}
+use Rattle.blocks.specs.Channel.{IsWord, carried, FirstMarker}
+use Rattle.blocks.specs.declared.Condition.the-variants.{Clean as clean}
+use Rattle.blocks.proofs.Words.{condition-clean, mend-clean}
 
 -- the last four as bytes, and the marker as the last four
 abbrev bytesOf : Hunting → List ℕ

@@ -17,10 +17,10 @@ use Rattle.repair.specs.declared.Mended.{Mended}
 use Rattle.repair.specs.declared.Mended.the-variants as repair
 use Rattle.repair.specs.Way.{repaired as repairedWord}
 use Rattle.stream.specs.Reader.{Reading, waiting, reads}
-use Rattle.channel.specs.Sender.{marker, messageBytes, parityBytes, wordBytes}
-use Rattle.channel.specs.declared.hunting.Hunting.{Hunting}
-use Rattle.channel.specs.declared.answer.Condition.{Condition}
-use Rattle.channel.specs.declared.answer.Condition.the-variants.{Clean, Repaired, Beyond}
+use Rattle.blocks.specs.Sender.{marker, messageBytes, parityBytes, wordBytes}
+use Rattle.blocks.specs.declared.Hunting.{Hunting}
+use Rattle.blocks.specs.declared.Condition.{Condition}
+use Rattle.blocks.specs.declared.Condition.the-variants.{Clean, Repaired, Beyond}
 
 -- a block's answer by what repair finds: a word of 255 bytes is not refused
 abbrev pub conditionBy : Mended → Condition

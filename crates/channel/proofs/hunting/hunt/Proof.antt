@@ -1,12 +1,12 @@
--- `channel::hunting::Hunting::hunt` meets its contract. The invariant: what is found behind the bytes passed is what is found.
+-- `channel::hunting::hunt` meets its contract. The invariant: what is found behind the bytes passed is what is found.
 use mathlib.Core.Path.{_≡_}
 use Prim.Native.Nat.{_-_}
 use lib.ListN.{length, drop}
 use borrow.Author.Needs.{needs}
 use Rattle.channel.specs.Private.{hunted}
 use Rattle.channel.proofs.Hearing.{latest, latest-none, hunt-next, hunt-stop, hunt-done}
-use Rattle.channel.proofs.hunting.Hunting.hunt.Statement.{statement}
-use Rattle.channel.proofs.hunting.Hunting.hunt.Tie as tie
+use Rattle.channel.proofs.hunting.hunt.Statement.{statement}
+use Rattle.channel.proofs.hunting.hunt.Tie as tie
 
 abbrev Inv-loop : tie.InvT-loop
 Inv-loop piece hunting₀ i₀ hunting i = latest i (hunted hunting (drop i piece)) ≡ hunted hunting₀ piece
