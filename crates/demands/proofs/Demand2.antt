@@ -7,8 +7,8 @@
 --   escapes         `escape`, `plain`, `scan` (crates/frames/specs/Escape.antt), and `reads` (crates/stream/specs/Reader.antt)
 --   parity words    `generator`, `remainder`, `clean` (crates/words/specs/Word.antt), over the field of crates/field/specs/Field.antt
 --   interleaving    `cell` (crates/interleaver/specs/Places.antt), `push`, `pull`, `pushing`, `closing`, `pulling` (crates/interleaver/specs/Running.antt)
---   markers         `marked` (crates/channel/specs/Sender.antt), and `answers` (crates/channel/specs/Channel.antt)
---   block answers   `condition`, `mend` (crates/channel/specs/Channel.antt), by repair's promise: `Promised` (crates/repair/specs/Promise.antt)
+--   markers         `marked` (crates/blocks/specs/Sender.antt), and `answers` (crates/blocks/specs/Channel.antt)
+--   block answers   `condition`, `mend` (crates/blocks/specs/Channel.antt), by repair's promise: `Promised` (crates/repair/specs/Promise.antt)
 --   the listing     `listing` (crates/listed/specs/Listing.antt), of recordings taken apart: `apart` (crates/listed/specs/Apart.antt)
 -- Here: that they hold together; of interleaving, in Interleaving. The paper's numbers are in Numbers, and what else it prints in Printed.
 -- round-trip, round-answer, delivered-only   a packet written and read back, and a packet read is one that could be written
