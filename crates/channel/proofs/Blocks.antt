@@ -1,116 +1,33 @@
--- In which order answers come: those of whole words, and of the bytes behind the last.
+-- In which order answers come, for every way of cutting: those of whole words, and of the bytes behind the last.
 -- words-given   each word gives its block answer, and then the answers of its message bytes
 -- lock-kept     up to three bytes behind a word give no answer, whatever they are
 -- lock-lost     four that are not the marker give "lock lost"; then all is as a fresh receiver hears it that begins with these four
 use Prim.Native.Nat.{ℕ, _<_}
 use native.Mathlib.Omega.{arith}
-use mathlib.Core.Path.{_≡_, refl, sym, _∙_, ap}
-use mathlib.Core.Bool.{Bool, true, false, _&&_}
+use mathlib.Core.Path.{_≡_, sym, _∙_, ap}
 use mathlib.Core.Logic.{_≢_}
-use mathlib.Core.List.{List, [], _∷_, _++_, map, append-nil}
-use lib.Dec.{eqb}
+use mathlib.Core.List.{List, [], _∷_, _++_, append-nil}
 use lib.ListN.{length}
 use Rattle.base.specs.Bytes.{Each}
-use Rattle.base.specs.Calls.{andThen}
-use Rattle.stream.specs.Reader.{Reading, waiting, reads}
-use Rattle.channel.specs.declared.hunting.Hunting.{Hunting}
-use Rattle.channel.specs.Sender.{marker, framed}
-use Rattle.channel.specs.Channel.{condition, mend, Event, said, block, lost, message, shift, isMarker, zeros, Chan, hunting, inMark, freshChannel, hunt, whole, compared, hears, answers}
-use Rattle.channel.specs.Channel.{IsWord, wordsGive, FirstMarker}
+use Rattle.stream.specs.Reader.{waiting}
+use Rattle.blocks.specs.Sender.{marker, framed}
+use Rattle.blocks.specs.Channel.{Event, lost, Chan, freshChannel, hears, answers, IsWord, wordsGive, FirstMarker}
+use Rattle.blocks.proofs.Order.{few-given, lost-given}
 use Rattle.channel.specs.Called.{EveryCut, boardOf, inUse}
-use Rattle.channel.proofs.Streaming.{hears-append, theMarker, wholes, behindWords, is-marker, received}
 use Rattle.channel.proofs.Demands.{cut-so, every-cut}
 
-wholes-give : (ws : List (List ℕ)) (r : Reading) → wholes ws r .0 ≡ wordsGive ws r
-wholes-give [] r = refl
-wholes-give (w ∷ ws) r = ap (λ l. block (condition w) ∷ (map said (reads r (message w) .0) ++ l)) (wholes-give ws (reads r (message w) .1))
-
--- behind words a marker is read
-behind-mark : (ws : List (List ℕ)) (f : Hunting) (u : List ℕ) (r : Reading) → (g : Hunting) × (v : List ℕ) × (q : Reading) × (behindWords f u ws r ≡ inMark g v 0 q)
-behind-mark [] f u r = (f, u, r, refl)
-behind-mark (w ∷ ws) f u r = behind-mark ws theMarker (mend w) (whole w r .1)
-
--- up to three bytes of it
-few : (g : Hunting) (v : List ℕ) (q : Reading) (bs : List ℕ) → length bs < 4 → hears (inMark g v 0 q) bs .0 ≡ []
-few g v q [] h = refl
-few g v q (a ∷ []) h = refl
-few g v q (a ∷ b ∷ []) h = refl
-few g v q (a ∷ b ∷ c ∷ []) h = refl
-few g v q (a ∷ b ∷ c ∷ d ∷ bs) h = absurd (omega arith)
-
--- four that differ: "lock lost", and then all is as a fresh receiver hears it that begins with them
-no : (t : Bool) → t && false ≡ false
-no true = refl
-no false = refl
-
-module _ (a b c d : ℕ) (cs : List ℕ) where
-  last : Hunting
-  last = record { a = a; b = b; c = c; d = d }
-
-  -- a fresh receiver has not found the marker behind three bytes ..
-  behind-four : isMarker last ≡ false → hears freshChannel (a ∷ b ∷ c ∷ d ∷ cs) ≡ hears (hunting last) cs
-  unfolding last
-  behind-four e =
-      ap (λ t. hears (hunt t (shift zeros a)) (b ∷ c ∷ d ∷ cs)) (no (eqb a 0x42))
-      ∙ ap (λ t. hears (hunt t (shift (shift zeros a) b)) (c ∷ d ∷ cs)) (ap (λ u. eqb b 0x42 && u) (no (eqb a 0xE2)) ∙ no (eqb b 0x42))
-      ∙ ap (λ t. hears (hunt t (shift (shift (shift zeros a) b) c)) (d ∷ cs))
-      (ap (λ u. eqb c 0x42 && u) (ap (λ u. eqb b 0xE2 && u) (no (eqb a 0x3A)) ∙ no (eqb b 0xE2)) ∙ no (eqb c 0x42))
-      ∙ ap (λ t. hears (hunt t last) cs) e
-
-  -- .. and one that is locked has lost lock with the fourth
-  four : (g : Hunting) (v : List ℕ) (q : Reading) → a ∷ b ∷ c ∷ d ∷ [] ≢ marker
-      → hears (inMark g v 0 q) (a ∷ b ∷ c ∷ d ∷ cs) ≡ (lost ∷ hears freshChannel (a ∷ b ∷ c ∷ d ∷ cs) .0, hears freshChannel (a ∷ b ∷ c ∷ d ∷ cs) .1)
-  unfolding last
-  four g v q n = go (isMarker last) refl
-    where
-      go : (t : Bool) → isMarker last ≡ t
-          → andThen (compared t last q) (λ u. hears u cs) ≡ (lost ∷ hears freshChannel (a ∷ b ∷ c ∷ d ∷ cs) .0, hears freshChannel (a ∷ b ∷ c ∷ d ∷ cs) .1)
-      go true e = absurd (n (is-marker last e))
-      go false e = λ i. (lost ∷ sym (behind-four e) i .0, sym (behind-four e) i .1)
-
-lost-with : (g : Hunting) (v : List ℕ) (q : Reading) (bs cs : List ℕ) → length bs ≡ 4 → bs ≢ marker
-    → hears (inMark g v 0 q) (bs ++ cs) ≡ (lost ∷ hears freshChannel (bs ++ cs) .0, hears freshChannel (bs ++ cs) .1)
-lost-with g v q [] cs h n = absurd (omega arith)
-lost-with g v q (a ∷ []) cs h n = absurd (omega arith)
-lost-with g v q (a ∷ b ∷ []) cs h n = absurd (omega arith)
-lost-with g v q (a ∷ b ∷ c ∷ []) cs h n = absurd (omega arith)
-lost-with g v q (a ∷ b ∷ c ∷ d ∷ []) cs h n = four a b c d cs g v q n
-lost-with g v q (a ∷ b ∷ c ∷ d ∷ x ∷ bs) cs h n = absurd (omega arith)
-
 module _ (stray : List ℕ) (ws : List (List ℕ)) (some : ws ≢ []) (words : Each IsWord ws) (first : FirstMarker stray (framed ws)) where
-  -- behind whole words bytes follow: they are heard where a marker is read
-  behind-words : (g : Hunting) × (v : List ℕ) × (q : Reading)
-      × ((bs : List ℕ) → hears freshChannel ((stray ++ framed ws) ++ bs) ≡ (wordsGive ws waiting ++ hears (inMark g v 0 q) bs .0, hears (inMark g v 0 q) bs .1))
-  behind-words =
-      let m = behind-mark ws zeros [] waiting in (
-        m .0,
-        m .1,
-        m .2,
-        λ bs.
-            hears-append freshChannel (stray ++ framed ws) bs
-            ∙ ap (λ (x : List Event × Chan). andThen x (λ t. hears t bs)) (received stray ws some words first)
-            ∙ (λ i. (wholes-give ws waiting i ++ hears (m .3 i) bs .0, hears (m .3 i) bs .1)),
-      )
-
-  few-given : (bs : List ℕ) → length bs < 4 → answers ((stray ++ framed ws) ++ bs) ≡ wordsGive ws waiting
-  few-given bs h =
-      let m = behind-words in
-      ap (λ (x : List Event × Chan). x .0) (m .3 bs) ∙ ap (λ (l : List Event). wordsGive ws waiting ++ l) (few (m .0) (m .1) (m .2) bs h)
-      ∙ append-nil (wordsGive ws waiting)
-
   pub words-given : EveryCut (stray ++ framed ws) λ es _. es ≡ wordsGive ws waiting
   words-given =
       cut-so (every-cut (stray ++ framed ws)) λ es _ e.
-      e .0 ∙ ap answers (sym (append-nil (stray ++ framed ws))) ∙ few-given [] (omega arith)
+      e .0 ∙ ap answers (sym (append-nil (stray ++ framed ws))) ∙ few-given stray ws some words first [] (omega arith)
 
   pub lock-kept : (bs : List ℕ) → length bs < 4 → EveryCut ((stray ++ framed ws) ++ bs) λ es _. es ≡ wordsGive ws waiting
-  lock-kept bs h = cut-so (every-cut ((stray ++ framed ws) ++ bs)) λ es _ e. e .0 ∙ few-given bs h
+  lock-kept bs h = cut-so (every-cut ((stray ++ framed ws) ++ bs)) λ es _ e. e .0 ∙ few-given stray ws some words first bs h
 
   pub lock-lost : (bs cs : List ℕ) → length bs ≡ 4 → bs ≢ marker → EveryCut ((stray ++ framed ws) ++ (bs ++ cs))
       λ es d. (es ≡ wordsGive ws waiting ++ lost ∷ answers (bs ++ cs)) × (inUse d ≡ inUse (boardOf (hears freshChannel (bs ++ cs) .1) [] []))
   lock-lost bs cs h n =
-      let m = behind-words in
-      let x : hears freshChannel ((stray ++ framed ws) ++ (bs ++ cs)) ≡ (wordsGive ws waiting ++ lost ∷ answers (bs ++ cs), hears freshChannel (bs ++ cs) .1) =
-      m .3 (bs ++ cs) ∙ ap (λ (y : List Event × Chan). (wordsGive ws waiting ++ y .0, y .1)) (lost-with (m .0) (m .1) (m .2) bs cs h n) in
+      let x = lost-given stray ws some words first bs cs h n in
       cut-so (every-cut ((stray ++ framed ws) ++ (bs ++ cs))) λ es d e.
       (e .0 ∙ ap (λ (y : List Event × Chan). y .0) x, e .1 ∙ ap (λ (y : List Event × Chan). inUse (boardOf (y .1) [] [])) x)

@@ -23,11 +23,11 @@ use Rattle.repair.specs.declared.Mended.{Mended}
 use Rattle.repair.specs.Promise.{Promised}
 use Rattle.repair.proofs.Apart.{checked-is}
 use Rattle.channel.specs.declared.receiver.Receiver.{Receiver}
-use Rattle.channel.specs.declared.answer.Condition.the-variants.{Clean}
-use Rattle.channel.specs.Sender.{parityBytes, wordBytes, messageBytes}
-use Rattle.channel.specs.Channel.{conditionBy, condition, mend}
+use Rattle.blocks.specs.declared.Condition.the-variants.{Clean}
+use Rattle.blocks.specs.Sender.{parityBytes, wordBytes, messageBytes}
+use Rattle.blocks.specs.Channel.{conditionBy, condition, mend}
 use Rattle.channel.specs.Called.{owedBy, owes, mendIn}
-use Rattle.channel.proofs.Words.{condition-clean, mend-clean, never-refused, block-determined}
+use Rattle.blocks.proofs.Words.{condition-clean, mend-clean, never-refused, block-determined}
 
 pub two-and : {a b x : Bool} → a ≡ true → b ≡ true → x ≡ a && (b && x)
 two-and p q = rw (p, q)

@@ -1,11 +1,9 @@
 pub mod Sending
-pub mod Marking
 pub mod Words
 pub mod Fine
 pub mod Cutting
 pub mod Delivery
 pub mod Shown
-pub mod Streaming
 pub mod Demands
 pub mod Blocks
 pub mod Checks

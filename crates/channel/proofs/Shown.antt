@@ -14,18 +14,19 @@ use lib.Dec.{ltb, lit<}
 use borrow.Author.Tests.{lt-ltb, ne-eqb, ltb-true, ltb-false}
 use Rattle.base.specs.Calls.{tell, andThen, drain, rest}
 use Rattle.base.proofs.Calls.{all-append}
-use Rattle.packet.specs.Contents.{rawLimit}
-use Rattle.packet.specs.Frame.{Told}
+use Rattle.frames.specs.Contents.{rawLimit}
+use Rattle.frames.specs.Frame.{Told}
 use Rattle.stream.specs.Reader.{Reading, read, reads}
 use Rattle.stream.specs.Called.{Held, takeByte, heldOf}
 use Rattle.stream.proofs.Shown.{shown-byte, tell-end, held-use, held-st}
-use Rattle.channel.specs.declared.hunting.Hunting.{Hunting}
-use Rattle.channel.specs.Sender.{messageBytes, wordBytes}
-use Rattle.channel.specs.Channel.{condition, mend, Event, said, block, message, shift, isMarker}
-use Rattle.channel.specs.Channel.{Chan, hunting, inWord, inMark, whole, hunt, grow, compared, behindWord, step, hears}
+use Rattle.blocks.specs.declared.Hunting.{Hunting}
+use Rattle.blocks.specs.Sender.{messageBytes, wordBytes}
+use Rattle.blocks.specs.Channel.{condition, mend, Event, said, block, message, shift, isMarker}
+use Rattle.blocks.specs.Channel.{Chan, hunting, inWord, inMark, whole, hunt, grow, compared, behindWord, step, hears}
 use Rattle.channel.specs.Called.{Board, counts, huntingWith, lockedWith, huntOn, mendIn, wordOn, compareOn, markOn, eatBy, eatByte}
 use Rattle.channel.specs.Called.{owedBy, owed, asEvent, handWith, handOn, hearAll, boardOf, inUse}
-use Rattle.channel.proofs.Words.{mend-length, mendIn-is}
+use Rattle.blocks.proofs.Words.{mend-length}
+use Rattle.channel.proofs.Words.{mendIn-is}
 use Rattle.channel.proofs.Cutting.{hand-one}
 
 -- a word that is begun is not whole, and one behind which marker bytes stand is; those are not four yet

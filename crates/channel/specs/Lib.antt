@@ -1,4 +1,2 @@
-pub mod Sender
-pub mod Channel
 pub mod Called
 pub mod Private

@@ -3,16 +3,8 @@ ghost use mathlib.Core.Path.{_≡_};
 ghost use mathlib.Core.Bool.{true, false};
 ghost use Rattle.channel.specs.Private.{ended};
 use crate::receiver::Receiver;
+use blocks::Condition;
 use packet::Judged;
-
-/// How a whole word came in.
-pub enum Condition {
-    Clean,
-    /// So many bytes were put right.
-    Repaired(usize),
-    /// It is beyond repair, and left as it came.
-    Beyond,
-}
 
 /// What a call answers.
 pub enum Answer {

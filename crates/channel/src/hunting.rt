@@ -1,16 +1,9 @@
 //! Hunting: bytes one by one until the last four are the marker.
 ghost use mathlib.Core.Path.{_≡_};
-ghost use Rattle.channel.specs.Channel.{shift, isMarker, zeros};
+ghost use Rattle.blocks.specs.Channel.{shift, isMarker, zeros};
 ghost use Rattle.channel.specs.Private.{shifts, hunted};
 use crate::receiver::Receiver;
-
-/// Hunting: the last four bytes, the oldest first.
-pub struct Hunting {
-    pub a: u8,
-    pub b: u8,
-    pub c: u8,
-    pub d: u8,
-}
+use blocks::Hunting;
 
 // What hunting finds.
 pub(crate) struct Found {
@@ -20,80 +13,78 @@ pub(crate) struct Found {
     pub hunting: Hunting,
 }
 
-impl Hunting {
-    // Four bytes of zero.
-    pub(crate) fn fresh() -> Self
-        ensures { λ r. ⌜ r ≡ zeros ⌝ }
-    {
-        Hunting {
-            a: 0,
-            b: 0,
-            c: 0,
-            d: 0,
-        }
+// Four bytes of zero.
+pub(crate) fn fresh() -> Hunting
+    ensures { λ r. ⌜ r ≡ zeros ⌝ }
+{
+    Hunting {
+        a: 0,
+        b: 0,
+        c: 0,
+        d: 0,
     }
+}
 
-    // One byte more.
-    fn shift(self, x: u8) -> Self
-        ensures { λ r. ⌜ r ≡ shift self x ⌝ }
-    {
-        Hunting {
-            a: self.b,
-            b: self.c,
-            c: self.d,
-            d: x,
-        }
+// One byte more.
+fn shift(last: Hunting, x: u8) -> Hunting
+    ensures { λ r. ⌜ r ≡ shift last x ⌝ }
+{
+    Hunting {
+        a: last.b,
+        b: last.c,
+        c: last.d,
+        d: x,
     }
+}
 
-    // Whether the last four are the marker.
-    pub(crate) fn at_marker(self) -> bool
-        ensures { λ r. ⌜ r ≡ isMarker self ⌝ }
-    {
-        let m = Receiver::MARKER;
-        if self.d == m[3] {
-            if self.c == m[2] {
-                if self.b == m[1] {
-                    return self.a == m[0];
-                }
+// Whether the last four are the marker.
+pub(crate) fn at_marker(last: Hunting) -> bool
+    ensures { λ r. ⌜ r ≡ isMarker last ⌝ }
+{
+    let m = Receiver::MARKER;
+    if last.d == m[3] {
+        if last.c == m[2] {
+            if last.b == m[1] {
+                return last.a == m[0];
             }
         }
-        false
     }
+    false
+}
 
-    // All of some bytes more.
-    pub(crate) fn shifted(self, bytes: &[u8]) -> Self
-        ensures { λ r. ⌜ r ≡ shifts self (now (bytes .entry)) ⌝ }
-    {
-        let mut last = self;
-        let mut i: usize = 0;
-        while i < bytes.len() {
-            last = last.shift(bytes[i]);
-            i += 1;
-        }
-        last
+// All of some bytes more.
+pub(crate) fn shifted(last: Hunting, bytes: &[u8]) -> Hunting
+    ensures { λ r. ⌜ r ≡ shifts last (now (bytes .entry)) ⌝ }
+{
+    let mut next = last;
+    let mut i: usize = 0;
+    while i < bytes.len() {
+        next = shift(next, bytes[i]);
+        i += 1;
     }
+    next
+}
 
-    // Bytes up to the marker, or all of them.
-    pub(crate) fn hunt(self, piece: &[u8]) -> Found
-        ensures { λ r. ⌜ r ≡ hunted self (now (piece .entry)) ⌝ }
-    {
-        let mut hunting = self;
-        let mut i: usize = 0;
-        while i < piece.len() {
-            hunting = hunting.shift(piece[i]);
-            i += 1;
-            if hunting.at_marker() {
-                return Found {
-                    found: true,
-                    taken: i,
-                    hunting,
-                };
-            }
+// Bytes up to the marker, or all of them.
+pub(crate) fn hunt(last: Hunting, piece: &[u8]) -> Found
+    ensures { λ r. ⌜ r ≡ hunted last (now (piece .entry)) ⌝ }
+{
+    let mut hunting = last;
+    let mut i: usize = 0;
+    while i < piece.len() {
+        hunting = shift(hunting, piece[i]);
+        i += 1;
+        if at_marker(hunting) {
+            return Found {
+                found: true,
+                taken: i,
+                hunting,
+            };
         }
-        Found {
-            found: false,
-            taken: i,
-            hunting,
-        }
+    }
+    Found {
+        found: false,
+        taken: i,
+        hunting,
     }
 }

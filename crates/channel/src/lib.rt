@@ -8,10 +8,10 @@ mod sender;
 mod word;
 
 pub use answer::Answer;
-pub use answer::Condition;
 pub use answer::Hearing;
 pub use block::Block;
-pub use hunting::Hunting;
+pub use blocks::Condition;
+pub use blocks::Hunting;
 pub use locked::Locked;
 pub use receiver::Receiver;
 pub use sender::mark;

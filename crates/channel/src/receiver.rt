@@ -3,7 +3,7 @@ ghost use mathlib.Core.Path.{_≡_};
 ghost use mathlib.Core.Bool.{true, false};
 ghost use Prim.Native.Nat.{_+_, _≤_, _<_};
 ghost use lib.ListN.{length, drop};
-ghost use Rattle.channel.specs.Sender.{messageBytes, wordBytes};
+ghost use Rattle.blocks.specs.Sender.{messageBytes, wordBytes};
 ghost use Rattle.channel.specs.Called.{
   board,
   counts,
@@ -21,10 +21,11 @@ use crate::answer::Answer;
 use crate::answer::Hearing;
 use crate::answer::Phase;
 use crate::block::Block;
-use crate::hunting::Hunting;
+use crate::hunting;
 use crate::locked::Locked;
 use crate::word;
 use base::Refusal;
+use blocks::Hunting;
 use packet::Judged;
 use stream::Frame;
 use stream::Heard;
@@ -54,7 +55,7 @@ impl Receiver {
     pub fn fresh() -> Self
         ensures { λ r. ⌜ r ≡ freshReceiver ⌝ }
     {
-        Receiver::lost_at(Hunting::fresh())
+        Receiver::lost_at(hunting::fresh())
     }
 
     /// Whether the buffers are as long as the receiver asks.
@@ -129,7 +130,7 @@ impl Receiver {
         let last = self.hunting;
         let frame = self.frame;
         let n = base::least(4 - lock.marker, piece.len());
-        let hunting = last.shifted(&piece[0..n]);
+        let hunting = hunting::shifted(last, &piece[0..n]);
         let marker = lock.marker + n;
         if marker < 4 {
             let next = Receiver {
@@ -140,7 +141,7 @@ impl Receiver {
             };
             return Phase::end(Answer::More, n, next);
         }
-        if hunting.at_marker() {
+        if hunting::at_marker(hunting) {
             return Phase::on(n, Receiver::locked_at(hunting, frame));
         }
         Phase::end(Answer::LockLost, n, Receiver::lost_at(hunting))
@@ -178,7 +179,7 @@ impl Receiver {
         let last = self.hunting;
         let lock = self.lock;
         let frame = self.frame;
-        let f = last.hunt(piece);
+        let f = hunting::hunt(last, piece);
         let hunting = f.hunting;
         if f.found {
             return Phase::on(f.taken, Receiver::locked_at(hunting, frame));

@@ -3,11 +3,11 @@ ghost use mathlib.Core.Path.{_≡_};
 ghost use Prim.Native.Nat.{_+_, _≤_};
 ghost use lib.ListN.{length, take, drop};
 ghost use Rattle.words.specs.Word.{clean};
-ghost use Rattle.channel.specs.Sender.{parityBytes, wordBytes};
-ghost use Rattle.channel.specs.Channel.{condition, mend};
+ghost use Rattle.blocks.specs.Sender.{parityBytes, wordBytes};
+ghost use Rattle.blocks.specs.Channel.{condition, mend};
 ghost use Rattle.channel.specs.Called.{mendIn};
-use crate::answer::Condition;
 use crate::block::Block;
+use blocks::Condition;
 use parity::Checked;
 use repair::Mended;
 

@@ -26,11 +26,11 @@ use Rattle.repair.proofs.Apart.{distance-zero, checked-is, checked-clean}
 use Rattle.repair.proofs.Meeting.{repaired-promised}
 use Rattle.repair.proofs.Promising.{restored, brought-back}
 use Rattle.stream.specs.Reader.{Reading, reads}
-use Rattle.channel.specs.declared.hunting.Hunting.{Hunting}
-use Rattle.channel.specs.Sender.{messageBytes, parityBytes, wordBytes, wordOf}
-use Rattle.channel.specs.Channel.{conditionBy, condition, mend, whole, IsWord, carried}
-use Rattle.channel.proofs.Words.{condition-clean, mend-clean}
-use Rattle.channel.proofs.Streaming.{IsMessage, theMarker, behindWords, sent-word}
+use Rattle.blocks.specs.declared.Hunting.{Hunting}
+use Rattle.blocks.specs.Sender.{messageBytes, parityBytes, wordBytes, wordOf}
+use Rattle.blocks.specs.Channel.{conditionBy, condition, mend, whole, IsWord, carried}
+use Rattle.blocks.proofs.Words.{condition-clean, mend-clean}
+use Rattle.blocks.proofs.Streaming.{IsMessage, theMarker, behindWords, sent-word}
 use Rattle.demands.specs.Guarantee.{alteredFrom, altered, Repairable, ReceivedFor, Received, answerFor, received}
 
 -- ---- places

@@ -14,11 +14,11 @@ use lib.Dec.{leb}
 use borrow.Author.Tests.{leb-true}
 use Rattle.base.specs.Calls.{owesNone, handsNone, unless, told}
 use Rattle.base.proofs.Calls.{none-owed, law, inv-hear}
-use Rattle.packet.specs.Contents.{rawLimit}
-use Rattle.packet.specs.Frame.{Told}
+use Rattle.frames.specs.Contents.{rawLimit}
+use Rattle.frames.specs.Frame.{Told}
 use Rattle.stream.specs.Called.{Held, takeByte, readAll, readOn, readBy, readCall, sound as soundFrame, Fine as FineFrame}
 use Rattle.stream.proofs.Cutting.{read-agrees, read-law}
-use Rattle.channel.specs.Channel.{Event}
+use Rattle.blocks.specs.Channel.{Event}
 use Rattle.channel.specs.Called.{Board, owed, handOn, eatByte, sound, roomy, hearAll, hearOn, hearBy, hearCall, Fine}
 use Rattle.channel.proofs.Fine.{fine-of, fine-hand, fine-eat}
 use Rattle.channel.proofs.Cutting.{hand-one, hear-agrees, hear-law}

@@ -29,20 +29,20 @@ use Rattle.interleaver.specs.Running.{push, pull, pushing, zeros, closing, pull
 use Rattle.interleaver.specs.declared.Matrix.{Matrix}
 use Rattle.interleaver.specs.declared.Back.{Back}
 use Rattle.interleaver.proofs.Pushing.{pushed-length}
-use Rattle.packet.specs.Contents.{Packet, payloadLimit, rawLimit}
-use Rattle.packet.specs.Escape.{flag, escape, plain}
-use Rattle.packet.specs.Port.{barred}
-use Rattle.packet.specs.Frame.{Told, refusal, closed, judging, judge}
-use Rattle.packet.specs.Sender.{frameOf, headFits, writing}
-use Rattle.packet.proofs.Judging.{closed-keeps}
+use Rattle.frames.specs.Contents.{Packet, payloadLimit, rawLimit}
+use Rattle.frames.specs.Escape.{flag, escape, plain}
+use Rattle.frames.specs.Port.{barred}
+use Rattle.frames.specs.Frame.{Told, refusal, closed, judging, judge}
+use Rattle.frames.specs.Sender.{frameOf, headFits, writing}
+use Rattle.frames.proofs.Judging.{closed-keeps}
 use Rattle.packet.proofs.Sending.{writing-keeps}
 use Rattle.stream.specs.Called.{Held, begun, takeBy, takeByte, shut, readAll, readCall, Fine as FineFrame}
 use Rattle.stream.specs.Sender.{appending}
 use Rattle.stream.proofs.Cutting.{read-yields}
 use Rattle.stream.proofs.Sending.{appending-keeps}
-use Rattle.channel.specs.Channel.{said}
+use Rattle.blocks.specs.Channel.{said}
 use Rattle.channel.specs.Called.{Board, hearAll, hearCall, Fine}
-use Rattle.channel.specs.Sender.{marker, messageBytes, wordBytes, wordOf, marked, marking, sending}
+use Rattle.blocks.specs.Sender.{marker, messageBytes, wordBytes, wordOf, marked, marking, sending}
 use Rattle.channel.proofs.Cutting.{hear-yields}
 use Rattle.channel.proofs.Sending.{marking-keeps, sending-keeps}
 use Rattle.tape.specs.Deck.{Deck}

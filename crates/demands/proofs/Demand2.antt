@@ -2,13 +2,13 @@
 --   "Packets, check values, escapes, parity words, interleaving and markers are exactly those of the NRSC-5 transport paper and RFC 1662 as
 --   document 01 condenses them, writing and reading; for each packet the sender accepts, a packet written and read back is the same packet."
 -- What they are is defined once, in the paper's words, and each function promises those definitions:
---   packets         `contents`, `class` (crates/packet/specs/Contents.antt, Port.antt), `stream` (crates/stream/specs/Sender.antt)
+--   packets         `contents`, `class` (crates/frames/specs/Contents.antt, Port.antt), `stream` (crates/stream/specs/Sender.antt)
 --   check values    `fcs` (crates/fcs/specs/Fcs.antt)
---   escapes         `escape`, `plain`, `scan` (crates/packet/specs/Escape.antt), and `reads` (crates/stream/specs/Reader.antt)
+--   escapes         `escape`, `plain`, `scan` (crates/frames/specs/Escape.antt), and `reads` (crates/stream/specs/Reader.antt)
 --   parity words    `generator`, `remainder`, `clean` (crates/words/specs/Word.antt), over the field of crates/field/specs/Field.antt
 --   interleaving    `cell` (crates/interleaver/specs/Places.antt), `push`, `pull`, `pushing`, `closing`, `pulling` (crates/interleaver/specs/Running.antt)
---   markers         `marked` (crates/channel/specs/Sender.antt), and `answers` (crates/channel/specs/Channel.antt)
---   block answers   `condition`, `mend` (crates/channel/specs/Channel.antt), by repair's promise: `Promised` (crates/repair/specs/Promise.antt)
+--   markers         `marked` (crates/blocks/specs/Sender.antt), and `answers` (crates/blocks/specs/Channel.antt)
+--   block answers   `condition`, `mend` (crates/blocks/specs/Channel.antt), by repair's promise: `Promised` (crates/repair/specs/Promise.antt)
 --   the listing     `listing` (crates/listed/specs/Listing.antt), of recordings taken apart: `apart` (crates/listed/specs/Apart.antt)
 -- Here: that they hold together; of interleaving, in Interleaving. The paper's numbers are in Numbers, and what else it prints in Printed.
 -- round-trip, round-answer, delivered-only   a packet written and read back, and a packet read is one that could be written
@@ -40,21 +40,21 @@ use Rattle.words.specs.Word.{clean, remainder, Zero}
 use Rattle.repair.specs.declared.Mended.{Mended}
 use Rattle.repair.specs.Promise.{Promised}
 use Rattle.words.proofs.Clean.{clean-roots, roots-clean, parity-clean, clean-is}
-use Rattle.packet.specs.Escape.{flag, plain, last, BrokenAt}
-use Rattle.packet.specs.Port.{class}
-use Rattle.packet.proofs.Classes.{from-0000, from-0401, from-5100, from-5101, from-5201, from-5208, from-5300, from-7F00, from-FF00}
-use Rattle.packet.specs.Frame.{packet, broken, delivery, judged, closed, judge, part}
-use Rattle.packet.proofs.Faults.{closed-broken, judge-broken}
-use Rattle.packet.specs.Sender.{Accepted, writing}
-use Rattle.packet.specs.declared.frame.Judged.the-variants.{Packet as Delivered}
+use Rattle.frames.specs.Escape.{flag, plain, last, BrokenAt}
+use Rattle.frames.specs.Port.{class}
+use Rattle.frames.proofs.Classes.{from-0000, from-0401, from-5100, from-5101, from-5201, from-5208, from-5300, from-7F00, from-FF00}
+use Rattle.frames.specs.Frame.{packet, broken, delivery, judged, closed, judge, part}
+use Rattle.frames.proofs.Faults.{closed-broken, judge-broken}
+use Rattle.frames.specs.Sender.{Accepted, writing}
+use Rattle.frames.specs.declared.Judged.the-variants.{Packet as Delivered}
 use Rattle.stream.specs.Reader.{waiting, inside, reads}
 use Rattle.stream.specs.Sender.{rawOf, stream, delivered, appending}
 use Rattle.stream.proofs.Streaming.{stream-read}
 use Rattle.stream.proofs.Sending.{begin-stream, append-stream}
-use Rattle.channel.specs.Sender.{parityBytes, wordOf, fillers, filled, messagesOf, sending, sent}
-use Rattle.channel.specs.Channel.{conditionBy, condition, mend, carried, IsWord, Event, frames, blocks, losses, asMended}
-use Rattle.channel.proofs.Streaming as streaming
-use Rattle.channel.proofs.Words.{block-promised, block-determined}
+use Rattle.blocks.specs.Sender.{parityBytes, wordOf, fillers, filled, messagesOf, sending, sent}
+use Rattle.blocks.specs.Channel.{conditionBy, condition, mend, carried, IsWord, Event, frames, blocks, losses, asMended}
+use Rattle.blocks.proofs.Streaming as streaming
+use Rattle.blocks.proofs.Words.{block-promised, block-determined}
 use Rattle.listed.specs.Apart.{most, freshSpot, apart, onChannel, records}
 use Rattle.bid.specs.Line.{digits, value}
 use Rattle.listed.specs.Lines.{decimal, letter, lines, isPacket, isRefusal, isDamaged, isLost, count, packetsIn, refusalsIn, damagedIn, longest}
@@ -62,10 +62,10 @@ use Rattle.listed.specs.Listing.{heard, totalLine, listing}
 use Rattle.listed.specs.declared.Place.the-variants.{Wrong}
 use Rattle.listed.proofs.Offsets.{offset-right, offset-wrong}
 use Rattle.listed.proofs.Totals.{packets-counted, refusals-counted, damaged-counted, lost-counted, sent-counted}
-use Rattle.packet.specs.Contents.{rawLimit, Packet, contents, payloadAt}
-use Rattle.packet.proofs.Only.{judge-only}
+use Rattle.frames.specs.Contents.{rawLimit, Packet, contents, payloadAt}
+use Rattle.frames.proofs.Only.{judge-only}
 use Rattle.base.specs.Choice.{pick}
-use Rattle.channel.specs.Sender.{wordBytes}
+use Rattle.blocks.specs.Sender.{wordBytes}
 use Rattle.tape.specs.Deck.{Deck, fresh}
 use Rattle.tape.specs.Called.{far, deckOf, EveryCut}
 use Rattle.tape.proofs.Demands.{taken-apart}

@@ -20,10 +20,10 @@ use Rattle.base.specs.Written.{write, Keeps}
 use Rattle.base.proofs.Calls.{none-owed, with-hear}
 use Rattle.base.proofs.Tests.{and-parts}
 use Rattle.base.proofs.Writing.{write-keeps, refused-keeps}
-use Rattle.packet.specs.Contents.{payloadLimit}
-use Rattle.packet.specs.Escape.{flag, escape}
-use Rattle.packet.specs.Port.{barred}
-use Rattle.channel.specs.Sender.{marked}
+use Rattle.frames.specs.Contents.{payloadLimit}
+use Rattle.frames.specs.Escape.{flag, escape}
+use Rattle.frames.specs.Port.{barred}
+use Rattle.blocks.specs.Sender.{marked}
 use Rattle.channel.specs.declared.answer.Answer.{Answer}
 use Rattle.listed.specs.Lines.{line, endLine, wrongLine}
 use Rattle.bid.specs.Line.{feed, lineLimit, noNumber, port, sequence, text, Verdict, noBid, refused, accepted, judged, isBid, verdict, bidOf}

@@ -16,14 +16,14 @@ use mathlib.Core.Bool.{Bool, false}
 use mathlib.Core.List.{List, [], _∷_, _++_, map, append-nil}
 use lib.ListN.{length, replicate, length-replicate}
 use Rattle.base.specs.Bytes.{Each, Bytes}
-use Rattle.packet.specs.Contents.{rawLimit, Packet}
-use Rattle.packet.specs.Frame.{Told}
-use Rattle.packet.specs.Sender.{Accepted}
+use Rattle.frames.specs.Contents.{rawLimit, Packet}
+use Rattle.frames.specs.Frame.{Told}
+use Rattle.frames.specs.Sender.{Accepted}
 use Rattle.stream.specs.Sender.{delivered}
-use Rattle.channel.specs.Sender.{wordBytes, sentWords}
-use Rattle.channel.specs.Channel.{Event, frames, blocks, losses, answers, FirstMarker}
+use Rattle.blocks.specs.Sender.{wordBytes, sentWords}
+use Rattle.blocks.specs.Channel.{Event, frames, blocks, losses, answers, FirstMarker}
 use Rattle.channel.specs.Called.{EveryCut}
-use Rattle.channel.proofs.Streaming.{sent-each}
+use Rattle.blocks.proofs.Streaming.{sent-each}
 use Rattle.channel.proofs.Demands.{cut-so, every-cut}
 use Rattle.bid.specs.Line.{feed}
 use Rattle.bid.specs.Input.{linesOf, packetsOf, complaints}

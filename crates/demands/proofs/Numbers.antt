@@ -6,10 +6,10 @@ use mathlib.Core.List.{[]}
 use Rattle.fcs.specs.Fcs.{fcs, register, entered}
 use Rattle.field.specs.Field.{add, double, shiftAdd, mul, pow}
 use Rattle.words.specs.Word.{scale, onto, timesRoot, generator, divide, remainder}
-use Rattle.packet.specs.Contents.{withCheck, contents}
-use Rattle.packet.specs.Escape.{escape, escapeByte, plain, wrongFrom, right, last, scan}
-use Rattle.packet.specs.Frame.{judgeBody, judgeContents, closedBy, closed, judge}
-use Rattle.packet.specs.Port.{class}
+use Rattle.frames.specs.Contents.{withCheck, contents}
+use Rattle.frames.specs.Escape.{escape, escapeByte, plain, wrongFrom, right, last, scan}
+use Rattle.frames.specs.Frame.{judgeBody, judgeContents, closedBy, closed, judge}
+use Rattle.frames.specs.Port.{class}
 use Rattle.listed.specs.Apart.{nextAt, inStream, apart}
 use Rattle.listed.specs.Lines.{decimal, decimalBy, told, lines, count, endLine, wrongLine}
 use Rattle.listed.specs.Listing.{heard, lastLine, listed, listing}

@@ -20,20 +20,20 @@ use Rattle.words.specs.Word.{onto, scale}
 use Rattle.parity.specs.Calls.{atRoots, made, checked}
 use Rattle.repair.specs.Promise.{Promised}
 use Rattle.interleaver.specs.Running.{pushing, closing, pulling}
-use Rattle.packet.specs.Escape.{flag, wrongBehind}
-use Rattle.packet.specs.Frame.{Told, packet, refusal, broken, judged, judging, part}
-use Rattle.packet.specs.Contents.{Packet, packetOf, plainPacket, payloadAt}
-use Rattle.packet.specs.declared.frame.Judged.{Judged}
-use Rattle.packet.specs.declared.frame.Judged.the-variants.{Packet as Delivered, Refused, Broken}
-use Rattle.packet.specs.Port.{class}
-use Rattle.packet.specs.Sender.{writing}
+use Rattle.frames.specs.Escape.{flag, wrongBehind}
+use Rattle.frames.specs.Frame.{Told, packet, refusal, broken, judged, judging, part}
+use Rattle.frames.specs.Contents.{Packet, packetOf, plainPacket, payloadAt}
+use Rattle.frames.specs.declared.Judged.{Judged}
+use Rattle.frames.specs.declared.Judged.the-variants.{Packet as Delivered, Refused, Broken}
+use Rattle.frames.specs.Port.{class}
+use Rattle.frames.specs.Sender.{writing}
 use Rattle.stream.specs.Sender.{appending}
 use Rattle.stream.specs.Called as plain
 use Rattle.stream.specs.declared.frame.Heard.the-variants as plain-answer
-use Rattle.channel.specs.Sender.{marking, sending}
+use Rattle.blocks.specs.Sender.{marking, sending}
 use Rattle.channel.specs.Called.{board, sound, roomy, hearCall, answered}
-use Rattle.channel.specs.Channel.{said, block, lost}
-use Rattle.channel.specs.declared.answer.Condition.{Condition}
+use Rattle.blocks.specs.Channel.{said, block, lost}
+use Rattle.blocks.specs.declared.Condition.{Condition}
 use Rattle.channel.specs.declared.answer.Answer.the-variants.{More, Said, Block, LockLost}
 use Rattle.listed.specs.Lines.{line, endLine, wrongLine}
 use Rattle.listed.specs.Apart.{well}

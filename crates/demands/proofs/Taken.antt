@@ -16,11 +16,11 @@ use borrow.Author.Tests.{leb-false}
 use Rattle.base.specs.Calls.{With}
 use Rattle.base.proofs.Calls.{with-hear}
 use Rattle.base.proofs.Tests.{and-parts}
-use Rattle.packet.specs.Frame.{Told, refusal}
+use Rattle.frames.specs.Frame.{Told, refusal}
 use Rattle.stream.specs.Called.{takeByte}
-use Rattle.channel.specs.Channel.{Event, said, block, lost}
+use Rattle.blocks.specs.Channel.{Event, said, block, lost}
 use Rattle.channel.specs.Called.{Board, heldIn, handOn, eatByte, sound, roomy}
-use Rattle.channel.specs.Sender.{wordBytes}
+use Rattle.blocks.specs.Sender.{wordBytes}
 use Rattle.listed.specs.declared.Spot.{Spot}
 use Rattle.listed.specs.Apart.{inStream}
 use Rattle.tape.specs.Deck.{eatBy, earHand, earEat, Deck, deckOwes, deckHand, byteBy, deckEat, deckHear}

@@ -11,9 +11,9 @@ use Rattle.base.specs.Bytes.{Each, Bytes}
 use Rattle.base.specs.Calls.{joined}
 use Rattle.repair.specs.Promise.{CleanWord}
 use Rattle.stream.specs.Sender.{stream}
-use Rattle.channel.specs.Sender.{parityBytes, wordBytes, messagesOf, sentWords, marked}
-use Rattle.channel.specs.Channel.{IsWord}
-use Rattle.channel.proofs.Streaming.{sent-each, sent-messages}
+use Rattle.blocks.specs.Sender.{parityBytes, wordBytes, messagesOf, sentWords, marked}
+use Rattle.blocks.specs.Channel.{IsWord}
+use Rattle.blocks.proofs.Streaming.{sent-each, sent-messages}
 use Rattle.bid.specs.Line.{lineLimit}
 use Rattle.bid.specs.Input.{packetsOf}
 use Rattle.office.specs.Desk.{Desk, waiting, sentBy}

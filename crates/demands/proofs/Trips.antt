@@ -13,16 +13,16 @@ use lib.Seq.{take-at}
 use Rattle.base.specs.Bytes.{Bytes}
 use Rattle.base.specs.Calls.{joined}
 use Rattle.base.specs.declared.Written.the-variants.{Wrote}
-use Rattle.packet.specs.Escape.{flag}
-use Rattle.packet.specs.Frame.{Told, packet, delivery, judged, closed, judge, There}
-use Rattle.packet.specs.Sender.{Accepted, frameOf, flagged, writing}
-use Rattle.packet.specs.declared.frame.Judged.the-variants.{Packet as Delivered}
-use Rattle.packet.proofs.Judging.{judge-is, payload-there}
-use Rattle.packet.proofs.Round.{raw-fits}
+use Rattle.frames.specs.Escape.{flag}
+use Rattle.frames.specs.Frame.{Told, packet, delivery, judged, closed, judge, There}
+use Rattle.frames.specs.Sender.{Accepted, frameOf, flagged, writing}
+use Rattle.frames.specs.declared.Judged.the-variants.{Packet as Delivered}
+use Rattle.frames.proofs.Judging.{judge-is, payload-there}
+use Rattle.frames.proofs.Round.{raw-fits}
 use Rattle.packet.proofs.Sending.{wrote-is}
 use Rattle.stream.specs.Reader.{inside, reads}
 use Rattle.stream.specs.Sender.{rawOf, delivered}
-use Rattle.packet.specs.Contents.{Packet}
+use Rattle.frames.specs.Contents.{Packet}
 use Rattle.stream.proofs.Accepting.{judged-is}
 use Rattle.stream.proofs.Streaming.{behind-read}
 use Rattle.listed.specs.Apart.{most, records}

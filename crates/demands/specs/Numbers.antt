@@ -14,9 +14,9 @@ use Rattle.fcs.specs.Fcs.{fcs, register, entered}
 use Rattle.field.specs.Field.{add, double, shiftAdd, mul, pow}
 use Rattle.words.specs.Word.{scale, onto, timesRoot, generator, divide, remainder}
 use Rattle.interleaver.specs.Places.{cell}
-use Rattle.packet.specs.Contents.{plainPacket, withCheck, contents}
-use Rattle.packet.specs.Escape.{escape, escapeByte, plain, wrongFrom, right, last, scan}
-use Rattle.packet.specs.Frame.{Told, packet, refusal, broken, judgeContents, closedBy, closed, judge, judgeBody}
+use Rattle.frames.specs.Contents.{plainPacket, withCheck, contents}
+use Rattle.frames.specs.Escape.{escape, escapeByte, plain, wrongFrom, right, last, scan}
+use Rattle.frames.specs.Frame.{Told, packet, refusal, broken, judgeContents, closedBy, closed, judge, judgeBody}
 use Rattle.stream.specs.Reader.{waiting, reads}
 
 -- a letter, what the definitions give, what the paper says

@@ -16,17 +16,17 @@ use Rattle.field.specs.Field as field
 use Rattle.parity.specs.Calls as parity
 use Rattle.interleaver.specs.Places.{width}
 use Rattle.interleaver.specs.Running as interleaver
-use Rattle.packet.specs.Contents.{Packet, packetOf, plainPacket, keyPacket, plainFormat, keyFormat, keyLeast, keyMost, payloadLimit, plainLimit, rawLimit, withCheck, contents}
-use Rattle.packet.specs.Escape.{flag, escape, escapeByte, plain, wrongFrom, right, last, scan}
-use Rattle.packet.specs.Frame.{Told, packet, refusal, broken, judgeContents, judgeBody, closedBy, closed, judge}
-use Rattle.packet.specs.Port.{class, barred}
-use Rattle.packet.specs.Sender.{refusing}
-use Rattle.packet.specs.declared.frame.Judged.the-variants.{Packet as Delivered, Refused as Denied, Broken}
+use Rattle.frames.specs.Contents.{Packet, packetOf, plainPacket, keyPacket, plainFormat, keyFormat, keyLeast, keyMost, payloadLimit, plainLimit, rawLimit, withCheck, contents}
+use Rattle.frames.specs.Escape.{flag, escape, escapeByte, plain, wrongFrom, right, last, scan}
+use Rattle.frames.specs.Frame.{Told, packet, refusal, broken, judgeContents, judgeBody, closedBy, closed, judge}
+use Rattle.frames.specs.Port.{class, barred}
+use Rattle.frames.specs.Sender.{refusing}
+use Rattle.frames.specs.declared.Judged.the-variants.{Packet as Delivered, Refused as Denied, Broken}
 use Rattle.stream.specs.Reader.{waiting, reads}
 use Rattle.stream.specs.Called.{placeLimit}
-use Rattle.channel.specs.Sender.{marker, messageBytes, parityBytes, wordBytes, blockBytes}
-use Rattle.channel.specs.Channel.{Event, said, block, lost}
-use Rattle.channel.specs.declared.answer.Condition.the-variants.{Clean, Repaired, Beyond}
+use Rattle.blocks.specs.Sender.{marker, messageBytes, parityBytes, wordBytes, blockBytes}
+use Rattle.blocks.specs.Channel.{Event, said, block, lost}
+use Rattle.blocks.specs.declared.Condition.the-variants.{Clean, Repaired, Beyond}
 use Rattle.channel.specs.Called.{freshReceiver}
 use Rattle.channel.specs.declared.answer.Answer.the-variants.{Said, Block, LockLost}
 use Rattle.listed.specs.Apart as listed

@@ -19,18 +19,18 @@ use Rattle.base.specs.Choice.{pick}
 use Rattle.base.specs.Written.{Outcome}
 use Rattle.base.specs.declared.Written.the-variants.{Refused}
 use Rattle.fcs.specs.Fcs.{fcs}
-use Rattle.packet.specs.Contents.{Packet, plainFormat, keyFormat, keyLeast, keyMost, keyAt, keyLength, payloadLimit, rawLimit, wordAt}
-use Rattle.packet.specs.Escape.{escape, plain, last, Followed}
-use Rattle.packet.specs.Frame.{Told, refusal, number}
+use Rattle.frames.specs.Contents.{Packet, plainFormat, keyFormat, keyLeast, keyMost, keyAt, keyLength, payloadLimit, rawLimit, wordAt}
+use Rattle.frames.specs.Escape.{escape, plain, last, Followed}
+use Rattle.frames.specs.Frame.{Told, refusal, number}
 use Rattle.parity.specs.declared.Checked.{Checked}
 use Rattle.parity.specs.declared.Checked.the-variants.{Refused as WordRefused}
 use Rattle.repair.specs.declared.Mended.{Mended}
 use Rattle.repair.specs.declared.Mended.the-variants.{Refused as RepairRefused}
 use Rattle.stream.specs.Called.{Held, placeLimit}
 use Rattle.stream.specs.declared.frame.Frame.{Frame}
-use Rattle.channel.specs.Channel.{Event, said}
+use Rattle.blocks.specs.Channel.{Event, said}
 use Rattle.channel.specs.Called.{Board}
-use Rattle.channel.specs.Sender.{messageBytes, wordBytes}
+use Rattle.blocks.specs.Sender.{messageBytes, wordBytes}
 use Rattle.channel.specs.declared.receiver.Receiver.{Receiver}
 use Rattle.listed.specs.declared.Spot.{Spot}
 use Rattle.tape.specs.Deck.{Deck}

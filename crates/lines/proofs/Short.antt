@@ -6,12 +6,12 @@ use Prim.Native.Nat.{ℕ, _+_, _≤_, _<_}
 use native.Mathlib.Omega.{arith}
 use mathlib.Core.List.{List, [], _∷_, _++_}
 use lib.ListN.{length, length-append}
-use Rattle.packet.specs.Port.{class}
-use Rattle.packet.specs.declared.frame.Judged.{Judged}
-use Rattle.packet.specs.declared.frame.Judged.the-variants.{Packet, Refused, Broken}
-use Rattle.packet.specs.Frame.{packet, refusal, broken, delivery}
-use Rattle.channel.specs.Channel.{Event, said, block, lost}
-use Rattle.channel.specs.declared.answer.Condition.the-variants.{Clean, Repaired, Beyond}
+use Rattle.frames.specs.Port.{class}
+use Rattle.frames.specs.declared.Judged.{Judged}
+use Rattle.frames.specs.declared.Judged.the-variants.{Packet, Refused, Broken}
+use Rattle.frames.specs.Frame.{packet, refusal, broken, delivery}
+use Rattle.blocks.specs.Channel.{Event, said, block, lost}
+use Rattle.blocks.specs.declared.Condition.the-variants.{Clean, Repaired, Beyond}
 use Rattle.channel.specs.declared.answer.Answer.{Answer}
 use Rattle.channel.specs.declared.answer.Answer.the-variants.{More, Said, Block, LockLost}
 use Rattle.listed.specs.Lines.{decimal, letter, told, line, given, endLine, wrongLine, longest}

@@ -11,10 +11,10 @@ use mathlib.Core.List.{List, [], _∷_, _++_, append-assoc}
 use lib.ListN.{length, take, set}
 use Rattle.base.specs.Private.{Laid}
 use Rattle.base.proofs.Laid.{laid-append, laid-take}
-use Rattle.packet.specs.Port.{class}
-use Rattle.packet.specs.declared.frame.Delivery.{Delivery}
-use Rattle.packet.specs.declared.frame.Judged.the-variants.{Packet, Refused, Broken}
-use Rattle.channel.specs.declared.answer.Condition.the-variants.{Repaired}
+use Rattle.frames.specs.Port.{class}
+use Rattle.frames.specs.declared.Delivery.{Delivery}
+use Rattle.frames.specs.declared.Judged.the-variants.{Packet, Refused, Broken}
+use Rattle.blocks.specs.declared.Condition.the-variants.{Repaired}
 use Rattle.listed.specs.Lines.{decimal, letter, told, endLine, wrongLine, longest, blockLine}
 use Rattle.listed.proofs.Digits.{wide, last-digit, more-digits, digits-short}
 

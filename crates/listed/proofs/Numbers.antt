@@ -7,13 +7,13 @@ use Prim.Native.Nat.{ℕ}
 use mathlib.Core.Path.{_≡_, refl}
 use mathlib.Core.List.{List, [], _∷_, map}
 use Rattle.fcs.specs.Fcs.{fcs, register, entered}
-use Rattle.packet.specs.Port.{class}
-use Rattle.packet.specs.declared.port.Class.the-variants.{System, Applications, M, D, Future}
-use Rattle.packet.specs.declared.frame.Judged.the-variants.{Packet, Refused, Broken}
-use Rattle.packet.specs.Escape.{escape, escapeByte, plain, wrongFrom, right, last, scan}
-use Rattle.packet.specs.Frame.{judgeContents, closedBy, closed, judge, judgeBody}
+use Rattle.frames.specs.Port.{class}
+use Rattle.frames.specs.declared.Class.the-variants.{System, Applications, M, D, Future}
+use Rattle.frames.specs.declared.Judged.the-variants.{Packet, Refused, Broken}
+use Rattle.frames.specs.Escape.{escape, escapeByte, plain, wrongFrom, right, last, scan}
+use Rattle.frames.specs.Frame.{judgeContents, closedBy, closed, judge, judgeBody}
 use Rattle.channel.specs.declared.answer.Answer.the-variants.{Said, Block, LockLost}
-use Rattle.channel.specs.declared.answer.Condition.the-variants.{Clean, Repaired, Beyond}
+use Rattle.blocks.specs.declared.Condition.the-variants.{Clean, Repaired, Beyond}
 use Rattle.listed.specs.declared.Place.the-variants.{Inside, Wrong}
 use Rattle.listed.specs.Apart.{nextAt, inStream, apart}
 use Rattle.listed.specs.Lines.{decimal, decimalBy, letter, told, line, lines, count, endLine, wrongLine}

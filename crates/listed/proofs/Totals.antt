@@ -7,12 +7,12 @@ use native.Mathlib.Omega.{arith}
 use mathlib.Core.Path.{_≡_, refl, ap}
 use mathlib.Core.List.{List, [], _∷_, map}
 use lib.ListN.{length}
-use Rattle.packet.specs.Frame.{Told, packet, refusal, broken}
+use Rattle.frames.specs.Frame.{Told, packet, refusal, broken}
 use Rattle.stream.specs.Sender.{delivered}
-use Rattle.packet.specs.Contents.{Packet}
-use Rattle.channel.specs.Channel.{Event, said, block, lost, frames, blocks, losses}
-use Rattle.channel.specs.declared.answer.Condition.{Condition}
-use Rattle.channel.specs.declared.answer.Condition.the-variants.{Clean as clean, Repaired as repaired, Beyond as beyond}
+use Rattle.frames.specs.Contents.{Packet}
+use Rattle.blocks.specs.Channel.{Event, said, block, lost, frames, blocks, losses}
+use Rattle.blocks.specs.declared.Condition.{Condition}
+use Rattle.blocks.specs.declared.Condition.the-variants.{Clean as clean, Repaired as repaired, Beyond as beyond}
 use Rattle.listed.specs.Lines.{isPacket, isRefusal, isDamaged, isLost, count, packetsIn, refusalsIn, damagedIn}
 
 pub packets-counted : (es : List Event) → count isPacket es ≡ packetsIn (frames es)

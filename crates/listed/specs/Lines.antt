@@ -11,17 +11,17 @@ use mathlib.Core.List.{List, [], _∷_, _++_}
 use mathlib.Core.Option.{some}
 use lib.Dec.{ltb}
 use Rattle.base.specs.Choice.{pick}
-use Rattle.packet.specs.Port.{class}
-use Rattle.packet.specs.declared.port.Class.{Class}
-use Rattle.packet.specs.declared.port.Class.the-variants.{System, Applications, M, D, Future, Barred}
-use Rattle.packet.specs.declared.frame.Judged.{Judged}
-use Rattle.packet.specs.declared.frame.Judged.the-variants.{Packet, Refused, Broken}
-use Rattle.packet.specs.Frame.{Told, packet, refusal, broken}
-use Rattle.channel.specs.Channel.{Event}
+use Rattle.frames.specs.Port.{class}
+use Rattle.frames.specs.declared.Class.{Class}
+use Rattle.frames.specs.declared.Class.the-variants.{System, Applications, M, D, Future, Barred}
+use Rattle.frames.specs.declared.Judged.{Judged}
+use Rattle.frames.specs.declared.Judged.the-variants.{Packet, Refused, Broken}
+use Rattle.frames.specs.Frame.{Told, packet, refusal, broken}
+use Rattle.blocks.specs.Channel.{Event}
 use Rattle.listed.specs.declared.Total.{Total}
 use Rattle.listed.specs.declared.Total.the-variants.{Packets, Refusals, Damaged, Lost, Nothing}
-use Rattle.channel.specs.declared.answer.Condition.{Condition}
-use Rattle.channel.specs.declared.answer.Condition.the-variants.{Clean, Repaired, Beyond}
+use Rattle.blocks.specs.declared.Condition.{Condition}
+use Rattle.blocks.specs.declared.Condition.the-variants.{Clean, Repaired, Beyond}
 use Rattle.channel.specs.Called.{answered}
 use Rattle.channel.specs.declared.answer.Answer.{Answer}
 use Rattle.channel.specs.declared.answer.Answer.the-variants.{More, Said, Block, LockLost}

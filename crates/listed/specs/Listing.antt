@@ -7,7 +7,7 @@ use mathlib.Core.List.{List, _++_, map}
 use lib.ListN.{length}
 use Rattle.base.specs.Choice.{pick}
 use Rattle.stream.specs.Reader.{waiting, reads}
-use Rattle.channel.specs.Channel.{Event, said, answers}
+use Rattle.blocks.specs.Channel.{Event, said, answers}
 use Rattle.listed.specs.declared.Spot.{Spot}
 use Rattle.listed.specs.Apart.{freshSpot, apart, well, onChannel}
 use Rattle.listed.specs.Lines.{lines, count, isPacket, isRefusal, isDamaged, isLost, endLine, wrongLine}

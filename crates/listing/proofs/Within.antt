@@ -17,7 +17,7 @@ use Rattle.base.specs.Written.{Outcome, outcome, write}
 use Rattle.base.proofs.Calls.{FitsBy, fits}
 use Rattle.base.proofs.Tests.{by-le}
 use Rattle.base.proofs.Writing.{write-fits, write-short, copied-fits}
-use Rattle.channel.specs.Channel.{Event}
+use Rattle.blocks.specs.Channel.{Event}
 use Rattle.channel.specs.Called.{sound, roomy}
 use Rattle.channel.specs.declared.answer.Answer.{Answer}
 use Rattle.listed.specs.Lines.{line, longest}

@@ -14,7 +14,7 @@ use Rattle.base.specs.Written.{Outcome, outcome, write}
 use Rattle.base.proofs.Calls.{FitsBy, fits}
 use Rattle.base.proofs.Tests.{by-le}
 use Rattle.base.proofs.Writing.{write-fits, write-short, copied-fits}
-use Rattle.channel.specs.Channel.{Event}
+use Rattle.blocks.specs.Channel.{Event}
 use Rattle.channel.specs.Called.{sound, roomy}
 use Rattle.tape.specs.Deck.{Deck, deckOwes, deckHand, deckEat, deckHear}
 use Rattle.tape.specs.declared.tape.Heard.{Heard}

@@ -9,12 +9,12 @@ use lib.ListN.{length, replicate}
 use Rattle.base.specs.Bytes.{Each, IsByte, Bytes}
 use Rattle.base.proofs.Bytes.{each-append}
 use Rattle.base.proofs.Tests.{by-eq}
-use Rattle.packet.specs.Sender.{Accepted}
+use Rattle.frames.specs.Sender.{Accepted}
 use Rattle.stream.specs.Sender.{delivered}
-use Rattle.channel.specs.Sender.{sentWords}
-use Rattle.channel.specs.Channel.{answers, frames, blocks, losses, FirstMarker}
-use Rattle.channel.specs.declared.answer.Condition.the-variants.{Clean as clean}
-use Rattle.channel.proofs.Streaming.{whole-stream}
+use Rattle.blocks.specs.Sender.{sentWords}
+use Rattle.blocks.specs.Channel.{answers, frames, blocks, losses, FirstMarker}
+use Rattle.blocks.specs.declared.Condition.the-variants.{Clean as clean}
+use Rattle.blocks.proofs.Streaming.{whole-stream}
 use Rattle.bid.specs.Line.{feed, Verdict, noBid, refused, accepted, verdict}
 use Rattle.bid.specs.Input.{linesFrom, linesOf, packets, packetsOf}
 use Rattle.bid.proofs.Lines.{lines-feed, lines-other, lines-none, lines-one}

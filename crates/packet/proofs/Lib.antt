@@ -1,11 +1,3 @@
-pub mod Classes
-pub mod Escaping
 pub mod Runs
-pub mod Judging
-pub mod Places
-pub mod Faults
 pub mod Sending
-pub mod Round
-pub mod Only
-pub mod Numbers
 pub mod Determined

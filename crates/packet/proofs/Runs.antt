@@ -21,9 +21,9 @@ use Rattle.base.proofs.Lists.{part-next, part-set}
 use Rattle.base.proofs.Parts.{tail-is}
 use Rattle.base.proofs.Tests.{by-eq}
 use Rattle.base.proofs.UpTo.{up-to-go, up-to-short}
-use Rattle.packet.specs.Escape.{plain, escaped, wrongFrom, wrongBehind}
+use Rattle.frames.specs.Escape.{plain, escaped, wrongFrom, wrongBehind}
 use Rattle.packet.specs.Private.{run}
-use Rattle.packet.proofs.Places.{wrong-before}
+use Rattle.frames.proofs.Places.{wrong-before}
 
 plain-all : (bs : List ℕ) → length bs ≤ length (run bs) → plain bs ≡ run bs
 unfolding upTo plain

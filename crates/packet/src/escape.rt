@@ -3,17 +3,9 @@ ghost use mathlib.Core.Path.{_≡_};
 ghost use Prim.Native.Nat.{_+_, _<_, _≤_};
 ghost use lib.ListN.{length, take, drop};
 ghost use Rattle.base.specs.Private.{Laid};
-ghost use Rattle.packet.specs.Escape.{escape, escapeByte, plain, escaped, wrongFrom, wrongBehind, scan, restored};
+ghost use Rattle.frames.specs.Escape.{escape, escapeByte, plain, escaped, wrongFrom, wrongBehind, scan, restored};
 ghost use Rattle.packet.specs.Private.{run};
-
-/// What the escapes of raw bytes are.
-pub enum Escapes {
-    Right,
-    /// The last raw byte is 7D.
-    Unfinished,
-    /// 7D is followed by something other than 5E and 5D, first at this place.
-    Wrong(usize),
-}
+use frames::Escapes;
 
 // Plain reading of raw[at..]: the place of the first wrong byte behind 7D, 0 where there is none.
 fn scan_plain(raw: &[u8], at: usize) -> usize

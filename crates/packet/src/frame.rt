@@ -2,12 +2,14 @@
 ghost use mathlib.Core.Path.{_≡_};
 ghost use Prim.Native.Nat.{_+_, _≤_, _<_};
 ghost use lib.ListN.{length};
-ghost use Rattle.packet.specs.Contents.{keySized, word, wordAt, unpacked};
-ghost use Rattle.packet.specs.Frame.{judged, judgePacket, keyFits, judgeBody, judgeContents, closed, judging};
+ghost use Rattle.frames.specs.Contents.{keySized, word, wordAt, unpacked};
+ghost use Rattle.frames.specs.Frame.{judged, judgePacket, keyFits, judgeBody, judgeContents, closed, judging};
 use crate::escape;
-use crate::escape::Escapes;
 use crate::port;
 use base::Refusal;
+use frames::Delivery;
+use frames::Escapes;
+use frames::Judged;
 
 /// The numbers of packets and frames.
 pub struct Packet;
@@ -37,28 +39,6 @@ impl Packet {
     pub const OVER: usize = Self::RAW + 1;
     /// Bytes of the payload as escaped, at most.
     pub const PAYLOAD: usize = 8192;
-}
-
-/// A packet as it is told of; its key and its payload are parts of the receive buffer.
-pub struct Delivery {
-    pub format: u8,
-    /// The key's number; 0 in format 0x21.
-    pub number: u8,
-    /// Bytes of the key; 0 in format 0x21.
-    pub key: u8,
-    pub port: u16,
-    pub sequence: u16,
-    /// Bytes of the payload.
-    pub length: usize,
-}
-
-/// What a closed frame is judged to be.
-pub enum Judged {
-    Packet(Delivery),
-    /// Refused, by this number of the paper.
-    Refused(u8),
-    /// Refused with 3: the raw byte at this place, counted from 0, is the first that stands behind 7D and is neither 5E nor 5D.
-    Broken(usize),
 }
 
 // Two bytes as a number, low first.

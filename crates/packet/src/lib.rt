@@ -5,11 +5,11 @@ mod port;
 mod sender;
 
 pub use escape::wrong_behind;
-pub use frame::Delivery;
-pub use frame::Judged;
 pub use frame::Packet;
 pub use frame::judge;
-pub use port::Class;
+pub use frames::Class;
+pub use frames::Delivery;
+pub use frames::Judged;
 pub use port::class_of;
 pub use sender::write;
 pub use sender::write_as;

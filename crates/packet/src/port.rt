@@ -1,17 +1,7 @@
 //! Ports and their classes.
 ghost use mathlib.Core.Path.{_≡_};
-ghost use Rattle.packet.specs.Port.{class, barred};
-
-/// The classes of ports.
-pub enum Class {
-    System,
-    Applications,
-    M,
-    D,
-    Future,
-    /// May not be used.
-    Barred,
-}
+ghost use Rattle.frames.specs.Port.{class, barred};
+use frames::Class;
 
 /// The class of a port.
 pub fn class_of(port: u16) -> Class

@@ -15,9 +15,9 @@ use Rattle.base.specs.Choice.{pick}
 use Rattle.base.specs.Calls.{joined, told}
 use Rattle.base.proofs.Calls.{law, inv-hear}
 use Rattle.base.proofs.Tests.{by-test}
-use Rattle.packet.specs.Contents.{Packet, keyFormat}
-use Rattle.packet.specs.Frame.{packet, refusal, broken, delivery}
-use Rattle.channel.specs.Channel.{Event, said, block, lost}
+use Rattle.frames.specs.Contents.{Packet, keyFormat}
+use Rattle.frames.specs.Frame.{packet, refusal, broken, delivery}
+use Rattle.blocks.specs.Channel.{Event, said, block, lost}
 use Rattle.channel.specs.Called.{Fine, owed, handOn, eatByte, hearOn}
 use Rattle.channel.proofs.Cutting.{hand-one}
 use Rattle.channel.proofs.Fine.{fine-is, fine-roomy, fine-eat, fine-hand}

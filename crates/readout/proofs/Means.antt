@@ -17,9 +17,9 @@ use Rattle.base.specs.Choice.{pick}
 use borrow.Author.Tests.{ltb-true}
 use Rattle.base.specs.Calls.{joined, With, tell, andThen, drain, rest, told}
 use Rattle.base.proofs.Calls.{law, settled, all-append}
-use Rattle.packet.specs.Contents.{Packet, keyFormat, payloadAt}
-use Rattle.packet.specs.Frame.{packet, refusal, broken, delivery, part}
-use Rattle.channel.specs.Channel.{Event, said, block, lost}
+use Rattle.frames.specs.Contents.{Packet, keyFormat, payloadAt}
+use Rattle.frames.specs.Frame.{packet, refusal, broken, delivery, part}
+use Rattle.blocks.specs.Channel.{Event, said, block, lost}
 use Rattle.channel.specs.Called.{roomy}
 use Rattle.bid.specs.Line.{feed}
 use Rattle.listed.specs.Lines.{given}

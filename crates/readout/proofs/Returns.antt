@@ -16,10 +16,10 @@ use lib.ListN.{length, getD}
 use borrow.Author.Tests.{lt-ltb, le-ltb, eq-eqb, ne-eqb, leb-true}
 use Rattle.base.specs.Choice.{pick}
 use Rattle.base.proofs.Tests.{and-parts}
-use Rattle.packet.specs.Contents.{keyFormat}
-use Rattle.packet.specs.declared.frame.Delivery.{Delivery}
-use Rattle.packet.specs.declared.frame.Judged.the-variants.{Packet as Delivered, Refused, Broken}
-use Rattle.channel.specs.Channel.{Event}
+use Rattle.frames.specs.Contents.{keyFormat}
+use Rattle.frames.specs.declared.Delivery.{Delivery}
+use Rattle.frames.specs.declared.Judged.the-variants.{Packet as Delivered, Refused, Broken}
+use Rattle.blocks.specs.Channel.{Event}
 use Rattle.channel.specs.Called.{Board, board, sound, roomy, hearOn, hearBy, hearCall, answered, HearingIs}
 use Rattle.channel.specs.declared.answer.Answer.{Answer}
 use Rattle.channel.specs.declared.answer.Answer.the-variants.{More, Said, Block, LockLost}

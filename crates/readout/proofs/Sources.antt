@@ -11,10 +11,10 @@ use mathlib.Core.Option.{Option, some, none}
 use Rattle.base.specs.Calls.{With}
 use Rattle.base.proofs.Calls.{with-hear}
 use Rattle.base.proofs.Above.{hear-seen, all-seen}
-use Rattle.packet.specs.Frame.{Told}
+use Rattle.frames.specs.Frame.{Told}
 use Rattle.stream.specs.Called.{takeByte}
 use Rattle.stream.proofs.Delivery.{ThereIf, there-byte}
-use Rattle.channel.specs.Channel.{Event}
+use Rattle.blocks.specs.Channel.{Event}
 use Rattle.channel.specs.Called.{Board, heldIn, owed, handOn, eatByte, asEvent, hearOn, hearAll, ThereEvent}
 use Rattle.channel.proofs.Cutting.{hand-one}
 use Rattle.channel.proofs.Delivery.{hand-there, eat-there}

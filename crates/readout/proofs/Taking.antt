@@ -15,8 +15,8 @@ use lib.Seq.{take-length, length-take-le}
 use borrow.Author.Tests.{lt-ltb, le-ltb, leb-true}
 use Rattle.base.specs.Choice.{pick}
 use Rattle.base.proofs.Tests.{and-parts}
-use Rattle.packet.specs.Frame.{packet, refusal, broken}
-use Rattle.channel.specs.Channel.{Event, said, block, lost}
+use Rattle.frames.specs.Frame.{packet, refusal, broken}
+use Rattle.blocks.specs.Channel.{Event, said, block, lost}
 use Rattle.channel.specs.Called.{sound, roomy, answered}
 use Rattle.listed.specs.Lines.{longest, given}
 use Rattle.ports.specs.declared.by_value.Ports.{Ports}

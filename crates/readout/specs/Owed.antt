@@ -10,10 +10,10 @@ use mathlib.Core.List.{List, [], _∷_, _++_}
 use lib.Dec.{eqb, ltb, leb}
 use lib.ListN.{length, getD, drop}
 use Rattle.base.specs.Choice.{pick}
-use Rattle.packet.specs.Contents.{keyFormat, payloadAt}
-use Rattle.packet.specs.Frame.{part}
-use Rattle.packet.specs.declared.frame.Delivery.{Delivery}
-use Rattle.packet.specs.declared.frame.Judged.the-variants.{Packet as Delivered, Refused, Broken}
+use Rattle.frames.specs.Contents.{keyFormat, payloadAt}
+use Rattle.frames.specs.Frame.{part}
+use Rattle.frames.specs.declared.Delivery.{Delivery}
+use Rattle.frames.specs.declared.Judged.the-variants.{Packet as Delivered, Refused, Broken}
 use Rattle.channel.specs.declared.answer.Answer.{Answer}
 use Rattle.channel.specs.declared.answer.Answer.the-variants.{More, Said, Block, LockLost}
 use Rattle.bid.specs.Line.{feed}

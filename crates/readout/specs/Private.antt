@@ -9,10 +9,10 @@ use mathlib.Core.List.{List, _++_}
 use mathlib.Core.Option.{Option}
 use lib.ListN.{length, take, drop}
 use Rattle.base.specs.Written.{copied}
-use Rattle.channel.specs.Channel.{Event}
+use Rattle.blocks.specs.Channel.{Event}
 use Rattle.readout.specs.declared.owed.Owed.{Owed}
 use Rattle.readout.specs.declared.owed.Put.{Put}
-use Rattle.packet.specs.declared.frame.Judged.the-variants.{Packet as Delivered, Refused, Broken}
+use Rattle.frames.specs.declared.Judged.the-variants.{Packet as Delivered, Refused, Broken}
 use Rattle.channel.specs.Called.{hearCall, answered}
 use Rattle.channel.specs.declared.answer.Answer.{Answer}
 use Rattle.channel.specs.declared.answer.Answer.the-variants.{More, Said, Block, LockLost}

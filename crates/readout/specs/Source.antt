@@ -8,7 +8,7 @@ use mathlib.Core.Bool.{Bool, true, false}
 use mathlib.Core.List.{List}
 use mathlib.Core.Option.{Option}
 use Rattle.base.specs.Calls.{all, hear}
-use Rattle.channel.specs.Channel.{Event}
+use Rattle.blocks.specs.Channel.{Event}
 use Rattle.channel.specs.Called.{Board, owed, handOn, eatByte}
 use Rattle.tape.specs.Deck.{ear, Deck, deck, deckOwes, deckHand, deckEat}
 

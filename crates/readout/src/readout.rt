@@ -7,7 +7,7 @@ ghost use lib.ListN.{length};
 ghost use Rattle.channel.specs.Called.{roomy};
 ghost use Rattle.listed.specs.Lines.{longest};
 ghost use Rattle.channel.specs.declared.answer.Answer.the-variants.{Said};
-ghost use Rattle.packet.specs.declared.frame.Judged.the-variants.{Packet as Delivered};
+ghost use Rattle.frames.specs.declared.Judged.the-variants.{Packet as Delivered};
 ghost use Rattle.shown.specs.Board.{writtenAll};
 ghost use Rattle.lines.specs.Piece.{pieceOf};
 ghost use Rattle.tape.specs.Called.{deckOf};

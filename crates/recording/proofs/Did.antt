@@ -14,7 +14,7 @@ use lib.Seq.{drop-drop}
 use Rattle.base.specs.Choice.{pick}
 use Rattle.base.specs.Calls.{joined, told, andThen, drain, rest}
 use Rattle.base.proofs.Calls.{law, settled, all-append}
-use Rattle.channel.specs.Channel.{Event}
+use Rattle.blocks.specs.Channel.{Event}
 use Rattle.channel.specs.Called.{sound, roomy}
 use Rattle.channel.specs.declared.answer.Answer.{Answer}
 use Rattle.listed.specs.Lines.{line, given, lines, longest}

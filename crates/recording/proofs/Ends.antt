@@ -17,9 +17,9 @@ use Rattle.base.specs.Calls.{joined, tell, drain, rest}
 use Rattle.base.specs.declared.Written.the-variants.{Wrote}
 use Rattle.base.proofs.Calls.{all-append}
 use Rattle.base.proofs.Writing.{write-fits}
-use Rattle.packet.specs.Contents.{rawLimit}
-use Rattle.channel.specs.Sender.{messageBytes, wordBytes}
-use Rattle.channel.specs.Channel.{Event}
+use Rattle.frames.specs.Contents.{rawLimit}
+use Rattle.blocks.specs.Sender.{messageBytes, wordBytes}
+use Rattle.blocks.specs.Channel.{Event}
 use Rattle.channel.specs.Called.{Board, board, freshReceiver, owedBy}
 use Rattle.channel.specs.declared.answer.Answer.{Answer}
 use Rattle.channel.proofs.Fine.{fine-is, fine-roomy, fine-fresh}

@@ -16,9 +16,9 @@ use Rattle.base.specs.Choice.{pick}
 use Rattle.base.specs.Calls.{joined}
 use Rattle.base.specs.declared.Written.the-variants.{Wrote}
 use Rattle.base.proofs.Writing.{write-is}
-use Rattle.packet.specs.Contents.{rawLimit}
-use Rattle.channel.specs.Sender.{wordBytes}
-use Rattle.channel.specs.Channel.{Event}
+use Rattle.frames.specs.Contents.{rawLimit}
+use Rattle.blocks.specs.Sender.{wordBytes}
+use Rattle.blocks.specs.Channel.{Event}
 use Rattle.channel.specs.Called.{board, freshReceiver}
 use Rattle.listed.specs.declared.Place.{Place}
 use Rattle.listed.specs.declared.Place.the-variants.{Mode, Mark, Second, Low, High, Inside, Wrong}

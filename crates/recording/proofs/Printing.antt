@@ -12,7 +12,7 @@ use mathlib.Core.Option.{Option, some, none}
 use lib.Dec.{leb}
 use lib.ListN.{length, drop}
 use borrow.Author.Tests.{lt-ltb, le-ltb, le-leb, leb-true}
-use Rattle.channel.specs.Channel.{Event}
+use Rattle.blocks.specs.Channel.{Event}
 use Rattle.channel.specs.Called.{sound, roomy, answered}
 use Rattle.channel.specs.declared.answer.Answer.{Answer}
 use Rattle.base.proofs.Tests.{and-parts}

@@ -12,7 +12,7 @@ use lib.Dec.{ltb, leb}
 use lib.ListN.{length, drop}
 use Rattle.base.specs.Choice.{pick}
 use Rattle.base.specs.Written.{Outcome, write}
-use Rattle.channel.specs.Channel.{Event}
+use Rattle.blocks.specs.Channel.{Event}
 use Rattle.channel.specs.Called.{sound, roomy}
 use Rattle.channel.specs.declared.answer.Answer.{Answer}
 use Rattle.listed.specs.declared.Spot.{Spot}

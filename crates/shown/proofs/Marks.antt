@@ -17,11 +17,11 @@ use lib.ListN.{length}
 use borrow.Author.Tests.{eq-eqb, ne-eqb}
 use Rattle.base.specs.Choice.{pick}
 use Rattle.base.proofs.Tests.{by-eq}
-use Rattle.packet.specs.Contents.{Packet, plainFormat, keyFormat, packetOf, keyPacket}
-use Rattle.packet.specs.Frame.{packet, refusal, broken}
-use Rattle.channel.specs.Channel.{Event, said, block, lost, frames}
-use Rattle.channel.specs.declared.answer.Condition.{Condition}
-use Rattle.channel.specs.declared.answer.Condition.the-variants.{Clean, Repaired, Beyond}
+use Rattle.frames.specs.Contents.{Packet, plainFormat, keyFormat, packetOf, keyPacket}
+use Rattle.frames.specs.Frame.{packet, refusal, broken}
+use Rattle.blocks.specs.Channel.{Event, said, block, lost, frames}
+use Rattle.blocks.specs.declared.Condition.{Condition}
+use Rattle.blocks.specs.declared.Condition.the-variants.{Clean, Repaired, Beyond}
 use Rattle.ports.specs.declared.Entry.{Entry}
 use Rattle.ports.specs.declared.Noted.{Noted}
 use Rattle.ports.specs.declared.Noted.the-variants.{First, InOrder, Repeated, Missing, Late, Refused}

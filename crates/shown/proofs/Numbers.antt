@@ -7,10 +7,10 @@ use Prim.Native.Nat.{ℕ}
 use mathlib.Core.Path.{_≡_, refl}
 use mathlib.Core.Bool.{Bool, true, false}
 use mathlib.Core.List.{List, [], _∷_, map}
-use Rattle.packet.specs.Contents.{plainPacket, keyPacket}
-use Rattle.packet.specs.Frame.{packet, refusal, broken}
-use Rattle.channel.specs.Channel.{Event, said, block, lost}
-use Rattle.channel.specs.declared.answer.Condition.the-variants.{Clean, Repaired, Beyond}
+use Rattle.frames.specs.Contents.{plainPacket, keyPacket}
+use Rattle.frames.specs.Frame.{packet, refusal, broken}
+use Rattle.blocks.specs.Channel.{Event, said, block, lost}
+use Rattle.blocks.specs.declared.Condition.the-variants.{Clean, Repaired, Beyond}
 use Rattle.listed.specs.Lines.{decimalBy, decimal}
 use Rattle.ports.specs.Ports.{placeOf, freePlace, twice, noting}
 use Rattle.shown.specs.Text.{shownByte, shownText, bidText}

@@ -15,10 +15,10 @@ use borrow.Author.Tests.{eq-eqb, ne-eqb}
 use Rattle.base.specs.Bytes.{Each}
 use Rattle.base.specs.Choice.{pick}
 use Rattle.base.proofs.Tests.{by-eq, by-le}
-use Rattle.packet.specs.Contents.{Packet, plainFormat, keyFormat}
-use Rattle.packet.specs.Frame.{Told}
+use Rattle.frames.specs.Contents.{Packet, plainFormat, keyFormat}
+use Rattle.frames.specs.Frame.{Told}
 use Rattle.stream.specs.Sender.{delivered}
-use Rattle.channel.specs.Channel.{Event, frames}
+use Rattle.blocks.specs.Channel.{Event, frames}
 use Rattle.ports.specs.declared.Entry.{Entry}
 use Rattle.ports.specs.declared.Noted.{Noted}
 use Rattle.ports.specs.declared.Noted.the-variants.{First, InOrder, Refused}

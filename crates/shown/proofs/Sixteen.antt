@@ -16,12 +16,12 @@ use borrow.Author.Tests.{eq-eqb, ne-eqb}
 use Rattle.base.specs.Bytes.{Each}
 use Rattle.base.specs.Choice.{pick}
 use Rattle.base.proofs.Tests.{by-eq}
-use Rattle.packet.specs.Contents.{Packet, plainFormat, keyFormat}
-use Rattle.packet.specs.Frame.{Told, packet, refusal, broken}
+use Rattle.frames.specs.Contents.{Packet, plainFormat, keyFormat}
+use Rattle.frames.specs.Frame.{Told, packet, refusal, broken}
 use Rattle.stream.specs.Sender.{delivered}
-use Rattle.channel.specs.Channel.{Event, said, block, lost, frames, blocks, losses}
-use Rattle.channel.specs.declared.answer.Condition.{Condition}
-use Rattle.channel.specs.declared.answer.Condition.the-variants.{Clean, Repaired, Beyond}
+use Rattle.blocks.specs.Channel.{Event, said, block, lost, frames, blocks, losses}
+use Rattle.blocks.specs.declared.Condition.{Condition}
+use Rattle.blocks.specs.declared.Condition.the-variants.{Clean, Repaired, Beyond}
 use Rattle.ports.specs.declared.Entry.{Entry}
 use Rattle.ports.specs.declared.Noted.{Noted}
 use Rattle.ports.specs.declared.Noted.the-variants.{First, InOrder}

@@ -14,13 +14,13 @@ use mathlib.Core.Option.{some}
 use lib.Dec.{eqb}
 use lib.ListN.{length, length-append}
 use Rattle.base.specs.Choice.{pick}
-use Rattle.packet.specs.Contents.{Packet, keyFormat}
-use Rattle.packet.specs.Frame.{packet, refusal, broken, delivery}
-use Rattle.packet.specs.declared.frame.Delivery.{Delivery}
-use Rattle.packet.specs.declared.frame.Judged.the-variants.{Packet as Delivered, Refused as RefusedFrame, Broken}
-use Rattle.channel.specs.Channel.{Event, said, block, lost}
+use Rattle.frames.specs.Contents.{Packet, keyFormat}
+use Rattle.frames.specs.Frame.{packet, refusal, broken, delivery}
+use Rattle.frames.specs.declared.Delivery.{Delivery}
+use Rattle.frames.specs.declared.Judged.the-variants.{Packet as Delivered, Refused as RefusedFrame, Broken}
+use Rattle.blocks.specs.Channel.{Event, said, block, lost}
 use Rattle.channel.specs.Called.{answered}
-use Rattle.channel.specs.declared.answer.Condition.the-variants.{Clean, Repaired, Beyond}
+use Rattle.blocks.specs.declared.Condition.the-variants.{Clean, Repaired, Beyond}
 use Rattle.channel.specs.declared.answer.Answer.{Answer}
 use Rattle.channel.specs.declared.answer.Answer.the-variants.{More, Said, Block, LockLost}
 use Rattle.bid.specs.Line.{feed}

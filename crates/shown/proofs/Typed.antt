@@ -13,7 +13,7 @@ use lib.ListN.{length}
 use Rattle.base.specs.Bytes.{Each}
 use Rattle.base.specs.Choice.{pick}
 use Rattle.base.proofs.Tests.{by-eq}
-use Rattle.packet.specs.Contents.{Packet, plainFormat}
+use Rattle.frames.specs.Contents.{Packet, plainFormat}
 use Rattle.bid.specs.Line.{feed, Verdict, noBid, refused, accepted, verdict}
 use Rattle.bid.specs.Input.{linesFrom, linesOf, packets, packetsOf, numbered, complaintsFrom, complaints}
 use Rattle.bid.proofs.Lines.{lines-feed, lines-other, lines-none}

@@ -9,11 +9,11 @@ use mathlib.Core.Bool.{Bool, true, false}
 use mathlib.Core.List.{List, [], _∷_, _++_}
 use lib.Dec.{eqb}
 use Rattle.base.specs.Choice.{pick}
-use Rattle.packet.specs.Contents.{Packet, keyFormat}
-use Rattle.packet.specs.Frame.{packet, refusal, broken}
-use Rattle.channel.specs.Channel.{Event, said, block, lost, answers}
-use Rattle.channel.specs.declared.answer.Condition.{Condition}
-use Rattle.channel.specs.declared.answer.Condition.the-variants.{Clean, Repaired, Beyond}
+use Rattle.frames.specs.Contents.{Packet, keyFormat}
+use Rattle.frames.specs.Frame.{packet, refusal, broken}
+use Rattle.blocks.specs.Channel.{Event, said, block, lost, answers}
+use Rattle.blocks.specs.declared.Condition.{Condition}
+use Rattle.blocks.specs.declared.Condition.the-variants.{Clean, Repaired, Beyond}
 use Rattle.bid.specs.Line.{feed, space}
 use Rattle.listed.specs.declared.Spot.{Spot}
 use Rattle.listed.specs.Apart.{freshSpot, apart, well, onChannel}

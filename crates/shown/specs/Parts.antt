@@ -7,9 +7,9 @@ use mathlib.Core.Bool.{Bool}
 use mathlib.Core.List.{List, [], _∷_, _++_}
 use lib.Dec.{eqb}
 use Rattle.base.specs.Choice.{pick}
-use Rattle.packet.specs.Contents.{Packet, keyFormat}
-use Rattle.packet.specs.declared.frame.Delivery.{Delivery}
-use Rattle.packet.specs.declared.frame.Judged.the-variants.{Packet as Delivered, Refused as RefusedFrame, Broken}
+use Rattle.frames.specs.Contents.{Packet, keyFormat}
+use Rattle.frames.specs.declared.Delivery.{Delivery}
+use Rattle.frames.specs.declared.Judged.the-variants.{Packet as Delivered, Refused as RefusedFrame, Broken}
 use Rattle.channel.specs.declared.answer.Answer.{Answer}
 use Rattle.channel.specs.declared.answer.Answer.the-variants.{More, Said, Block, LockLost}
 use Rattle.bid.specs.Line.{feed}

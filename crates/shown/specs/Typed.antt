@@ -18,8 +18,8 @@ use lib.ListN.{length, getD}
 use Rattle.base.specs.Bytes.{Each}
 use Rattle.base.specs.Choice.{pick}
 use Rattle.base.specs.UpTo.{upTo}
-use Rattle.packet.specs.Contents.{Packet, keyFormat}
-use Rattle.packet.specs.Frame.{Told, packet, refusal, broken}
+use Rattle.frames.specs.Contents.{Packet, keyFormat}
+use Rattle.frames.specs.Frame.{Told, packet, refusal, broken}
 use Rattle.bid.specs.Line.{feed, space, past, port, sequence, text, Verdict, noBid, refused, accepted, verdict}
 use Rattle.bid.specs.Input.{linesOf}
 use Rattle.ports.specs.declared.Entry.{Entry}

@@ -15,8 +15,8 @@ use Rattle.base.specs.UpTo.{upTo}
 use Rattle.base.proofs.Lists.{next, over}
 use Rattle.base.proofs.UpTo.{up-to-more, up-to-over, up-to-short}
 use Rattle.base.proofs.Tests.{by-eq, by-le}
-use Rattle.packet.specs.Contents.{rawLimit}
-use Rattle.packet.specs.Escape.{flag, NoFlag}
+use Rattle.frames.specs.Contents.{rawLimit}
+use Rattle.frames.specs.Escape.{flag, NoFlag}
 use Rattle.stream.specs.declared.frame.Frame.{Frame}
 use Rattle.stream.specs.Private.{before, countedBy, counted, gatheredBy}
 

@@ -9,7 +9,7 @@ use mathlib.Core.List.{List}
 use lib.ListN.{length}
 use Rattle.base.specs.Calls.{joined}
 use Rattle.base.proofs.Calls.{yields-so}
-use Rattle.channel.specs.Channel.{Event}
+use Rattle.blocks.specs.Channel.{Event}
 use Rattle.channel.proofs.Fine.{fine-fresh}
 use Rattle.listed.specs.Apart.{freshSpot, apart, onChannel}
 use Rattle.listed.specs.Listing.{heard}

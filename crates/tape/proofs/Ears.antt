@@ -16,16 +16,16 @@ use Rattle.base.specs.Calls.{owesNone, handsNone, all}
 use Rattle.base.proofs.Calls.{none-owed}
 use Rattle.base.proofs.Above.{hear-seen, all-seen}
 use Rattle.base.proofs.Tests.{and-parts}
-use Rattle.packet.specs.Contents.{rawLimit}
-use Rattle.packet.specs.Frame.{Told}
-use Rattle.packet.specs.declared.frame.Judged.{Judged}
+use Rattle.frames.specs.Contents.{rawLimit}
+use Rattle.frames.specs.Frame.{Told}
+use Rattle.frames.specs.declared.Judged.{Judged}
 use Rattle.stream.specs.Called.{Held, held, takeByte, readAll, readOn, readCall, ReadIs, sound as soundFrame, answered as heardOf}
 use Rattle.stream.specs.declared.frame.Read.{Read}
 use Rattle.stream.specs.declared.frame.Heard.{Heard}
 use Rattle.stream.specs.declared.frame.Heard.the-variants.{More as NoMore, Said as Says}
 use Rattle.stream.proofs.Fine.{fine-of as frame-fine}
 use Rattle.stream.proofs.Cutting.{read-agrees}
-use Rattle.channel.specs.Channel.{said}
+use Rattle.blocks.specs.Channel.{said}
 use Rattle.channel.specs.Called.{Board, board, heldIn, owed, handOn, eatByte, asEvent, hearAll, hearOn, hearCall, HearingIs, sound, roomy, answered}
 use Rattle.channel.specs.declared.receiver.Receiver.{Receiver}
 use Rattle.channel.specs.declared.answer.Hearing.{Hearing}

@@ -12,7 +12,7 @@ use lib.Seq.{drop-drop}
 use Rattle.base.specs.Calls.{after}
 use Rattle.base.proofs.Calls.{after-none, after-after}
 use Rattle.base.proofs.Parts.{tail-is}
-use Rattle.channel.specs.Channel.{Event}
+use Rattle.blocks.specs.Channel.{Event}
 use Rattle.channel.specs.Called.{sound, roomy, answered}
 use Rattle.tape.specs.declared.tape.Tape.{Tape}
 use Rattle.tape.specs.declared.tape.Turn.{Turn}

@@ -11,7 +11,7 @@ use mathlib.Core.Option.{Option, some, none}
 use lib.ListN.{length}
 use Rattle.base.specs.Calls.{unless, oneMore}
 use Rattle.base.proofs.Calls.{hear-by, FitsBy, fits, inv-hear}
-use Rattle.channel.specs.Channel.{Event}
+use Rattle.blocks.specs.Channel.{Event}
 use Rattle.listed.specs.Apart.{inStream}
 use Rattle.tape.specs.Deck.{Deck, deckOwes, deckHand, byteBy, deckEat, deckHear}
 use Rattle.tape.proofs.Ears.{deck-hand-one}

@@ -11,11 +11,11 @@ use lib.Dec.{eqb, ltb}
 use lib.ListN.{length}
 use Rattle.base.specs.Choice.{pick}
 use Rattle.base.specs.Calls.{tell, drain, rest, all}
-use Rattle.packet.specs.Contents.{rawLimit}
+use Rattle.frames.specs.Contents.{rawLimit}
 use Rattle.stream.specs.Reader.{waiting}
 use Rattle.stream.proofs.Shown.{shown-plain}
-use Rattle.channel.specs.Sender.{wordBytes}
-use Rattle.channel.specs.Channel.{Event, said, freshChannel as hunts}
+use Rattle.blocks.specs.Sender.{wordBytes}
+use Rattle.blocks.specs.Channel.{Event, said, freshChannel as hunts}
 use Rattle.channel.specs.Called.{board, freshReceiver}
 use Rattle.channel.proofs.Shown.{shown-all}
 use Rattle.listed.specs.declared.Place.{Place}

@@ -13,8 +13,8 @@ use mathlib.Core.List.{List}
 use mathlib.Core.Option.{Option}
 use lib.ListN.{length}
 use borrow.Author.Tests.{le-leb, leb-true}
-use Rattle.packet.specs.declared.frame.Judged.the-variants.{Refused}
-use Rattle.channel.specs.Channel.{Event}
+use Rattle.frames.specs.declared.Judged.the-variants.{Refused}
+use Rattle.blocks.specs.Channel.{Event}
 use Rattle.channel.specs.Called.{sound, roomy, Fine}
 use Rattle.channel.specs.declared.answer.Answer.the-variants.{Said}
 use Rattle.channel.proofs.Fine.{fine-of, fine-is, fine-roomy}

@@ -15,7 +15,7 @@ use lib.Seq.{length-take-le, drop-append-le, drop-cons}
 use Rattle.base.specs.Calls.{unless, oneMore, after}
 use Rattle.base.proofs.Calls.{after-none, one-after, FitsBy, Fits, fits, inv-hear, hear-eat, hear-end}
 use Rattle.stream.proofs.Fine.{fine-take}
-use Rattle.channel.specs.Channel.{Event, said, block, lost}
+use Rattle.blocks.specs.Channel.{Event, said, block, lost}
 use Rattle.channel.specs.Called.{Board, board, heldIn, sound, roomy, answered, handOn, Fine}
 use Rattle.channel.specs.declared.receiver.Receiver.{Receiver}
 use Rattle.channel.specs.declared.answer.Hearing.{Hearing}

@@ -13,10 +13,10 @@ use mathlib.Core.Option.{Option, some}
 use lib.Dec.{leb}
 use lib.ListN.{length}
 use Rattle.base.specs.Calls.{joined, Yields}
-use Rattle.packet.specs.Contents.{rawLimit}
-use Rattle.packet.specs.Frame.{refusal}
-use Rattle.channel.specs.Sender.{wordBytes}
-use Rattle.channel.specs.Channel.{Event, said}
+use Rattle.frames.specs.Contents.{rawLimit}
+use Rattle.frames.specs.Frame.{refusal}
+use Rattle.blocks.specs.Sender.{wordBytes}
+use Rattle.blocks.specs.Channel.{Event, said}
 use Rattle.channel.specs.Called.{board, sound, roomy, freshReceiver, answered}
 use Rattle.channel.specs.declared.answer.Answer.{Answer}
 use Rattle.channel.specs.declared.answer.Answer.the-variants.{More, Said, Block, LockLost}

@@ -10,9 +10,9 @@ use mathlib.Core.List.{List}
 use mathlib.Core.Option.{Option, none}
 use lib.Dec.{eqb}
 use Rattle.base.specs.Calls.{all, hear}
-use Rattle.packet.specs.Frame.{Told}
+use Rattle.frames.specs.Frame.{Told}
 use Rattle.stream.specs.Called.{Held, takeByte}
-use Rattle.channel.specs.Channel.{Event}
+use Rattle.blocks.specs.Channel.{Event}
 use Rattle.channel.specs.Called.{Board, board, heldIn, owed, handOn, eatByte, asEvent, freshReceiver}
 use Rattle.listed.specs.declared.Place.{Place}
 use Rattle.listed.specs.declared.Place.the-variants.{Mode, Mark, Second, Low, High, Inside, Wrong}

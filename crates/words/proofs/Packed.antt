@@ -3,6 +3,7 @@
 -- bytes-xor, bytes-double     sum and double of the number, byte by byte; room for the latter
 -- bytes-behind, bytes-first   a byte behind the others, and the first one apart
 -- bytes-zero                  all are zero exactly where the number is
+-- below-packed                the generator of 32 roots, its leading 1 aside, as four numbers: computed
 use mathlib.Core.Path.{_≡_, refl, sym, ap, ap₂, _∙_}
 use mathlib.Core.Bool.{Bool, true, false, _&&_}
 use mathlib.Core.List.{List, [], _∷_, _++_, map, map-append}
@@ -17,10 +18,10 @@ use borrow.Author.Tests.{eq-eqb, ne-eqb}
 use Rattle.base.specs.Bytes.{IsByte, Bytes}
 use Rattle.base.proofs.Bytes.{each-append}
 use Rattle.base.proofs.Tests.{all-at, by-eq}
-use Rattle.field.specs.Field.{polynomial, add, double}
+use Rattle.field.specs.Field.{polynomial, add, double, shiftAdd, mul, pow}
 use Rattle.field.proofs.Product.{double-lt}
-use Rattle.words.specs.Word.{onto}
-use Rattle.words.specs.Private.{bytesOf, isZero}
+use Rattle.words.specs.Word.{scale, onto, timesRoot, generator}
+use Rattle.words.specs.Private.{bytesOf, below, isZero}
 use Rattle.words.proofs.Sums.{onto-append}
 
 pub length-bytes : (n x : ℕ) → length (bytesOf n x) ≡ n
@@ -160,3 +161,8 @@ bytes-zero (suc n) x h =
     parts =
         by-eq x 0 (λ e. rw e refl)
         (λ e. by-eq (x / 256) 0 (λ q. rw (ne-eqb (x % 256) 0 (λ z. e (omega arith)), ne-eqb x 0 e, eq-eqb (x / 256) 0 q) refl) (λ q. rw (ne-eqb (x / 256) 0 q, ne-eqb x 0 e) refl))
+
+-- ---- the generator of 32 roots
+pub below-packed : bytesOf 8 0xE81DBD328EF6E80F ++ bytesOf 8 0x2B52A4EE019E0D77 ++ bytesOf 8 0x9EE086E3D2A3326B ++ bytesOf 8 0x281B68FD18EFD82D ≡ below
+unfolding bytesOf generator timesRoot onto scale pow mul shiftAdd double add
+below-packed = refl

@@ -1,7 +1,7 @@
 -- `parity::step` meets its contract. The invariant: the values passed, and the step of the rest, are the step of all.
-use mathlib.Core.Path.{_≡_, refl}
+use mathlib.Core.Path.{_≡_, refl, sym, subst, _∙_}
 use mathlib.Core.List.{_++_}
-use Prim.Native.Nat.{_-_, _≤_}
+use Prim.Native.Nat.{ℕ, _-_, _≤_, _<_}
 use native.Mathlib.Omega.{arith}
 use lib.ListN.{length, take, drop, length-set}
 use borrow.Author.Needs.{needs}
@@ -22,17 +22,18 @@ step-spec =
     tie.close
     (tie.spec Inv-loop μ-loop
     (λ c. (omega arith, omega arith, refl))
+    (λ c. c .loop-test .taken)
+    (λ c. c .loop-test .taken)
     (search needs)
     (search needs)
-    (search needs)
-    (search needs)
-    (search needs)
+    (λ c. c .before .before .loop-test .taken)
     (omega arith)
     (omega arith)
     (λ c.
-    let inv = c .before .before .before .loop .inv in (
+    let at = c .before .before .before .loop in
+    let more = c .before .before .loop-test .taken in (
       omega arith,
-      simp length-set (inv .1),
-      step-next _ _ (c .before .before .before .before .args .t2) _ (inv .2) (omega arith) (omega arith) (c .before .times .ensures) (c .plus .ensures),
+      length-set (at .next) (at .j) (c .plus .result) ∙ at .inv .1,
+      step-next _ _ (c .before .before .before .before .args .t2) _ (at .inv .2) (omega arith) (subst (λ (n : ℕ). at .j < n) (sym (at .inv .1)) more) (c .before .times .ensures) (c .plus .ensures),
     ))
     (λ c. step-done _ (c .before .loop .j) (c .before .before .args .t2) _ (c .before .loop .inv .2) (omega arith)))

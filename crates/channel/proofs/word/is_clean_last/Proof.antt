@@ -5,7 +5,7 @@ use Prim.Native.Nat.{_+_, _-_}
 use lib.ListN.{take, drop}
 use borrow.Author.Needs.{needs}
 use Rattle.words.specs.Word.{clean}
-use Rattle.channel.specs.Sender.{parityBytes, wordBytes}
+use Rattle.blocks.specs.Sender.{parityBytes, wordBytes}
 use Rattle.channel.proofs.word.is_clean_last.Statement.{statement}
 use Rattle.channel.proofs.word.is_clean_last.Tie as tie
 

@@ -1,7 +1,7 @@
 -- `lines::piece::put_refused` meets its contract.
 use borrow.Author.Needs.{needs}
 use mathlib.Core.Bool.{true}
-use Rattle.packet.specs.declared.frame.Judged.{Judged}
+use Rattle.frames.specs.declared.Judged.{Judged}
 use Rattle.channel.specs.declared.answer.Answer.the-variants.{Said}
 use Rattle.shown.specs.Parts.{remark}
 use Rattle.lines.proofs.Pieces.{by-case, nothing-put, refused-line, broken-line}

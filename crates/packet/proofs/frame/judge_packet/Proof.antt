@@ -1,7 +1,7 @@
 -- `packet::frame::judge_packet` meets its contract: each return by the tests that led there.
 use mathlib.Core.Path.{refl}
 use borrow.Author.Needs.{needs}
-use Rattle.packet.proofs.Judging.{rest-port, rest-payload, rest-packet}
+use Rattle.frames.proofs.Judging.{rest-port, rest-payload, rest-packet}
 use Rattle.packet.proofs.frame.judge_packet.Statement.{statement}
 use Rattle.packet.proofs.frame.judge_packet.Tie as tie
 

@@ -1,7 +1,6 @@
 -- `parity::lanes::beyond` meets its contract: a step of the division, with the generator in the lanes.
-use borrow.Author.Needs.{needs}
 use Rattle.words.specs.Private.{below}
-use Rattle.parity.proofs.Laid.{length-below, product-turn, beyond-is}
+use Rattle.parity.proofs.Laid.{length-below, product-turn, beyond-is, low-place, low-fits, high-place, high-fits}
 use Rattle.parity.proofs.lanes.beyond.Statement.{statement}
 use Rattle.parity.proofs.lanes.beyond.Tie as tie
 
@@ -9,15 +8,15 @@ pub beyond-spec : {M : Type 1} → statement M
 beyond-spec =
     tie.close
     (tie.spec
-    (search needs)
-    (search needs)
-    (search needs)
-    (search needs)
-    (search needs)
-    (search needs)
-    (search needs)
-    (search needs)
-    (search needs)
+    (λ c κs. tt)
+    (λ c κs. tt)
+    (λ c. low-fits (c .first .result))
+    (λ c. low-place (c .first .result))
+    (λ c. high-fits (c .before .first .result) (c .before .first .ensures .1))
+    (λ c. high-place (c .before .first .result) (c .before .first .ensures .1))
+    (λ c κs. tt)
+    (λ c κs. tt)
+    (λ c κs. tt)
     (λ c.
     let first = c .before .before .before .before .before in
     let start = c .before .before .before .before .before .before .before in

@@ -1,7 +1,7 @@
 -- `stream::sender::append_as` meets its contract.
 use borrow.Author.Needs.{needs}
-use Rattle.packet.specs.Contents.{packetOf}
-use Rattle.packet.specs.Sender.{writing}
+use Rattle.frames.specs.Contents.{packetOf}
+use Rattle.frames.specs.Sender.{writing}
 use Rattle.stream.proofs.Sending.{appended}
 use Rattle.stream.proofs.sender.append_as.Statement.{statement}
 use Rattle.stream.proofs.sender.append_as.Tie as tie

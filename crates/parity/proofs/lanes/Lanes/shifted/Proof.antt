@@ -1,5 +1,4 @@
 -- `parity::lanes::Lanes::shifted` meets its contract, by the law of the shift.
-use native.Mathlib.Omega.{arith}
 use borrow.Author.Needs.{needs}
 use Rattle.parity.proofs.Laid.{laid-shifted, joins}
 use Rattle.parity.proofs.lanes.Lanes.shifted.Statement.{statement}
@@ -18,4 +17,7 @@ shifted-spec =
     (λ c. joins _ _ (search (needs, c .struct-known6 .given)))
     (search needs)
     (search needs)
-    (λ c. laid-shifted _ (omega arith) (omega arith) (omega arith) (omega arith) _ (omega arith) (c .before .before .before .before .before .before .before .wide .ensures)))
+    (λ c.
+    let wide = c .before .before .before .before .before .before .before in
+    let four = c .struct-known7 .given in
+    laid-shifted (wide .before .args .self) (four .0 .fits) (four .1 .0 .fits) (four .1 .1 .0 .fits) (four .1 .1 .1 .0 .fits) _ (wide .before .fits .x .fits) (wide .wide .ensures)))

@@ -1,7 +1,6 @@
 -- `parity::lanes::Lanes::shifted_twice` meets its contract, by the law of the shift.
 use mathlib.Core.Path.{ap₂}
 use Prim.Native.Nat.{ℕ, _+_, _*_}
-use native.Mathlib.Omega.{arith}
 use borrow.Author.Needs.{needs}
 use Rattle.parity.proofs.Laid.{laid-twice, joins-two}
 use Rattle.parity.proofs.lanes.Lanes.shifted_twice.Statement.{statement}
@@ -25,5 +24,7 @@ shifted-twice-spec =
     (search needs)
     (λ c.
     let wide = c .before .before .before .before .before .before .before in
-    laid-twice _ (omega arith) (omega arith) (omega arith) (omega arith) _ _ (omega arith) (omega arith)
+    let start = wide .before .before in
+    let four = c .struct-known7 .given in
+    laid-twice (start .args .self) (four .0 .fits) (four .1 .0 .fits) (four .1 .1 .0 .fits) (four .1 .1 .1 .0 .fits) _ _ (start .fits .x .fits) (start .fits .y .fits)
     (ap₂ (λ (p q : ℕ). p * 256 + q) (wide .before .wide .ensures) (wide .wide2 .ensures))))

@@ -1,0 +1,5 @@
+pub mod Words
+pub mod Marking
+pub mod Streaming
+pub mod Order
+pub mod Numbers
