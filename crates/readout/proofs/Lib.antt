@@ -5,3 +5,5 @@ pub mod Ends
 pub mod Returns
 pub mod Putting
 pub mod Taking
+pub mod Demands
+pub mod Determined

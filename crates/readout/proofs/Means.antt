@@ -1,7 +1,5 @@
 -- What a call writes and leaves is what the bytes mean.
 -- owing-left      what is owed of an answer is its lines
--- tableAll        the table behind answers
--- meant           all that is to be shown of a screen and bytes to come, and the screen then
 -- meant-append    bytes one after the other
 -- takes-means     a call
 -- shows-means, all-means   calls one after the other: any cutting, any room
@@ -37,7 +35,7 @@ use Rattle.readout.specs.declared.readout.Wants.the-variants.{More, Agai
 use Rattle.readout.specs.Source.{Source, boardIn, sourceOwes, sourceHand, sourceEat, sourceAll, sourceHear}
 use Rattle.readout.specs.Owed.{alone, nothing, withText, owedPacket, owing, left, leftBehind, forthBy}
 use Rattle.readout.specs.Called.{Screen, screen, readoutOf, recvOn, owedOn, Part, partly, heardBy, takesOn, soundState, takesBy, takes}
-use Rattle.readout.specs.Runs.{Shows, more, again, ShowsAll, done, piece}
+use Rattle.readout.specs.Runs.{tableAll, shownBy, meant, Shows, more, again, ShowsAll, done, piece}
 use Rattle.readout.proofs.Sources.{source-hand-one, ThereIn, source-there}
 use Rattle.readout.proofs.Left.{Whole, piece-whole, left-none, left-new, left-by}
 
@@ -67,11 +65,6 @@ owing-left b t (block c) s h = alone-left (remark b (given (block c))) (boardIn 
 owing-left b t lost s h = alone-left (remark b (given lost)) (boardIn (s .deck) .recv) ∙ sym (remark-is b t lost tt)
 
 -- ---- all that is to be shown
--- the table behind answers
-abbrev pub tableAll : List Entry → List Event → List Entry
-tableAll t [] = t
-tableAll t (e ∷ es) = tableAll (tableBehind t e) es
-
 table-append : (t : List Entry) (xs ys : List Event) → tableAll t (xs ++ ys) ≡ tableAll (tableAll t xs) ys
 table-append t [] ys = refl
 table-append t (x ∷ xs) ys = table-append (tableBehind t x) xs ys
@@ -82,14 +75,6 @@ lines-append b t [] ys = refl
 lines-append b t (x ∷ xs) ys =
     ap (λ (ls : List Line). eventLines b t x ++ ls) (lines-append b (tableBehind t x) xs ys)
     ∙ sym (append-assoc (eventLines b t x) (boardLines b (tableBehind t x) xs) (boardLines b (tableAll t (x ∷ xs)) ys))
-
--- what answers show behind a text, and the screen behind them
-abbrev pub shownBy : List ℕ → Bool → List Entry → List Event × Source → List ℕ × Screen
-shownBy text b t r = (text ++ writtenAll (boardLines b t (r .0)), screen b nothing (tableAll t (r .0)) (r .1))
-
--- of a screen and bytes to come: what is owed comes first
-abbrev pub meant : Screen → List ℕ → List ℕ × Screen
-meant s bs = shownBy (owedOn s) (s .blocks) (s .table) (sourceAll (s .source) bs)
 
 -- behind a text
 abbrev pub ahead : List ℕ → List ℕ × Screen → List ℕ × Screen

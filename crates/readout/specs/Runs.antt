@@ -1,13 +1,38 @@
 -- The board's calls one after the other: any cutting of what comes in, any room for each call.
+-- meant      what bytes mean to a board: all that is to be shown, and the board behind it
 -- Shows      a piece is handed in until "more wanted", call after call with the room that each has
 -- ShowsAll   pieces one after the other
 -- Run        such a run
-use Prim.Native.Nat.{ℕ, suc}
+-- EveryShow  bytes that come in, cut in every way, in calls with every room
+use Prim.Native.Nat.{ℕ, suc, _≤_, _<_}
 use mathlib.Core.Path.{_≡_}
+use mathlib.Core.Bool.{Bool}
 use mathlib.Core.List.{List, [], _∷_, _++_}
-use lib.ListN.{drop}
+use lib.ListN.{length, drop}
+use Rattle.base.specs.Calls.{joined}
+use Rattle.frames.specs.Contents.{rawLimit}
+use Rattle.blocks.specs.Sender.{wordBytes}
+use Rattle.blocks.specs.Channel.{Event}
+use Rattle.ports.specs.declared.Entry.{Entry}
+use Rattle.shown.specs.Board.{tableBehind, boardLines, writtenAll}
+use Rattle.readout.specs.declared.readout.Readout.{Readout}
 use Rattle.readout.specs.declared.readout.Wants.the-variants.{More, Again}
-use Rattle.readout.specs.Called.{Screen, takes}
+use Rattle.readout.specs.Source.{Source, sourceAll}
+use Rattle.readout.specs.Owed.{nothing}
+use Rattle.readout.specs.Called.{Screen, screen, screenOf, owedOn, takes}
+
+-- the table behind answers
+abbrev pub tableAll : List Entry → List Event → List Entry
+tableAll t [] = t
+tableAll t (e ∷ es) = tableAll (tableBehind t e) es
+
+-- what answers show behind a text, and the board behind them
+abbrev pub shownBy : List ℕ → Bool → List Entry → List Event × Source → List ℕ × Screen
+shownBy text b t r = (text ++ writtenAll (boardLines b t (r .0)), screen b nothing (tableAll t (r .0)) (r .1))
+
+-- what bytes mean to a board: what is owed comes first, then the lines of their answers
+abbrev pub meant : Screen → List ℕ → List ℕ × Screen
+meant s bs = shownBy (owedOn s) (s .blocks) (s .table) (sourceAll (s .source) bs)
 
 -- call number i has an output of `rooms i` bytes
 module _ (rooms : ℕ → ℕ) where
@@ -31,3 +56,12 @@ module _ (rooms : ℕ → ℕ) where
     pub text : List ℕ
     pub screen : Screen
     pub shows : ShowsAll i s ps calls text screen
+
+-- bytes come in from the board's start on, cut in every way, each call with room for a byte at least and with all buffers that pass 11: the
+-- calls come to their end, and P holds of all text that they write, and of the boards before and behind them
+abbrev pub EveryShow : Readout → List ℕ → (Screen → List ℕ → Screen → Type 0) → Type 0
+EveryShow r bs P =
+    (recv word : List ℕ) → rawLimit ≤ length recv → wordBytes ≤ length word → (rooms : ℕ → ℕ) → ((i : ℕ) → 0 < rooms i) →
+    (pieces : List (List ℕ)) → joined pieces ≡ bs →
+    Run rooms 0 (screenOf r recv word) pieces
+    × ((n : ℕ) (text : List ℕ) (u : Screen) → ShowsAll rooms 0 (screenOf r recv word) pieces n text u → P (screenOf r recv word) text u)
