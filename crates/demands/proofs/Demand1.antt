@@ -47,6 +47,9 @@ use Rattle.channel.proofs.Cutting.{hear-yields}
 use Rattle.channel.proofs.Sending.{marking-keeps, sending-keeps}
 use Rattle.tape.specs.Deck.{Deck}
 use Rattle.tape.specs.Called.{tapeCall}
+use Rattle.readout.specs.declared.readout.Wants.the-variants.{Refused as ShowRefused}
+use Rattle.readout.specs.Source.{boardIn}
+use Rattle.readout.specs.Called.{Screen, readoutOf, recvOn, part, takes as shows}
 use Rattle.recording.specs.declared.recording.Totals.{Totals}
 use Rattle.recording.specs.declared.recording.Recording.{Recording}
 use Rattle.recording.specs.declared.recording.Wants.the-variants.{Refused}
@@ -60,10 +63,11 @@ use Rattle.office.specs.Desk.{Desk, endingOf, refusal as line-refusal}
 use Rattle.office.specs.Called.{holdLimit, outLimit, starting, denied, hearCall as desk-hear, closeCall, spokenOut, answeredOut, finishing as desk-finish}
 use Rattle.demands.specs.Table.{Exact}
 use Rattle.demands.specs.Desks.{DeskBeyond, DeskShort, lineRows, ByDesk, ByStart, ByLine, BySpoken}
-use Rattle.demands.specs.Refusals.{PlaceBeyond, Unusable, Unfit, frameRows, FrameBeyond, Beyond, NextBeyond, TapeBeyond, Short, OfFrame, OfCall, ByFrame, ByCall, ByState, ByCheck, ByRepair, ByRead, ByHear, ByNext, ByTake}
+use Rattle.demands.specs.Refusals.{PlaceBeyond, Unusable, Unfit, frameRows, FrameBeyond, Beyond, NextBeyond, TapeBeyond, BoardBeyond, Short, OfFrame, OfCall, ByFrame, ByCall, ByState, ByCheck, ByRepair, ByRead, ByHear, ByNext, ByTake, ByShow}
 use Rattle.demands.proofs.Rows.{row, row-not, not-less, not-same, refuses, wrote, refuses-word, found, repair-as-check, calling-exact, calling-same}
 use Rattle.demands.proofs.Frames.{barred-is, free-is, unfit-is, fit-is, closed-exact, judging-exact, judging-same, judge-exact, undone}
 use Rattle.demands.proofs.Called.{read-given, hear-given, read-exact, read-same, hear-exact, hear-same}
+use Rattle.demands.proofs.Showing.{show-exact, show-same}
 use Rattle.demands.proofs.Taken.{next-exact, next-same, next-given, take-exact, take-same}
 use Rattle.demands.proofs.Desk.{line-exact, office-line-same, office-start-exact, office-start-same, office-hear-exact, office-hear-same, office-close-exact, office-close-same, office-finish-exact, office-finish-same}
 use Rattle.demands.proofs.Desk.{lines-print-exact, lines-print-same, lines-print-end-exact, lines-print-end-same, lines-print-wrong-exact, lines-print-wrong-same}
@@ -137,6 +141,13 @@ take-refusals = take-exact
 
 pub finish-refusals : (r : Recording) (out : List ℕ) → Exact ByCall (finishing r out) ((23, length out < length (lastOf r)) ∷ [])
 finish-refusals r out = wrote (lastOf r) out _ refl
+
+-- a board's call
+pub show-refusals : (room : ℕ) (s : Screen) (bs : List ℕ) → Exact ByShow (shows room s bs)
+    ((10, BoardBeyond (readoutOf s) (length bs)) ∷  -- a count of the state is beyond its limit
+    (11, Short (recvOn s) (boardIn (s .source .deck) .word)) ∷  -- receive buffer under 8,272 bytes, word buffer under 255
+    [])
+show-refusals = show-exact
 
 -- a packet written
 pub write-refusals : (p : Packet) (out : List ℕ) → Exact ByCall (writing p out)
@@ -333,6 +344,10 @@ next-keeps-all = next-same
 -- .. and so does a call on a recording that is listed: no byte is taken, and no line printed
 pub take-keeps-all : (m : Deck) (t : Totals) (room : ℕ) (bs : List ℕ) (n : ℕ) → ByTake (takes m t room bs) n → takes m t room bs ≡ printed (Refused n) m t
 take-keeps-all = take-same
+
+-- .. and a board's call: no byte is taken, and none written
+pub show-keeps-all : (room : ℕ) (s : Screen) (bs : List ℕ) (n : ℕ) → ByShow (shows room s bs) n → shows room s bs ≡ part (ShowRefused n) 0 [] s
+show-keeps-all = show-same
 
 -- ---- "a refused frame leaves what that paper says": refused with 1, 2 or 3, the stored raw bytes ..
 pub frame-kept : (recv : List ℕ) (m n : ℕ) → ByFrame (closed recv m .told) n → n ≤ 3 → closed recv m .recv ≡ recv

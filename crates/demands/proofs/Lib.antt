@@ -3,6 +3,7 @@ pub mod Frames
 pub mod Called
 pub mod Desk
 pub mod Taken
+pub mod Showing
 pub mod Trips
 pub mod Promises
 pub mod Calling

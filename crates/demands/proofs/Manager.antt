@@ -8,11 +8,12 @@
 -- all-as-shown     .. and of at most 16 ports nothing else is shown
 -- board-text       .. as typed: the text on the board is those lines, byte for byte
 -- input-shown      .. and where no line is named, and the last ends in a line feed: it is the input itself
--- by-calls         what is so of the answers is so of those that calls give, however what comes in is cut; all-as-typed: the last but one by calls
+-- bids-read, typed-is-read   bids-not-old and board-text by the board's calls, however what comes in is cut and whatever room each call has: they
+-- come to their end, and that is what they write
 use Prim.Native.Nat.{ℕ, zero, suc, _≤_}
 use native.Mathlib.Omega.{arith}
 use mathlib.Core.Path.{_≡_, sym, _∙_, ap, subst}
-use mathlib.Core.Bool.{Bool, false}
+use mathlib.Core.Bool.{Bool, true, false}
 use mathlib.Core.List.{List, [], _∷_, _++_, map, append-nil}
 use lib.ListN.{length, replicate, length-replicate}
 use Rattle.base.specs.Bytes.{Each, Bytes}
@@ -24,25 +25,28 @@ use Rattle.blocks.specs.Sender.{wordBytes, sentWords}
 use Rattle.blocks.specs.Channel.{Event, frames, blocks, losses, answers, FirstMarker}
 use Rattle.channel.specs.Called.{EveryCut}
 use Rattle.blocks.proofs.Streaming.{sent-each}
-use Rattle.channel.proofs.Demands.{cut-so, every-cut}
+use Rattle.channel.proofs.Demands.{every-cut}
 use Rattle.bid.specs.Line.{feed}
 use Rattle.bid.specs.Input.{linesOf, packetsOf, complaints}
 use Rattle.office.specs.Desk.{sentFor}
 use Rattle.office.proofs.Cutting.{bids-sent}
 use Rattle.office.proofs.Board.{packets-accepted}
 use Rattle.ports.specs.Ports.{placeLimit}
-use Rattle.shown.specs.Board.{boardLines, writtenAll, freshTable, shows, boardText}
+use Rattle.shown.specs.Board.{boardLines, writtenAll, freshTable, boardText}
 use Rattle.shown.specs.Typed.{acceptedLines, typed, asShown, Plainly, bidsAmong, packetsAmong, asBid, currentFrom, numbersOf, ByOne, Among}
 use Rattle.shown.proofs.Marks.{bids-current}
 use Rattle.shown.proofs.Typed.{bids-typed, packets-open, shown-typed, lines-typed, unnamed}
 use Rattle.shown.proofs.Ordered.{delivered-packets, bids-in-order}
 use Rattle.shown.proofs.Sixteen.{Good, only-bids}
+use Rattle.readout.specs.Called.{freshReadout}
+use Rattle.readout.specs.Runs.{EveryShow}
+use Rattle.readout.proofs.Demands.{shown-bare}
 use Rattle.demands.specs.Guarantee.{altered, answerFor, Received, received}
 use Rattle.demands.specs.Way.{Sends, Airs}
 use Rattle.demands.proofs.Framed.{framed-same}
 use Rattle.demands.proofs.Guarantee.{delivered-as-sent}
 
--- ---- what is so of the answers that calls give is so of the answers that the bytes mean, and the other way round
+-- ---- what is so of the answers that calls give is so of the answers that the bytes mean
 module _ {air : List ℕ} (Q : List Event → Type 0) where
   uncut : EveryCut air (λ es d. Q es) → Q (answers air)
   uncut cut =
@@ -54,9 +58,6 @@ module _ {air : List ℕ} (Q : List Event → Type 0) where
       let x = every-cut air r w hr hw (air ∷ []) (append-nil air) in
       let e = y .ends in
       subst Q (x .always (e .0) (e .1) (e .2) .0) (y .always (e .0) (e .1) (e .2))
-
-  pub by-calls : Q (answers air) → EveryCut air (λ es d. Q es)
-  by-calls q = cut-so (every-cut air) λ es d e. subst Q (sym (e .0)) q
 
 -- what goes out is the stream of the accepted lines
 pub went-out : {input out : List ℕ} → Sends input out → out ≡ sentFor input
@@ -100,6 +101,14 @@ module _ {input out air : List ℕ} (bytes : Bytes input) (sends : Sends input o
       bids-current b (answers air) freshTable ∙ ap (λ (ts : List Told). map asBid (currentFrom freshTable (packetsAmong ts))) (bids-delivered .0)
       ∙ ap (λ (ps : List Packet). map asBid (currentFrom freshTable ps)) (delivered-packets (packetsOf input))
 
+  -- .. by the board's calls, however what comes in is cut and whatever room each has: they come to their end, and write these lines
+  pub bids-read : (b : Bool) → EveryShow (freshReadout true b) air λ s text u.
+      (text ≡ writtenAll (boardLines b freshTable (answers air)))
+      × (bidsAmong (boardLines b freshTable (answers air)) ≡ map asBid (currentFrom freshTable (packetsOf input)))
+  bids-read b recv word big long rooms some-room pieces cut =
+      let x = shown-bare b air recv word big long rooms some-room pieces cut in
+      (x .0, λ n text u run. (x .1 n text u run .0, bids-not-old b))
+
   -- ---- each port's sequence numbers rise by one
   module _ (rising : (q : ℕ) → ByOne (numbersOf q (packetsOf input))) where
     -- the bids among the lines shown are the lines that the sender accepted, once each, in order ..
@@ -126,9 +135,11 @@ module _ {input out air : List ℕ} (bytes : Bytes input) (sends : Sends input o
         pub board-text : boardText false air ≡ typed (acceptedLines input)
         board-text = all-as-shown ∙ shown-typed input plain
 
-        -- .. by calls: they come to their end, and what is shown of their answers is that ..
-        pub all-as-typed : EveryCut air λ es d. shows false es ≡ typed (acceptedLines input)
-        all-as-typed = by-calls (λ es. shows false es ≡ typed (acceptedLines input)) board-text
+        -- .. by the board's calls, however what comes in is cut and whatever room each has: they come to their end, and what they write is that ..
+        pub typed-is-read : EveryShow (freshReadout true false) air λ s text u. text ≡ typed (acceptedLines input)
+        typed-is-read recv word big long rooms some-room pieces cut =
+            let x = shown-bare false air recv word big long rooms some-room pieces cut in
+            (x .0, λ n text u run. x .1 n text u run .0 ∙ board-text)
 
         -- .. and where no line is named, and the last ends in a line feed, it is the input itself
         pub input-shown : (bs : List ℕ) → input ≡ bs ++ feed ∷ [] → complaints input ≡ [] → boardText false air ≡ input

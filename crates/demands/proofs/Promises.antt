@@ -39,6 +39,7 @@ use Rattle.listed.specs.Lines.{line, endLine, wrongLine}
 use Rattle.listed.specs.Apart.{well}
 use Rattle.listed.specs.declared.Place.the-variants.{Mode}
 use Rattle.tape.specs.Called.{deckOf, isMore, tapeCall}
+use Rattle.readout.specs.Called as readout
 use Rattle.recording.specs.Printed as recording
 use Rattle.bid.specs.Line.{reading}
 use Rattle.office.specs.Desk.{desk, blocks, unread, refusal as denied}
@@ -49,7 +50,7 @@ use Rattle.office.specs.Called as office
 use Rattle.lines.specs.Noted.{notedLine}
 use Rattle.lines.specs.Piece.{pieceOf}
 use Rattle.shown.specs.Text.{shownByte}
-use Rattle.shown.specs.Board.{wrongAt, written}
+use Rattle.shown.specs.Board.{wrongAt, written, writtenAll}
 use Rattle.shown.specs.Parts.{lead, remark}
 use Rattle.ports.specs.declared.Entry.{Entry}
 use Rattle.ports.specs.declared.Noted.{Noted}
@@ -88,6 +89,9 @@ use Rattle.tape.proofs.tape.Tape.fresh as tape-fresh
 use Rattle.tape.proofs.tape.Tape.next as tape-next
 use Rattle.tape.proofs.tape.Tape.may_end as tape-may-end
 use Rattle.tape.proofs.tape.Heard.is_more as tape-is-more
+use Rattle.readout.proofs.readout.Readout.fresh as readout-fresh
+use Rattle.readout.proofs.readout.Readout.take as readout-take
+use Rattle.readout.proofs.readout.Readout.finish as readout-finish
 use Rattle.recording.proofs.recording.Recording.fresh as recording-fresh
 use Rattle.recording.proofs.recording.Recording.take as recording-take
 use Rattle.recording.proofs.recording.Recording.finish as recording-finish
@@ -322,6 +326,44 @@ recording-take-means = (λ M. recording-take.Met.met, λ κs a. tt, λ κs a z w
 pub recording-finish-means : Means recording-finish.Statement.statement recording-finish.Kinds.ps recording-finish.Kinds.r recording-finish.Reads.Asked recording-finish.Reads.Learnt
     λ κs self out w. outcome w (now (out .exit)) ≡ write (recording.lastOf self) (now (out .entry))
 recording-finish-means = (λ M. recording-finish.Met.met, λ κs a. tt, λ κs a z ws. (λ p. p, λ p. p))
+
+-- ---- a board. Before the first byte: nothing heard, no port held, nothing owed
+pub readout-fresh-means : Means readout-fresh.Statement.statement readout-fresh.Kinds.ps readout-fresh.Kinds.r readout-fresh.Reads.Asked readout-fresh.Reads.Learnt
+    λ κs bare blocks r. r ≡ record {
+      bare = bare;
+      blocks = blocks;
+      tape = record {
+        spot = record { place = Mode; offset = 0; count = 0 };
+        channel = false;
+        receiver = record {
+          locked = false;
+          hunting = record { a = 0; b = 0; c = 0; d = 0 };
+          lock = record { word = 0; handed = 0; marker = 0 };
+          frame = record { opened = false; raw = 0; stored = 0; place = 0 };
+        };
+      };
+      ports = record { entries = replicate 16 (record { held = false; port = 0; last = 0 }) };
+      owed = record {
+        piece = record { bytes = replicate 128 0; length = 0 };
+        out = 0;
+        text = false;
+        delivery = record { format = 0; number = 0; key = 0; port = 0; sequence = 0; length = 0 };
+        at = 0;
+      };
+    }
+readout-fresh-means = (λ M. readout-fresh.Met.met, λ κs a. tt, λ κs a z ws. (λ p. p, λ p. p))
+
+pub readout-take-means : Means readout-take.Statement.statement readout-take.Kinds.ps readout-take.Kinds.r readout-take.Reads.Asked readout-take.Reads.Learnt
+    λ κs self recv word piece out r.
+    let x = readout.takes (length (now (out .entry))) (readout.screenOf self (now (recv .entry)) (now (word .entry))) (now piece) in
+    (r ≡ record { wants = x .wants; taken = x .taken; written = length (x .text); next = readout.readoutOf (x .screen) })
+    × (now (recv .exit) ≡ x .screen .source .deck .ear .board .recv) × (now (word .exit) ≡ x .screen .source .deck .ear .board .word)
+    × (now (out .exit) ≡ x .text ++ drop (length (x .text)) (now (out .entry)))
+readout-take-means = (λ M. readout-take.Met.met, λ κs a. tt, λ κs a z ws. (λ p. p, λ p. p))
+
+pub readout-finish-means : Means readout-finish.Statement.statement readout-finish.Kinds.ps readout-finish.Kinds.r readout-finish.Reads.Asked readout-finish.Reads.Learnt
+    λ κs self r. r ≡ pieceOf (writtenAll (readout.lastLines self))
+readout-finish-means = (λ M. readout-finish.Met.met, λ κs a. tt, λ κs a z ws. (λ p. p, λ p. p))
 
 -- ---- its lines
 pub lines-print-means : Means lines-print.Statement.statement lines-print.Kinds.ps lines-print.Kinds.r lines-print.Reads.Asked lines-print.Reads.Learnt

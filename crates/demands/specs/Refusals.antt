@@ -4,12 +4,14 @@
 -- PlaceBeyond           10: a place of the interleaver
 -- FrameBeyond, Beyond   10: a count of the state is beyond its limit
 -- NextBeyond            .. of a call on a recording's bytes
--- TapeBeyond            .. and of a listing
+-- TapeBeyond            .. of a listing
+-- BoardBeyond           .. and of a board
 -- Short                 11: a lent buffer is too short
 -- OfFrame, OfCall       the numbers of frames, and those of receiving calls
 -- ByFrame, By..         that an answer refuses by a number
 use Prim.Native.Nat.{ℕ, suc, _+_, _-_, _*_, _≤_, _<_, min}
 use mathlib.Core.Path.{_≡_}
+use mathlib.Core.Bool.{false}
 use mathlib.Core.Logic.{_⊎_, _≢_}
 use mathlib.Core.List.{List, [], _∷_}
 use mathlib.Core.Option.{Option, some}
@@ -33,11 +35,16 @@ use Rattle.channel.specs.Called.{Board}
 use Rattle.blocks.specs.Sender.{messageBytes, wordBytes}
 use Rattle.channel.specs.declared.receiver.Receiver.{Receiver}
 use Rattle.listed.specs.declared.Spot.{Spot}
+use Rattle.listed.specs.Lines.{longest}
+use Rattle.ports.specs.Refusing.{Unfit as UnfitTable}
 use Rattle.tape.specs.Deck.{Deck}
 use Rattle.tape.specs.Called.{far}
 use Rattle.recording.specs.Printed.{Printed}
 use Rattle.recording.specs.declared.recording.Totals.{Totals}
 use Rattle.recording.specs.declared.recording.Wants.the-variants.{Refused as TakeRefused}
+use Rattle.readout.specs.Called.{Part}
+use Rattle.readout.specs.declared.readout.Readout.{Readout}
+use Rattle.readout.specs.declared.readout.Wants.the-variants.{Refused as ShowRefused}
 use Rattle.demands.specs.Table.{Row}
 
 -- 10 of the interleaver: a cell place of N or more, at depth 2 or more
@@ -115,6 +122,12 @@ abbrev pub TapeBeyond : Receiver → Spot → Totals → ℕ → ℕ → Type 0
 TapeBeyond s p t n room =
     Beyond s ⊎ (far - n < p .offset) ⊎ (far - room < t .packets) ⊎ (far - room < t .refused) ⊎ (far - room < t .damaged) ⊎ (far - room < t .lost)
 
+-- 10 of a board: that of its receiver; on n bytes lent the offset of a recording could pass 64 bits; a port is held twice in the table; the
+-- piece to be written is above 128 bytes
+abbrev pub BoardBeyond : Readout → ℕ → Type 0
+BoardBeyond r n =
+    Beyond (r .tape .receiver) ⊎ ((r .bare ≡ false) × (far - n < r .tape .spot .offset)) ⊎ UnfitTable (r .ports .entries) ⊎ (longest < r .owed .piece .length)
+
 -- the numbers that frames are refused by
 abbrev pub OfFrame : ℕ → Type 0
 OfFrame n = ((1 ≤ n) × (n ≤ 8)) ⊎ (n ≡ 12)
@@ -158,3 +171,7 @@ ByNext r n = OfCall n × (r .0 ≡ some (said (refusal n)))
 -- a call on a recording that is listed is
 abbrev pub ByTake : Printed → ℕ → Type 0
 ByTake x n = x .wants ≡ TakeRefused n
+
+-- a board's call is
+abbrev pub ByShow : Part → ℕ → Type 0
+ByShow x n = x .wants ≡ ShowRefused n

@@ -77,10 +77,12 @@ pub shown-taped : (blocks : Bool) (file : List ℕ) → length file ≤ far
 shown-taped blocks file h recv word a b rooms some-room pieces e =
     let q = every blocks recv word a b false file (omega arith) rooms some-room pieces e in
     let d = deck-means recv word a b file in
-    let m = shown-start blocks recv word a b false file (heard (onChannel file) (apart freshSpot file .0)) (ap (λ x. x .0) (all-taped (fresh recv word) file) ∙ d .0) in
-    (q .0, λ n text u r. (
-      (λ i. (ap (λ x. x .0) (q .1 n text u r) ∙ m) i ++ writtenAll (lastLines (readoutOf (q .1 n text u r i .1))))
-          ∙ ap (λ x. shows blocks (heard (onChannel file) (apart freshSpot file .0)) ++ writtenAll (lastBy (x .1 .bare) (x .1 .deck .spot))) (all-taped (fresh recv word) file)
-          ∙ ap (λ x. shows blocks (heard (onChannel file) (apart freshSpot file .0)) ++ writtenAll (ending x)) (d .1),
-      ap (λ x. x .1) (q .1 n text u r),
-    ))
+    let m = shown-start blocks recv word a b false file (heard (onChannel file) (apart freshSpot file .0)) (ap (λ x. x .0) (all-taped (fresh recv word) file) ∙ d .0) in (
+      q .0,
+      λ n text u r. (
+        (λ i. (ap (λ x. x .0) (q .1 n text u r) ∙ m) i ++ writtenAll (lastLines (readoutOf (q .1 n text u r i .1))))
+            ∙ ap (λ x. shows blocks (heard (onChannel file) (apart freshSpot file .0)) ++ writtenAll (lastBy (x .1 .bare) (x .1 .deck .spot))) (all-taped (fresh recv word) file)
+            ∙ ap (λ x. shows blocks (heard (onChannel file) (apart freshSpot file .0)) ++ writtenAll (ending x)) (d .1),
+        ap (λ x. x .1) (q .1 n text u r),
+      ),
+    )
