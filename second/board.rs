@@ -129,7 +129,7 @@ impl Board {
 }
 
 /// A payload as it is shown: what is printable as it is, a backslash twice, any other byte by its number.
-fn shown(payload: &[u8]) -> String {
+pub fn shown(payload: &[u8]) -> String {
     let byte = |b: &u8| match b {
         b'\\' => "\\\\".to_string(),
         b' '..=b'~' => (*b as char).to_string(),
