@@ -54,18 +54,22 @@ impl Board {
 
     /// Further bytes of the stream.
     pub fn hear(&mut self, mut piece: &[u8]) {
-        loop {
-            let heard = match &mut self.ear {
-                Ear::Channel(receiver) => receiver.call(&mut self.buffer, &mut self.word, piece),
-                Ear::Plain(reader) => reader.call(&mut self.buffer, piece).map(|(frame, taken)| (frame.map(Answer::Frame), taken)),
-            };
-            let (answer, taken) = heard.expect("buffers that pass");
+        while let Some(taken) = self.next(piece) {
             piece = &piece[taken..];
-            match answer {
-                Some(answer) => self.answer(answer),
-                None => return,
-            }
         }
+    }
+
+    /// The lines of the next answer, and how many bytes it took; none: all of them are taken, and there is none.
+    pub fn next(&mut self, piece: &[u8]) -> Option<usize> {
+        let heard = match &mut self.ear {
+            Ear::Channel(receiver) => receiver.call(&mut self.buffer, &mut self.word, piece),
+            Ear::Plain(reader) => reader.call(&mut self.buffer, piece).map(|(frame, taken)| (frame.map(Answer::Frame), taken)),
+        };
+        let (answer, taken) = heard.expect("buffers that pass");
+        answer.map(|answer| {
+            self.answer(answer);
+            taken
+        })
     }
 
     fn line(&mut self, line: &str) {
@@ -104,28 +108,30 @@ impl Board {
         };
         self.line(&format!("{mark}{port} {sequence} {}", shown(&packet.payload)));
     }
+}
 
-    /// The records of a recording, behind its first byte, whose stream may have so many bytes; or the offset of what is wrong.
-    fn records(&mut self, recording: &[u8], mut left: u64) -> Result<(), usize> {
-        let mut at = 1;
-        while at < recording.len() {
-            let head = &recording[at..recording.len().min(at + 4)];
-            if let Some(wrong) = head.iter().zip([0xF5, 0x5F]).position(|(is, right)| *is != right) {
-                return Err(at + wrong);
-            }
-            let [_, _, low, high] = *head else { return Err(recording.len()) };
-            let stream = &recording[at + 4..];
-            let length = u16::from_le_bytes([low, high]) as usize;
-            let there = length.min(stream.len()).min(left as usize);
-            self.hear(&stream[..there]);
-            at += 4 + there;
-            left -= there as u64;
-            if there < length {
-                return Err(at);
-            }
-        }
-        Ok(())
+/// Where a recording's stream bytes stand, of at most so many; and the offset of what is wrong, of the first byte or of the records behind it.
+pub fn apart(recording: &[u8], most: u64) -> (Vec<usize>, Option<usize>) {
+    let mut places = Vec::new();
+    if !matches!(recording.first(), Some(&OPPORTUNISTIC | &PLAIN)) {
+        return (places, Some(0));
     }
+    let mut at = 1;
+    while at < recording.len() {
+        let head = &recording[at..recording.len().min(at + 4)];
+        if let Some(wrong) = head.iter().zip([0xF5, 0x5F]).position(|(is, right)| *is != right) {
+            return (places, Some(at + wrong));
+        }
+        let [_, _, low, high] = *head else { return (places, Some(recording.len())) };
+        let length = u16::from_le_bytes([low, high]) as usize;
+        let there = length.min(recording.len() - at - 4).min(most as usize - places.len());
+        places.extend(at + 4..at + 4 + there);
+        at += 4 + there;
+        if there < length {
+            return (places, Some(at));
+        }
+    }
+    (places, None)
 }
 
 /// A payload as it is shown: what is printable as it is, a backslash twice, any other byte by its number.
@@ -153,14 +159,14 @@ pub fn of_recording(recording: &[u8], blocks_too: bool) -> String {
 /// The same where the stream may have so many bytes.
 fn near_limit(recording: &[u8], blocks_too: bool, most: u64) -> String {
     let mut board = Board::new(recording.first() == Some(&OPPORTUNISTIC), blocks_too);
-    let end = match recording.first() {
-        Some(&OPPORTUNISTIC | &PLAIN) => board.records(recording, most),
-        _ => Err(0),
-    };
-    if let Err(offset) = end {
-        board.line(&format!("! wrong at {offset}"));
-    }
-    board.text
+    let (places, wrong) = apart(recording, most);
+    board.hear(&places.iter().map(|place| recording[*place]).collect::<Vec<_>>());
+    board.text + &last_line(wrong, 0)
+}
+
+/// Behind a recording where something is wrong, so many bytes counted before it.
+pub fn last_line(wrong: Option<usize>, before: u64) -> String {
+    wrong.map_or(String::new(), |offset| format!("! wrong at {}\n", before + offset as u64))
 }
 
 pub fn are_options(words: &[&str]) -> bool {

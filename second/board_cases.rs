@@ -2,13 +2,18 @@
 //! has places, packets for subscribers, frames refused, and damage of every kind.
 //!
 //!   second boards DIR [SEED]   into a folder: streams and recordings, by name
+//!
+//! And as cases for the library, with every room for the text: crates/rooms/src/reading.rt has their form and that of an answer.
 
-use crate::cases::Random;
+use crate::board::{apart, last_line, Board};
+use crate::cases::{self, Case, Random};
 use crate::channel::{self, MARKER};
 use crate::channel_cases::stray;
 use crate::key_cases::{self, with_key};
+use crate::listing::STREAM_LIMIT;
 use crate::listing_cases::{self, cut, faults, long_faults, Named, OPPORTUNISTIC, PLAIN};
-use crate::packet::{Packet, ESCAPE, FLAG};
+use crate::packet::{Packet, ESCAPE, FLAG, RAW_LIMIT};
+use crate::stream;
 
 /// Kinds of payloads.
 pub const TEXTS: usize = 7;
@@ -124,4 +129,127 @@ pub fn write(dir: &str, seed: u64) {
     streams(&mut random).into_iter().for_each(|stream| named(stream, "stream"));
     named(("live".to_string(), live()), "stream");
     recordings(&mut random).into_iter().chain(listing_cases::small(seed)).for_each(|recording| named(recording, "rec"));
+}
+
+// ---- by calls
+
+/// How a board may stand at first: fresh; with the offset near its width; with a port held twice; with a piece longer than its bytes.
+const STARTS: usize = 4;
+const NEAR: u64 = 1;
+
+/// Bytes to be read out by calls: how they are cut, the receive buffer, how the board stands at first, the room for text.
+struct Run {
+    /// The length of a piece, or 0: as the seed says.
+    size: usize,
+    seed: u64,
+    lent: usize,
+    start: usize,
+    bare: bool,
+    blocks_too: bool,
+    room: usize,
+    bytes: Vec<u8>,
+}
+
+impl Run {
+    /// A stream or a recording.
+    fn new(size: usize, room: usize, bare: bool, bytes: &[u8]) -> Self {
+        Run { size, seed: 0, lent: RAW_LIMIT, start: 0, bare, blocks_too: true, room, bytes: bytes.to_vec() }
+    }
+
+    fn case(self) -> Case {
+        let flags = (self.bare as u64) << 62 | (self.blocks_too as u64) << 63;
+        let number = self.seed | (self.size as u64) << 32 | (self.start as u64) << 46 | (self.lent as u64) << 48 | flags;
+        Case { asked: b'b', number, space: self.room as u16, bytes: self.bytes }
+    }
+}
+
+/// The lines of each answer of a stream or of a recording, with the number of bytes read when it is given.
+fn answers_of(bare: bool, blocks_too: bool, bytes: &[u8]) -> Vec<(usize, Vec<u8>)> {
+    let places = if bare { (0..bytes.len()).collect() } else { apart(bytes, STREAM_LIMIT).0 };
+    let mut board = Board::new(bare || bytes.first() == Some(&OPPORTUNISTIC), blocks_too);
+    let mut answers = Vec::new();
+    for place in places {
+        let mut piece = &bytes[place..place + 1];
+        while let Some(taken) = board.next(piece) {
+            piece = &piece[taken..];
+            answers.push((place + 1, std::mem::take(&mut board.text).into_bytes()));
+        }
+    }
+    answers
+}
+
+/// Bytes read out by calls, the output for text lent; what is told of them.
+pub fn read_by_calls(number: u64, bytes: &[u8], out: &mut [u8]) -> Vec<u8> {
+    let (size, lent, start) = ((number >> 32) as usize & 0x3FFF, (number >> 48) as usize & 0x3FFF, number >> 46 & 3);
+    let (bare, blocks_too) = (number >> 62 & 1 == 1, number >> 63 == 1);
+    let before = if start == NEAR { u64::MAX - 300 } else { 0 };
+    let mut answers = answers_of(bare, blocks_too, bytes).into_iter().peekable();
+    let (mut at, mut end, mut seed) = (0, 0, number & 0x7FFFFFFF);
+    let (mut told, mut owed) = (Vec::new(), Vec::new());
+    loop {
+        let sound = start <= NEAR && (bare || before.checked_add(end as u64).is_some());
+        if !sound || lent < RAW_LIMIT {
+            cases::push_all(&mut told, &[0, cases::refusal(if sound { 11 } else { 10 }), 0]);
+            break;
+        }
+        let written = owed.len().min(out.len());
+        let text: Vec<u8> = owed.drain(..written).collect();
+        out[..written].copy_from_slice(&text);
+        let (mut taken, mut more) = (0, false);
+        if owed.is_empty() {
+            let answer = answers.next_if(|(read, _)| *read <= end);
+            more = answer.is_none();
+            (taken, owed) = answer.map_or((end - at, vec![]), |(read, text)| (read - at, text));
+        }
+        at += taken;
+        cases::push_all(&mut told, &[taken as u64, !more as u64, written as u64]);
+        told.extend(text);
+        if more && end == bytes.len() || !more && taken == 0 && out.is_empty() {
+            break;
+        }
+        if more {
+            let left = bytes.len() - at;
+            let (length, next) = if size > 0 { (size.min(left), seed) } else { stream::piece_length(seed, left) };
+            (end, seed) = (at + length, next);
+        }
+    }
+    let last = if bare { String::new() } else { last_line(apart(&bytes[..at], STREAM_LIMIT).1, before) };
+    cases::push_all(&mut told, &[last.len() as u64]);
+    told.extend(last.bytes());
+    told
+}
+
+/// Rooms around a byte, and around the longest beginning of a line.
+const ROOMS: [usize; 11] = [1, 2, 3, 4, 5, 22, 23, 24, 25, 128, 1000];
+
+/// Every room with some cutting, every cutting with some rooms, and many others with any.
+pub fn all(random: &mut Random, cases: &mut Vec<Case>) {
+    let mut runs = Vec::new();
+    let small = |random: &mut Random, ports: usize| day(random, ports, 6);
+    for room in (0..40).chain(ROOMS) {
+        let plain = day(random, 17, 25);
+        let came = listing_cases::on_the_way(random, room, in_blocks(&plain));
+        runs.push(Run::new(1 + random.below(50), room, true, &[stray(random), came].concat()));
+        runs.push(Run::new(1 + random.below(50), room, false, &cut(random, PLAIN, &plain)));
+    }
+    let (stream, recording) = (in_blocks(&small(random, 3)), cut(random, OPPORTUNISTIC, &live()));
+    for (bare, bytes) in [(true, stream), (false, recording)] {
+        for size in 1..=bytes.len() {
+            let room = ROOMS[random.below(ROOMS.len())];
+            runs.push(Run { blocks_too: random.below(2) == 0, ..Run::new(size, room, bare, &bytes) });
+        }
+    }
+    for kind in 0..400 {
+        let (bare, room) = (random.below(2) == 0, random.below(30));
+        let bytes = if bare { in_blocks(&small(random, 4)) } else { listing_cases::any(random, kind) };
+        let mut run = Run { seed: random.next() % 0x7FFFFFFF, blocks_too: random.below(2) == 0, ..Run::new(0, room, bare, &bytes) };
+        run.lent = if random.below(20) == 0 { random.below(RAW_LIMIT) } else { RAW_LIMIT };
+        run.start = if random.below(4) == 0 { random.below(STARTS) } else { 0 };
+        runs.push(run);
+    }
+    for room in [1, 3, 24, 4096] {
+        let payloads = [vec![0x80; 8192], vec![b'\\'; 8192], vec![b'a'; 1]];
+        runs.push(Run::new(4096, room, true, &in_blocks(&packets(&payloads))));
+    }
+    cases.extend(runs.into_iter().map(Run::case));
 }

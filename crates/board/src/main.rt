@@ -4,10 +4,10 @@
 ghost use Prim.Native.Nat.{_≤_};
 ghost use lib.ListN.{length};
 use channel::Receiver;
-use lines::Piece;
 use libc::STDERR_FILENO;
 use libc::STDIN_FILENO;
 use libc::STDOUT_FILENO;
+use lines::Piece;
 use readout::Readout;
 use readout::Wants;
 
