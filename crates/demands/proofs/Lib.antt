@@ -12,5 +12,8 @@ pub mod Demand2
 pub mod Demand3
 pub mod Altered
 pub mod Guarantee
+pub mod Framed
+pub mod Manager
+pub mod There
 pub mod Numbers
 pub mod Missed

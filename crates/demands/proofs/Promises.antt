@@ -6,7 +6,7 @@
 use Prim.Native.Nat.{ℕ, _-_, _≤_, min}
 use mathlib.Core.Path.{_≡_, refl}
 use mathlib.Core.Option.{some, none}
-use mathlib.Core.Bool.{true, false}
+use mathlib.Core.Bool.{true, false, not}
 use mathlib.Core.List.{List, [], _∷_, _++_}
 use lib.ListN.{length, drop, replicate}
 use lib.Dec.{ltb}
@@ -47,11 +47,15 @@ use Rattle.office.specs.declared.Started.{Started}
 use Rattle.office.specs.declared.Started.the-variants.{Ready, Refused as Denied}
 use Rattle.office.specs.Called as office
 use Rattle.lines.specs.Noted.{notedLine}
+use Rattle.lines.specs.Piece.{pieceOf}
+use Rattle.shown.specs.Text.{shownByte}
+use Rattle.shown.specs.Board.{wrongAt, written}
+use Rattle.shown.specs.Parts.{lead, remark}
 use Rattle.ports.specs.declared.Entry.{Entry}
 use Rattle.ports.specs.declared.Noted.{Noted}
 use Rattle.ports.specs.declared.Forgot.{Forgot}
 use Rattle.ports.specs.Distance.{ruled}
-use Rattle.ports.specs.Ports.{noting, forgetting}
+use Rattle.ports.specs.Ports.{unfit, noting, forgetting}
 use Rattle.demands.specs.Means.{Means, MeansByHand}
 use Rattle.packet.proofs.write_as as packet-write-as
 use Rattle.packet.proofs.write as packet-write
@@ -91,8 +95,15 @@ use Rattle.lines.proofs.print as lines-print
 use Rattle.lines.proofs.print_end as lines-print-end
 use Rattle.lines.proofs.print_wrong as lines-print-wrong
 use Rattle.lines.proofs.print_noted as lines-print-noted
+use Rattle.lines.proofs.piece.Piece.line_feed as lines-line-feed
+use Rattle.lines.proofs.piece.Piece.shown_byte as lines-shown-byte
+use Rattle.lines.proofs.piece.Piece.lead as lines-lead
+use Rattle.lines.proofs.piece.Piece.remark as lines-remark
+use Rattle.lines.proofs.piece.Piece.wrong_at as lines-wrong-at
+use Rattle.lines.proofs.piece.Piece.none as lines-none
 use Rattle.ports.proofs.rule as ports-rule
 use Rattle.ports.proofs.by_value.Ports.fresh as ports-fresh
+use Rattle.ports.proofs.by_value.Ports.sound as ports-sound
 use Rattle.ports.proofs.by_value.Ports.note as ports-ports-note
 use Rattle.ports.proofs.by_value.Ports.forget as ports-ports-forget
 use Rattle.ports.proofs.note as ports-note
@@ -325,10 +336,34 @@ pub lines-print-wrong-means : Means lines-print-wrong.Statement.statement lines-
     λ κs offset out w. outcome w (now (out .exit)) ≡ write (wrongLine offset) (now (out .entry))
 lines-print-wrong-means = (λ M. lines-print-wrong.Met.met, λ κs a. tt, λ κs a z ws. (λ p. p, λ p. p))
 
--- ---- the office. Before the first line one flag is held, in a buffer of 8,428 bytes or more
 pub lines-print-noted-means : Means lines-print-noted.Statement.statement lines-print-noted.Kinds.ps lines-print-noted.Kinds.r lines-print-noted.Reads.Asked lines-print-noted.Reads.Learnt
     λ κs port sequence noted out w. outcome w (now (out .exit)) ≡ write (notedLine port sequence noted) (now (out .entry))
 lines-print-noted-means = (λ M. lines-print-noted.Met.met, λ κs a. tt, λ κs a z ws. (λ p. p, λ p. p))
+
+-- ---- the board's lines, in pieces: a text at the start, zeros behind it up to 128 bytes, and the text's length
+pub lines-line-feed-means : Means lines-line-feed.Statement.statement lines-line-feed.Kinds.ps lines-line-feed.Kinds.r lines-line-feed.Reads.Asked lines-line-feed.Reads.Learnt
+    λ κs r. r ≡ pieceOf (10 ∷ [])
+lines-line-feed-means = (λ M. lines-line-feed.Met.met, λ κs a. tt, λ κs a z ws. (λ p. p, λ p. p))
+
+pub lines-shown-byte-means : Means lines-shown-byte.Statement.statement lines-shown-byte.Kinds.ps lines-shown-byte.Kinds.r lines-shown-byte.Reads.Asked lines-shown-byte.Reads.Learnt
+    λ κs b r. r ≡ pieceOf (shownByte b)
+lines-shown-byte-means = (λ M. lines-shown-byte.Met.met, λ κs a. tt, λ κs a z ws. (λ p. p, λ p. p))
+
+pub lines-lead-means : Means lines-lead.Statement.statement lines-lead.Kinds.ps lines-lead.Kinds.r lines-lead.Reads.Asked lines-lead.Reads.Learnt
+    λ κs noted delivery r. r ≡ pieceOf (lead noted delivery)
+lines-lead-means = (λ M. lines-lead.Met.met, λ κs a. tt, λ κs a z ws. (λ p. p, λ p. p))
+
+pub lines-remark-means : Means lines-remark.Statement.statement lines-remark.Kinds.ps lines-remark.Kinds.r lines-remark.Reads.Asked lines-remark.Reads.Learnt
+    λ κs blocks answer r. r ≡ pieceOf (remark blocks answer)
+lines-remark-means = (λ M. lines-remark.Met.met, λ κs a. tt, λ κs a z ws. (λ p. p, λ p. p))
+
+pub lines-wrong-at-means : Means lines-wrong-at.Statement.statement lines-wrong-at.Kinds.ps lines-wrong-at.Kinds.r lines-wrong-at.Reads.Asked lines-wrong-at.Reads.Learnt
+    λ κs offset r. r ≡ pieceOf (written (wrongAt offset))
+lines-wrong-at-means = (λ M. lines-wrong-at.Met.met, λ κs a. tt, λ κs a z ws. (λ p. p, λ p. p))
+
+pub lines-none-means : Means lines-none.Statement.statement lines-none.Kinds.ps lines-none.Kinds.r lines-none.Reads.Asked lines-none.Reads.Learnt
+    λ κs r. r ≡ pieceOf []
+lines-none-means = (λ M. lines-none.Met.met, λ κs a. tt, λ κs a z ws. (λ p. p, λ p. p))
 
 -- ---- a table of ports: by value ..
 pub ports-rule-means : Means ports-rule.Statement.statement ports-rule.Kinds.ps ports-rule.Kinds.r ports-rule.Reads.Asked ports-rule.Reads.Learnt
@@ -338,6 +373,10 @@ ports-rule-means = (λ M. ports-rule.Met.met, λ κs a. tt, λ κs a z ws. (λ p
 pub ports-fresh-means : Means ports-fresh.Statement.statement ports-fresh.Kinds.ps ports-fresh.Kinds.r ports-fresh.Reads.Asked ports-fresh.Reads.Learnt
     λ κs r. r ≡ record { entries = replicate 16 (record { held = false; port = 0; last = 0 }) }
 ports-fresh-means = (λ M. ports-fresh.Met.met, λ κs a. tt, λ κs a z ws. (λ p. p, λ p. p))
+
+pub ports-sound-means : Means ports-sound.Statement.statement ports-sound.Kinds.ps ports-sound.Kinds.r ports-sound.Reads.Asked ports-sound.Reads.Learnt
+    λ κs self r. r ≡ not (unfit (self .entries))
+ports-sound-means = (λ M. ports-sound.Met.met, λ κs a. tt, λ κs a z ws. (λ p. p, λ p. p))
 
 pub ports-ports-note-means : Means ports-ports-note.Statement.statement ports-ports-note.Kinds.ps ports-ports-note.Kinds.r ports-ports-note.Reads.Asked ports-ports-note.Reads.Learnt
     λ κs self port sequence r.
@@ -358,6 +397,7 @@ pub ports-forget-means : MeansByHand ports-forget.Statement.statement ports-forg
     λ κs a r e. _≡_ {A = Forgot × List Entry} (r, now (e .0)) (forgetting (now (a .0)) (a .1 .0))
 ports-forget-means = (λ M. ports-forget.Met.met, λ M 𝓤 H A mem run κs a. refl)
 
+-- ---- the office. Before the first line one flag is held, in a buffer of 8,428 bytes or more
 pub office-start-means : Means office-start.Statement.statement office-start.Kinds.ps office-start.Kinds.r office-start.Reads.Asked office-start.Reads.Learnt
     λ κs hold r.
     _≡_ {A = Started × List ℕ}

@@ -3,6 +3,7 @@ pub mod Table
 pub mod Refusals
 pub mod Desks
 pub mod Guarantee
+pub mod Way
 pub mod Numbers
 pub mod Printed
 pub mod Missed

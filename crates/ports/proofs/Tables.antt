@@ -276,4 +276,6 @@ module _ (es : List Entry) (size : length es ≡ 16) where
   notes-in port sequence {d} {z} ed ez = ap notedIn ((λ i. (d .noted, ez i)) ∙ ap (λ (c : Noting). Put c es) ed ∙ noting-in port sequence)
 
   pub sound-in : {t : Bool} → t ≡ twice (take 16 es) → not t ≡ not (unfit es)
-  sound-in e = ap not (e ∙ ap twice (take-all 16 es (omega (arith, size))) ∙ sym (ap (λ (b : Bool). b || twice es) (le-ltb 16 (length es) (omega (arith, size)))))
+  sound-in e =
+      let few = le-ltb 16 (length es) (omega (arith, size)) in
+      ap not (e ∙ ap twice (take-all 16 es (omega (arith, size))) ∙ sym (ap (λ (b : Bool). b || twice es) few))

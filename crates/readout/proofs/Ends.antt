@@ -9,7 +9,7 @@ use mathlib.Core.Bool.{Bool, true, false}
 use mathlib.Core.List.{List, [], _∷_, _++_, tail-eq-of-cons-eq}
 use mathlib.Core.Option.{Option, some, none}
 use lib.Dec.{eqb, ltb, leb}
-use lib.ListN.{length, getD, drop, length-append, length-drop}
+use lib.ListN.{length, drop, length-append, length-drop}
 use borrow.Author.Tests.{le-leb, le-ltb, ltb-true, ltb-false}
 use Rattle.base.specs.Choice.{pick}
 use Rattle.base.specs.Calls.{joined, told}
@@ -21,14 +21,12 @@ use Rattle.channel.specs.Channel.{Event, said, block, lost}
 use Rattle.channel.specs.Called.{Fine, owed, handOn, eatByte, hearOn}
 use Rattle.channel.proofs.Cutting.{hand-one}
 use Rattle.channel.proofs.Fine.{fine-is, fine-roomy, fine-eat, fine-hand}
-use Rattle.bid.specs.Line.{feed}
 use Rattle.listed.specs.declared.Spot.{Spot}
 use Rattle.listed.specs.Lines.{given, longest}
 use Rattle.ports.specs.declared.Entry.{Entry}
 use Rattle.ports.specs.declared.Noted.{Noted}
 use Rattle.ports.specs.Ports.{unfit, noting}
 use Rattle.ports.proofs.Keeping.{fit-noted}
-use Rattle.shown.specs.Text.{backslash, printable, sixteenth, shownByte}
 use Rattle.shown.specs.Board.{tableBehind}
 use Rattle.shown.specs.Parts.{lead, remark}
 use Rattle.shown.proofs.Split.{lead-short, remark-short}
@@ -39,11 +37,11 @@ use Rattle.tape.proofs.Kept.{Kept, hear-kept}
 use Rattle.readout.specs.declared.owed.Owed.{Owed}
 use Rattle.readout.specs.declared.readout.Wants.the-variants.{More, Again}
 use Rattle.readout.specs.Source.{Source, source, boardIn, sourceOwes, sourceHand, sourceEat, sourceAll, sourceHear}
-use Rattle.readout.specs.Owed.{alone, nothing, withText, owing, payloadIn, textByte, textPiece, further, nextPiece, forth, forthBy}
+use Rattle.readout.specs.Owed.{alone, nothing, withText, owing, forth, forthBy}
 use Rattle.readout.specs.Called.{Screen, screen, recvOn, owedOn, Part, part, partly, heardBy, takesOn, nearBy, takesBy, takes}
 use Rattle.readout.specs.Runs.{Shows, more, again, ShowsAll, done, piece, Run}
 use Rattle.readout.proofs.Sources.{source-hand-one, hear-bare, hear-taped}
-use Rattle.readout.proofs.Left.{Whole, piece-whole, shown-short, left-by}
+use Rattle.readout.proofs.Left.{Whole, piece-whole, forth-short, left-by}
 use Rattle.readout.proofs.Means.{owed-whole}
 
 -- the offset cannot pass its width on n bytes more; bare bytes have none
@@ -87,19 +85,6 @@ source-behind false m bs k i =
     subst (λ (r : Option Event × ℕ × Source). SafeSource (r .2) (length (drop (r .1) bs) + k)) (sym (hear-taped m bs)) (taped-behind m bs k i)
 
 -- ---- what is owed
-text-short : (o : Owed) (text : List ℕ) (t : Bool) → pick t (textByte o text) (alone (pieceOf (feed ∷ []))) .piece .length ≤ longest
-text-short o text true = omega (arith, shown-short (getD text (o .at) 0))
-text-short o text false = omega arith
-
-forth-short : (o : Owed) (recv : List ℕ) → o .piece .length ≤ longest → forth o recv .piece .length ≤ longest
-unfolding forth nextPiece
-forth-short o recv h = go (ltb (suc (o .out)) (o .piece .length)) (o .text)
-  where
-    go : (t u : Bool) → pick t (further o) (pick u (textPiece o (payloadIn (o .delivery) recv)) nothing) .piece .length ≤ longest
-    go true u = h
-    go false true = text-short o (payloadIn (o .delivery) recv) (ltb (o .at) (length (payloadIn (o .delivery) recv)))
-    go false false = omega arith
-
 by-short : (n : ℕ) (o : Owed) (recv : List ℕ) → o .piece .length ≤ longest → forthBy n o recv .piece .length ≤ longest
 unfolding forthBy
 by-short zero o recv h = h
@@ -267,8 +252,8 @@ module _ (rooms : ℕ → ℕ) (some-room : (i : ℕ) → 0 < rooms i) where
   run-ends [] i s safe = record { calls = i; text = []; screen = s; shows = done }
   run-ends (p ∷ ps) i s safe =
       let a =
-          ends (sourceAll (s .source) p .0) (length (owedOn s)) i s p (length (joined ps)) refl
-          (subst (Safe s) (length-append p (joined ps)) safe) (omega arith)
+      ends (sourceAll (s .source) p .0) (length (owedOn s)) i s p (length (joined ps)) refl
+      (subst (Safe s) (length-append p (joined ps)) safe) (omega arith)
       in
       let b = run-ends ps (a .calls) (a .screen) (a .safe) in
       record { calls = b .calls; text = a .text ++ b .text; screen = b .screen; shows = piece (a .shows) (b .shows) }

@@ -61,7 +61,7 @@ shown-some b = go (eqb b backslash) (printable b)
     go false false = omega arith
 
 -- .. and by four at most
-pub shown-short : (b : ℕ) → length (shownByte b) ≤ 4
+shown-short : (b : ℕ) → length (shownByte b) ≤ 4
 unfolding shownByte
 shown-short b = go (eqb b backslash) (printable b)
   where
@@ -101,10 +101,13 @@ left-forth o recv w e = left-some o recv e ∙ go (ltb (suc (o .out)) (o .piece 
   where
     b : ℕ
     b = getD (o .piece .bytes) (o .out) 0
+
     behind : List ℕ
     behind = leftBehind (o .text) (drop (o .at) (payloadIn (o .delivery) recv))
+
     first : drop (o .out) (textOf (o .piece)) ++ behind ≡ b ∷ (drop (suc (o .out)) (textOf (o .piece)) ++ behind)
     first = ap (λ (l : List ℕ). l ++ behind) (slice-cons (o .out) (o .piece .length) (o .piece .bytes) 0 (ltb-true _ _ e) w)
+
     go : (t : Bool) → ltb (suc (o .out)) (o .piece .length) ≡ t
         → drop (o .out) (textOf (o .piece)) ++ leftBehind (o .text) (drop (o .at) (payloadIn (o .delivery) recv)) ≡ getD (o .piece .bytes) (o .out) 0 ∷ left (forth o recv) recv
     go true h =
@@ -133,6 +136,19 @@ forth-whole o recv w = go (ltb (suc (o .out)) (o .piece .length))
     go : (t : Bool) → Whole (pick t (further o) (pick (o .text) (textPiece o (payloadIn (o .delivery) recv)) nothing))
     go true = w
     go false = next-whole o (payloadIn (o .delivery) recv) (o .text)
+
+text-short : (o : Owed) (text : List ℕ) (t : Bool) → pick t (textByte o text) (alone (pieceOf (feed ∷ []))) .piece .length ≤ longest
+text-short o text true = omega (arith, shown-short (getD text (o .at) 0))
+text-short o text false = omega arith
+
+pub forth-short : (o : Owed) (recv : List ℕ) → o .piece .length ≤ longest → forth o recv .piece .length ≤ longest
+unfolding forth nextPiece
+forth-short o recv h = go (ltb (suc (o .out)) (o .piece .length)) (o .text)
+  where
+    go : (t u : Bool) → pick t (further o) (pick u (textPiece o (payloadIn (o .delivery) recv)) nothing) .piece .length ≤ longest
+    go true u = h
+    go false true = text-short o (payloadIn (o .delivery) recv) (ltb (o .at) (length (payloadIn (o .delivery) recv)))
+    go false false = omega arith
 
 -- some is owed where some is left
 pub owes-left : (o : Owed) (recv : List ℕ) → 0 < length (left o recv) → owes o ≡ true

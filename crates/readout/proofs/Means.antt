@@ -202,6 +202,7 @@ takes-whole room s bs w = go (soundState (readoutOf s) (length bs)) (roomy (recv
     on : (t : Bool) → ltb room (length (owedOn s)) ≡ t → Whole (pick t (partly room s) (heardBy s (sourceHear (s .source) bs)) .screen .owed)
     on true e = left-by room (s .owed) (recvOn s) w (omega (arith, ltb-true room (length (owedOn s)) e)) .1
     on false e = heard-whole s (sourceHear (s .source) bs)
+
     go : (a b : Bool) → Whole (takesBy a b room s bs .screen .owed)
     go false b = w
     go true false = w

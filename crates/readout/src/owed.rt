@@ -1,7 +1,11 @@
 //! Text that is owed: it is made as it goes out, from the piece at hand and the payload, which stays in the receive buffer.
 ghost use mathlib.Core.Path.{_≡_};
 ghost use mathlib.Core.Bool.{true};
-ghost use Rattle.readout.specs.Owed.{noDelivery, alone, nothing, withText, owes, soundOwed, nextPiece, forth};
+ghost use Prim.Native.Nat.{_≤_};
+ghost use lib.Dec.{leb};
+ghost use lib.ListN.{length};
+ghost use Rattle.listed.specs.Lines.{longest};
+ghost use Rattle.readout.specs.Owed.{alone, nothing, withText, owes, soundOwed, nextPiece, forth};
 ghost use Rattle.readout.specs.Private.{PutIs};
 use lines::Line;
 use lines::Piece;
@@ -26,18 +30,11 @@ pub(crate) struct Put {
     pub written: usize,
 }
 
-// No packet.
-fn no_delivery() -> Delivery
-    ensures { λ r. ⌜ r ≡ noDelivery ⌝ }
+// Whether so many bytes are no more than a piece has.
+fn within(bytes: [u8; Line::LONGEST], n: usize) -> bool
+    ensures { λ r. ⌜ (r ≡ leb n longest) × (length bytes ≡ longest) ⌝ }
 {
-    Delivery {
-        format: 0,
-        number: 0,
-        key: 0,
-        port: 0,
-        sequence: 0,
-        length: 0,
-    }
+    n <= bytes.len()
 }
 
 impl Owed {
@@ -45,11 +42,19 @@ impl Owed {
     pub(crate) fn alone(piece: Piece) -> Owed
         ensures { λ r. ⌜ r ≡ alone piece ⌝ }
     {
+        let delivery = Delivery {
+            format: 0,
+            number: 0,
+            key: 0,
+            port: 0,
+            sequence: 0,
+            length: 0,
+        };
         Owed {
             piece,
             out: 0,
             text: false,
-            delivery: no_delivery(),
+            delivery,
             at: 0,
         }
     }
@@ -84,10 +89,11 @@ impl Owed {
 
     // Whether the piece keeps within its bytes.
     pub(crate) fn sound(self) -> bool
-        ensures { λ r. ⌜ r ≡ soundOwed self ⌝ }
+        ensures { λ r. ⌜ (r ≡ soundOwed self) × (length (self .piece .bytes) ≡ longest) ⌝ }
     {
         let piece = self.piece;
-        piece.length <= Line::LONGEST
+        let bytes = piece.bytes;
+        within(bytes, piece.length)
     }
 
     // The next piece: a byte of the text, its line feed, or none.
@@ -114,7 +120,7 @@ impl Owed {
 
     // One byte further.
     fn forth(self, recv: &[u8]) -> Owed
-        requires { ⌜ owes self ≡ true ⌝ }
+        requires { ⌜ (owes self ≡ true) × (self .piece .length ≤ longest) ⌝ }
         ensures { λ r. ⌜ r ≡ forth self (now (recv .entry)) ⌝ }
     {
         let piece = self.piece;
@@ -134,7 +140,7 @@ impl Owed {
 
     // As much as the output has room for.
     pub(crate) fn put(self, recv: &[u8], out: &mut [u8]) -> Put
-        requires { ⌜ soundOwed self ≡ true ⌝ }
+        requires { ⌜ (soundOwed self ≡ true) × (length (self .piece .bytes) ≡ longest) ⌝ }
         ensures { λ r. ⌜ PutIs self (now (recv .entry)) (now (out .entry)) r (now (out .exit)) ⌝ }
     {
         let mut owed = self;

@@ -5,6 +5,7 @@ ghost use mathlib.Core.List.{[]};
 ghost use Prim.Native.Nat.{_≤_};
 ghost use lib.ListN.{length};
 ghost use Rattle.channel.specs.Called.{roomy};
+ghost use Rattle.listed.specs.Lines.{longest};
 ghost use Rattle.channel.specs.declared.answer.Answer.the-variants.{Said};
 ghost use Rattle.packet.specs.declared.frame.Judged.the-variants.{Packet as Delivered};
 ghost use Rattle.shown.specs.Board.{writtenAll};
@@ -142,12 +143,13 @@ impl Readout {
 
     // Whether the state passes 10, for n bytes more.
     fn sound(self, n: usize) -> bool
-        ensures { λ r. ⌜ r ≡ soundState self n ⌝ }
+        ensures { λ r. ⌜ (r ≡ soundState self n) × (length (self .owed .piece .bytes) ≡ longest) ⌝ }
     {
         let tape = self.tape;
         let receiver = tape.receiver;
         let ports = self.ports;
         let owed = self.owed;
+        let whole = owed.sound();
         if !receiver.sound() {
             return false;
         }
@@ -157,7 +159,7 @@ impl Readout {
         if !ports.sound() {
             return false;
         }
-        owed.sound()
+        whole
     }
 
     // A packet is noted, and owed.
@@ -242,7 +244,7 @@ impl Readout {
 
     // A call behind refusals 10 and 11.
     fn take_on(self, recv: &mut [u8], word: &mut [u8], piece: &[u8], out: &mut [u8]) -> Took
-        requires { ⌜ (soundState self (length (now piece)) ≡ true) × (roomy (now recv) (now word) ≡ true) ⌝ }
+        requires { ⌜ (soundState self (length (now piece)) ≡ true) × (roomy (now recv) (now word) ≡ true) × (length (self .owed .piece .bytes) ≡ longest) ⌝ }
         ensures { λ r. ⌜ TookIs (takesOn (length (now (out .entry))) (screenOf self (now (recv .entry)) (now (word .entry))) (now (piece .entry))) r (now (recv .exit)) (now (word .exit)) (now (out .entry)) (now (out .exit)) ⌝ }
     {
         let before = self.owed;

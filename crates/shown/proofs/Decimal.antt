@@ -6,7 +6,7 @@
 use Prim.Native.Nat.{ℕ, zero, suc, _+_, _-_, _*_, _/_, _%_, _≤_, _<_}
 use native.Mathlib.Omega.{arith}
 use mathlib.Core.Path.{_≡_, refl, sym, _∙_, ap}
-use mathlib.Core.Logic.{_≢_, ⊎-elim}
+use mathlib.Core.Logic.{inl, inr}
 use mathlib.Core.Bool.{Bool, true, false, _&&_}
 use mathlib.Core.List.{List, [], _∷_, _++_, append-assoc, append-nil}
 use lib.Dec.{ltb, leb}
@@ -194,8 +194,7 @@ decimal-number w h z = let r = number-read w h in ap decimal (r .worth) ∙ go w
     go : (w : List ℕ) → (length w ≡ 0 → ⊥) → Each IsDigit w → value 0 w < noNumber → NoZeros w → decimal (value 0 w) ≡ w
     go [] s d l z = absurd (s refl)
     go (b ∷ []) s d l z = first b (d .0)
-    go (b ∷ c ∷ w) s d l z =
-        ⊎-elim (λ (e : length (b ∷ c ∷ w) ≡ 1). absurd (omega arith))
-        (λ (n : b ≢ 48).
+    go (b ∷ c ∷ w) s d l (inl e) = absurd (omega arith)
+    go (b ∷ c ∷ w) s d l (inr n) =
         let p : 1 ≤ 0 * 10 + (b - 48) = by-le 49 b (λ g. omega arith) (λ g. absurd (n (omega (arith, d .0 .0)))) in
-        decimal-from (0 * 10 + (b - 48)) (c ∷ w) p (d .1) l ∙ ap (λ (x : List ℕ). x ++ c ∷ w) (first b (d .0))) z
+        decimal-from (0 * 10 + (b - 48)) (c ∷ w) p (d .1) l ∙ ap (λ (x : List ℕ). x ++ c ∷ w) (first b (d .0))

@@ -4,15 +4,14 @@
 -- line-printable            a line is printable bytes and then one line feed: no payload ends it, or begins another
 -- bid-first, remark-first   a bid's line begins with a digit, any other with `! `
 -- line-plain                a line that the sender accepts, typed plainly, is shown as it was typed
-use Prim.Native.Nat.{ℕ, zero, suc, _+_, _-_, _≤_, _<_}
+use Prim.Native.Nat.{ℕ, _+_, _≤_, _<_}
 use native.Mathlib.Omega.{arith}
 use native.Mathlib.Numerals.{unary-clauses}
 use mathlib.Core.Path.{_≡_, refl, sym, _∙_, ap, subst}
-use mathlib.Core.Bool.{Bool, true, false, true≢false}
+use mathlib.Core.Bool.{false, true≢false}
 use mathlib.Core.List.{List, [], _∷_, _++_, append-assoc}
 use lib.ListN.{length, take, drop, getD, length-append}
 use lib.Seq.{take-at, drop-at}
-use borrow.Author.Tests.{eq-eqb, ne-eqb}
 use Rattle.base.specs.Bytes.{Each, Bytes}
 use Rattle.base.specs.UpTo.{upTo}
 use Rattle.base.proofs.Bytes.{each-append}

@@ -10,13 +10,14 @@ use Prim.Native.Nat.{ℕ, zero, suc, _≤_, _<_}
 use mathlib.Core.Path.{_≡_, refl, sym, _∙_, ap}
 use mathlib.Core.Logic.{_≢_}
 use mathlib.Core.Bool.{Bool, true, false}
-use mathlib.Core.List.{List, [], _∷_, _++_, map, append-assoc}
+use mathlib.Core.List.{List, [], _∷_, _++_, map}
 use mathlib.Core.Option.{some, none}
 use lib.Dec.{eqb}
 use lib.ListN.{length}
 use borrow.Author.Tests.{eq-eqb, ne-eqb}
 use Rattle.base.specs.Choice.{pick}
-use Rattle.packet.specs.Contents.{Packet, keyFormat}
+use Rattle.base.proofs.Tests.{by-eq}
+use Rattle.packet.specs.Contents.{Packet, plainFormat, keyFormat, packetOf, keyPacket}
 use Rattle.packet.specs.Frame.{packet, refusal, broken}
 use Rattle.channel.specs.Channel.{Event, said, block, lost, frames}
 use Rattle.channel.specs.declared.answer.Condition.{Condition}
@@ -28,18 +29,29 @@ use Rattle.ports.specs.Distance.{around, Distance, ahead, behind, Leads, meanin
 use Rattle.ports.specs.Ports.{freePlace, lastOf, unfit, noting}
 use Rattle.ports.proofs.Laws.{noted-last, noted-full}
 use Rattle.ports.proofs.Signed.{rule-means}
-use Rattle.shown.specs.Board.{Line, missing, unwatched, restricted, aheadOf, ownLine, packetLines, blockLines, eventLines, boardLines}
+use Rattle.shown.specs.Board.{Line, missing, unwatched, packetLines, blockLines, eventLines, boardLines}
 use Rattle.shown.specs.Typed.{isBid, bidsAmong, packetsAmong, asBid, isCurrent, isShown, currentFrom}
-
--- a packet's lines by: is it for subscribers
-abbrev linesBy : Bool → Noted → Packet → List Line
-linesBy t v p = aheadOf v (p .port) ++ (pick t (restricted (p .port) (p .sequence) (p .number)) (ownLine v (p .port) (p .sequence) (p .payload)) ∷ [])
 
 -- a distance of none, or back
 abbrev pub Older : Distance → Type 0
 Older (ahead zero) = Unit {0}
 Older (ahead (suc n)) = ⊥
 Older (behind n) = Unit {0}
+
+-- ---- by the packet's format: for subscribers, or else as for everybody
+abbrev withFormat : ℕ → Packet → Packet
+withFormat f p = packetOf f (p .number) (p .key) (p .port) (p .sequence) (p .payload)
+
+module _ (v : Noted) (p : Packet) where
+  key-lines : p .format ≡ keyFormat → packetLines v p ≡ packetLines v (withFormat keyFormat p)
+  key-lines e = ap (λ (n : ℕ). packetLines v (withFormat n p)) e
+
+  pub plain-lines : p .format ≢ keyFormat → packetLines v p ≡ packetLines v (withFormat plainFormat p)
+  plain-lines n = rw (ne-eqb (p .format) keyFormat n) refl
+
+  either : {ls : List Line} → bidsAmong (packetLines v (withFormat keyFormat p)) ≡ ls → bidsAmong (packetLines v (withFormat plainFormat p)) ≡ ls
+      → bidsAmong (packetLines v p) ≡ ls
+  either k o = by-eq (p .format) keyFormat (λ e. ap bidsAmong (key-lines e) ∙ k) (λ n. ap bidsAmong (plain-lines n) ∙ o)
 
 -- ---- a packet of a port that is held: by the signed distance from the port's last number
 module _ (b : Bool) (t : List Entry) (p : Packet) (l : ℕ) (fit : unfit t ≡ false) (last : lastOf (p .port) t ≡ some l)
@@ -51,73 +63,66 @@ module _ (b : Bool) (t : List Entry) (p : Packet) (l : ℕ) (fit : unfit t ≡ f
   -- an older price never passes for the current one
   pub old-marked : (d : Distance) → Leads l (p .sequence) d → Older d → bidsAmong (eventLines b t (said (packet p))) ≡ []
   unfolding bidsAmong
-  old-marked d leads old = ap bidsAmong (by-distance d leads) ∙ go d old (eqb (p .format) keyFormat)
-    where
-      go : (d : Distance) → Older d → (t : Bool) → bidsAmong (linesBy t (meaning d) p) ≡ []
-      go (ahead zero) o true = refl
-      go (ahead zero) o false = refl
-      go (ahead (suc n)) o t = absurd o
-      go (behind n) o true = refl
-      go (behind n) o false = refl
+  old-marked (ahead zero) leads old = ap bidsAmong (by-distance (ahead zero) leads) ∙ either Repeated p refl refl
+  old-marked (ahead (suc n)) leads old = absurd old
+  old-marked (behind n) leads old = ap bidsAmong (by-distance (behind n) leads) ∙ either Late p refl refl
 
   -- behind a gap the count of what is missing stands directly before the bid
   pub gap-told : (n : ℕ) → Leads l (p .sequence) (ahead (suc (suc n))) → p .format ≢ keyFormat
       → eventLines b t (said (packet p)) ≡ missing (p .port) (suc n) ∷ asBid p ∷ []
-  gap-told n leads open-to = by-distance (ahead (suc (suc n))) leads ∙ ap (λ (t : Bool). linesBy t (Missing (suc n)) p) (ne-eqb (p .format) keyFormat open-to)
+  gap-told n leads other = by-distance (ahead (suc (suc n))) leads ∙ plain-lines (Missing (suc n)) p other
 
 -- ---- a packet of a new port that finds no place
 pub full-told : (b : Bool) (t : List Entry) (p : Packet) → unfit t ≡ false → lastOf (p .port) t ≡ none → length t ≤ freePlace t → p .format ≢ keyFormat
     → eventLines b t (said (packet p)) ≡ unwatched (p .port) ∷ asBid p ∷ []
-full-told b t p fit new full open-to =
-    ap (λ (x : Noted × List Entry). packetLines (x .0) p) (noted-full t (p .port) (p .sequence) fit new full)
-    ∙ ap (λ (u : Bool). linesBy u (Refused 40) p) (ne-eqb (p .format) keyFormat open-to)
+full-told b t p fit new full other =
+    ap (λ (x : Noted × List Entry). packetLines (x .0) p) (noted-full t (p .port) (p .sequence) fit new full) ∙ plain-lines (Refused 40) p other
 
--- ---- a packet for subscribers
+-- ---- a packet for subscribers: no bid ..
+key-bids : (v : Noted) (p : Packet) → bidsAmong (packetLines v (withFormat keyFormat p)) ≡ []
+unfolding bidsAmong
+key-bids First p = refl
+key-bids InOrder p = refl
+key-bids Repeated p = refl
+key-bids (Missing n) p = refl
+key-bids Late p = refl
+key-bids (Refused n) p = refl
+
+-- .. and its lines are those of any packet of the same key number, port and sequence, whatever its key and its payload
 abbrev pub SameBut : Packet → Packet → Type 0
 SameBut p q = (p .format ≡ q .format) × (p .number ≡ q .number) × (p .port ≡ q .port) × (p .sequence ≡ q .sequence)
 
-key-lines : (v : Noted) (p : Packet) → p .format ≡ keyFormat → packetLines v p ≡ aheadOf v (p .port) ++ (restricted (p .port) (p .sequence) (p .number) ∷ [])
-key-lines v p e = ap (λ (t : Bool). linesBy t v p) (eq-eqb (p .format) keyFormat e)
-
-key-bids : (v : Noted) (port sequence number : ℕ) → bidsAmong (aheadOf v port ++ (restricted port sequence number ∷ [])) ≡ []
-unfolding bidsAmong
-key-bids First p s k = refl
-key-bids InOrder p s k = refl
-key-bids Repeated p s k = refl
-key-bids (Missing n) p s k = refl
-key-bids Late p s k = refl
-key-bids (Refused n) p s k = refl
-
--- no bid; and its lines are those of any packet of the same key number, port and sequence, whatever key and payload
 pub restricted-untold : (b : Bool) (t : List Entry) (p : Packet) → p .format ≡ keyFormat
     → (bidsAmong (eventLines b t (said (packet p))) ≡ [])
     × ((q : Packet) → SameBut p q → eventLines b t (said (packet p)) ≡ eventLines b t (said (packet q)))
 restricted-untold b t p e = (
-  ap bidsAmong (key-lines (noting t (p .port) (p .sequence) .0) p e) ∙ key-bids (noting t (p .port) (p .sequence) .0) (p .port) (p .sequence) (p .number),
+  ap bidsAmong (key-lines (noting t (p .port) (p .sequence) .0) p e) ∙ key-bids (noting t (p .port) (p .sequence) .0) p,
   λ q same.
       key-lines (noting t (p .port) (p .sequence) .0) p e
-      ∙ (λ i. aheadOf (noting t (same .2 i) (same .3 i) .0) (same .2 i) ++ (restricted (same .2 i) (same .3 i) (same .1 i) ∷ []))
+      ∙ (λ i. packetLines (noting t (same .2 i) (same .3 i) .0) (keyPacket (same .1 i) (p .key) (same .2 i) (same .3 i) (p .payload)))
       ∙ sym (key-lines (noting t (q .port) (q .sequence) .0) q (sym (same .0) ∙ e)),
 )
 
+-- ---- a packet for everybody: its bid, where it is neither late nor repeated
+plain-bid : (v : Noted) (p : Packet) → bidsAmong (packetLines v (withFormat plainFormat p)) ≡ map asBid (pick (isCurrent v) (p ∷ []) [])
+unfolding bidsAmong
+plain-bid First p = refl
+plain-bid InOrder p = refl
+plain-bid Repeated p = refl
+plain-bid (Missing n) p = refl
+plain-bid Late p = refl
+plain-bid (Refused n) p = refl
+
 -- ---- all answers
 pub current-bid : (v : Noted) (p : Packet) → bidsAmong (packetLines v p) ≡ map asBid (pick (isShown v p) (p ∷ []) [])
-unfolding bidsAmong
-current-bid v p = go v (eqb (p .format) keyFormat)
-  where
-    go : (v : Noted) (t : Bool) → bidsAmong (linesBy t v p) ≡ map asBid (pick (pick t false (isCurrent v)) (p ∷ []) [])
-    go First true = refl
-    go First false = refl
-    go InOrder true = refl
-    go InOrder false = refl
-    go Repeated true = refl
-    go Repeated false = refl
-    go (Missing n) true = refl
-    go (Missing n) false = refl
-    go Late true = refl
-    go Late false = refl
-    go (Refused n) true = refl
-    go (Refused n) false = refl
+current-bid v p =
+    by-eq (p .format) keyFormat
+    (λ e.
+    ap bidsAmong (key-lines v p e) ∙ key-bids v p
+    ∙ sym (ap (λ (t : Bool). map asBid (pick (pick t false (isCurrent v)) (p ∷ []) [])) (eq-eqb (p .format) keyFormat e)))
+    (λ n.
+    ap bidsAmong (plain-lines v p n) ∙ plain-bid v p
+    ∙ sym (ap (λ (t : Bool). map asBid (pick (pick t false (isCurrent v)) (p ∷ []) [])) (ne-eqb (p .format) keyFormat n)))
 
 bids-joined : (ls ks : List Line) → bidsAmong (ls ++ ks) ≡ bidsAmong ls ++ bidsAmong ks
 unfolding bidsAmong

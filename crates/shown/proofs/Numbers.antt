@@ -7,7 +7,7 @@ use Prim.Native.Nat.{ℕ}
 use mathlib.Core.Path.{_≡_, refl}
 use mathlib.Core.Bool.{Bool, true, false}
 use mathlib.Core.List.{List, [], _∷_, map}
-use Rattle.packet.specs.Contents.{Packet, plainPacket, keyPacket}
+use Rattle.packet.specs.Contents.{plainPacket, keyPacket}
 use Rattle.packet.specs.Frame.{packet, refusal, broken}
 use Rattle.channel.specs.Channel.{Event, said, block, lost}
 use Rattle.channel.specs.declared.answer.Condition.the-variants.{Clean, Repaired, Beyond}

@@ -5,7 +5,7 @@
 use Prim.Native.Nat.{ℕ, _+_, _%_, _≤_, _<_}
 use native.Mathlib.Omega.{arith}
 use mathlib.Core.Path.{_≡_, refl, sym, _∙_, ap, subst}
-use mathlib.Core.Logic.{_⊎_, _≢_, inl, inr, ⊎-elim}
+use mathlib.Core.Logic.{_⊎_, _≢_, inl, inr}
 use mathlib.Core.Bool.{Bool, true, false}
 use mathlib.Core.List.{List, [], _∷_, _++_, map}
 use mathlib.Core.Option.{Option, some, none}
@@ -16,7 +16,7 @@ use Rattle.base.specs.Bytes.{Each}
 use Rattle.base.specs.Choice.{pick}
 use Rattle.base.proofs.Tests.{by-eq, by-le}
 use Rattle.packet.specs.Contents.{Packet, plainFormat, keyFormat}
-use Rattle.packet.specs.Frame.{Told, packet}
+use Rattle.packet.specs.Frame.{Told}
 use Rattle.stream.specs.Sender.{delivered}
 use Rattle.channel.specs.Channel.{Event, frames}
 use Rattle.ports.specs.declared.Entry.{Entry}
@@ -29,11 +29,7 @@ use Rattle.ports.proofs.Keeping.{fit-noted, fresh-fit, fresh-none}
 use Rattle.shown.specs.Board.{boardLines, freshTable}
 use Rattle.shown.specs.Typed.{bidsAmong, packetsAmong, asBid, isCurrent, isShown, currentFrom, numbersOf, ByOne}
 use Rattle.shown.proofs.Marks.{bids-current}
-
--- a packet as the office sends it: for everybody, with a sequence number of 16 bits
-pub record IsOpen (p : Packet) : Type 0 where
-  pub format : p .format ≡ plainFormat
-  pub low : p .sequence < around
+use Rattle.shown.proofs.Typed.{IsOpen}
 
 -- ---- a port's numbers behind its last one
 abbrev pub Follows : Option ℕ → List ℕ → Type 0
@@ -109,11 +105,9 @@ module _ (t : List Entry) (fit : unfit t ≡ false) (p : Packet) (ps : List Pack
       )
 
 turn-current : (t : List Entry) (p : Packet) (v : Noted) → InTurn t p v → isCurrent v ≡ true
-turn-current t p v o =
-    ⊎-elim (λ (e : v ≡ First). ap isCurrent e)
-    (λ (o : (v ≡ InOrder) ⊎ ((v ≡ Refused 40) × (lastOf (p .port) t ≡ none) × (length t ≤ freePlace t))).
-    ⊎-elim (λ (e : v ≡ InOrder). ap isCurrent e)
-    (λ (e : (v ≡ Refused 40) × (lastOf (p .port) t ≡ none) × (length t ≤ freePlace t)). ap isCurrent (e .0)) o) o
+turn-current t p v (inl e) = ap isCurrent e
+turn-current t p v (inr (inl e)) = ap isCurrent e
+turn-current t p v (inr (inr e)) = ap isCurrent (e .0)
 
 -- for everybody: it is shown
 pub open-shown : (v : Noted) (p : Packet) → p .format ≡ plainFormat → isShown v p ≡ isCurrent v

@@ -6,7 +6,7 @@
 use Prim.Native.Nat.{ℕ, suc, _≤_, _<_}
 use native.Mathlib.Omega.{arith}
 use mathlib.Core.Path.{_≡_, refl, sym, _∙_, ap, subst}
-use mathlib.Core.Logic.{_⊎_, _≢_, ⊎-elim, inl, inr}
+use mathlib.Core.Logic.{_≢_, inl, inr}
 use mathlib.Core.Bool.{Bool, true, false, _&&_}
 use mathlib.Core.List.{List, [], _∷_, _++_, map}
 use mathlib.Core.Option.{none}
@@ -15,7 +15,7 @@ use lib.ListN.{length, set, length-set}
 use borrow.Author.Tests.{eq-eqb, ne-eqb}
 use Rattle.base.specs.Bytes.{Each}
 use Rattle.base.specs.Choice.{pick}
-use Rattle.base.proofs.Tests.{by-eq, by-le}
+use Rattle.base.proofs.Tests.{by-eq}
 use Rattle.packet.specs.Contents.{Packet, plainFormat, keyFormat}
 use Rattle.packet.specs.Frame.{Told, packet, refusal, broken}
 use Rattle.stream.specs.Sender.{delivered}
@@ -24,14 +24,16 @@ use Rattle.channel.specs.declared.answer.Condition.{Condition}
 use Rattle.channel.specs.declared.answer.Condition.the-variants.{Clean, Repaired, Beyond}
 use Rattle.ports.specs.declared.Entry.{Entry}
 use Rattle.ports.specs.declared.Noted.{Noted}
-use Rattle.ports.specs.declared.Noted.the-variants.{First, InOrder, Refused}
+use Rattle.ports.specs.declared.Noted.the-variants.{First, InOrder}
 use Rattle.ports.specs.Distance.{lastBehind}
-use Rattle.ports.specs.Ports.{placeLimit, holds, placeOf, freePlace, lastOf, twice, unfit, entry, lastAt, noting}
+use Rattle.ports.specs.Ports.{placeLimit, placeOf, freePlace, lastOf, twice, unfit, entry, lastAt, noting}
 use Rattle.ports.proofs.Laws.{noting-ways, others-noted, away-by, once, or-right}
 use Rattle.ports.proofs.Keeping.{fit-noted, fresh-fit, fresh-none}
-use Rattle.shown.specs.Board.{Line, aheadOf, ownLine, restricted, packetLines, refusedFrame, brokenFrame, boardLines, freshTable}
+use Rattle.shown.specs.Board.{Line, packetLines, refusedFrame, brokenFrame, boardLines, freshTable}
 use Rattle.shown.specs.Typed.{asBid, numbersOf, ByOne, Member, Among}
-use Rattle.shown.proofs.Ordered.{IsOpen, Ready, InTurn, ready-fresh, ready-step}
+use Rattle.shown.proofs.Marks.{plain-lines}
+use Rattle.shown.proofs.Typed.{IsOpen}
+use Rattle.shown.proofs.Ordered.{Ready, InTurn, ready-fresh, ready-step}
 
 -- ---- blocks clean or repaired, and no lock lost
 abbrev pub Good : Condition → Type 0
@@ -63,16 +65,14 @@ without x (y ∷ ys) = pick (eqb x y) ys (y ∷ without x ys)
 without-length : (qs : List ℕ) (x : ℕ) → Member x qs → length qs ≡ suc (length (without x qs))
 unfolding without
 without-length [] x m = absurd m
-without-length (y ∷ ys) x m =
-    by-eq x y (λ e. rw (eq-eqb x y e) refl)
-    (λ n. rw (ne-eqb x y n) (ap suc (without-length ys x (⊎-elim (λ (e : x ≡ y). absurd (n e)) (λ (k : Member x ys). k) m))))
+without-length (y ∷ ys) x (inl e) = rw (eq-eqb x y e) refl
+without-length (y ∷ ys) x (inr m) = by-eq x y (λ e. rw (eq-eqb x y e) refl) (λ n. rw (ne-eqb x y n) (ap suc (without-length ys x m)))
 
 without-member : (qs : List ℕ) (x z : ℕ) → z ≢ x → Member z qs → Member z (without x qs)
 unfolding without
 without-member [] x z n m = absurd m
-without-member (y ∷ ys) x z n m =
-    by-eq x y (λ e. rw (eq-eqb x y e) (⊎-elim (λ (f : z ≡ y). absurd (n (f ∙ sym e))) (λ (k : Member z ys). k) m))
-    (λ d. rw (ne-eqb x y d) (⊎-elim (λ (f : z ≡ y). inl f) (λ (k : Member z ys). inr (without-member ys x z n k)) m))
+without-member (y ∷ ys) x z n (inl e) = rw (ne-eqb x y (λ f. n (e ∙ sym f))) (inl e)
+without-member (y ∷ ys) x z n (inr m) = by-eq x y (λ e. rw (eq-eqb x y e) m) (λ d. rw (ne-eqb x y d) (inr (without-member ys x z n m)))
 
 pigeon : (xs qs : List ℕ) → Distinct xs → ((x : ℕ) → Member x xs → Member x qs) → length xs ≤ length qs
 pigeon [] qs d s = omega arith
@@ -95,9 +95,8 @@ held-place (x ∷ t) q m = go (x .held) (held-place t q) m
     go : (h : Bool) → (Member q (heldPorts t) → placeOf q t < length t) → Member q (pick h (x .port ∷ heldPorts t) (heldPorts t))
         → pick (h && eqb (x .port) q) 0 (suc (placeOf q t)) < suc (length t)
     go false r m = omega (arith, r m)
-    go true r m =
-        by-eq (x .port) q (λ e. rw (eq-eqb (x .port) q e) (omega arith))
-        (λ n. rw (ne-eqb (x .port) q n) (omega (arith, r (⊎-elim (λ (f : q ≡ x .port). absurd (n (sym f))) (λ (k : Member q (heldPorts t)). k) m))))
+    go true r (inl e) = rw (eq-eqb (x .port) q (sym e)) (omega arith)
+    go true r (inr m) = by-eq (x .port) q (λ e. rw (eq-eqb (x .port) q e) (omega arith)) (λ n. rw (ne-eqb (x .port) q n) (omega (arith, r m)))
 
 -- .. and so a last number
 held-last : (t : List Entry) (q : ℕ) → Member q (heldPorts t) → lastOf q t ≡ none → ⊥
@@ -133,9 +132,12 @@ Within qs t = (q : ℕ) → (lastOf q t ≡ none → ⊥) → Member q qs
 has-place : (t : List Entry) (qs : List ℕ) (port : ℕ) → unfit t ≡ false → length qs ≤ length t → Within qs t → Member port qs
     → lastOf port t ≡ none → length t ≤ freePlace t → ⊥
 has-place t qs port f l w m e k =
-    let p = pigeon (port ∷ heldPorts t) qs ((λ n. held-last t port n e), held-distinct t (or-right (ltb placeLimit (length t)) (twice t) f))
-    (λ x n. ⊎-elim (λ (g : x ≡ port). subst (λ (y : ℕ). Member y qs) (sym g) m) (λ (g : Member x (heldPorts t)). w x (held-last t x g)) n) in
-    omega (arith, held-all t k)
+    let d : Distinct (port ∷ heldPorts t) = ((λ n. held-last t port n e), held-distinct t (or-right (ltb placeLimit (length t)) (twice t) f)) in
+    omega (arith, pigeon (port ∷ heldPorts t) qs d each, held-all t k)
+  where
+    each : (x : ℕ) → Member x (port ∷ heldPorts t) → Member x qs
+    each x (inl g) = subst (λ (y : ℕ). Member y qs) (sym g) m
+    each x (inr g) = w x (held-last t x g)
 
 noted-length : (t : List Entry) (port sequence : ℕ) → length (noting t port sequence .1) ≡ length t
 noted-length t port sequence =
@@ -144,18 +146,13 @@ noted-length t port sequence =
 
 -- ---- packets in order
 module _ (t : List Entry) (p : Packet) (room : lastOf (p .port) t ≡ none → length t ≤ freePlace t → ⊥) (plain : p .format ≡ plainFormat) where
-  plain-lines : (v : Noted) → packetLines v p ≡ aheadOf v (p .port) ++ (ownLine v (p .port) (p .sequence) (p .payload) ∷ [])
-  plain-lines v =
-      ap
-      (λ (n : ℕ). aheadOf v (p .port)
-      ++ (pick (eqb n keyFormat) (restricted (p .port) (p .sequence) (p .number)) (ownLine v (p .port) (p .sequence) (p .payload)) ∷ [])) plain
+  other : p .format ≢ keyFormat
+  other e = omega arith
 
   in-turn : (v : Noted) → InTurn t p v → packetLines v p ≡ asBid p ∷ []
-  in-turn v o =
-      ⊎-elim (λ (e : v ≡ First). ap (λ (x : Noted). packetLines x p) e ∙ plain-lines First)
-      (λ (o : (v ≡ InOrder) ⊎ ((v ≡ Refused 40) × (lastOf (p .port) t ≡ none) × (length t ≤ freePlace t))).
-      ⊎-elim (λ (e : v ≡ InOrder). ap (λ (x : Noted). packetLines x p) e ∙ plain-lines InOrder)
-      (λ (e : (v ≡ Refused 40) × (lastOf (p .port) t ≡ none) × (length t ≤ freePlace t)). absurd (room (e .1) (e .2))) o) o
+  in-turn v (inl e) = ap (λ (x : Noted). packetLines x p) e ∙ plain-lines First p other
+  in-turn v (inr (inl e)) = ap (λ (x : Noted). packetLines x p) e ∙ plain-lines InOrder p other
+  in-turn v (inr (inr e)) = absurd (room (e .1) (e .2))
 
 module _ (qs : List ℕ) (few : length qs ≤ placeLimit) where
   only-from : (ps : List Packet) (t : List Entry) → unfit t ≡ false → length t ≡ placeLimit → Within qs t → Each IsOpen ps → Among qs ps → Ready t ps

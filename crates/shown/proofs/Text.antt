@@ -6,7 +6,7 @@
 use Prim.Native.Nat.{ℕ, _+_, _-_, _*_, _≤_, _<_}
 use native.Mathlib.Omega.{arith}
 use mathlib.Core.Path.{_≡_, refl, sym, _∙_, ap}
-use mathlib.Core.Bool.{Bool, true, false, _&&_}
+use mathlib.Core.Bool.{Bool, true, _&&_}
 use mathlib.Core.List.{List, [], _∷_, _++_}
 use lib.Dec.{T, eqb, leb, ltb, eqb→eq, leb→le}
 use lib.ListN.{length, getD, drop, length-append}
@@ -15,7 +15,7 @@ use borrow.Author.Tests.{ne-eqb}
 use Rattle.base.specs.Bytes.{Each, Bytes}
 use Rattle.base.specs.Choice.{pick}
 use Rattle.base.proofs.Bytes.{each-append}
-use Rattle.base.proofs.Tests.{and-l, and-r, all, all-at}
+use Rattle.base.proofs.Tests.{and-l, and-r, all-at}
 use Rattle.shown.specs.Text.{shownByte, shownText}
 use Rattle.shown.specs.Typed.{Plain}
 

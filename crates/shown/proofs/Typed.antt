@@ -1,22 +1,24 @@
 -- What the office typed, and what is shown.
 -- bids-typed        the packets of the accepted lines, written as bids: those lines as they are shown ..
+-- packets-open      those packets are for everybody
 -- accepting-each    each of them is one that the sender accepts ..
 -- shown-typed       .. and where they were typed plainly, they are shown as they were typed
 -- lines-typed       the lines of an input that ends in a line feed, each with its line feed, are that input
 -- unnamed           where the sender names no line, it accepts each
-use Prim.Native.Nat.{ℕ}
+use Prim.Native.Nat.{ℕ, _<_}
 use native.Mathlib.Omega.{arith}
-use mathlib.Core.Path.{_≡_, refl, sym, _∙_, ap}
+use mathlib.Core.Path.{_≡_, refl, sym, _∙_, ap, subst}
 use mathlib.Core.List.{List, [], _∷_, _++_, map, append-assoc, append-nil}
 use lib.ListN.{length}
 use Rattle.base.specs.Bytes.{Each}
 use Rattle.base.specs.Choice.{pick}
 use Rattle.base.proofs.Tests.{by-eq}
-use Rattle.packet.specs.Contents.{Packet}
+use Rattle.packet.specs.Contents.{Packet, plainFormat}
 use Rattle.bid.specs.Line.{feed, Verdict, noBid, refused, accepted, verdict}
 use Rattle.bid.specs.Input.{linesFrom, linesOf, packets, packetsOf, numbered, complaintsFrom, complaints}
 use Rattle.bid.proofs.Lines.{lines-feed, lines-other, lines-none}
 use Rattle.bid.proofs.Verdicts.{accepted-bid}
+use Rattle.ports.specs.Distance.{around}
 use Rattle.shown.specs.Board.{written, writtenAll}
 use Rattle.shown.specs.Typed.{isAccepted, accepting, acceptedLines, typed, asShown, Plainly, asBid}
 use Rattle.shown.proofs.Line.{line-plain}
@@ -35,6 +37,24 @@ from-shown (l ∷ ls) = go (verdict l) refl (from-shown ls)
 
 pub bids-typed : (input : List ℕ) → writtenAll (map asBid (packetsOf input)) ≡ asShown (acceptedLines input)
 bids-typed input = from-shown (linesOf input)
+
+-- a packet as the office sends it: for everybody, with a sequence number of 16 bits
+pub record IsOpen (p : Packet) : Type 0 where
+  pub format : p .format ≡ plainFormat
+  pub low : p .sequence < around
+
+from-open : (ls : List (List ℕ)) → Each IsOpen (packets (map verdict ls))
+unfolding packets
+from-open [] = tt
+from-open (l ∷ ls) = go (verdict l) refl (from-open ls)
+  where
+    go : (v : Verdict) → verdict l ≡ v → Each IsOpen (packets (map verdict ls)) → Each IsOpen (packets (v ∷ map verdict ls))
+    go noBid e r = r
+    go (refused n) e r = r
+    go (accepted p) e r = let a = accepted-bid l p e in (subst IsOpen (a .is) (record { format = refl; low = a .sequence-fits }), r)
+
+pub packets-open : (input : List ℕ) → Each IsOpen (packetsOf input)
+packets-open input = from-open (linesOf input)
 
 -- a line that the sender accepts
 abbrev pub IsAccepted : List ℕ → Type 0

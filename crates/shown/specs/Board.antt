@@ -10,7 +10,7 @@ use mathlib.Core.List.{List, [], _∷_, _++_}
 use lib.Dec.{eqb}
 use Rattle.base.specs.Choice.{pick}
 use Rattle.packet.specs.Contents.{Packet, keyFormat}
-use Rattle.packet.specs.Frame.{Told, packet, refusal, broken}
+use Rattle.packet.specs.Frame.{packet, refusal, broken}
 use Rattle.channel.specs.Channel.{Event, said, block, lost, answers}
 use Rattle.channel.specs.declared.answer.Condition.{Condition}
 use Rattle.channel.specs.declared.answer.Condition.the-variants.{Clean, Repaired, Beyond}

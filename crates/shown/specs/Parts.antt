@@ -2,9 +2,8 @@
 -- lead      before the text: the lines ahead of a packet's own, and its own up to the text; of one for subscribers all of it
 -- behind    the text and its line feed
 -- remark    the lines of an answer that is no packet
--- pieceOf   a text of at most 128 bytes, by value
-use Prim.Native.Nat.{ℕ, _-_}
-use mathlib.Core.Bool.{Bool, true, false}
+use Prim.Native.Nat.{ℕ}
+use mathlib.Core.Bool.{Bool}
 use mathlib.Core.List.{List, [], _∷_, _++_}
 use lib.Dec.{eqb}
 use Rattle.base.specs.Choice.{pick}
@@ -13,7 +12,7 @@ use Rattle.packet.specs.declared.frame.Delivery.{Delivery}
 use Rattle.packet.specs.declared.frame.Judged.the-variants.{Packet as Delivered, Refused as RefusedFrame, Broken}
 use Rattle.channel.specs.declared.answer.Answer.{Answer}
 use Rattle.channel.specs.declared.answer.Answer.the-variants.{More, Said, Block, LockLost}
-use Rattle.bid.specs.Line.{feed, space}
+use Rattle.bid.specs.Line.{feed}
 use Rattle.ports.specs.declared.Noted.{Noted}
 use Rattle.ports.specs.declared.Noted.the-variants.{First, InOrder, Repeated, Missing, Late, Refused}
 use Rattle.shown.specs.Text.{heading, shownText}

@@ -1,0 +1,135 @@
+-- What the office typed is what the manager reads. For every input of the office, however it is cut (`Sends`); whatever stray bytes come before
+-- what goes out, the marker first appearing where that begins; whichever bytes of its words are altered, up to 16 in each (`Airs`):
+-- bids-delivered   the packets delivered are those of the lines that the sender accepted, once each, in order, and nothing else; no lock is lost
+-- bids-not-old     the bids among the lines shown are those of the accepted lines that are neither late nor repeated, in order, and no others ..
+-- .. and where each port's sequence numbers rise by one:
+-- bids-as-shown    they are the accepted lines, once each, in order ..
+-- bids-as-typed    .. as typed, where they were typed plainly
+-- all-as-shown     .. and of at most 16 ports nothing else is shown
+-- board-text       .. as typed: the text on the board is those lines, byte for byte
+-- input-shown      .. and where no line is named, and the last ends in a line feed: it is the input itself
+-- by-calls         what is so of the answers is so of those that calls give, however what comes in is cut; all-as-typed: the last but one by calls
+use Prim.Native.Nat.{ℕ, zero, suc, _≤_}
+use native.Mathlib.Omega.{arith}
+use mathlib.Core.Path.{_≡_, sym, _∙_, ap, subst}
+use mathlib.Core.Bool.{Bool, false}
+use mathlib.Core.List.{List, [], _∷_, _++_, map, append-nil}
+use lib.ListN.{length, replicate, length-replicate}
+use Rattle.base.specs.Bytes.{Each, Bytes}
+use Rattle.packet.specs.Contents.{rawLimit, Packet}
+use Rattle.packet.specs.Frame.{Told}
+use Rattle.packet.specs.Sender.{Accepted}
+use Rattle.stream.specs.Sender.{delivered}
+use Rattle.channel.specs.Sender.{wordBytes, sentWords}
+use Rattle.channel.specs.Channel.{Event, frames, blocks, losses, answers, FirstMarker}
+use Rattle.channel.specs.Called.{EveryCut}
+use Rattle.channel.proofs.Streaming.{sent-each}
+use Rattle.channel.proofs.Demands.{cut-so, every-cut}
+use Rattle.bid.specs.Line.{feed}
+use Rattle.bid.specs.Input.{linesOf, packetsOf, complaints}
+use Rattle.office.specs.Desk.{sentFor}
+use Rattle.office.proofs.Cutting.{bids-sent}
+use Rattle.office.proofs.Board.{packets-accepted}
+use Rattle.ports.specs.Ports.{placeLimit}
+use Rattle.shown.specs.Board.{boardLines, writtenAll, freshTable, shows, boardText}
+use Rattle.shown.specs.Typed.{acceptedLines, typed, asShown, Plainly, bidsAmong, packetsAmong, asBid, currentFrom, numbersOf, ByOne, Among}
+use Rattle.shown.proofs.Marks.{bids-current}
+use Rattle.shown.proofs.Typed.{bids-typed, packets-open, shown-typed, lines-typed, unnamed}
+use Rattle.shown.proofs.Ordered.{delivered-packets, bids-in-order}
+use Rattle.shown.proofs.Sixteen.{Good, only-bids}
+use Rattle.demands.specs.Guarantee.{altered, answerFor, Received, received}
+use Rattle.demands.specs.Way.{Sends, Airs}
+use Rattle.demands.proofs.Framed.{framed-same}
+use Rattle.demands.proofs.Guarantee.{delivered-as-sent}
+
+-- ---- what is so of the answers that calls give is so of the answers that the bytes mean, and the other way round
+module _ {air : List ℕ} (Q : List Event → Type 0) where
+  uncut : EveryCut air (λ es d. Q es) → Q (answers air)
+  uncut cut =
+      let r : List ℕ = replicate rawLimit 0 in
+      let w : List ℕ = replicate wordBytes 0 in
+      let hr : rawLimit ≤ length r = omega (arith, length-replicate {A = ℕ} rawLimit 0) in
+      let hw : wordBytes ≤ length w = omega (arith, length-replicate {A = ℕ} wordBytes 0) in
+      let y = cut r w hr hw (air ∷ []) (append-nil air) in
+      let x = every-cut air r w hr hw (air ∷ []) (append-nil air) in
+      let e = y .ends in
+      subst Q (x .always (e .0) (e .1) (e .2) .0) (y .always (e .0) (e .1) (e .2))
+
+  pub by-calls : Q (answers air) → EveryCut air (λ es d. Q es)
+  by-calls q = cut-so (every-cut air) λ es d e. subst Q (sym (e .0)) q
+
+-- what goes out is the stream of the accepted lines
+pub went-out : {input out : List ℕ} → Sends input out → out ≡ sentFor input
+went-out s =
+    sym (s .wrote)
+    ∙ bids-sent (s .line) (s .hold) (s .line-room) (s .hold-room) (s .room) (s .enough) (s .pieces) (s .last) (s .fits) .always (s .said) (s .desk) (s .called)
+    ∙ ap sentFor (s .cut)
+
+-- every block is clean or repaired
+good-for : (n : ℕ) → Good (answerFor n)
+good-for zero = tt
+good-for (suc n) = tt
+
+good-received : (ws vs : List (List ℕ)) → Each Good (received ws vs)
+good-received [] vs = tt
+good-received (w ∷ ws) [] = tt
+good-received (w ∷ ws) (v ∷ vs) = (good-for (altered w v), good-received ws vs)
+
+module _ {input out air : List ℕ} (bytes : Bytes input) (sends : Sends input out) (airs : Airs out air) where
+  accepted : Each Accepted (packetsOf input)
+  accepted = packets-accepted input bytes
+
+  the-words : airs .words ≡ sentWords (packetsOf input)
+  the-words = framed-same (airs .words) (sentWords (packetsOf input)) (airs .whole) (sent-each (packetsOf input) accepted) (airs .blocks ∙ went-out sends)
+
+  -- the packets delivered are the accepted lines', once each, in order, and nothing else; each block is clean, or repaired in exactly the places
+  -- altered; no lock is lost
+  pub bids-delivered : (frames (answers air) ≡ map delivered (packetsOf input))
+      × (blocks (answers air) ≡ received (sentWords (packetsOf input)) (airs .came)) × (losses (answers air) ≡ 0)
+  bids-delivered =
+      uncut
+      (λ es. (frames es ≡ map delivered (packetsOf input)) × (blocks es ≡ received (sentWords (packetsOf input)) (airs .came)) × (losses es ≡ 0))
+      (subst (λ bs. EveryCut bs λ es d. (frames es ≡ map delivered (packetsOf input))
+      × (blocks es ≡ received (sentWords (packetsOf input)) (airs .came)) × (losses es ≡ 0)) (airs .heard)
+      (delivered-as-sent (airs .stray) (packetsOf input) accepted (subst (FirstMarker (airs .stray)) (went-out sends) (airs .first)) (airs .came)
+      (subst (λ ws. Received ws (airs .came)) the-words (airs .altered))))
+
+  -- whatever the sequence numbers: the bids among the lines shown are those of the accepted lines that are neither late nor repeated
+  pub bids-not-old : (b : Bool) → bidsAmong (boardLines b freshTable (answers air)) ≡ map asBid (currentFrom freshTable (packetsOf input))
+  bids-not-old b =
+      bids-current b (answers air) freshTable ∙ ap (λ (ts : List Told). map asBid (currentFrom freshTable (packetsAmong ts))) (bids-delivered .0)
+      ∙ ap (λ (ps : List Packet). map asBid (currentFrom freshTable ps)) (delivered-packets (packetsOf input))
+
+  -- ---- each port's sequence numbers rise by one
+  module _ (rising : (q : ℕ) → ByOne (numbersOf q (packetsOf input))) where
+    -- the bids among the lines shown are the lines that the sender accepted, once each, in order ..
+    pub bids-as-shown : (b : Bool) → writtenAll (bidsAmong (boardLines b freshTable (answers air))) ≡ asShown (acceptedLines input)
+    bids-as-shown b =
+        ap writtenAll (bids-in-order b (answers air) (packetsOf input) (bids-delivered .0) (packets-open input) rising) ∙ bids-typed input
+
+    -- .. as typed
+    pub bids-as-typed : Each Plainly (acceptedLines input) → (b : Bool)
+        → writtenAll (bidsAmong (boardLines b freshTable (answers air))) ≡ typed (acceptedLines input)
+    bids-as-typed plain b = bids-as-shown b ∙ shown-typed input plain
+
+    -- ---- of at most 16 ports
+    module _ (ports : List ℕ) (few : length ports ≤ placeLimit) (among : Among ports (packetsOf input)) where
+      -- nothing else is shown ..
+      pub all-as-shown : boardText false air ≡ asShown (acceptedLines input)
+      all-as-shown =
+          let d = bids-delivered in
+          let good : Each Good (blocks (answers air)) = subst (Each Good) (sym (d .1)) (good-received (sentWords (packetsOf input)) (airs .came)) in
+          ap writtenAll (only-bids ports few (answers air) (packetsOf input) (d .0) good (d .2) (packets-open input) among rising) ∙ bids-typed input
+
+      module _ (plain : Each Plainly (acceptedLines input)) where
+        -- .. the text on the board is those lines, byte for byte ..
+        pub board-text : boardText false air ≡ typed (acceptedLines input)
+        board-text = all-as-shown ∙ shown-typed input plain
+
+        -- .. by calls: they come to their end, and what is shown of their answers is that ..
+        pub all-as-typed : EveryCut air λ es d. shows false es ≡ typed (acceptedLines input)
+        all-as-typed = by-calls (λ es. shows false es ≡ typed (acceptedLines input)) board-text
+
+        -- .. and where no line is named, and the last ends in a line feed, it is the input itself
+        pub input-shown : (bs : List ℕ) → input ≡ bs ++ feed ∷ [] → complaints input ≡ [] → boardText false air ≡ input
+        input-shown bs e unspoken = board-text ∙ ap typed (unnamed input unspoken) ∙ ap (λ (l : List ℕ). typed (linesOf l)) e ∙ lines-typed bs ∙ sym e
