@@ -7,7 +7,6 @@ use channel::Receiver;
 use libc::STDERR_FILENO;
 use libc::STDIN_FILENO;
 use libc::STDOUT_FILENO;
-use lines::Piece;
 use readout::Readout;
 use readout::Wants;
 
@@ -168,14 +167,13 @@ fn is_refused(wants: Wants) -> bool {
 // What is still to be said behind the last byte.
 fn finish(readout: Readout) {
     let last = readout.finish();
-    put(last);
+    let text = last.bytes;
+    put(last.length, &text);
 }
 
-// A piece of text.
-fn put(piece: Piece) {
-    let text = piece.bytes;
-    let n = base::least(piece.length, text.len());
-    print(&text[0..n]);
+// The first so many bytes of a text.
+fn put(n: usize, text: &[u8]) {
+    print(&text[0..base::least(n, text.len())]);
 }
 
 // Text to standard output; whether all went there.

@@ -144,9 +144,7 @@ fn run(first: Place, bytes: &[u8], recv: &mut [u8], word: &mut [u8], out: &mut [
 fn finish(readout: Readout) {
     let last = readout.finish();
     let text = last.bytes;
-    let n = base::least(last.length, text.len());
-    crate::print(last.length as u64);
-    io::write_all(1, &text[0..n]);
+    show(last.length, &text);
 }
 
 // One call, and what follows from its answer.
