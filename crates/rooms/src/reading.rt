@@ -162,7 +162,7 @@ fn call(p: Place, bytes: &[u8], recv: &mut [u8], word: &mut [u8], out: &mut [u8]
     follow(p, t, bytes.len(), out)
 }
 
-// Tells a call, of n bytes in all.
+// Tells a call, of n bytes in all. Where it took nothing and there is no room, nothing would come of another.
 fn follow(p: Place, t: Took, n: usize, out: &[u8]) -> Place {
     let r = t.next;
     let at = std::num::wrapping_add_usize(p.at, t.taken);
@@ -240,7 +240,6 @@ fn cut(seed: u64, at: usize, n: usize) -> Next {
     }
 }
 
-// The next call. Without room for a byte nothing comes of a second call.
 fn onward(readout: Readout, size: usize, seed: u64, at: usize, end: usize, go: bool) -> Place {
     Place {
         readout,
