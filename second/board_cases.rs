@@ -183,11 +183,14 @@ pub fn read_by_calls(number: u64, bytes: &[u8], out: &mut [u8]) -> Vec<u8> {
     let (size, lent, start) = ((number >> 32) as usize & 0x3FFF, (number >> 48) as usize & 0x3FFF, number >> 46 & 3);
     let (bare, blocks_too) = (number >> 62 & 1 == 1, number >> 63 == 1);
     let before = if start == NEAR { u64::MAX - 300 } else { 0 };
+    let wrong = apart(bytes, STREAM_LIMIT).1;
     let mut answers = answers_of(bare, blocks_too, bytes).into_iter().peekable();
     let (mut at, mut end, mut seed) = (0, 0, number & 0x7FFFFFFF);
     let (mut told, mut owed) = (Vec::new(), Vec::new());
     loop {
-        let sound = start <= NEAR && (bare || before.checked_add(end as u64).is_some());
+        // the offset stays where something is wrong
+        let offset = before + wrong.unwrap_or(at).min(at) as u64;
+        let sound = start <= NEAR && (bare || offset.checked_add((end - at) as u64).is_some());
         if !sound || lent < RAW_LIMIT {
             cases::push_all(&mut told, &[0, cases::refusal(if sound { 11 } else { 10 }), 0]);
             break;
