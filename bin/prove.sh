@@ -36,13 +36,11 @@ prove_under() {
     done
 }
 
-# heed PROGRAM: runs it, proved. A proved program cannot set its exit status: where it says something on standard error, it has failed.
+# heed PROGRAM WORDS..: runs it, proved. A proved program cannot set its exit status: where it says something on standard error, it has failed.
 heed() {
-    said=$(mktemp)
     status=0
-    PROVED=1 "$top/bin/run" "$1" 2>"$said" || status=$?
-    cat "$said" >&2
-    [ "$status" -ne 0 ] || [ ! -s "$said" ] || status=1
-    rm -f "$said"
+    { said=$(PROVED=1 "$top/bin/run" "$@" 2>&1 >&3 3>&-) || status=$?; } 3>&1
+    [ -z "$said" ] || printf '%s\n' "$said" >&2
+    [ "$status" -ne 0 ] || [ -z "$said" ] || status=1
     return "$status"
 }

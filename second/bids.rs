@@ -6,9 +6,10 @@
 //!   second bids flag N | price N | parity N | marker N
 //!                                  the stream on standard input, damaged: 7D for the byte before the flag behind packet N, a higher
 //!                                  digit in the price of packet N, half of the parity of block N, or marker N spoilt
-//!   second bids seen FILE          of the listing on standard input: which bids of the file the board shows
+//!   second bids seen FILE          of the board's lines on standard input: which bids of the file they show
 //!   second bids framed FILE        of the stream on standard input: which ones a framed board would show
 
+use crate::board;
 use crate::cases::Random;
 use crate::channel::{self, BLOCK, MARKER, MESSAGE};
 use crate::fcs;
@@ -34,7 +35,7 @@ pub fn run(words: &[&str]) -> i32 {
         ["marker", n] => output(&spoil_marker(input, n.parse().expect("a number"))),
         ["parity", n] => output(&spoil_parity(input, n.parse().expect("a number"))),
         ["price", n] => output(&spoil_price(input, n.parse().expect("a number"))),
-        ["seen", file] => println!("{}", seen("The manager sees", file, &listed(&input))),
+        ["seen", file] => println!("{}", seen("The manager sees", file, &bid_lines(&input))),
         ["framed", file] => println!("{}", seen("A framed board:", file, &framed(&input))),
         _ => return 2,
     }
@@ -219,21 +220,18 @@ fn spoil_marker(mut stream: Vec<u8>, n: usize) -> Vec<u8> {
     stream
 }
 
-// Port, sequence and length of a bid.
-type Shown = (u16, u16, usize);
+// A bid as the board shows it.
+fn line_of(port: u16, sequence: u16, text: &[u8]) -> String {
+    format!("{port} {sequence} {}", board::shown(text))
+}
 
-// The packets of a listing.
-fn listed(listing: &[u8]) -> Vec<Shown> {
-    let text = String::from_utf8_lossy(listing);
-    let packet = |l: &str| {
-        let mut words = l.strip_prefix("P ")?.split(' ');
-        Some((words.next()?.parse().ok()?, words.next()?.parse().ok()?, words.next()?.parse().ok()?))
-    };
-    text.lines().filter_map(packet).collect()
+// The bids among the board's lines.
+fn bid_lines(text: &[u8]) -> Vec<String> {
+    String::from_utf8_lossy(text).lines().filter(|line| !line.starts_with('!')).map(str::to_string).collect()
 }
 
 // What a framed board shows: it locks as ours does, and 7D hides whatever byte follows it, a flag too.
-fn framed(stream: &[u8]) -> Vec<Shown> {
+fn framed(stream: &[u8]) -> Vec<String> {
     let mut shown = Vec::new();
     let mut at = 0;
     while at + BLOCK <= stream.len() {
@@ -251,7 +249,7 @@ fn framed(stream: &[u8]) -> Vec<Shown> {
     shown
 }
 
-fn unframed(bytes: &[u8]) -> Vec<Shown> {
+fn unframed(bytes: &[u8]) -> Vec<String> {
     let mut shown = Vec::new();
     let mut frame: Option<Vec<u8>> = None;
     let mut hidden = false;
@@ -263,7 +261,7 @@ fn unframed(bytes: &[u8]) -> Vec<Shown> {
             let contents = frame.replace(Vec::new()).unwrap_or_default();
             if contents.len() > 7 && fcs::check(&contents[..contents.len() - 2]).to_le_bytes() == contents[contents.len() - 2..] {
                 let number = |i: usize| u16::from_le_bytes([contents[i], contents[i + 1]]);
-                shown.push((number(1), number(3), contents.len() - 7));
+                shown.push(line_of(number(1), number(3), &contents[5..contents.len() - 2]));
             }
         } else if *byte == 0x7D {
             hidden = true;
@@ -274,22 +272,22 @@ fn unframed(bytes: &[u8]) -> Vec<Shown> {
     shown
 }
 
-// Which of the bids that were sent are shown.
-fn seen(who: &str, file: &str, shown: &[Shown]) -> String {
+// Which of the bids that were sent are shown, by port and sequence number.
+fn seen(who: &str, file: &str, shown: &[String]) -> String {
     let input = std::fs::read(file).expect(file);
-    let all: Vec<Shown> = lines(&input)
+    let all: Vec<String> = lines(&input)
         .into_iter()
         .filter_map(bid)
         .filter(|(port, sequence, text)| packet::escaped_packet(*port, *sequence, text, usize::MAX).is_ok())
-        .map(|(port, sequence, text)| (port, sequence, text.len()))
+        .map(|(port, sequence, text)| line_of(port, sequence, text))
         .collect();
-    let missing: Vec<u16> = all.iter().filter(|s| !shown.contains(s)).map(|s| s.1).collect();
-    let wrong = shown.iter().filter(|s| !all.contains(s)).count();
-    let lost = match missing[..] {
-        [] => "none is lost".to_string(),
-        [one] => format!("bid {one} is lost"),
-        [first, .., last] if usize::from(last - first) + 1 == missing.len() => format!("bids {first} to {last} are lost"),
-        _ => format!("bids {} are lost", missing.iter().map(u16::to_string).collect::<Vec<_>>().join(", ")),
+    let name = |line: &String| line.split(' ').take(2).collect::<Vec<_>>().join(" ");
+    let missing: Vec<String> = all.iter().filter(|line| !shown.contains(line)).map(name).collect();
+    let wrong = shown.iter().filter(|line| !all.contains(line)).count();
+    let lost = match missing.split_last() {
+        None => "none is lost".to_string(),
+        Some((one, [])) => format!("bid {one} is lost"),
+        Some((last, others)) => format!("bids {} and {last} are lost", others.join(", ")),
     };
     let none = if wrong == 0 { "none".to_string() } else { wrong.to_string() };
     format!("{who:17} {} of {} bids; {lost}; {none} wrong.", shown.len() - wrong, all.len())

@@ -1,13 +1,13 @@
 //! Cases for the comparison: how they are written, which are asked, and what the second program answers.
-//! crates/answers/src/main.rt has the form of a case and of an answer, crates/pieces/src, crates/channels/src and crates/listings/src that
-//! of an answer in pieces; crates/turns/src/main.rt what is asked of the interleaver, whose states are carried over from case to case.
+//! crates/answers/src/main.rt has the form of a case and of an answer, crates/pieces/src, crates/channels/src, crates/listings/src and
+//! crates/rooms/src that of an answer in pieces; crates/turns/src/main.rt what is asked of the interleaver, whose states are carried over from case to case.
 
 use crate::interleaver::{Sender, Sides, CELLS};
 use crate::packet::{Delivery, Fault, Frame, Packet, FLAG, RAW_LIMIT};
 use crate::parity::WORD;
 use crate::repair::altered;
 use crate::stream::Reader;
-use crate::{channel, channel_cases, fcs, key_cases, listing_cases, packet, parity, repair, stream};
+use crate::{board_cases, channel, channel_cases, fcs, key_cases, listing_cases, packet, parity, repair, stream};
 
 pub struct Case {
     pub asked: u8,
@@ -26,13 +26,14 @@ impl Case {
         to.extend(&self.bytes);
     }
 
-    /// Which program answers it: `pieces` a stream, `channels` a channel, `listings` a recording, `turns` the interleaver, `calls` each other single
-    /// call. A letter belongs to one of them.
+    /// Which program answers it: `pieces` a stream, `channels` a channel, `listings` a recording, `rooms` a board, `turns` the interleaver, `calls`
+    /// each other single call. A letter belongs to one of them.
     pub fn kind(&self) -> &'static str {
         match self.asked {
             b'S' => "pieces",
             b'O' => "channels",
             b'L' => "listings",
+            b'b' => "rooms",
             b'I' | b'J' | b'Z' | b'N' | b'X' | b'V' => "turns",
             _ => "calls",
         }
@@ -45,6 +46,7 @@ impl Case {
             b'S' => self.stream_in_pieces(&mut out),
             b'O' => channel_cases::channel_in_pieces(self.number, &self.bytes, &mut out),
             b'L' => listing_cases::recording_in_pieces(self.number, &self.bytes, &mut out),
+            b'b' => board_cases::read_by_calls(self.number, &self.bytes, &mut out),
             b'Q' => self.closed_frame(&mut out),
             _ if self.kind() == "turns" => self.turn(sides, &mut out).to_le_bytes().to_vec(),
             _ => self.number_of_call(&mut out).to_le_bytes().to_vec(),
@@ -267,6 +269,7 @@ pub fn all(seed: u64) -> Vec<Case> {
     broken_escapes(&mut cases);
     channel_cases::all(&mut random, &mut cases);
     listing_cases::all(&mut random, &mut cases);
+    board_cases::all(&mut random, &mut cases);
     cases
 }
 

@@ -36,14 +36,14 @@ pub fn recorded(letter: u8, mut stream: &[u8], mut size: impl FnMut() -> usize) 
 }
 
 /// A stream in records of many sizes, some of them empty.
-fn cut(random: &mut Random, letter: u8, stream: &[u8]) -> Vec<u8> {
+pub fn cut(random: &mut Random, letter: u8, stream: &[u8]) -> Vec<u8> {
     let most = [10, 300, 3000, 65535][random.below(4)];
     let bytes = recorded(letter, stream, || if random.below(6) == 0 { 0 } else { 1 + random.below(most) });
     if random.below(4) == 0 { [&bytes[..], &[0xF5, 0x5F, 0, 0]].concat() } else { bytes }
 }
 
 /// A packet for each edge of a class, in both formats, then a frame for each refusal.
-fn faults() -> Vec<u8> {
+pub fn faults() -> Vec<u8> {
     let bid = |sequence: u16| Packet::new(0x5100, sequence, b"bid");
     let mut raws = Vec::new();
     for (i, port) in cases::PORTS.into_iter().enumerate() {
@@ -62,7 +62,7 @@ fn faults() -> Vec<u8> {
 }
 
 /// The greatest frame that is delivered, and a payload that is too long in each format.
-fn long_faults() -> Vec<u8> {
+pub fn long_faults() -> Vec<u8> {
     let long = Packet::new(0x5100, 0, &[0x41; 8193]);
     between_flags(&[key_cases::longest(0x507D, &[0x41; 8192]).raw(), long.raw(), long.restricted(7, b"key").raw()])
 }
@@ -80,11 +80,17 @@ fn clean(random: &mut Random, n: usize) -> Vec<u8> {
     bytes
 }
 
-/// Blocks that were altered on the way: words, markers, bytes lost or put in, or cut off.
+/// Blocks that were altered on the way, stray bytes before them.
 fn damaged(random: &mut Random, kind: usize) -> Vec<u8> {
     let blocks = 2 + random.below(4);
-    let mut bytes = sent(random, blocks);
-    let start = BLOCK * random.below(blocks);
+    let sent = sent(random, blocks);
+    let came = on_the_way(random, kind, sent);
+    [stray(random), came].concat()
+}
+
+/// What comes of blocks: words altered, markers, bytes lost or put in, or cut off.
+pub fn on_the_way(random: &mut Random, kind: usize, mut bytes: Vec<u8>) -> Vec<u8> {
+    let start = BLOCK * random.below(bytes.len() / BLOCK);
     let at = random.below(bytes.len());
     let few = 1 + random.below(5);
     match kind % 9 {
@@ -101,7 +107,7 @@ fn damaged(random: &mut Random, kind: usize) -> Vec<u8> {
         }
         _ => bytes.truncate(at),
     }
-    [stray(random), bytes].concat()
+    bytes
 }
 
 /// A recording with one of its marks' bytes altered, or its first byte, or cut short.

@@ -2,6 +2,11 @@
 //! code, so that the two can be held against each other.
 //!
 //!   second bids WORDS..      the office's sender, and a day of it (bids.rs)
+//!   second board [--recording|--stream] [--blocks]
+//!                            what the manager reads of standard input: of a bare opportunistic stream, or of a recording (board.rs)
+//!   second boards DIR [SEED] streams and recordings for the board, into a folder (board_cases.rs)
+//!   second feed FIFO TEXT STREAM
+//!                            a stream into a board, byte by byte; fails where a line is not there with its byte (board.rs)
 //!   second fcs HEX           the check of bytes
 //!   second parity R HEX      the parity of a message
 //!   second word R HEX        clean or damaged
@@ -21,15 +26,17 @@
 //!   second steady plain|marked MIB
 //!                            a clean recording to be timed, to standard output
 //!   second samples DIR       the recordings of samples/ with their listings
-//!   second cases calls|turns|pieces|channels|listings [SEED]
+//!   second cases calls|turns|pieces|channels|listings|rooms [SEED]
 //!                            cases for the proved code, to standard output: single calls, the interleaver, streams and channels in pieces,
-//!                            or recordings
+//!                            recordings, or boards with any room for their text
 //!   second words R PLACES N  N cases for repair: words altered in so many places
 //!   second time N M          times of N words made and checked, and of M words of each kind repaired (time.rs)
 //!   second compare CASES ANSWERS ..
 //!                            holds its own answers to those of the proved code, of one file or more
 
 mod bids;
+mod board;
+mod board_cases;
 mod cases;
 mod channel;
 mod channel_cases;
@@ -63,6 +70,10 @@ fn main() {
         ["test", seed] => number(seed).map(selftest::run),
         ["interleave", side @ ("push" | "pull"), depth] => number(depth).filter(|d| *d <= 64).map(|d| interleave(side == "push", d)),
         ["bids", ref rest @ ..] => std::process::exit(bids::run(rest)),
+        ["board", ref rest @ ..] if board::are_options(rest) => Some(board::show(rest).expect("standard input and output")),
+        ["boards", dir] => Some(board_cases::write(dir, 1)),
+        ["boards", dir, seed] => number(seed).map(|seed| board_cases::write(dir, seed)),
+        ["feed", fifo, text, stream] => std::process::exit(board::feed(fifo, text, stream)),
         ["list"] => Some(listing::list_input().expect("standard input and output")),
         ["missed"] => std::process::exit(ports::show_missed()),
         ["numbered", file] => Some(ports::write_numbered(file, 1)),
@@ -83,7 +94,8 @@ fn main() {
     };
     if done.is_none() {
         eprintln!("usage: second fcs HEX | parity R HEX | word R HEX | repair R HEX | interleave push|pull DEPTH | list | missed | kinds FILE..");
-        eprintln!("  | recordings DIR [SEED] | steady plain|marked MIB | samples DIR | cases calls|turns|pieces|channels|listings [SEED] | compare CASES ANSWERS .. | test [SEED] | words R PLACES N | time N M | numbered FILE [SEED] | tables CASES ANSWERS [SEED]");
+        eprintln!("  | board [--recording|--stream] [--blocks] | boards DIR [SEED] | feed FIFO TEXT STREAM");
+        eprintln!("  | recordings DIR [SEED] | steady plain|marked MIB | samples DIR | cases calls|turns|pieces|channels|listings|rooms [SEED] | compare CASES ANSWERS .. | test [SEED] | words R PLACES N | time N M | numbered FILE [SEED] | tables CASES ANSWERS [SEED]");
         std::process::exit(2);
     }
 }
@@ -164,7 +176,7 @@ fn write_steady(letter: u8, mib: u64) {
 }
 
 /// The programs that answer cases, `answers` the single calls.
-const KINDS: [&str; 5] = ["calls", "turns", "pieces", "channels", "listings"];
+const KINDS: [&str; 6] = ["calls", "turns", "pieces", "channels", "listings", "rooms"];
 
 fn write_cases(kind: &str, seed: u64) {
     write(cases::all(seed).into_iter().filter(|case| case.kind() == kind).collect());

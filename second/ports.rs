@@ -6,7 +6,7 @@ use crate::listing_cases::{recorded, PLAIN};
 use crate::packet::{self, FLAG};
 use std::collections::HashSet;
 
-const MOST: usize = 16;
+pub const MOST: usize = 16;
 
 #[derive(Clone, Copy, PartialEq, Debug)]
 pub struct Place {
@@ -15,7 +15,7 @@ pub struct Place {
     last: u16,
 }
 
-const FREE: Place = Place { held: false, port: 0, last: 0 };
+pub const FREE: Place = Place { held: false, port: 0, last: 0 };
 
 #[derive(PartialEq, Debug)]
 pub enum Verdict {

@@ -1,8 +1,9 @@
 //! The recordings of samples/: a morning of bids on the opportunistic channel, the same morning damaged on the way, the same with some bids
 //! for subscribers only, the same in the plain stream with two escapes broken, a morning with bids that were never sent, and a recording that
-//! breaks off.
+//! breaks off. And the morning as it comes from the air, a bare stream.
 
-use crate::channel::{self, BLOCK};
+use crate::board;
+use crate::channel::{self, BLOCK, MARKER};
 use crate::listing;
 use crate::listing_cases::{recorded, OPPORTUNISTIC, PLAIN};
 use crate::packet::{self, Packet, FLAG};
@@ -96,12 +97,25 @@ fn all() -> [(&'static str, Vec<u8>); 6] {
     ]
 }
 
-/// Writes the recordings, each with its listing and the bids that it misses.
+/// The morning's blocks from the air: stray bytes before them that almost are a marker, and sixteen bytes of each word altered.
+fn from_the_air() -> Vec<u8> {
+    let mut blocks = channel::in_blocks(&stream(), usize::MAX).unwrap();
+    for (i, block) in blocks.chunks_mut(BLOCK).enumerate() {
+        block[4..].iter_mut().skip(7 * i + 2).step_by(14).take(16).for_each(|b| *b ^= 0xFF);
+    }
+    [b"stray", &MARKER[..3], &blocks].concat()
+}
+
+/// Writes the recordings, each with its listing, the bids that it misses and what the board shows; and the stream.
 pub fn write(dir: &str) -> std::io::Result<()> {
+    let air = from_the_air();
+    std::fs::write(format!("{dir}/morning-air.stream"), &air)?;
+    std::fs::write(format!("{dir}/morning-air.board"), board::of_stream(&air, false))?;
     for (name, bytes) in all() {
         std::fs::write(format!("{dir}/{name}.rec"), &bytes)?;
         std::fs::write(format!("{dir}/{name}.listing"), listing::listing(&bytes))?;
         std::fs::write(format!("{dir}/{name}.missed"), ports::missed(&bytes).0)?;
+        std::fs::write(format!("{dir}/{name}.board"), board::of_recording(&bytes, false))?;
     }
     Ok(())
 }
