@@ -11,7 +11,7 @@ use lib.Dec.{ltb}
 use lib.ListN.{length, drop, length-append}
 use Rattle.base.specs.Choice.{pick}
 use Rattle.base.proofs.Calls.{FitsBy, fits}
-use Rattle.channel.specs.Channel.{Event}
+use Rattle.blocks.specs.Channel.{Event}
 use Rattle.channel.specs.Called.{roomy}
 use Rattle.readout.specs.declared.readout.Took.{Took}
 use Rattle.readout.specs.Source.{Source, boardIn, sourceOwes, sourceHand, sourceEat, sourceHear}

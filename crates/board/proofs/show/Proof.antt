@@ -3,8 +3,8 @@ use native.Mathlib.Omega.{arith}
 use mathlib.Core.Path.{_≡_}
 use lib.ListN.{length}
 use borrow.Author.Needs.{needs}
-use Rattle.packet.specs.Contents.{rawLimit}
-use Rattle.channel.specs.Sender.{wordBytes}
+use Rattle.frames.specs.Contents.{rawLimit}
+use Rattle.blocks.specs.Sender.{wordBytes}
 use Rattle.board.proofs.show.Statement.{statement}
 use Rattle.board.proofs.show.Tie as tie
 
