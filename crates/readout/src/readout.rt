@@ -290,7 +290,7 @@ impl Readout {
         self.take_on(recv, word, piece, out)
     }
 
-    /// What is still to be said behind the last byte.
+    /// What is still to be said behind the last byte, where `take` wants more: text that is owed is not in it.
     pub fn finish(self) -> Piece
         ensures { λ r. ⌜ r ≡ pieceOf (writtenAll (lastLines self)) ⌝ }
     {

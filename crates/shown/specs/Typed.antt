@@ -101,7 +101,7 @@ packetsAmong (broken n ∷ ts) = packetsAmong ts
 abbrev pub asBid : Packet → Line
 asBid p = bid (p .port) (p .sequence) (p .payload)
 
--- by what a packet is to its port: neither late nor repeated
+-- by what a packet is to its port: neither late nor repeated; of a port without a place (40) that cannot be told, and it counts as neither
 abbrev pub isCurrent : Noted → Bool
 isCurrent First = true
 isCurrent InOrder = true
