@@ -1,16 +1,16 @@
 -- What the office typed is what the manager reads. For every input of the office, however it is cut (`Sends`); whatever stray bytes come before
 -- what goes out, the marker first appearing where that begins; whichever bytes of its words are altered, up to 16 in each (`Airs`):
 -- bids-delivered   the packets delivered are those of the lines that the sender accepted, once each, in order, and nothing else; no lock is lost
--- bids-not-old     the bids among the lines shown are those of the accepted lines that are neither late nor repeated, in order, and no others; of a
--- port that finds no place in the table neither can be told, and each is a bid ..
+-- bids-not-old     the bids among the lines shown are those of the accepted lines' packets that are neither late nor repeated, in order, and no
+-- others; of a port that finds no place in the table neither can be told, and each is a bid ..
 -- .. and where each port's sequence numbers rise by one:
 -- bids-as-shown    they are the accepted lines, once each, in order ..
 -- bids-as-typed    .. as typed, where they were typed plainly
 -- all-as-shown     .. and of at most 16 ports nothing else is shown
 -- board-text       .. as typed: the text on the board is those lines, byte for byte
 -- input-shown      .. and where no line is named, and the last ends in a line feed: it is the input itself
--- bids-read, typed-is-read   bids-not-old and board-text by the board's calls, however what comes in is cut and whatever room each call has: they
--- come to their end, and that is what they write
+-- bids-read, bids-typed-read, typed-is-read   bids-not-old, bids-as-typed and board-text by the board's calls, however what comes in is cut and
+-- whatever room each call has: they come to their end, and that is what they write
 use Prim.Native.Nat.{ℕ, zero, suc, _≤_}
 use native.Mathlib.Omega.{arith}
 use mathlib.Core.Path.{_≡_, sym, _∙_, ap, subst}
@@ -121,6 +121,14 @@ module _ {input out air : List ℕ} (bytes : Bytes input) (sends : Sends input o
     pub bids-as-typed : Each Plainly (acceptedLines input) → (b : Bool)
         → writtenAll (bidsAmong (boardLines b freshTable (answers air))) ≡ typed (acceptedLines input)
     bids-as-typed plain b = bids-as-shown b ∙ shown-typed input plain
+
+    -- .. by the board's calls, of any number of ports: among the lines that they write
+    pub bids-typed-read : Each Plainly (acceptedLines input) → (b : Bool) → EveryShow (freshReadout true b) air λ s text u.
+        (text ≡ writtenAll (boardLines b freshTable (answers air)))
+        × (writtenAll (bidsAmong (boardLines b freshTable (answers air))) ≡ typed (acceptedLines input))
+    bids-typed-read plain b recv word big long rooms some-room pieces cut =
+        let x = shown-bare b air recv word big long rooms some-room pieces cut in
+        (x .0, λ n text u run. (x .1 n text u run .0, bids-as-typed plain b))
 
     -- ---- of at most 16 ports
     module _ (ports : List ℕ) (few : length ports ≤ placeLimit) (among : Among ports (packetsOf input)) where

@@ -3,13 +3,13 @@
 -- show-same    with nothing taken or written, and state and buffers as they were
 use Prim.Native.Nat.{ℕ, _-_, _<_}
 use native.Mathlib.Omega.{arith}
-use mathlib.Core.Path.{_≡_, refl, sym, _∙_, ap}
-use mathlib.Core.Bool.{Bool, true, false, _&&_, not}
+use mathlib.Core.Path.{_≡_, refl, sym, ap}
+use mathlib.Core.Bool.{Bool, true, false, _&&_}
 use mathlib.Core.Logic.{_⊎_, _↔_, ⊎-elim}
 use mathlib.Core.Logic._⊎_.{inl, inr}
 use mathlib.Core.List.{List, [], _∷_}
 use mathlib.Core.Option.{Option, some, none}
-use lib.Dec.{ltb, leb}
+use lib.Dec.{ltb}
 use lib.ListN.{length}
 use borrow.Author.Tests.{leb-false, not-true, not-false}
 use Rattle.base.specs.Choice.{pick}
@@ -19,7 +19,6 @@ use Rattle.channel.specs.Called.{sound, roomy}
 use Rattle.listed.specs.declared.Spot.{Spot}
 use Rattle.listed.specs.Lines.{longest}
 use Rattle.ports.specs.Ports.{unfit, soundPorts}
-use Rattle.ports.specs.Refusing.{Unfit}
 use Rattle.ports.proofs.Refusing.{unfit-is, fit-not}
 use Rattle.tape.specs.Called.{far}
 use Rattle.readout.specs.declared.readout.Readout.{Readout}
@@ -27,9 +26,9 @@ use Rattle.readout.specs.declared.readout.Wants.{Wants}
 use Rattle.readout.specs.declared.readout.Wants.the-variants.{More, Again, Refused}
 use Rattle.readout.specs.Source.{Source, boardIn, sourceHear}
 use Rattle.readout.specs.Owed.{soundOwed}
-use Rattle.readout.specs.Called.{Screen, readoutOf, recvOn, owedOn, Part, part, partly, heardBy, takesOn, nearBy, soundState, takesBy, takes}
+use Rattle.readout.specs.Called.{Screen, readoutOf, recvOn, owedOn, part, partly, heardBy, takesOn, nearBy, soundState, takesBy, takes}
 use Rattle.demands.specs.Table.{Exact}
-use Rattle.demands.specs.Refusals.{Beyond, BoardBeyond, Short, ByShow}
+use Rattle.demands.specs.Refusals.{BoardBeyond, Short, ByShow}
 use Rattle.demands.proofs.Rows.{applies, over, passed, not-both}
 use Rattle.demands.proofs.Called.{not-most, beyond, within, short, long}
 

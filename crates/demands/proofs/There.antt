@@ -1,25 +1,34 @@
 -- What the theorem of Manager asks can be met.
 -- sends-there   every input, however it is cut, is sent
 -- airs-there    what goes out may come in as it is
+-- typed-there   lines may be typed plainly, their numbers rising by one: an input of two
 use Prim.Native.Nat.{ℕ, zero, suc, _≤_}
 use native.Mathlib.Omega.{arith}
-use mathlib.Core.Path.{_≡_, refl, sym}
+use mathlib.Core.Path.{_≡_, refl, sym, subst}
+use mathlib.Core.Bool.{Bool, true, false}
+use mathlib.Core.Logic._⊎_.{inl}
 use mathlib.Core.List.{List, [], _∷_, _++_}
+use lib.Dec.{eqb}
 use lib.ListN.{length, getD}
 use borrow.Author.Tests.{eq-eqb}
 use Rattle.base.specs.Bytes.{Each, Bytes}
 use Rattle.base.specs.Calls.{joined}
+use Rattle.base.specs.Choice.{pick}
+use Rattle.base.specs.UpTo.{upTo}
+use Rattle.frames.specs.Contents.{Packet, plainPacket}
+use Rattle.frames.specs.Escape.{escape, escapeByte}
 use Rattle.repair.specs.Promise.{CleanWord}
 use Rattle.stream.specs.Sender.{stream}
 use Rattle.blocks.specs.Sender.{parityBytes, wordBytes, messagesOf, sentWords, marked}
 use Rattle.blocks.specs.Channel.{IsWord}
 use Rattle.blocks.proofs.Streaming.{sent-each, sent-messages}
-use Rattle.bid.specs.Line.{lineLimit}
-use Rattle.bid.specs.Input.{packetsOf}
+use Rattle.bid.specs.Line.{lineLimit, digits, value, numberFrom, number, judged, verdict}
+use Rattle.bid.specs.Input.{linesFrom, packets, packetsOf}
 use Rattle.office.specs.Desk.{Desk, waiting, sentBy}
 use Rattle.office.specs.Called.{holdLimit, outLimit, closeCall, lastOf}
 use Rattle.office.proofs.Cutting.{bids-cut}
 use Rattle.office.proofs.Board.{packets-accepted}
+use Rattle.shown.specs.Typed.{accepting, acceptedLines, Plainly, numbersOf, ByOne, Among}
 use Rattle.demands.specs.Guarantee.{alteredFrom, Received}
 use Rattle.demands.specs.Way.{Sends, Airs}
 use Rattle.demands.proofs.Altered.{sent-clean-words}
@@ -76,3 +85,44 @@ airs-there {input} b s =
       altered = unaltered ws (sent-each (packetsOf input) taken) clean;
       heard = sym (went-out s);
     }
+
+-- two bids: 5 1 a\n5 2 b\n
+abbrev two : List ℕ
+two = 53 ∷ 32 ∷ 49 ∷ 32 ∷ 97 ∷ 10 ∷ 53 ∷ 32 ∷ 50 ∷ 32 ∷ 98 ∷ 10 ∷ []
+
+abbrev twoLines : List (List ℕ)
+twoLines = (53 ∷ 32 ∷ 49 ∷ 32 ∷ 97 ∷ []) ∷ (53 ∷ 32 ∷ 50 ∷ 32 ∷ 98 ∷ []) ∷ []
+
+abbrev twoPackets : List Packet
+twoPackets = plainPacket 5 1 (97 ∷ []) ∷ plainPacket 5 2 (98 ∷ []) ∷ []
+
+two-lines : acceptedLines two ≡ twoLines
+unfolding upTo digits value numberFrom number escape escapeByte judged verdict linesFrom packets accepting
+two-lines = refl
+
+two-packets : packetsOf two ≡ twoPackets
+unfolding upTo digits value numberFrom number escape escapeByte judged verdict linesFrom packets accepting
+two-packets = refl
+
+two-plainly : Each Plainly twoLines
+unfolding upTo
+two-plainly = (
+  record { port = inl refl; sequence = inl refl; text = ((refl, λ e. omega (arith, e)), tt) },
+  (record { port = inl refl; sequence = inl refl; text = ((refl, λ e. omega (arith, e)), tt) }, tt),
+)
+
+two-rising : (q : ℕ) → ByOne (numbersOf q twoPackets)
+unfolding numbersOf
+two-rising q = go (eqb 5 q)
+  where
+    go : (t : Bool) → ByOne (pick t (1 ∷ []) [] ++ (pick t (2 ∷ []) [] ++ []))
+    go true = (refl, tt)
+    go false = tt
+
+-- all that the theorem asks of an input
+pub typed-there : Each Plainly (acceptedLines two) × ((q : ℕ) → ByOne (numbersOf q (packetsOf two))) × Among (5 ∷ []) (packetsOf two)
+typed-there = (
+  subst (Each Plainly) (sym two-lines) two-plainly,
+  (λ q. subst (λ ps. ByOne (numbersOf q ps)) (sym two-packets) (two-rising q)),
+  subst (Among (5 ∷ [])) (sym two-packets) (inl refl, (inl refl, tt)),
+)

@@ -1,5 +1,6 @@
 -- The way from the office to the yard, as the theorem of proofs/Manager asks for it.
--- Sends   the office hears an input, cut in some way, and sends it to its end: what goes out
+-- Sends   the office hears an input, cut in some way, and sends it to its end: what goes out. Its last block is said by `marked`, as `finish` sends
+--         it (`bids-finished` (crates/office/proofs/Cutting.antt))
 -- Airs    what goes out, as it comes in: stray bytes before it, up to 16 bytes of each word altered
 use Prim.Native.Nat.{ℕ, _≤_}
 use mathlib.Core.Path.{_≡_}

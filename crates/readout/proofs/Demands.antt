@@ -11,21 +11,19 @@ use Rattle.base.specs.Calls.{joined}
 use Rattle.frames.specs.Contents.{rawLimit}
 use Rattle.blocks.specs.Sender.{wordBytes}
 use Rattle.blocks.specs.Channel.{Event, answers, freshChannel}
-use Rattle.channel.specs.Called.{board, freshReceiver, hearAll}
 use Rattle.channel.proofs.Fine.{fine-fresh}
 use Rattle.channel.proofs.Shown.{shown-all}
 use Rattle.listed.specs.Apart.{freshSpot, apart, onChannel}
 use Rattle.listed.specs.Listing.{heard}
 use Rattle.ports.proofs.Keeping.{fresh-fit}
-use Rattle.shown.specs.Board.{boardLines, writtenAll, freshTable, shows, boardText, recordingText, ending}
-use Rattle.tape.specs.Deck.{Deck, fresh, deckAll}
+use Rattle.shown.specs.Board.{writtenAll, shows, boardText, recordingText, ending}
+use Rattle.tape.specs.Deck.{fresh}
 use Rattle.tape.specs.Called.{far}
 use Rattle.tape.proofs.Means.{deck-means, fresh-owes}
-use Rattle.readout.specs.declared.readout.Readout.{Readout}
-use Rattle.readout.specs.Source.{source, boardIn, sourceOwes, sourceAll}
+use Rattle.readout.specs.Source.{source, sourceOwes, sourceAll}
 use Rattle.readout.specs.Owed.{nothing}
 use Rattle.readout.specs.Called.{Screen, screenOf, readoutOf, freshReadout, lastBy, lastLines, recvOn}
-use Rattle.readout.specs.Runs.{meant, shownBy, ShowsAll, Run, EveryShow}
+use Rattle.readout.specs.Runs.{meant, ShowsAll, Run, EveryShow}
 use Rattle.readout.proofs.Sources.{all-bare, all-taped}
 use Rattle.readout.proofs.Left.{left-none, piece-whole}
 use Rattle.readout.proofs.Means.{Settled, all-means}

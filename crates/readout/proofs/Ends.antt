@@ -8,17 +8,17 @@ use mathlib.Core.Path.{_≡_, refl, sym, _∙_, ap, subst}
 use mathlib.Core.Bool.{Bool, true, false}
 use mathlib.Core.List.{List, [], _∷_, _++_, tail-eq-of-cons-eq}
 use mathlib.Core.Option.{Option, some, none}
-use lib.Dec.{eqb, ltb, leb}
+use lib.Dec.{eqb, ltb}
 use lib.ListN.{length, drop, length-append, length-drop}
 use borrow.Author.Tests.{le-leb, le-ltb, ltb-true, ltb-false}
 use Rattle.base.specs.Choice.{pick}
 use Rattle.base.specs.Calls.{joined, told}
 use Rattle.base.proofs.Calls.{law, inv-hear}
 use Rattle.base.proofs.Tests.{by-test}
-use Rattle.frames.specs.Contents.{Packet, keyFormat}
+use Rattle.frames.specs.Contents.{keyFormat}
 use Rattle.frames.specs.Frame.{packet, refusal, broken, delivery}
 use Rattle.blocks.specs.Channel.{Event, said, block, lost}
-use Rattle.channel.specs.Called.{Fine, owed, handOn, eatByte, hearOn}
+use Rattle.channel.specs.Called.{Fine, owed, handOn, eatByte}
 use Rattle.channel.proofs.Cutting.{hand-one}
 use Rattle.channel.proofs.Fine.{fine-is, fine-roomy, fine-eat, fine-hand}
 use Rattle.listed.specs.declared.Spot.{Spot}
@@ -28,7 +28,7 @@ use Rattle.ports.specs.declared.Noted.{Noted}
 use Rattle.ports.specs.Ports.{unfit, noting}
 use Rattle.ports.proofs.Keeping.{fit-noted}
 use Rattle.shown.specs.Board.{tableBehind}
-use Rattle.shown.specs.Parts.{lead, remark}
+use Rattle.shown.specs.Parts.{lead}
 use Rattle.shown.proofs.Split.{lead-short, remark-short}
 use Rattle.lines.specs.Piece.{pieceOf}
 use Rattle.tape.specs.Deck.{Deck, deckHear}
@@ -37,9 +37,9 @@ use Rattle.tape.proofs.Kept.{Kept, hear-kept}
 use Rattle.readout.specs.declared.owed.Owed.{Owed}
 use Rattle.readout.specs.declared.readout.Wants.the-variants.{More, Again}
 use Rattle.readout.specs.Source.{Source, source, boardIn, sourceOwes, sourceHand, sourceEat, sourceAll, sourceHear}
-use Rattle.readout.specs.Owed.{alone, nothing, withText, owing, forth, forthBy}
-use Rattle.readout.specs.Called.{Screen, screen, recvOn, owedOn, Part, part, partly, heardBy, takesOn, nearBy, takesBy, takes}
-use Rattle.readout.specs.Runs.{Shows, more, again, ShowsAll, done, piece, Run}
+use Rattle.readout.specs.Owed.{alone, withText, owing, forth, forthBy}
+use Rattle.readout.specs.Called.{Screen, screen, recvOn, owedOn, Part, part, partly, heardBy, takesOn, nearBy, takes}
+use Rattle.readout.specs.Runs.{Shows, more, again, done, piece, Run}
 use Rattle.readout.proofs.Sources.{source-hand-one, hear-bare, hear-taped}
 use Rattle.readout.proofs.Left.{Whole, piece-whole, forth-short, left-by}
 use Rattle.readout.proofs.Means.{owed-whole}

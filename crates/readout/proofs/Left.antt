@@ -9,11 +9,11 @@ use mathlib.Core.Path.{_≡_, refl, sym, _∙_, ap, subst}
 use mathlib.Core.Bool.{Bool, true, false}
 use mathlib.Core.List.{List, [], _∷_, _++_, append-assoc}
 use lib.Dec.{eqb, ltb}
-use lib.ListN.{length, getD, take, drop, length-append, length-drop, drop-of-length-le, replicate}
-use lib.Seq.{take-append-seam, drop-cons, drop-drop, slice-cons}
-use borrow.Author.Tests.{lt-ltb, le-ltb, ltb-true, ltb-false}
+use lib.ListN.{length, getD, drop, length-append, drop-of-length-le, replicate}
+use lib.Seq.{take-append-seam, drop-cons, slice-cons}
+use borrow.Author.Tests.{lt-ltb, ltb-true, ltb-false}
 use Rattle.base.specs.Choice.{pick}
-use Rattle.base.proofs.Lists.{next, over, part-next, part-over}
+use Rattle.base.proofs.Lists.{part-over}
 use Rattle.base.proofs.Tests.{by-test}
 use Rattle.bid.specs.Line.{feed}
 use Rattle.listed.specs.Lines.{longest}

@@ -3,7 +3,7 @@
 -- meant-append    bytes one after the other
 -- takes-means     a call
 -- shows-means, all-means   calls one after the other: any cutting, any room
-use Prim.Native.Nat.{ℕ, zero, suc, _+_, _≤_, _<_}
+use Prim.Native.Nat.{ℕ, _+_, _≤_}
 use native.Mathlib.Omega.{arith}
 use mathlib.Core.Path.{_≡_, refl, sym, _∙_, ap, subst}
 use mathlib.Core.Bool.{Bool, true, false}
@@ -26,14 +26,13 @@ use Rattle.ports.specs.declared.Noted.{Noted}
 use Rattle.ports.specs.Ports.{noting}
 use Rattle.shown.specs.Text.{shownText}
 use Rattle.shown.specs.Board.{Line, writtenAll, eventLines, tableBehind, boardLines}
-use Rattle.shown.specs.Parts.{lead, behind, remark}
+use Rattle.shown.specs.Parts.{lead, remark}
 use Rattle.shown.proofs.Split.{all-written, lines-split, remark-is, lead-some}
 use Rattle.lines.specs.Piece.{pieceOf}
-use Rattle.readout.specs.declared.owed.Owed.{Owed}
 use Rattle.readout.specs.declared.readout.Wants.{Wants}
 use Rattle.readout.specs.declared.readout.Wants.the-variants.{More, Again, Refused}
 use Rattle.readout.specs.Source.{Source, boardIn, sourceOwes, sourceHand, sourceEat, sourceAll, sourceHear}
-use Rattle.readout.specs.Owed.{alone, nothing, withText, owedPacket, owing, left, leftBehind, forthBy}
+use Rattle.readout.specs.Owed.{alone, nothing, withText, owing, left}
 use Rattle.readout.specs.Called.{Screen, screen, readoutOf, recvOn, owedOn, Part, partly, heardBy, takesOn, soundState, takesBy, takes}
 use Rattle.readout.specs.Runs.{tableAll, shownBy, meant, Shows, more, again, ShowsAll, done, piece}
 use Rattle.readout.proofs.Sources.{source-hand-one, ThereIn, source-there}

@@ -2,7 +2,7 @@
 -- Putting               so many bytes are out
 -- put-start, put-on     before the first, and one more
 -- put-out, put-full     all that is owed is out, or the output is full
-use Prim.Native.Nat.{ℕ, zero, suc, _+_, _-_, _≤_, _<_, min}
+use Prim.Native.Nat.{ℕ, zero, suc, _+_, _-_, _≤_, _<_}
 use native.Mathlib.Omega.{arith}
 use mathlib.Core.Path.{_≡_, refl, sym, _∙_, ap, subst}
 use mathlib.Core.Bool.{true, false}

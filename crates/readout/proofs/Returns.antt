@@ -5,22 +5,20 @@
 -- answer-other, answer-none   an answer that is no packet
 -- finish-bare ..              behind the last byte
 -- bare-is, heard-bare, heard-taped   one call on what comes in
-use Prim.Native.Nat.{ℕ, suc, _+_, _≤_, _<_}
-use native.Mathlib.Omega.{arith}
+use Prim.Native.Nat.{ℕ, suc, _≤_, _<_}
 use mathlib.Core.Path.{_≡_, refl, sym, _∙_, ap, subst}
-use mathlib.Core.Bool.{Bool, true, false, _&&_}
+use mathlib.Core.Bool.{Bool, true, false}
 use mathlib.Core.List.{List, [], _∷_, append-nil}
 use mathlib.Core.Option.{Option}
-use lib.Dec.{eqb, ltb}
 use lib.ListN.{length, getD}
-use borrow.Author.Tests.{lt-ltb, le-ltb, eq-eqb, ne-eqb, leb-true}
+use borrow.Author.Tests.{lt-ltb, le-ltb, eq-eqb, ne-eqb}
 use Rattle.base.specs.Choice.{pick}
 use Rattle.base.proofs.Tests.{and-parts}
 use Rattle.frames.specs.Contents.{keyFormat}
 use Rattle.frames.specs.declared.Delivery.{Delivery}
 use Rattle.frames.specs.declared.Judged.the-variants.{Packet as Delivered, Refused, Broken}
 use Rattle.blocks.specs.Channel.{Event}
-use Rattle.channel.specs.Called.{Board, board, sound, roomy, hearOn, hearBy, hearCall, answered, HearingIs}
+use Rattle.channel.specs.Called.{Board, board, sound, roomy, hearOn, hearCall, HearingIs}
 use Rattle.channel.specs.declared.answer.Answer.{Answer}
 use Rattle.channel.specs.declared.answer.Answer.the-variants.{More, Said, Block, LockLost}
 use Rattle.channel.specs.declared.answer.Hearing.{Hearing}
@@ -36,7 +34,7 @@ use Rattle.lines.specs.declared.piece.Piece.{Piece}
 use Rattle.lines.specs.Piece.{pieceOf}
 use Rattle.tape.specs.declared.tape.Tape.{Tape}
 use Rattle.tape.specs.declared.tape.Heard.{Heard}
-use Rattle.tape.specs.Deck.{Deck, deckHear}
+use Rattle.tape.specs.Deck.{Deck}
 use Rattle.tape.specs.Called.{deckOf, nearSpot, tapeCall, NextIs}
 use Rattle.tape.proofs.Next.{next-heard}
 use Rattle.readout.specs.declared.owed.Owed.{Owed}

@@ -3,14 +3,13 @@
 -- take-part                the output is full
 -- take-more, take-answer   all that is owed is out: no answer, or one
 -- take-unsound, take-cramped, take-let-on   refused with 10, with 11, or let on
-use Prim.Native.Nat.{ℕ, suc, _+_, _-_, _≤_, _<_, min}
+use Prim.Native.Nat.{ℕ, _+_, _-_, _≤_, _<_}
 use native.Mathlib.Omega.{arith}
 use mathlib.Core.Path.{_≡_, refl, sym, _∙_, ap, subst}
-use mathlib.Core.Bool.{Bool, true, false, _&&_}
-use mathlib.Core.List.{List, [], _∷_, _++_}
+use mathlib.Core.Bool.{true, false, _&&_}
+use mathlib.Core.List.{List, [], _++_}
 use mathlib.Core.Option.{Option, some, none}
-use lib.Dec.{ltb, leb}
-use lib.ListN.{length, take, drop, length-take, length-drop}
+use lib.ListN.{length, take, drop, length-drop}
 use lib.Seq.{take-length, length-take-le}
 use borrow.Author.Tests.{lt-ltb, le-ltb, leb-true}
 use Rattle.base.specs.Choice.{pick}
@@ -28,12 +27,11 @@ use Rattle.tape.specs.Called.{deckOf, isMore}
 use Rattle.readout.specs.declared.owed.Owed.{Owed}
 use Rattle.readout.specs.declared.owed.Put.{Put}
 use Rattle.readout.specs.declared.readout.Readout.{Readout}
-use Rattle.readout.specs.declared.readout.Wants.{Wants}
 use Rattle.readout.specs.declared.readout.Wants.the-variants.{More, Again, Refused}
 use Rattle.readout.specs.declared.readout.Took.{Took}
-use Rattle.readout.specs.Source.{Source, source, sourceHear}
+use Rattle.readout.specs.Source.{source, sourceHear}
 use Rattle.readout.specs.Owed.{owes, left, forthBy, soundOwed}
-use Rattle.readout.specs.Called.{Screen, screenOf, recvOn, Part, part, partly, heardBy, takesOn, nearBy, soundState, takesBy, takes, tookOf, TookIs}
+use Rattle.readout.specs.Called.{Screen, screenOf, Part, part, partly, heardBy, takesOn, nearBy, soundState, takesBy, takes, tookOf, TookIs}
 use Rattle.readout.specs.Private.{PutIs, HeardIs, portsBy, answeredBy}
 use Rattle.readout.proofs.Left.{Whole, left-none, left-owes, left-by}
 

@@ -2,13 +2,12 @@
 -- PutIs             a part of what is owed is written
 -- BareIs, HeardIs   one call on what comes in
 -- answeredBy        a board behind an answer
-use Prim.Native.Nat.{ℕ, _≤_, min}
+use Prim.Native.Nat.{ℕ, min}
 use mathlib.Core.Path.{_≡_}
 use mathlib.Core.Bool.{Bool}
 use mathlib.Core.List.{List, _++_}
 use mathlib.Core.Option.{Option}
 use lib.ListN.{length, take, drop}
-use Rattle.base.specs.Written.{copied}
 use Rattle.blocks.specs.Channel.{Event}
 use Rattle.readout.specs.declared.owed.Owed.{Owed}
 use Rattle.readout.specs.declared.owed.Put.{Put}

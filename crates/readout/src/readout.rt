@@ -1,8 +1,6 @@
 //! The board: what comes in is heard, packets are noted in the table of ports, and what is to be shown goes out.
 ghost use mathlib.Core.Path.{_≡_};
 ghost use mathlib.Core.Bool.{true};
-ghost use mathlib.Core.List.{[]};
-ghost use Prim.Native.Nat.{_≤_};
 ghost use lib.ListN.{length};
 ghost use Rattle.channel.specs.Called.{roomy};
 ghost use Rattle.listed.specs.Lines.{longest};

@@ -3,19 +3,24 @@
 -- bytes    all 256 bytes, as they are shown
 -- table    answers, and the text shown of them
 -- blocks   the same where every block is to be told
+-- recordings   recordings, those that do not end as one among them
 use Prim.Native.Nat.{ℕ}
 use mathlib.Core.Path.{_≡_, refl}
 use mathlib.Core.Bool.{Bool, true, false}
 use mathlib.Core.List.{List, [], _∷_, map}
 use Rattle.frames.specs.Contents.{plainPacket, keyPacket}
-use Rattle.frames.specs.Frame.{packet, refusal, broken}
+use Rattle.fcs.specs.Fcs.{fcs, register, entered}
+use Rattle.frames.specs.Escape.{escape, escapeByte, plain, wrongFrom, right, last, scan}
+use Rattle.frames.specs.Frame.{packet, refusal, broken, judgeContents, closedBy, closed, judge, judgeBody}
 use Rattle.blocks.specs.Channel.{Event, said, block, lost}
 use Rattle.blocks.specs.declared.Condition.the-variants.{Clean, Repaired, Beyond}
+use Rattle.listed.specs.Apart.{nextAt, inStream, apart}
 use Rattle.listed.specs.Lines.{decimalBy, decimal}
+use Rattle.listed.specs.Listing.{heard}
 use Rattle.ports.specs.Ports.{placeOf, freePlace, twice, noting}
 use Rattle.shown.specs.Text.{shownByte, shownText, bidText}
 use Rattle.shown.specs.Board.{Line, bid, missing, unwatched, late, repeated, restricted, refusedFrame, brokenFrame}
-use Rattle.shown.specs.Board.{cleanBlock, repairedBlock, beyondRepair, lockLost, wrongAt, written, writtenAll, boardLines, shows}
+use Rattle.shown.specs.Board.{cleanBlock, repairedBlock, beyondRepair, lockLost, wrongAt, written, writtenAll, boardLines, shows, recordingText}
 
 -- a line of each kind
 abbrev lineRows : List (Line × List ℕ)
@@ -228,6 +233,11 @@ rows =
       53 ∷ 32 ∷ 49 ∷ 32 ∷ 97 ∷ 10 ∷ 33 ∷ 32 ∷ 109 ∷ 105 ∷ 115 ∷ 115 ∷ 105 ∷ 110 ∷ 103 ∷ 32 ∷ 53 ∷ 32 ∷ 50 ∷ 10 ∷ 33 ∷ 32 ∷ 114 ∷ 101 ∷ 115 ∷ 116 ∷
           114 ∷ 105 ∷ 99 ∷ 116 ∷ 101 ∷ 100 ∷ 32 ∷ 53 ∷ 32 ∷ 52 ∷ 32 ∷ 57 ∷ 10 ∷ [],
     ) ∷
+    -- a late one for subscribers has its remark alone: 5 4 b\n! restricted 5 3 9\n5 5 c\n
+    (
+      open-to 5 4 (98 ∷ []) ∷ said (packet (keyPacket 9 (1 ∷ 2 ∷ []) 5 3 (97 ∷ []))) ∷ open-to 5 5 (99 ∷ []) ∷ [],
+      53 ∷ 32 ∷ 52 ∷ 32 ∷ 98 ∷ 10 ∷ 33 ∷ 32 ∷ 114 ∷ 101 ∷ 115 ∷ 116 ∷ 114 ∷ 105 ∷ 99 ∷ 116 ∷ 101 ∷ 100 ∷ 32 ∷ 53 ∷ 32 ∷ 51 ∷ 32 ∷ 57 ∷ 10 ∷ 53 ∷ 32 ∷ 53 ∷ 32 ∷ 99 ∷ 10 ∷ [],
+    ) ∷
     -- blocks, frames refused, a lost lock: the table stays, and so what they cost is told:
     -- 5 1 a\n! block beyond repair\n! frame refused 5\n! frame refused 3 17\n! lock lost\n! missing 5 1\n5 3 c\n
     (
@@ -275,3 +285,46 @@ blockRows =
 pub blocks : gives true blockRows ≡ blockRows
 unfolding decimalBy decimal placeOf freePlace twice noting shownByte shownText bidText written writtenAll boardLines
 blocks = refl
+
+-- recordings: what is shown, and what is said behind the last byte
+abbrev recordingRows : List (List ℕ × List ℕ)
+recordingRows =
+    -- the paper's case: 20736 0 A\n
+    (
+      0x50 ∷ 0xF5 ∷ 0x5F ∷ 0x05 ∷ 0x00 ∷ 0x7E ∷ 0x21 ∷ 0x00 ∷ 0x51 ∷ 0x00 ∷ 0xF5 ∷ 0x5F ∷ 0x05 ∷ 0x00 ∷ 0x00 ∷ 0x41 ∷ 0xE4 ∷ 0xEC ∷ 0x7E ∷ [],
+      50 ∷ 48 ∷ 55 ∷ 51 ∷ 54 ∷ 32 ∷ 48 ∷ 32 ∷ 65 ∷ 10 ∷ [],
+    ) ∷
+    -- an empty input, an unknown first byte: ! wrong at 0\n
+    (
+      [],
+      33 ∷ 32 ∷ 119 ∷ 114 ∷ 111 ∷ 110 ∷ 103 ∷ 32 ∷ 97 ∷ 116 ∷ 32 ∷ 48 ∷ 10 ∷ [],
+    ) ∷
+    (
+      0x51 ∷ [],
+      33 ∷ 32 ∷ 119 ∷ 114 ∷ 111 ∷ 110 ∷ 103 ∷ 32 ∷ 97 ∷ 116 ∷ 32 ∷ 48 ∷ 10 ∷ [],
+    ) ∷
+    -- no record, and a record of one stream byte: nothing
+    (
+      0x50 ∷ [],
+      [],
+    ) ∷
+    (
+      0x50 ∷ 0xF5 ∷ 0x5F ∷ 0x01 ∷ 0x00 ∷ 0x7E ∷ [],
+      [],
+    ) ∷
+    -- it ends within a record, behind six bytes, one of them of the stream: ! wrong at 6\n
+    (
+      0x50 ∷ 0xF5 ∷ 0x5F ∷ 0x02 ∷ 0x00 ∷ 0x7E ∷ [],
+      33 ∷ 32 ∷ 119 ∷ 114 ∷ 111 ∷ 110 ∷ 103 ∷ 32 ∷ 97 ∷ 116 ∷ 32 ∷ 54 ∷ 10 ∷ [],
+    ) ∷
+    -- a wrong mark behind a record, bytes behind it: ! wrong at 6\n
+    (
+      0x50 ∷ 0xF5 ∷ 0x5F ∷ 0x01 ∷ 0x00 ∷ 0x7E ∷ 0xF4 ∷ 0x5F ∷ [],
+      33 ∷ 32 ∷ 119 ∷ 114 ∷ 111 ∷ 110 ∷ 103 ∷ 32 ∷ 97 ∷ 116 ∷ 32 ∷ 54 ∷ 10 ∷ [],
+    ) ∷
+    []
+
+pub recordings : map (λ r. (r .0, recordingText false (r .0))) recordingRows ≡ recordingRows
+unfolding decimalBy decimal placeOf freePlace twice noting shownByte shownText bidText written writtenAll boardLines
+    heard apart inStream nextAt judge closed closedBy judgeContents judgeBody scan last wrongFrom right plain escape escapeByte fcs register entered
+recordings = refl

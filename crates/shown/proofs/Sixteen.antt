@@ -11,7 +11,7 @@ use mathlib.Core.Bool.{Bool, true, false, _&&_}
 use mathlib.Core.List.{List, [], _∷_, _++_, map}
 use mathlib.Core.Option.{none}
 use lib.Dec.{eqb, ltb}
-use lib.ListN.{length, set, length-set}
+use lib.ListN.{length, length-set}
 use borrow.Author.Tests.{eq-eqb, ne-eqb}
 use Rattle.base.specs.Bytes.{Each}
 use Rattle.base.specs.Choice.{pick}

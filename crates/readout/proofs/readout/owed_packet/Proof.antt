@@ -1,6 +1,5 @@
 -- `readout::readout::owed_packet` meets its contract.
 use borrow.Author.Needs.{needs}
-use mathlib.Core.Path.{_≡_, refl, sym, _∙_, ap, subst}
 use Rattle.readout.proofs.Returns.{packet-alone, packet-text}
 use Rattle.readout.proofs.readout.owed_packet.Statement.{statement}
 use Rattle.readout.proofs.readout.owed_packet.Tie as tie

@@ -1,6 +1,5 @@
 -- `readout::owed::Owed::forth` meets its contract.
 use borrow.Author.Needs.{needs}
-use mathlib.Core.Path.{_≡_, refl, sym, _∙_, ap, subst}
 use native.Mathlib.Omega.{arith}
 use borrow.Author.Tests.{ltb-true}
 use Rattle.readout.proofs.Returns.{forth-on, forth-next}

@@ -1,6 +1,5 @@
 -- `readout::owed::Owed::next_piece` meets its contract.
 use borrow.Author.Needs.{needs}
-use mathlib.Core.Path.{_≡_, refl, sym, _∙_, ap, subst}
 use native.Mathlib.Omega.{arith}
 use borrow.Author.Tests.{not-true, not-false}
 use Rattle.readout.proofs.Returns.{next-none, next-byte, next-feed}

@@ -1,6 +1,6 @@
 -- `readout::owed::Owed::nothing` meets its contract.
 use borrow.Author.Needs.{needs}
-use mathlib.Core.Path.{_≡_, refl, sym, _∙_, ap}
+use mathlib.Core.Path.{_∙_, ap}
 use Rattle.readout.specs.Owed.{alone}
 use Rattle.readout.proofs.owed.Owed.nothing.Statement.{statement}
 use Rattle.readout.proofs.owed.Owed.nothing.Tie as tie

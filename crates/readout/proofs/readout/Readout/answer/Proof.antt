@@ -1,6 +1,6 @@
 -- `readout::readout::Readout::answer` meets its contract.
 use borrow.Author.Needs.{needs}
-use mathlib.Core.Path.{_≡_, refl, sym, _∙_, ap, subst}
+use mathlib.Core.Path.{sym, _∙_, ap, subst}
 use Rattle.readout.specs.Private.{answeredBy}
 use Rattle.readout.proofs.Returns.{Other, answer-other, answer-none}
 use Rattle.readout.proofs.readout.Readout.answer.Statement.{statement}

@@ -1,6 +1,6 @@
 -- `readout::readout::Readout::deliver` meets its contract.
 use borrow.Author.Needs.{needs}
-use mathlib.Core.Path.{_≡_, refl, sym, _∙_, ap}
+use mathlib.Core.Path.{_∙_, ap}
 use Rattle.readout.specs.Owed.{owedPacket}
 use Rattle.readout.proofs.readout.Readout.deliver.Statement.{statement}
 use Rattle.readout.proofs.readout.Readout.deliver.Tie as tie

@@ -1,6 +1,6 @@
 -- `readout::readout::Readout::finish` meets its contract.
 use borrow.Author.Needs.{needs}
-use mathlib.Core.Path.{_≡_, refl, sym, _∙_, ap, subst}
+use mathlib.Core.Path.{sym, _∙_}
 use Rattle.readout.proofs.Returns.{finish-bare, finish-well, finish-wrong}
 use Rattle.readout.proofs.readout.Readout.finish.Statement.{statement}
 use Rattle.readout.proofs.readout.Readout.finish.Tie as tie

@@ -1,6 +1,5 @@
 -- `readout::readout::Readout::hear` meets its contract.
 use borrow.Author.Needs.{needs}
-use mathlib.Core.Path.{_≡_, refl, sym, _∙_, ap, subst}
 use Rattle.readout.proofs.Returns.{heard-bare, heard-taped}
 use Rattle.readout.proofs.readout.Readout.hear.Statement.{statement}
 use Rattle.readout.proofs.readout.Readout.hear.Tie as tie

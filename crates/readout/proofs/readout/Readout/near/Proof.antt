@@ -1,6 +1,6 @@
 -- `readout::readout::Readout::near` meets its contract.
 use borrow.Author.Needs.{needs}
-use mathlib.Core.Path.{_≡_, refl, sym, _∙_, ap}
+use mathlib.Core.Path.{refl}
 use Rattle.readout.proofs.readout.Readout.near.Statement.{statement}
 use Rattle.readout.proofs.readout.Readout.near.Tie as tie
 

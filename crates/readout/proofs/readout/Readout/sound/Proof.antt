@@ -1,6 +1,6 @@
 -- `readout::readout::Readout::sound` meets its contract.
 use borrow.Author.Needs.{needs}
-use mathlib.Core.Path.{_≡_, refl, sym, _∙_, ap, subst}
+use mathlib.Core.Path.{refl, sym, _∙_}
 use borrow.Author.Tests.{not-true, not-false}
 use Rattle.readout.proofs.readout.Readout.sound.Statement.{statement}
 use Rattle.readout.proofs.readout.Readout.sound.Tie as tie

@@ -1,6 +1,6 @@
 -- `readout::readout::Readout::take` meets its contract: refused with 10, with 11, or let on.
 use borrow.Author.Needs.{needs}
-use mathlib.Core.Path.{_≡_, sym, _∙_}
+use mathlib.Core.Path.{sym, _∙_}
 use borrow.Author.Tests.{not-true, not-false}
 use Rattle.readout.proofs.Taking.{take-unsound, take-cramped, take-let-on}
 use Rattle.readout.proofs.readout.Readout.take.Statement.{statement}

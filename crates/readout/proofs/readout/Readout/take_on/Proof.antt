@@ -1,6 +1,6 @@
 -- `readout::readout::Readout::take_on` meets its contract.
 use borrow.Author.Needs.{needs}
-use mathlib.Core.Path.{_≡_, sym, _∙_, ap}
+use mathlib.Core.Path.{sym, _∙_, ap}
 use Rattle.readout.specs.Private.{answeredBy}
 use Rattle.readout.proofs.Taking.{take-asks, take-part, take-more, take-answer}
 use Rattle.readout.proofs.readout.Readout.take_on.Statement.{statement}

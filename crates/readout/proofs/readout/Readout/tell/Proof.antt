@@ -1,6 +1,6 @@
 -- `readout::readout::Readout::tell` meets its contract.
 use borrow.Author.Needs.{needs}
-use mathlib.Core.Path.{_≡_, refl, sym, _∙_, ap, subst}
+use mathlib.Core.Path.{sym, _∙_, ap, subst}
 use Rattle.channel.specs.declared.answer.Answer.the-variants.{Said}
 use Rattle.readout.specs.Private.{answeredBy}
 use Rattle.readout.proofs.Returns.{Other, answer-other}
