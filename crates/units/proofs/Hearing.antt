@@ -16,7 +16,7 @@ use lib.ListN.{length, take, drop, getD}
 use lib.Seq.{drop-drop}
 use Rattle.base.specs.Choice.{pick}
 use Rattle.units.specs.Bits.{digits, bits, number, pack}
-use Rattle.units.specs.Tables.{heads, start, step, payload, lent, unfit}
+use Rattle.units.specs.Tables.{cw0, cw1, cw2, cw3, cw4, heads, start, step, payload, lent, unfit}
 use Rattle.units.specs.Reading.{heard, unwoven, headerOf, payloadOf, isHeader, named}
 use Rattle.units.proofs.Bits.{length-bits}
 use Rattle.units.proofs.Rows.{by-row, accepted, few, fits}
@@ -148,18 +148,18 @@ hear-done l u {n} {at} {v} {k} w h =
 
 -- ---- the sequence
 module _ (h : ℕ) where
-  pub named-24 : pick (eqb h 0x38D8D3) 0x38D8D3 (pick (eqb h 0xCE3634) 0xCE3634
-      (pick (eqb h 0xE3634C) 0xE3634C (pick (eqb h 0x8D8D33) 0x8D8D33 (pick (eqb h 0x3634CE) 0x3634CE 0)))) ≡ named 24 h
+  pub named-24 : pick (eqb h cw0) cw0 (pick (eqb h cw1) cw1
+      (pick (eqb h cw2) cw2 (pick (eqb h cw3) cw3 (pick (eqb h cw4) cw4 0)))) ≡ named 24 h
   unfolding named isHeader number digits
   named-24 = refl
 
-  pub named-23 : pick (eqb h (0x38D8D3 / 2)) 0x38D8D3 (pick (eqb h (0xCE3634 / 2)) 0xCE3634
-      (pick (eqb h (0xE3634C / 2)) 0xE3634C (pick (eqb h (0x8D8D33 / 2)) 0x8D8D33 (pick (eqb h (0x3634CE / 2)) 0x3634CE 0)))) ≡ named 23 h
+  pub named-23 : pick (eqb h (cw0 / 2)) cw0 (pick (eqb h (cw1 / 2)) cw1
+      (pick (eqb h (cw2 / 2)) cw2 (pick (eqb h (cw3 / 2)) cw3 (pick (eqb h (cw4 / 2)) cw4 0)))) ≡ named 23 h
   unfolding named isHeader number digits
   named-23 = refl
 
-  pub named-22 : pick (eqb h (0x38D8D3 / 4)) 0x38D8D3 (pick (eqb h (0xCE3634 / 4)) 0xCE3634
-      (pick (eqb h (0xE3634C / 4)) 0xE3634C (pick (eqb h (0x8D8D33 / 4)) 0x8D8D33 (pick (eqb h (0x3634CE / 4)) 0x3634CE 0)))) ≡ named 22 h
+  pub named-22 : pick (eqb h (cw0 / 4)) cw0 (pick (eqb h (cw1 / 4)) cw1
+      (pick (eqb h (cw2 / 4)) cw2 (pick (eqb h (cw3 / 4)) cw3 (pick (eqb h (cw4 / 4)) cw4 0)))) ≡ named 22 h
   unfolding named isHeader number digits
   named-22 = refl
 

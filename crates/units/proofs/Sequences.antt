@@ -11,12 +11,12 @@ use lib.Dec.{eqb}
 use lib.ListN.{take, replicate}
 use Rattle.base.specs.Choice.{pick}
 use Rattle.units.specs.Bits.{digits, number}
-use Rattle.units.specs.Tables.{sequence, heads, announced}
+use Rattle.units.specs.Tables.{cw0, cw1, cw2, cw3, cw4, sequence, heads, announced}
 use Rattle.units.specs.Reading.{isHeader, named}
 use Rattle.units.proofs.Rows.{by-row}
 
 abbrev pub mix : Bool → Bool → Bool → ℕ
-mix a f o = pick a (pick o (pick f 0 0x3634CE) 0) (pick f (pick o 0x38D8D3 0xCE3634) (pick o 0xE3634C 0x8D8D33))
+mix a f o = pick a (pick o (pick f 0 cw4) 0) (pick f (pick o cw0 cw1) (pick o cw2 cw3))
 
 pub sequence-mix : (a f o : ℕ) → sequence a f o ≡ mix (eqb a 0) (eqb f 0) (eqb o 0)
 unfolding sequence
