@@ -1,0 +1,144 @@
+-- The delimiter sought, and payload bytes stored.
+-- put-more                           a turn of the loop that stores payload bytes
+-- length-payload                     how many payload bytes there are
+-- begins-next, begins-done           a turn of the comparison, and its end
+-- find-here, find-next, find-over    a turn of the search: found, not found, and its end
+-- opened-short, opened-is            what stands behind the first delimiter is the end of what was searched
+use mathlib.Core.Path.{_≡_, refl, sym, ap, ap₂, _∙_}
+use mathlib.Core.Bool.{Bool, true, false, _&&_}
+use mathlib.Core.List.{List, [], _∷_}
+use Prim.Native.Nat.{ℕ, zero, suc, _+_, _-_, _≤_, _<_}
+use native.Mathlib.Nat.{sub-zero}
+use native.Mathlib.Numerals.{add-one}
+use native.Mathlib.Omega.{arith}
+use lib.Dec.{eqb}
+use lib.ListN.{length, take, drop, getD, set, length-drop, drop-of-length-le}
+use lib.Seq.{drop-cons, length-take-le, drop-length, getD-drop, paste, paste-suc}
+use borrow.Author.Tests.{eq-eqb, ne-eqb}
+use Rattle.base.specs.Choice.{pick}
+use Rattle.base.proofs.Lists.{drop-take}
+use Rattle.base.proofs.Tests.{by-test, by-le}
+use Rattle.units.specs.Bits.{bits}
+use Rattle.units.specs.Tables.{heads, start, step, payload}
+use Rattle.units.specs.Unit.{begins, opened}
+use Rattle.units.specs.Reading.{unwoven, payloadOf}
+use Rattle.units.proofs.Bits.{length-pack}
+
+pub length-payload : (l : ℕ) (u : List ℕ) → length (payloadOf l u) ≡ payload l
+unfolding payloadOf
+length-payload l u = length-pack (payload l) (unwoven (start l) (step l - 1) (heads l) (bits u))
+
+-- ---- the comparison at place j
+module _ (d p : List ℕ) (j k : ℕ) (h : k < length d) (l : j + k < length p) where
+  turn : begins (drop k d) (drop (j + k) p) ≡ eqb (getD d k 0) (getD p (j + k) 0) && begins (drop (k + 1) d) (drop (j + (k + 1)) p)
+  unfolding begins
+  turn =
+      let e : suc (j + k) ≡ j + (k + 1) = omega arith in
+      let f : suc k ≡ k + 1 = omega arith in
+      ap₂ begins (drop-cons d k 0 h) (drop-cons p (j + k) 0 l) ∙ ap₂ (λ (x y : ℕ). eqb (getD d k 0) (getD p (j + k) 0) && begins (drop x d) (drop y p)) f e
+
+  pub begins-not : {b : ℕ} → b ≡ getD p (j + k) 0 → (getD d k 0 ≡ b → ⊥) → {t : Bool} → begins (drop k d) (drop (j + k) p) ≡ t → false ≡ t
+  begins-not {b} e n {t} i =
+      sym (turn ∙ ap (λ (x : Bool). x && begins (drop (k + 1) d) (drop (j + (k + 1)) p)) (ne-eqb (getD d k 0) (getD p (j + k) 0) (λ z. n (z ∙ sym e)))) ∙ i
+
+  pub begins-next : {b : ℕ} → b ≡ getD p (j + k) 0 → getD d k 0 ≡ b → {t : Bool} → begins (drop k d) (drop (j + k) p) ≡ t
+      → begins (drop (k + 1) d) (drop (j + (k + 1)) p) ≡ t
+  begins-next {b} e n {t} i =
+      sym (turn ∙ ap (λ (x : Bool). x && begins (drop (k + 1) d) (drop (j + (k + 1)) p)) (eq-eqb (getD d k 0) (getD p (j + k) 0) (n ∙ e))) ∙ i
+
+pub begins-first : (d p : List ℕ) (j : ℕ) → begins (drop 0 d) (drop (j + 0) p) ≡ begins d (drop j p)
+begins-first d p j = let e : j + 0 ≡ j = omega arith in ap (λ (x : ℕ). begins d (drop x p)) e
+
+pub begins-done : (d p : List ℕ) (j k : ℕ) → length d ≤ k → {t : Bool} → begins (drop k d) (drop (j + k) p) ≡ t → true ≡ t
+unfolding begins
+begins-done d p j k h {t} i = sym (ap (λ (x : List ℕ). begins x (drop (j + k) p)) (drop-of-length-le d h)) ∙ i
+
+begins-take : (d xs : List ℕ) (m : ℕ) → length d ≤ m → begins d (take m xs) ≡ begins d xs
+unfolding begins
+begins-take [] xs m h = refl
+begins-take (x ∷ d) xs zero h = absurd (omega arith)
+begins-take (x ∷ d) [] (suc m) h = refl
+begins-take (x ∷ d) (y ∷ xs) (suc m) h = ap (λ (t : Bool). eqb x y && t) (begins-take d xs m (omega arith))
+
+-- ---- the search
+opened-few : (d xs : List ℕ) → length xs ≤ length d → length (opened d xs) ≡ 0
+unfolding opened
+opened-few d [] h = refl
+opened-few d (x ∷ xs) h =
+    by-test (begins d (x ∷ xs))
+    (λ t. rw t (ap length (drop-of-length-le (x ∷ xs) h)))
+    (λ t. rw t (opened-few d xs (omega arith)))
+
+module _ (d p : List ℕ) (e j : ℕ) (five : length d ≡ 5) (he : e ≤ length p) where
+  part : List ℕ
+  part = take e p
+
+  length-part : length part ≡ e
+  unfolding part
+  length-part = length-take-le e p he
+
+  pub find-over : e ≤ j + 5 → {r : ℕ} → length (opened d (drop j (take e p))) ≡ r → 0 ≡ r
+  unfolding part
+  find-over h i = sym (opened-few d (drop j part) (omega (arith, length-drop j part, length-part))) ∙ i
+
+  module _ (h : j + 5 < e) where
+    begins-part : begins d (drop j part) ≡ begins d (drop j p)
+    unfolding part
+    begins-part = ap (begins d) (drop-take j e p) ∙ begins-take d (drop j p) (e - j) (omega arith)
+
+    open-part : opened d (drop j part) ≡ pick (begins d (drop j p)) (drop (length d) (drop j part)) (opened d (drop (j + 1) part))
+    unfolding opened
+    open-part =
+        let f : suc j ≡ j + 1 = omega arith in
+        let c = drop-cons part j 0 (omega (arith, length-part)) in
+        ap (opened d) c ∙ ap₂ (λ (x : List ℕ) (y : ℕ). pick (begins d x) (drop (length d) x) (opened d (drop y part))) (sym c) f
+        ∙ ap (λ (t : Bool). pick t (drop (length d) (drop j part)) (opened d (drop (j + 1) part))) begins-part
+
+    pub find-here : {b : Bool} → b ≡ begins d (drop j p) → b ≡ true → {r : ℕ} → length (opened d (drop j (take e p))) ≡ r → e - (j + 5) ≡ r
+    unfolding part
+    find-here eb t i =
+        sym (ap length (open-part ∙ ap (λ (x : Bool). pick x (drop (length d) (drop j part)) (opened d (drop (j + 1) part))) (sym eb ∙ t))
+        ∙ length-drop (length d) (drop j part) ∙ omega (arith, length-drop j part, length-part)) ∙ i
+
+    pub find-next : {b : Bool} → b ≡ begins d (drop j p) → b ≡ false → {r : ℕ} → length (opened d (drop j (take e p))) ≡ r
+        → length (opened d (drop (j + 1) (take e p))) ≡ r
+    unfolding part
+    find-next eb t i =
+        sym (ap length (open-part ∙ ap (λ (x : Bool). pick x (drop (length d) (drop j part)) (opened d (drop (j + 1) part))) (sym eb ∙ t))) ∙ i
+
+-- what is found is the end of what was searched
+found : (n : ℕ) (ys : List ℕ) → drop n ys ≡ drop (length ys - length (drop n ys)) ys
+found n ys =
+    by-le (length ys) n
+    (λ h.
+    let e = drop-of-length-le ys h in
+    e ∙ sym (drop-length ys) ∙ ap (λ (k : ℕ). drop k ys) (sym (sub-zero (length ys)) ∙ ap (λ (x : List ℕ). length ys - length x) (sym e)))
+    (λ h. let f : n ≡ length ys - length (drop n ys) = omega (arith, length-drop n ys) in ap (λ (k : ℕ). drop k ys) f)
+
+pub opened-short : (d xs : List ℕ) → length (opened d xs) ≤ length xs
+unfolding opened
+opened-short d [] = omega arith
+opened-short d (x ∷ xs) =
+    by-test (begins d (x ∷ xs)) (λ t. rw t (omega (arith, length-drop (length d) (x ∷ xs)))) (λ t. rw t (omega (arith, opened-short d xs)))
+
+pub opened-is : (d xs : List ℕ) → opened d xs ≡ drop (length xs - length (opened d xs)) xs
+unfolding opened
+opened-is d [] = refl
+opened-is d (x ∷ xs) = by-test (begins d (x ∷ xs)) (λ t. rw t (found (length d) (x ∷ xs))) (λ t. rw t (onward (opened-is d xs) (opened-short d xs)))
+  where
+    onward : opened d xs ≡ drop (length xs - length (opened d xs)) xs → length (opened d xs) ≤ length xs
+        → opened d xs ≡ drop (suc (length xs) - length (opened d xs)) (x ∷ xs)
+    onward e h =
+        let f : suc (length xs) - length (opened d xs) ≡ suc (length xs - length (opened d xs)) = omega arith in e ∙ sym (ap (λ (n : ℕ). drop n (x ∷ xs)) f)
+
+-- ---- payload bytes stored
+pub put-more : (before after p : List ℕ) (at from i b : ℕ) → after ≡ paste before at (drop from p) i → b ≡ getD p (from + i) 0 → at + i < length before
+    → from + i < length p
+    → set after (at + i) b ≡ paste before at (drop from p) (i + 1)
+put-more before after p at from i b e w h k =
+    ap₂ (λ (x : List ℕ) (y : ℕ). set x (at + i) y) e (w ∙ sym (getD-drop from p i 0))
+    ∙ paste-suc before at (drop from p) i 0 h (omega (arith, length-drop from p))
+    ∙ ap (paste before at (drop from p)) (sym (add-one i))
+
+pub put-done : (before after p : List ℕ) (at from i n : ℕ) → after ≡ paste before at (drop from p) i → i ≡ n → after ≡ paste before at (drop from p) n
+put-done before after p at from i n e w = e ∙ ap (paste before at (drop from p)) w
