@@ -39,6 +39,8 @@ use Rattle.listed.specs.Lines.{line, endLine, wrongLine}
 use Rattle.listed.specs.Apart.{well}
 use Rattle.listed.specs.declared.Place.the-variants.{Mode}
 use Rattle.tape.specs.Called.{deckOf, isMore, tapeCall}
+use Rattle.units.specs.Unit as units
+use Rattle.units.specs.Reading as unit-reading
 use Rattle.readout.specs.Called as readout
 use Rattle.recording.specs.Printed as recording
 use Rattle.bid.specs.Line.{reading}
@@ -92,6 +94,8 @@ use Rattle.tape.proofs.tape.Heard.is_more as tape-is-more
 use Rattle.readout.proofs.readout.Readout.fresh as readout-fresh
 use Rattle.readout.proofs.readout.Readout.take as readout-take
 use Rattle.readout.proofs.readout.Readout.finish as readout-finish
+use Rattle.units.proofs.writer.write as units-write
+use Rattle.units.proofs.reader.read as units-read
 use Rattle.recording.proofs.recording.Recording.fresh as recording-fresh
 use Rattle.recording.proofs.recording.Recording.take as recording-take
 use Rattle.recording.proofs.recording.Recording.finish as recording-finish
@@ -326,6 +330,17 @@ recording-take-means = (λ M. recording-take.Met.met, λ κs a. tt, λ κs a z w
 pub recording-finish-means : Means recording-finish.Statement.statement recording-finish.Kinds.ps recording-finish.Kinds.r recording-finish.Reads.Asked recording-finish.Reads.Learnt
     λ κs self out w. outcome w (now (out .exit)) ≡ write (recording.lastOf self) (now (out .entry))
 recording-finish-means = (λ M. recording-finish.Met.met, λ κs a. tt, λ κs a z ws. (λ p. p, λ p. p))
+
+-- ---- Layer 2 units
+pub units-write-means : Means units-write.Statement.statement units-write.Kinds.ps units-write.Kinds.r units-write.Reads.Asked units-write.Reads.Learnt
+    λ κs size delimiter audio opportunistic fixed out w.
+    outcome w (now (out .exit)) ≡ units.written size delimiter (now audio) (now opportunistic) (now fixed) (now (out .entry))
+units-write-means = (λ M. units-write.Met.met, λ κs a. tt, λ κs a z ws. (λ p. p, λ p. p))
+
+pub units-read-means : Means units-read.Statement.statement units-read.Kinds.ps units-read.Kinds.r units-read.Reads.Asked units-read.Reads.Learnt
+    λ κs size delimiter audio fixed unit out w.
+    outcome w (now (out .exit)) ≡ unit-reading.readUnit size delimiter audio fixed (now unit) (now (out .entry))
+units-read-means = (λ M. units-read.Met.met, λ κs a. tt, λ κs a z ws. (λ p. p, λ p. p))
 
 -- ---- a board. Before the first byte: nothing heard, no port held, nothing owed
 pub readout-fresh-means : Means readout-fresh.Statement.statement readout-fresh.Kinds.ps readout-fresh.Kinds.r readout-fresh.Reads.Asked readout-fresh.Reads.Learnt
