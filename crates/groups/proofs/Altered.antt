@@ -31,7 +31,8 @@ use Rattle.groups.specs.Sender.{groupWords, groupBytes, flagWord, groupe
 use Rattle.groups.specs.Word.{condition, message, carried}
 use Rattle.groups.specs.Sub.{whole, answers, wordsGive}
 use Rattle.groups.proofs.Received.{received}
-use Rattle.groups.proofs.Streaming.{IsClean, all-clean, frames-given, blocks-given, losses-given, answered, answered-each, answered-clean, carries, in-turn, groups}
+use Rattle.groups.proofs.Streaming.{IsClean, all-clean, frames-given, blocks-given, losses-given}
+use Rattle.groups.proofs.Streaming.{answered, answered-each, answered-clean, carries, in-turn, groups}
 
 module _ (r : ℕ) where
   pub give-append : (us vs : List (List ℕ)) (q : Reading) → wordsGive r (us ++ vs) q .0 ≡ wordsGive r us q .0 ++ wordsGive r vs (wordsGive r us q .1) .0
@@ -45,7 +46,8 @@ module _ (r : ℕ) where
   carried-append (u ∷ us) vs = ap (λ l. message r u ++ l) (carried-append us vs) ∙ sym (append-assoc (message r u) (carried r us) (carried r vs))
 
 groups-begin : (g h : ℕ) (xs bs stray : List ℕ) → FirstMarker stray (grouped (suc g) xs) → FirstMarker stray (grouped (suc h) bs)
-groups-begin g h xs bs stray f = first-marker stray (take groupBytes xs ++ grouped g (drop groupBytes xs)) (take groupBytes bs ++ grouped h (drop groupBytes bs)) f
+groups-begin g h xs bs stray f =
+    first-marker stray (take groupBytes xs ++ grouped g (drop groupBytes xs)) (take groupBytes bs ++ grouped h (drop groupBytes bs)) f
 
 -- words in whole groups, and other words in their place, as many
 pub flat-received : (r d : ℕ) → d < 2 → (stray : List ℕ) (g : ℕ) (ws vs : List (List ℕ)) → FirstMarker stray (marked d ws)

@@ -33,7 +33,8 @@ use Rattle.interleaver.specs.Running.{depthLimit}
 use Rattle.channel.specs.Channel.{conditionBy, frames, blocks, losses, IsWord, FirstMarker}
 use Rattle.channel.specs.declared.answer.Condition.the-variants.{Clean as clean}
 use Rattle.channel.proofs.Streaming.{frames-whole, blocks-whole, losses-whole, stream-bytes}
-use Rattle.groups.specs.Sender.{messageBytes, groupWords, wordOf, missing, filled, cutUp, messagesOf, flagWord, closingWords, completing, pushed, wordsOf, marked, sent}
+use Rattle.groups.specs.Sender.{messageBytes, groupWords, wordOf, missing, filled, cutUp, messagesOf}
+use Rattle.groups.specs.Sender.{flagWord, closingWords, completing, pushed, wordsOf, marked, sent}
 use Rattle.groups.specs.Word.{condition, mend, message, carried}
 use Rattle.groups.specs.Sub.{whole, answers, wordsGive}
 use Rattle.groups.proofs.Received.{joined-append, received}
