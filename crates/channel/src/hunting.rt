@@ -33,8 +33,8 @@ impl Hunting {
         }
     }
 
-    // One byte more.
-    fn shift(self, x: u8) -> Self
+    /// One byte more.
+    pub fn shift(self, x: u8) -> Self
         ensures { λ r. ⌜ r ≡ shift self x ⌝ }
     {
         Hunting {
@@ -45,8 +45,8 @@ impl Hunting {
         }
     }
 
-    // Whether the last four are the marker.
-    pub(crate) fn at_marker(self) -> bool
+    /// Whether the last four are the marker.
+    pub fn at_marker(self) -> bool
         ensures { λ r. ⌜ r ≡ isMarker self ⌝ }
     {
         let m = Receiver::MARKER;

@@ -28,14 +28,14 @@ there-as (some a) c t = t
 
 -- a new byte delivers nothing
 module _ (c : Board) where
-  there-word : (t : Bool) (s : Lane) (w : ℕ) (k : Back) (l : List ℕ) → With ThereEvent (wordOn t s w k l .0) c
-  there-word true s w k l = tt
-  there-word false s w k l = tt
+  there-word : (t : Bool) (s : Lane) (w : ℕ) (l : List ℕ) → With ThereEvent (wordOn t s w l .0) c
+  there-word true s w l = tt
+  there-word false s w l = tt
 
-  there-group : (o : Option ℕ) (s : Lane) (k : Back) (l : List ℕ) → With ThereEvent (groupOn o s k l .0) c
-  there-group none s k l = tt
-  there-group (some y) s k l =
-      there-word (ltb (suc (wordAt (s .counts .word))) wordBytes) s (wordAt (s .counts .word)) k (set l (wordAt (s .counts .word)) y)
+  there-group : (o : Option ℕ) (s : Lane) (l : List ℕ) → With ThereEvent (groupOn o s l .0) c
+  there-group none s l = tt
+  there-group (some y) s l =
+      there-word (ltb (suc (wordAt (s .counts .word))) wordBytes) s (wordAt (s .counts .word)) (set l (wordAt (s .counts .word)) y)
 
   there-compare : (t : Bool) (f : Hunting) (s : Lane) → With ThereEvent (compareOn t f s .0) c
   there-compare true f s = tt
@@ -48,7 +48,7 @@ module _ (c : Board) where
   there-eat : (o l t : Bool) (s : Lane) (k : Back) (w : List ℕ) (b : ℕ) → With ThereEvent (eatBy o l t s k w b .0) c
   there-eat true l t s k w b = tt
   there-eat false false t s k w b = tt
-  there-eat false true true s k w b = there-group (pull (s .settings .depth) k b .0) s (pull (s .settings .depth) k b .1) w
+  there-eat false true true s k w b = there-group (pull (s .settings .depth) k b .0) s w
   there-eat false true false s k w b = there-mark (ltb (suc (s .counts .marker)) 4) (shift (s .hunting) b) s
 
 pub hand-there : (c : Board) → With ThereEvent (handOn c .0) (handOn c .1)

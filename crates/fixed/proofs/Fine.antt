@@ -1,8 +1,9 @@
 -- States and buffers that pass refusals 10 and 11.
--- fine-of, fine-is, fine-roomy   they are passed exactly where `Fine` holds
--- fine-told                      a sub-channel that was just told its settings passes them, with buffers that are long enough
--- mend-length, mendIn-length     a word that is repaired keeps its length
--- fine-hand, fine-eat            every move keeps it
+-- sound-parts                     10, of all but the cells and of their place
+-- fine-of, -lane, -is, -roomy     10 and 11 are passed exactly where `Fine` holds
+-- fine-told                       a sub-channel that was just told its settings passes them, with buffers that are long enough
+-- mend-length, mendIn-length      a word that is repaired keeps its length
+-- fine-hand, fine-eat             every move keeps it
 use Prim.Native.Nat.{ℕ, suc, _+_, _%_, _≤_, _<_}
 use native.Mathlib.Nat.{mod-lt}
 use native.Mathlib.Omega.{arith}
@@ -30,8 +31,9 @@ use Rattle.groups.specs.Sender.{messageBytes, groupBytes}
 use Rattle.groups.specs.Word.{mend}
 use Rattle.fixed.specs.declared.lane.Counts.{Counts}
 use Rattle.fixed.specs.declared.lane.Lane.{Lane}
+use Rattle.fixed.specs.declared.sub.Sub.{Sub}
 use Rattle.fixed.specs.Called.{Board, board, sub, counts, toldSub, heldIn, moved, huntOn, wordAt, mendIn, wordOn, groupOn, compareOn, markOn}
-use Rattle.fixed.specs.Called.{eatBy, onBoard, eatByte, owedBy, owed, handed, handOn, within, soundCounts, soundLane, sound, Fine}
+use Rattle.fixed.specs.Called.{behind, eatBy, onBoard, eatByte, owedBy, owed, handed, handOn, within, soundCounts, soundLane, sound, Fine}
 
 not-so : (b : Bool) → not b ≡ true → b ≡ false
 not-so true e = absurd (false≢true e)
@@ -40,11 +42,14 @@ not-so false e = refl
 both : {a b : Bool} → a ≡ true → b ≡ true → a && b ≡ true
 both p q = rw (p, q) refl
 
+pub sound-parts : (s : Sub) → sound s ≡ true → (soundLane (s .lane) ≡ true) × (beyond (s .lane .settings .depth) (s .back .matrix .place) ≡ false)
+sound-parts s e = let a = and-parts (soundLane (s .lane)) _ e in (a .0, not-so _ (a .1))
+
 -- the tests of 10 and 11, passed ..
 pub fine-of : (c : Board) → sound (c .st) ≡ true → roomy (c .recv) (c .word) ≡ true → Fine c
 fine-of c s r =
     let n : Counts = c .st .lane .counts in
-    let a = and-parts (soundLane (c .st .lane)) _ s in
+    let a = sound-parts (c .st) s in
     let f = and-parts _ (within (c .st .lane .settings) && soundCounts (c .st .lane .settings .parity) n) (a .0) in
     let w = and-parts (within (c .st .lane .settings)) _ (f .1) in
     let v = and-parts (leb (c .st .lane .settings .parity) rootLimit) _ (w .0) in
@@ -60,9 +65,14 @@ fine-of c s r =
       marker = leb-true _ _ (m .0);
       word = leb-true _ _ (o .0);
       handed = leb-true _ _ (o .1);
-      place = not-so _ (a .1);
+      place = a .1;
       room = leb-true _ _ (q .1);
     }
+
+-- .. of the lane, whatever the cells hold ..
+pub fine-lane : (s : Lane) (recv word : List ℕ) → soundLane s ≡ true → roomy recv word ≡ true
+    → (k : Back) → beyond (s .settings .depth) (k .matrix .place) ≡ false → Fine (board (sub s k) recv word)
+fine-lane s recv word sd rm k e = fine-of (board (sub s k) recv word) (both sd (ap not e)) rm
 
 -- .. and passed only then: 10 ..
 pub fine-is : (c : Board) → Fine c → sound (c .st) ≡ true
@@ -78,7 +88,7 @@ pub fine-roomy : (c : Board) → Fine c → roomy (c .recv) (c .word) ≡ true
 fine-roomy c i = both (le-leb _ _ (i .frame .room)) (le-leb _ _ (i .room))
 
 -- at place 0 no depth is beyond its cells
-zero-placed : (d : ℕ) → beyond d 0 ≡ false
+pub zero-placed : (d : ℕ) → beyond d 0 ≡ false
 zero-placed d = by-le 2 d (λ h. rw (le-leb 2 d h, lt-leb (size d) 0 (omega arith)) refl) (λ h. rw (lt-leb 2 d h) refl)
 
 -- just told
@@ -157,7 +167,7 @@ module _ (c : Board) (i : Fine c) where
   fine-hunt false f = fine-moved f (s .counts) (c .st .back) (c .word) (i .group, i .marker, i .word, i .handed) (i .place) (i .room)
 
   fine-word : (t : Bool) (w : ℕ) (k : Back) (l : List ℕ) → ltb (suc w) wordBytes ≡ t → s .counts .group < groupBytes
-      → beyond (s .settings .depth) (k .matrix .place) ≡ false → wordBytes ≤ length l → Fine (onBoard (c .recv) (wordOn t s w k l) .1)
+      → beyond (s .settings .depth) (k .matrix .place) ≡ false → wordBytes ≤ length l → Fine (onBoard (c .recv) (behind k (wordOn t s w l)) .1)
   fine-word true w k l e g p h =
       let m : suc w < wordBytes = ltb-true _ _ e in
       fine-moved _ (counts (suc (s .counts .group)) (s .counts .marker) (suc w) 0) k l (g, i .marker, omega arith, omega arith) p h
@@ -166,7 +176,7 @@ module _ (c : Board) (i : Fine c) where
       (g, i .marker, omega arith, omega arith) p (omega (arith, mendIn-length (s .settings .parity) l))
 
   fine-group : (o : Option ℕ) (k : Back) → s .counts .group < groupBytes → beyond (s .settings .depth) (k .matrix .place) ≡ false
-      → Fine (onBoard (c .recv) (groupOn o s k (c .word)) .1)
+      → Fine (onBoard (c .recv) (behind k (groupOn o s (c .word))) .1)
   fine-group none k g p =
       fine-moved _ (counts (suc (s .counts .group)) (s .counts .marker) (s .counts .word) (s .counts .handed)) k (c .word)
       (g, i .marker, i .word, i .handed) p (i .room)

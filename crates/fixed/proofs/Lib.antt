@@ -3,3 +3,6 @@ pub mod Cutting
 pub mod Shown
 pub mod Delivery
 pub mod Demands
+pub mod Steps
+pub mod Hearing
+pub mod Determined

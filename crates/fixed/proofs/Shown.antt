@@ -33,7 +33,7 @@ use Rattle.groups.specs.Sender.{messageBytes, groupBytes}
 use Rattle.groups.specs.Word.{condition, mend, message}
 use Rattle.groups.specs.Sub.{Sub, hunting, inGroup, inMark, silent, whole, worded, grown, takes, hunt, grouping, compared, behindGroup, step, hears}
 use Rattle.fixed.specs.declared.lane.Lane.{Lane}
-use Rattle.fixed.specs.Called.{Board, board, sub, lane, settings, counts, moved, huntOn, wordAt, mendIn, wordOn, groupOn, compareOn, markOn, eatBy, onBoard, eatByte}
+use Rattle.fixed.specs.Called.{Board, board, sub, lane, settings, counts, moved, huntOn, wordAt, mendIn, wordOn, groupOn, compareOn, markOn, behind, eatBy, onBoard, eatByte}
 use Rattle.fixed.specs.Called.{owedBy, owed, handWith, handOn, hearAll, inUse, handedOf, lockedWith, boardOf}
 use Rattle.fixed.proofs.Fine.{mend-length}
 use Rattle.fixed.proofs.Cutting.{hand-one}
@@ -175,7 +175,7 @@ module _ (r d : ℕ) (hr : r ≤ rootLimit) where
     word-now : (t : Bool) (v o : ℕ) (u : List ℕ) (q : Reading) (j l : List ℕ) (y b : ℕ) → ltb (suc (length u)) wordBytes ≡ t → length u < wordBytes
         → rawLimit ≤ length (heldOf q j .recv) → wordBytes ≤ length (u ++ b ∷ l)
         → Behind
-        (let x = onBoard (heldOf q j .recv) (wordOn t (at v o (heldOf q j)) (length u) k (set (u ++ b ∷ l) (length u) y)) in tell (x .0) (D (x .1)))
+        (let x = onBoard (heldOf q j .recv) (behind k (wordOn t (at v o (heldOf q j)) (length u) (set (u ++ b ∷ l) (length u) y))) in tell (x .0) (D (x .1)))
         (worded t r (u ++ y ∷ []) q)
     word-now true v o u q j l y b e h hj hw =
         let a : suc (length u) ≡ length (u ++ y ∷ []) = omega (arith, length-append u (y ∷ [])) in
@@ -218,7 +218,7 @@ module _ (r d : ℕ) (hr : r ≤ rootLimit) where
     abbrev Put : List ℕ → Reading → List ℕ → List ℕ → ℕ → ℕ → List ℕ → Type 0
     Put w q j L y p x =
         Behind
-        (let z = onBoard (heldOf q j .recv) (wordOn (ltb (suc p) wordBytes) (at (length w) (handedOf r w) (heldOf q j)) p k (set L p y)) in tell (z .0) (D (z .1)))
+        (let z = onBoard (heldOf q j .recv) (behind k (wordOn (ltb (suc p) wordBytes) (at (length w) (handedOf r w) (heldOf q j)) p (set L p y))) in tell (z .0) (D (z .1)))
         (worded (ltb (length x) wordBytes) r x q)
 
     put-now : (w : List ℕ) (q : Reading) (j : List ℕ) (y : ℕ) (u L : List ℕ) → length u < wordBytes → rawLimit ≤ length (heldOf q j .recv)
@@ -228,7 +228,7 @@ module _ (r d : ℕ) (hr : r ≤ rootLimit) where
         subst
         (λ m. Behind
         (let z = onBoard (heldOf q j .recv)
-        (wordOn (ltb (suc (length u)) wordBytes) (at (length w) (handedOf r w) (heldOf q j)) (length u) k (set (u ++ b ∷ l) (length u) y)) in tell (z .0) (D (z .1)))
+        (behind k (wordOn (ltb (suc (length u)) wordBytes) (at (length w) (handedOf r w) (heldOf q j)) (length u) (set (u ++ b ∷ l) (length u) y))) in tell (z .0) (D (z .1)))
         (worded (ltb m wordBytes) r (u ++ y ∷ []) q))
         (let e : suc (length u) ≡ length (u ++ y ∷ []) = omega (arith, length-append u (y ∷ [])) in e)
         (word-now (ltb (suc (length u)) wordBytes) (length w) (handedOf r w) u q j l y b refl h hj hw)
@@ -236,7 +236,7 @@ module _ (r d : ℕ) (hr : r ≤ rootLimit) where
     -- a byte of the group, by what it brings
     group-now : (o : Option ℕ) (w : List ℕ) (q : Reading) (j l : List ℕ) → length w ≤ wordBytes → rawLimit ≤ length (heldOf q j .recv) → wordBytes ≤ length (w ++ l)
         → Behind
-        (let x = onBoard (heldOf q j .recv) (groupOn o (at (length w) (handedOf r w) (heldOf q j)) k (w ++ l)) in tell (x .0) (D (x .1)))
+        (let x = onBoard (heldOf q j .recv) (behind k (groupOn o (at (length w) (handedOf r w) (heldOf q j)) (w ++ l))) in tell (x .0) (D (x .1)))
         (takes r o w q)
     group-now none w q j l h hj hw =
         let c : Board = lockedWith r d f (counts (suc n) 0 (length w) (handedOf r w)) k (heldOf q j) (w ++ l) in

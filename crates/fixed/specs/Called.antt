@@ -91,25 +91,20 @@ wordAt w = pick (ltb w wordBytes) w 0
 abbrev pub mendIn : ℕ → List ℕ → List ℕ
 mendIn r l = mend r (take wordBytes l) ++ drop wordBytes l
 
--- what a new byte gives: an answer, if there is one; the state and the word buffer
-abbrev pub Eaten : Type 0
-Eaten = Option Event × Lane × Back × List ℕ
-
 -- a byte of a word, stored in its place w, by: is the word not whole yet. A whole word gives the block's answer
-abbrev pub wordOn : Bool → Lane → ℕ → Back → List ℕ → Eaten
-wordOn true s w k l = (none, counted s (counts (suc (s .counts .group)) (s .counts .marker) (suc w) 0), k, l)
-wordOn false s w k l = (
+abbrev pub wordOn : Bool → Lane → ℕ → List ℕ → Option Event × Lane × List ℕ
+wordOn true s w l = (none, counted s (counts (suc (s .counts .group)) (s .counts .marker) (suc w) 0), l)
+wordOn false s w l = (
   some (block (condition (s .settings .parity) (take wordBytes l))),
   counted s (counts (suc (s .counts .group)) (s .counts .marker) wordBytes 0),
-  k,
   mendIn (s .settings .parity) l,
 )
 
 -- a byte of a group, by the byte that it brings, if any
-abbrev pub groupOn : Option ℕ → Lane → Back → List ℕ → Eaten
-groupOn none s k l = (none, counted s (counts (suc (s .counts .group)) (s .counts .marker) (s .counts .word) (s .counts .handed)), k, l)
-groupOn (some y) s k l =
-    let w : ℕ = wordAt (s .counts .word) in wordOn (ltb (suc w) wordBytes) s w k (set l w y)
+abbrev pub groupOn : Option ℕ → Lane → List ℕ → Option Event × Lane × List ℕ
+groupOn none s l = (none, counted s (counts (suc (s .counts .group)) (s .counts .marker) (s .counts .word) (s .counts .handed)), l)
+groupOn (some y) s l =
+    let w : ℕ = wordAt (s .counts .word) in wordOn (ltb (suc w) wordBytes) s w (set l w y)
 
 -- four marker bytes, by: are they the marker. Lock lost: any open packet is dropped, and nothing more is given
 abbrev pub compareOn : Bool → Hunting → Lane → Option Event × Lane
@@ -121,19 +116,31 @@ abbrev pub markOn : Bool → Hunting → Lane → Option Event × Lane
 markOn true f s = (none, moved s f (counts (s .counts .group) (suc (s .counts .marker)) (s .counts .word) (s .counts .handed)))
 markOn false f s = compareOn (isMarker f) f s
 
+-- what a new byte gives: an answer, if there is one; the state and the word buffer
+abbrev pub Given : Type 0
+Given = Option Event × Lane × Back × List ℕ
+
+-- .. behind the cells
+abbrev pub behind : Back → Option Event × Lane × List ℕ → Given
+behind k x = (x .0, x .1, k, x .2)
+
+-- a byte of a group goes through the interleaver
+abbrev pub grouped : Lane → Back → List ℕ → ℕ → Given
+grouped s k w b = let x : Option ℕ × Back = pull (s .settings .depth) k b in behind (x .1) (groupOn (x .0) s w)
+
 -- one new byte, by: is lock lost, is it locked, is the group not whole yet
-abbrev pub eatBy : Bool → Bool → Bool → Lane → Back → List ℕ → ℕ → Eaten
+abbrev pub eatBy : Bool → Bool → Bool → Lane → Back → List ℕ → ℕ → Given
 eatBy true l t s k w b = (none, s, k, w)
 eatBy false false t s k w b = (none, huntOn (isMarker (shift (s .hunting) b)) (shift (s .hunting) b) s, k, w)
-eatBy false true true s k w b = let x : Option ℕ × Back = pull (s .settings .depth) k b in groupOn (x .0) s (x .1) w
+eatBy false true true s k w b = grouped s k w b
 eatBy false true false s k w b =
     let x : Option Event × Lane = markOn (ltb (suc (s .counts .marker)) 4) (shift (s .hunting) b) s in (x .0, x .1, k, w)
 
-abbrev pub eat : Lane → Back → List ℕ → ℕ → Eaten
+abbrev pub eat : Lane → Back → List ℕ → ℕ → Given
 eat s k w b = eatBy (s .lost) (s .locked) (ltb (s .counts .group) groupBytes) s k w b
 
 -- .. the receive buffer stays
-abbrev pub onBoard : List ℕ → Eaten → Option Event × Board
+abbrev pub onBoard : List ℕ → Given → Option Event × Board
 onBoard recv x = (x .0, board (sub (x .1) (x .2)) recv (x .3))
 
 abbrev pub eatByte : Board → ℕ → Option Event × Board
