@@ -39,7 +39,7 @@ use Rattle.blocks.specs.declared.Condition.the-variants.{Clean as clean}
 use Rattle.blocks.proofs.Words.{condition-clean, mend-clean}
 
 -- the last four as bytes, and the marker as the last four
-abbrev bytesOf : Hunting → List ℕ
+abbrev pub bytesOf : Hunting → List ℕ
 bytesOf f = f .a ∷ f .b ∷ f .c ∷ f .d ∷ []
 
 abbrev pub theMarker : Hunting
@@ -62,7 +62,7 @@ hears-append s (b ∷ bs) cs =
     ap (andThen (step s b)) (λ i t. hears-append t bs cs i) ∙ (λ i. (sym (append-assoc (step s b .0) (x .0) (y .0)) i, y .1))
 
 -- no byte of a fresh receiver begins a marker
-not-first : {x : ℕ} → x < 0x7D → x ≡ 0x7D → ⊥
+pub not-first : {x : ℕ} → x < 0x7D → x ≡ 0x7D → ⊥
 not-first h e = omega arith
 
 word-read : (v w : List ℕ) (f : Hunting) (r : Reading) (cs : List ℕ) → length w < wordBytes → length w + length v ≡ wordBytes
@@ -96,15 +96,15 @@ framed-read (w ∷ ws) h f u r =
     block-read w (h .0) f u r (framed ws)
     ∙ ap (λ (x : List Event × Chan). (whole w r .0 ++ x .0, x .1)) (framed-read ws (h .1) theMarker (mend w) (whole w r .1))
 
-frames-whole : (xs : List Told) (es : List Event) → frames (map said xs ++ es) ≡ xs ++ frames es
+pub frames-whole : (xs : List Told) (es : List Event) → frames (map said xs ++ es) ≡ xs ++ frames es
 frames-whole [] es = refl
 frames-whole (x ∷ xs) es = ap (λ l. x ∷ l) (frames-whole xs es)
 
-blocks-whole : (xs : List Told) (es : List Event) → blocks (map said xs ++ es) ≡ blocks es
+pub blocks-whole : (xs : List Told) (es : List Event) → blocks (map said xs ++ es) ≡ blocks es
 blocks-whole [] es = refl
 blocks-whole (x ∷ xs) es = blocks-whole xs es
 
-losses-whole : (xs : List Told) (es : List Event) → losses (map said xs ++ es) ≡ losses es
+pub losses-whole : (xs : List Told) (es : List Event) → losses (map said xs ++ es) ≡ losses es
 losses-whole [] es = refl
 losses-whole (x ∷ xs) es = losses-whole xs es
 
@@ -133,7 +133,7 @@ is-marker f e =
     let r = and-parts _ _ (q .1) in
     λ i. eqb-true (f .a) 0x7D (r .1) i ∷ eqb-true (f .b) 0x3A (r .0) i ∷ eqb-true (f .c) 0xE2 (q .0) i ∷ eqb-true (f .d) 0x42 (p .0) i ∷ []
 
-no-match : (t : Bool) (f : Hunting) → isMarker f ≡ t → (bytesOf f ≡ marker → ⊥) → t ≡ false
+pub no-match : (t : Bool) (f : Hunting) → isMarker f ≡ t → (bytesOf f ≡ marker → ⊥) → t ≡ false
 no-match true f e h = absurd (h (is-marker f e))
 no-match false f e h = refl
 
@@ -165,7 +165,7 @@ received stray [] n h m = absurd (n refl)
 received stray (w ∷ ws) n h m = from-start stray (w ++ framed ws) m ∙ framed-read (w ∷ ws) h zeros [] waiting
 
 -- where the marker first appears does not hang on what follows the first marker
-first-marker : (stray cs ds : List ℕ) → FirstMarker stray (marker ++ cs) → FirstMarker stray (marker ++ ds)
+pub first-marker : (stray cs ds : List ℕ) → FirstMarker stray (marker ++ cs) → FirstMarker stray (marker ++ ds)
 first-marker stray cs ds h xs ys e = go (leb (length stray) (length xs)) refl
   where
     go : (t : Bool) → leb (length stray) (length xs) ≡ t → length stray ≤ length xs
@@ -271,7 +271,7 @@ module _ (bs : List ℕ) (b : Bytes bs) where
 
 -- ---- what is sent of packets that the sender takes
 module _ (ps : List Packet) (a : Each Accepted ps) where
-  stream-bytes : Bytes (stream ps)
+  pub stream-bytes : Bytes (stream ps)
   stream-bytes = (lit< tt, behind-bytes ps a)
 
   pub sent-messages : Each IsMessage (messagesOf (stream ps))

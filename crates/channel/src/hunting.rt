@@ -25,8 +25,8 @@ pub(crate) fn fresh() -> Hunting
     }
 }
 
-// One byte more.
-fn shift(last: Hunting, x: u8) -> Hunting
+/// One byte more among the last four.
+pub fn shift(last: Hunting, x: u8) -> Hunting
     ensures { λ r. ⌜ r ≡ shift last x ⌝ }
 {
     Hunting {
@@ -37,8 +37,8 @@ fn shift(last: Hunting, x: u8) -> Hunting
     }
 }
 
-// Whether the last four are the marker.
-pub(crate) fn at_marker(last: Hunting) -> bool
+/// Whether the last four are the marker.
+pub fn at_marker(last: Hunting) -> bool
     ensures { λ r. ⌜ r ≡ isMarker last ⌝ }
 {
     let m = Receiver::MARKER;

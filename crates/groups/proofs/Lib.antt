@@ -1,0 +1,6 @@
+pub mod Groups
+pub mod Received
+pub mod Streaming
+pub mod Altered
+pub mod Lost
+pub mod Numbers

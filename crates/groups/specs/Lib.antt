@@ -1,0 +1,3 @@
+pub mod Sender
+pub mod Word
+pub mod Sub

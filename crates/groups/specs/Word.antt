@@ -1,0 +1,27 @@
+-- A word with r parity bytes: its answer, and the word as repair leaves it. At r = 32 these are the opportunistic channel's (proofs/Numbers).
+-- condition, mend, message   the answer, the word that is left, its message
+-- carried                    the bytes that words hand on
+use Prim.Native.Nat.{ℕ}
+use mathlib.Core.List.{List, map}
+use lib.ListN.{take}
+use Rattle.base.specs.Calls.{joined}
+use Rattle.repair.specs.Way.{repaired as repairedWord}
+use Rattle.blocks.specs.declared.Condition.{Condition}
+use Rattle.blocks.specs.Channel.{conditionBy}
+use Rattle.groups.specs.Sender.{messageBytes}
+
+-- the answer to a word
+abbrev pub condition : ℕ → List ℕ → Condition
+condition r w = conditionBy (repairedWord r w .0)
+
+-- the word as repair leaves it
+abbrev pub mend : ℕ → List ℕ → List ℕ
+mend r w = repairedWord r w .1
+
+-- its message
+abbrev pub message : ℕ → List ℕ → List ℕ
+message r w = take (messageBytes r) (mend r w)
+
+-- the bytes that words hand on to the frame reader
+abbrev pub carried : ℕ → List (List ℕ) → List ℕ
+carried r ws = joined (map (message r) ws)

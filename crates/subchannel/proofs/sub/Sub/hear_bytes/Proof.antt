@@ -1,0 +1,45 @@
+-- `Sub::hear_bytes` meets its contract. The invariant: what is left of the piece, from this state on, is the rest of the call.
+use Prim.Native.Nat.{ℕ, _+_, _-_, _<_, _^_}
+use mathlib.Core.Path.{_≡_, refl, _∙_}
+use native.Mathlib.Omega.{arith}
+use lib.ListN.{length}
+use borrow.Author.Needs.{needs}
+use Rattle.interleaver.specs.Running.{matrix, back}
+use Rattle.subchannel.specs.Called.{sub}
+use Rattle.subchannel.proofs.Hearing.{able-of, Going, going-first, going-next, going-end, going-done}
+use Rattle.subchannel.proofs.sub.Sub.hear_bytes.Statement.{statement}
+use Rattle.subchannel.proofs.sub.Sub.hear_bytes.Tie as tie
+
+abbrev Inv-loop : tie.InvT-loop
+Inv-loop passed first word₀ piece cells₀ state₀ again₀ place₀ i₀ word cells state again place i =
+    Going (sub state₀ (back again₀ (matrix place₀ cells₀))) word₀ piece i (sub state (back again (matrix place cells))) word
+    × (length word ≡ length word₀) × (length piece < 2 ^ 64)
+
+abbrev μ-loop : tie.MeasureT-loop
+μ-loop passed first word₀ piece cells₀ state₀ again₀ place₀ i₀ word cells state again place i = length piece - i
+
+pub hear-bytes-spec : {M : Type 1} → statement M
+hear-bytes-spec =
+    tie.close
+    (tie.spec Inv-loop μ-loop
+    (λ c. let s = c .before .before in (going-first _ _ _ (s .pre .0) (s .pre .1), refl, omega arith))
+    (λ c. c .before .before .before .loop-test .taken)
+    (λ c κs. let g = c .before .before .before .before .loop .inv .0 in (able-of (g .fine), g .fine .place))
+    (λ c. let l = c .before .before .before .before .before .before .before .before .loop in omega (arith, l .inv .0 .within, l .inv .2))
+    (λ c.
+    let t = c .before .before .before .before in
+    let l = t .before .before .before .before .before .loop in
+    t .eat .kept .1 .1 .1 .1 .0 ∙ l .inv .1)
+    (λ c.
+    let t = c .before .before .before .before in
+    let l = t .before .before .before .before .before .loop in
+    going-end (l .inv .0) (t .before .before .before .before .loop-test .taken) (t .eat .ensures) (c .if1 .taken))
+    (λ c.
+    let t = c .before .before .before .before in
+    omega (arith, t .before .before .before .before .loop-test .taken))
+    (λ c.
+    let t = c .before .before .before .before in
+    let l = t .before .before .before .before .before .loop in
+    (going-next (l .inv .0) (t .before .before .before .before .loop-test .taken) (t .eat .ensures) (c .if1 .left), t .eat .kept .1 .1 .1 .1 .0 ∙ l .inv .1, l .inv .2))
+    (λ c. c .before .loop .inv .1)
+    (λ c. going-done (c .before .loop .inv .0) (c .loop-test .left)))

@@ -1,0 +1,18 @@
+-- `Sub::told` meets its contract.
+use mathlib.Core.Bool.{true, false}
+use borrow.Author.Needs.{needs}
+use Rattle.blocks.specs.Channel.{zeros}
+use Rattle.subchannel.specs.Called.{sub, lane, settings}
+use Rattle.subchannel.proofs.sub.Sub.told.Statement.{statement}
+use Rattle.subchannel.proofs.sub.Sub.told.Tie as tie
+
+pub told-spec : {M : Type 1} → statement M
+told-spec =
+    tie.close
+    (tie.spec
+    (search needs)
+    (search needs)
+    (search needs)
+    (λ c i.
+    let a = c .before .before .before .args in
+    sub (lane (settings true (a .parity) (a .depth)) false false zeros (c .before .before .zero .ensures i) (c .before .fresh .ensures i)) (c .fresh2 .ensures i)))

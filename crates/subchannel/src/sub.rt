@@ -1,0 +1,192 @@
+//! One sub-channel: its state by value, the receive buffer and the word buffer lent.
+ghost use mathlib.Core.Path.{_≡_};
+ghost use mathlib.Core.Bool.{true, false};
+ghost use Rattle.channel.specs.Called.{roomy};
+ghost use Rattle.interleaver.specs.Running.{matrix, back};
+ghost use Rattle.subchannel.specs.Called.{Fine, board, sub, toldSub, owes, sound, hearOn, hearCall, HearingIs};
+ghost use Rattle.subchannel.specs.Private.{spare, BytesIs};
+use crate::cells;
+use crate::lane::Counts;
+use crate::lane::Lane;
+use crate::lane::Settings;
+use base::Refusal;
+use channel::Answer;
+use channel::Block;
+use channel::Hunting;
+use interleaver::Back;
+use interleaver::Matrix;
+use packet::Judged;
+use stream::Frame;
+
+/// The state of one sub-channel.
+pub struct Sub {
+    pub lane: Lane,
+    /// The interleaver's receiving side.
+    pub back: Back,
+}
+
+/// The result of a call.
+pub struct Hearing {
+    pub answer: Answer,
+    /// Bytes of the piece taken.
+    pub taken: usize,
+    pub sub: Sub,
+}
+
+impl Sub {
+    /// The flag between frames.
+    pub const FLAG: u8 = Frame::FLAG;
+
+    /// The marker before each group.
+    pub const MARKER: [u8; 4] = Block::MARKER;
+
+    /// Bytes that the receive buffer needs.
+    pub const RAW: usize = Frame::RAW;
+
+    /// Bytes of a word, and those that the word buffer needs.
+    pub const WORD: usize = Block::WORD;
+
+    /// Bytes of a group: four words.
+    pub const GROUP: usize = 4 * Self::WORD;
+
+    /// The most parity bytes of a word.
+    pub const PARITY: usize = 64;
+
+    /// The greatest depth.
+    pub const DEPTH: usize = 64;
+
+    /// Just told its settings: hunting, waiting for a flag, the first marked block at row zero.
+    pub fn told(parity: usize, depth: usize) -> Self
+        ensures { λ r. ⌜ r ≡ toldSub parity depth ⌝ }
+    {
+        Sub {
+            lane: Lane {
+                settings: Settings {
+                    told: true,
+                    parity,
+                    depth,
+                },
+                locked: false,
+                lost: false,
+                hunting: Hunting {
+                    a: 0,
+                    b: 0,
+                    c: 0,
+                    d: 0,
+                },
+                counts: Counts::zero(),
+                frame: Frame::fresh(),
+            },
+            back: Back::fresh(),
+        }
+    }
+
+    /// Whether no count is beyond its limit, nor a setting, nor the place among the cells.
+    pub fn sound(self) -> bool
+        ensures { λ r. ⌜ r ≡ sound self ⌝ }
+    {
+        let lane = self.lane;
+        let back = self.back;
+        let settings = lane.settings;
+        let matrix = back.matrix;
+        if lane.sound() {
+            return !cells::is_beyond(settings.depth, matrix.place);
+        }
+        false
+    }
+
+    // The bytes of a piece, one by one, up to the first answer.
+    fn hear_bytes(
+        lane: Lane,
+        passed: bool,
+        first: usize,
+        from: [u8; cells::CELLS],
+        word: &mut [u8],
+        piece: &[u8],
+    ) -> Hearing
+        requires { ⌜ Fine (board (sub lane (back passed (matrix first from))) spare (now word)) × (owes lane ≡ 0) ⌝ }
+        ensures { λ r. ⌜ BytesIs (sub lane (back passed (matrix first from))) (now (word .entry)) (now (piece .entry)) r (now (word .exit)) ⌝ }
+    {
+        let mut cells = from;
+        let mut state = lane;
+        let mut again = passed;
+        let mut place = first;
+        let mut i: usize = 0;
+        while i < piece.len() {
+            let e = state.eat(again, place, &mut cells, word, piece[i]);
+            let next = e.lane;
+            state = next;
+            again = e.again;
+            place = e.place;
+            i += 1;
+            if e.done {
+                let answer = e.answer;
+                return Hearing {
+                    answer,
+                    taken: i,
+                    sub: Sub {
+                        lane: next,
+                        back: Back {
+                            again,
+                            matrix: Matrix { place, cells },
+                        },
+                    },
+                };
+            }
+        }
+        Hearing {
+            answer: Answer::More,
+            taken: i,
+            sub: Sub {
+                lane: state,
+                back: Back {
+                    again,
+                    matrix: Matrix { place, cells },
+                },
+            },
+        }
+    }
+
+    // A call behind refusals 10 and 11: a stored word's rest, then new bytes.
+    pub(crate) fn hear_on(self, recv: &mut [u8], word: &mut [u8], piece: &[u8]) -> Hearing
+        requires { ⌜ (sound self ≡ true) × (roomy (now recv) (now word) ≡ true) ⌝ }
+        ensures { λ r. ⌜ HearingIs (hearOn (board self (now (recv .entry)) (now (word .entry))) (now (piece .entry))) r (now (recv .exit)) (now (word .exit)) ⌝ }
+    {
+        let lane = self.lane;
+        let back = self.back;
+        let handed = lane.hand_on(recv, word);
+        let next = handed.lane;
+        if handed.done {
+            let answer = handed.answer;
+            return Hearing {
+                answer,
+                taken: 0,
+                sub: Sub { lane: next, back },
+            };
+        }
+        let matrix = back.matrix;
+        let cells = matrix.cells;
+        Sub::hear_bytes(next, back.again, matrix.place, cells, word, piece)
+    }
+
+    /// One call: at most one answer, and no byte behind the one that caused it is taken.
+    pub fn hear(self, recv: &mut [u8], word: &mut [u8], piece: &[u8]) -> Hearing
+        ensures { λ r. ⌜ HearingIs (hearCall (board self (now (recv .entry)) (now (word .entry))) (now (piece .entry))) r (now (recv .exit)) (now (word .exit)) ⌝ }
+    {
+        if !self.sound() {
+            return Hearing {
+                answer: Answer::Said(Judged::Refused(Refusal::STATE)),
+                taken: 0,
+                sub: self,
+            };
+        }
+        if !channel::Receiver::has_room(recv, word) {
+            return Hearing {
+                answer: Answer::Said(Judged::Refused(Refusal::BUFFER)),
+                taken: 0,
+                sub: self,
+            };
+        }
+        self.hear_on(recv, word, piece)
+    }
+}
