@@ -32,13 +32,14 @@ use Rattle.stream.specs.Called as plain
 use Rattle.stream.specs.declared.frame.Heard.the-variants as plain-answer
 use Rattle.blocks.specs.Sender.{marking, sending}
 use Rattle.channel.specs.Called.{board, sound, roomy, hearCall, answered}
-use Rattle.blocks.specs.Channel.{said, block, lost}
+use Rattle.blocks.specs.Channel.{said, block, lost, isMarker}
 use Rattle.blocks.specs.declared.Condition.{Condition}
 use Rattle.channel.specs.declared.answer.Answer.the-variants.{More, Said, Block, LockLost}
 use Rattle.listed.specs.Lines.{line, endLine, wrongLine}
 use Rattle.listed.specs.Apart.{well}
 use Rattle.listed.specs.declared.Place.the-variants.{Mode}
 use Rattle.tape.specs.Called.{deckOf, isMore, tapeCall}
+use Rattle.subchannel.specs.Called as subchannel
 use Rattle.units.specs.Unit as units
 use Rattle.units.specs.Reading as unit-reading
 use Rattle.readout.specs.Called as readout
@@ -71,6 +72,11 @@ use Rattle.channel.proofs.receiver.Receiver.fresh as channel-fresh
 use Rattle.channel.proofs.receiver.Receiver.hear as channel-hear
 use Rattle.channel.proofs.receiver.Receiver.sound as channel-sound
 use Rattle.channel.proofs.receiver.Receiver.has_room as channel-has-room
+use Rattle.channel.proofs.shift as channel-shift
+use Rattle.channel.proofs.at_marker as channel-at-marker
+use Rattle.subchannel.proofs.sub.Sub.told as subchannel-told
+use Rattle.subchannel.proofs.sub.Sub.sound as subchannel-sound
+use Rattle.subchannel.proofs.sub.Sub.hear as subchannel-hear
 use Rattle.stream.proofs.frame.Frame.fresh as stream-fresh
 use Rattle.stream.proofs.frame.Frame.read as stream-read
 use Rattle.stream.proofs.frame.Frame.sound as stream-sound
@@ -94,8 +100,8 @@ use Rattle.tape.proofs.tape.Heard.is_more as tape-is-more
 use Rattle.readout.proofs.readout.Readout.fresh as readout-fresh
 use Rattle.readout.proofs.readout.Readout.take as readout-take
 use Rattle.readout.proofs.readout.Readout.finish as readout-finish
-use Rattle.units.proofs.writer.write as units-write
-use Rattle.units.proofs.reader.read as units-read
+use Rattle.units.proofs.write as units-write
+use Rattle.units.proofs.read as units-read
 use Rattle.recording.proofs.recording.Recording.fresh as recording-fresh
 use Rattle.recording.proofs.recording.Recording.take as recording-take
 use Rattle.recording.proofs.recording.Recording.finish as recording-finish
@@ -188,6 +194,38 @@ channel-sound-means = (λ M. channel-sound.Met.met, λ κs a. tt, λ κs a z ws.
 pub channel-has-room-means : Means channel-has-room.Statement.statement channel-has-room.Kinds.ps channel-has-room.Kinds.r channel-has-room.Reads.Asked channel-has-room.Reads.Learnt
     λ κs recv word r. r ≡ roomy (now recv) (now word)
 channel-has-room-means = (λ M. channel-has-room.Met.met, λ κs a. tt, λ κs a z ws. (λ p. p, λ p. p))
+
+pub channel-shift-means : Means channel-shift.Statement.statement channel-shift.Kinds.ps channel-shift.Kinds.r channel-shift.Reads.Asked channel-shift.Reads.Learnt
+    λ κs last x r. r ≡ record { a = last .b; b = last .c; c = last .d; d = x }
+channel-shift-means = (λ M. channel-shift.Met.met, λ κs a. tt, λ κs a z ws. (λ p. p, λ p. p))
+
+pub channel-at-marker-means : Means channel-at-marker.Statement.statement channel-at-marker.Kinds.ps channel-at-marker.Kinds.r channel-at-marker.Reads.Asked channel-at-marker.Reads.Learnt
+    λ κs last r. r ≡ isMarker last
+channel-at-marker-means = (λ M. channel-at-marker.Met.met, λ κs a. tt, λ κs a z ws. (λ p. p, λ p. p))
+
+-- ---- one fixed sub-channel. Just told its settings: hunting, nothing heard, the first marked block at row zero
+pub subchannel-told-means : Means subchannel-told.Statement.statement subchannel-told.Kinds.ps subchannel-told.Kinds.r subchannel-told.Reads.Asked subchannel-told.Reads.Learnt
+    λ κs parity depth r. r ≡ record {
+      lane = record {
+        settings = record { told = true; parity = parity; depth = depth };
+        locked = false;
+        lost = false;
+        hunting = record { a = 0; b = 0; c = 0; d = 0 };
+        counts = record { group = 0; marker = 0; word = 0; handed = 0 };
+        frame = record { opened = false; raw = 0; stored = 0; place = 0 };
+      };
+      back = record { again = false; matrix = record { place = 0; cells = replicate 16320 0 } };
+    }
+subchannel-told-means = (λ M. subchannel-told.Met.met, λ κs a. tt, λ κs a z ws. (λ p. p, λ p. p))
+
+pub subchannel-sound-means : Means subchannel-sound.Statement.statement subchannel-sound.Kinds.ps subchannel-sound.Kinds.r subchannel-sound.Reads.Asked subchannel-sound.Reads.Learnt
+    λ κs self r. r ≡ subchannel.sound self
+subchannel-sound-means = (λ M. subchannel-sound.Met.met, λ κs a. tt, λ κs a z ws. (λ p. p, λ p. p))
+
+pub subchannel-hear-means : Means subchannel-hear.Statement.statement subchannel-hear.Kinds.ps subchannel-hear.Kinds.r subchannel-hear.Reads.Asked subchannel-hear.Reads.Learnt
+    λ κs self recv word piece r. let x = subchannel.hearCall (subchannel.board self (now (recv .entry)) (now (word .entry))) (now piece) in
+    (r ≡ record { answer = answered (x .0); taken = x .1; sub = x .2 .st }) × (now (recv .exit) ≡ x .2 .recv) × (now (word .exit) ≡ x .2 .word)
+subchannel-hear-means = (λ M. subchannel-hear.Met.met, λ κs a. tt, λ κs a z ws. (λ p. p, λ p. p))
 
 -- what a frame is told to be, and what a call answers, in the code's words
 pub judged-is : (p : Packet) (n : ℕ)
