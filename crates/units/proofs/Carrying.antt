@@ -1,6 +1,7 @@
 -- A unit carries its header and its payload.
 -- length-unit      a unit takes as many bytes as its length says
 -- header-unit      its header bits are those of its sequence
+-- unwoven-unit     its other bits are those of the payload, and zeros
 -- payload-unit     its payload bytes are those written
 use mathlib.Core.Path.{_≡_, sym, ap, ap₂, _∙_}
 use mathlib.Core.List.{List, _++_}
@@ -67,11 +68,15 @@ module _ (l cw : ℕ) (p : List ℕ) (k : 0 < step l) (e : length p ≡ payload 
       ∙ ap (λ (n : ℕ). number 0 (heard (start l) (step l - 1) n (weave (start l) (step l - 1) hs ps))) (sym length-hs)
       ∙ ap (number 0) (heard-weave (start l) (step l - 1) hs ps room)
 
+  -- its other bits are those of the payload, and zeros
+  pub unwoven-unit : unwoven (start l) (step l - 1) (heads l) (bits (unit l cw p)) ≡ ps
+  unwoven-unit =
+      ap (unwoven (start l) (step l - 1) (heads l)) woven
+      ∙ ap (λ (n : ℕ). unwoven (start l) (step l - 1) n (weave (start l) (step l - 1) hs ps)) (sym length-hs)
+      ∙ unwoven-weave (start l) (step l - 1) hs ps room
+
   pub payload-unit : Bytes p → payloadOf l (unit l cw p) ≡ p
   unfolding payloadOf
   payload-unit b =
-      ap (λ (u : List ℕ). pack (payload l) (unwoven (start l) (step l - 1) (heads l) u)) woven
-      ∙ ap (λ (n : ℕ). pack (payload l) (unwoven (start l) (step l - 1) n (weave (start l) (step l - 1) hs ps))) (sym length-hs)
-      ∙ ap (pack (payload l)) (unwoven-weave (start l) (step l - 1) hs ps room)
-      ∙ ap (λ (n : ℕ). pack n ps) (sym e)
+      ap (pack (payload l)) unwoven-unit ∙ ap (λ (n : ℕ). pack n ps) (sym e)
       ∙ pack-bits p (replicate (lent l * 8 - heads l - length p * 8) 0) b

@@ -1,5 +1,6 @@
 -- Refusal 54 on writing, said shortly: the delimiter is zeros, and a gap of zeros stands before it.
 -- hidden-is       exactly then would the reader find it earlier than written
+-- zeros-are       zeros are zeros
 -- opened-seen     else the reader finds what was written
 use mathlib.Core.Path.{_≡_, refl, sym, ap, _∙_}
 use mathlib.Core.Bool.{Bool, true, false, false≢true}
@@ -17,7 +18,7 @@ use Rattle.units.specs.Private.{zeros}
 use Rattle.units.proofs.Delimiter.{opened-first, opened-here}
 
 -- zeros are zeros
-zeros-are : (d : List ℕ) → zeros d ≡ true → d ≡ replicate (length d) 0
+pub zeros-are : (d : List ℕ) → zeros d ≡ true → d ≡ replicate (length d) 0
 unfolding zeros
 zeros-are [] e = refl
 zeros-are (x ∷ d) e =

@@ -3,8 +3,10 @@
 -- fits       a length that is accepted has room for its header bits
 -- few        there are 22 to 24 of them
 -- room-of    .. so they stand among the payload bits
+-- spaced     the lengths that have a header spacing: from 144, 303 or 289 bits on
 use mathlib.Core.Path.{_≡_, refl, sym}
 use mathlib.Core.Bool.{Bool, true, false, false≢true}
+use mathlib.Core.Logic.{_↔_}
 use Prim.Native.Nat.{ℕ, suc, _+_, _-_, _*_, _/_, _%_, _≤_, _<_}
 use native.Mathlib.Nat.{pos-of-ne-zero}
 use native.Mathlib.Omega.{arith}
@@ -82,3 +84,14 @@ pub room-of : (l n : ℕ) → 0 < step l → l - heads l ≤ n → Room (start l
 room-of l n k h =
     let e : suc (heads l - 1) ≡ heads l = omega (arith, few l .0) in
     rw (← e) (room-fits (start l) (step l - 1) (heads l - 1) n (omega (arith, fits l k, few l .0)))
+
+-- the least length of a unit, by its header bits
+abbrev pub least : ℕ → ℕ
+least h = pick (eqb h 24) 144 (pick (eqb h 23) 303 289)
+
+-- the spacing is not below zero exactly from there on
+pub spaced : (l : ℕ) → 0 < step l ↔ least (heads l) ≤ l
+spaced l =
+    by-row (λ h s t. 0 < t ↔ least h ≤ l) l (λ b e. (λ k. omega arith, λ k. omega arith)) (λ b e. (λ k. omega arith, λ k. omega arith))
+    (λ b e f. (λ k. omega arith, λ k. omega arith)) (λ b e. (λ k. omega arith, λ k. omega arith)) (λ b e. (λ k. omega arith, λ k. omega arith))
+    (λ b e f. (λ k. omega arith, λ k. omega arith))
