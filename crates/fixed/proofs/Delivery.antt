@@ -19,7 +19,8 @@ use Rattle.channel.specs.Channel.{isMarker, shift}
 use Rattle.channel.specs.Called.{asEvent, roomy}
 use Rattle.groups.specs.Sender.{groupBytes}
 use Rattle.fixed.specs.declared.lane.Lane.{Lane}
-use Rattle.fixed.specs.Called.{Board, heldIn, wordAt, wordOn, groupOn, compareOn, markOn, eatBy, eatByte, owed, handOn, sound, hearBy, hearCall, ThereEvent}
+use Rattle.fixed.specs.Called.{Board, heldIn, wordAt, wordOn, groupOn, compareOn, markOn, eatBy, eatByte, owed, handOn}
+use Rattle.fixed.specs.Called.{sound, hearBy, hearCall, ThereEvent}
 use Rattle.fixed.proofs.Cutting.{hand-one}
 
 there-as : (o : Option Told) (c : Board) → ThereIf o (c .recv) → With ThereEvent (asEvent o) c
