@@ -19,7 +19,8 @@ use Rattle.blocks.specs.Channel.{isMarker, shift}
 use Rattle.channel.specs.Called.{asEvent, roomy}
 use Rattle.groups.specs.Sender.{groupBytes}
 use Rattle.subchannel.specs.declared.lane.Lane.{Lane}
-use Rattle.subchannel.specs.Called.{Board, heldIn, wordAt, wordOn, groupOn, compareOn, markOn, eatBy, eatByte, owed, handOn, sound, hearBy, hearCall, ThereEvent}
+use Rattle.subchannel.specs.Called.{Board, heldIn, wordAt, wordOn, groupOn, compareOn, markOn, eatBy, eatByte, owed, handOn}
+use Rattle.subchannel.specs.Called.{sound, hearBy, hearCall, ThereEvent}
 use Rattle.subchannel.proofs.Cutting.{hand-one}
 
 there-as : (o : Option Told) (c : Board) → ThereIf o (c .recv) → With ThereEvent (asEvent o) c

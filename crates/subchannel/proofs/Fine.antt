@@ -184,7 +184,8 @@ module _ (c : Board) (i : Fine c) where
 
   fine-compare : (t : Bool) (f : Hunting) → Fine (board (sub (compareOn t f s .1) (c .st .back)) (c .recv) (c .word))
   fine-compare true f =
-      fine-moved f (counts 0 0 (s .counts .word) (s .counts .handed)) (c .st .back) (c .word) (omega arith, omega arith, i .word, i .handed) (i .place) (i .room)
+      fine-moved f (counts 0 0 (s .counts .word) (s .counts .handed)) (c .st .back) (c .word) (omega arith, omega arith, i .word, i .handed) (i .place)
+      (i .room)
   fine-compare false f = record {
     frame = record { stored = refl; raw = omega arith; place = omega arith; room = i .frame .room };
     parity = i .parity;
@@ -223,7 +224,8 @@ owed-one false false t m h n e = absurd (omega arith)
 owed-one false true true m h n e = omega arith
 owed-one false true false m h n e = absurd (omega arith)
 
-abbrev pub owed-at : (c : Board) (n : ℕ) → owed c ≡ suc n → (owed (handed c (suc (c .st .lane .counts .handed)) (heldIn c)) ≡ n) × (c .st .lane .counts .handed < messageBytes (c .st .lane .settings .parity))
+abbrev pub owed-at : (c : Board) (n : ℕ) → owed c ≡ suc n
+    → (owed (handed c (suc (c .st .lane .counts .handed)) (heldIn c)) ≡ n) × (c .st .lane .counts .handed < messageBytes (c .st .lane .settings .parity))
 owed-at c n e =
     let s : Lane = c .st .lane in
     owed-one (s .lost) (s .locked) (eqb (s .counts .word) wordBytes) (messageBytes (s .settings .parity)) (s .counts .handed) n e

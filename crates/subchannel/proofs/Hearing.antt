@@ -69,7 +69,8 @@ module _ (c : Board) (o : c .st .lane .lost ≡ false) (l : c .st .lane .locked 
   stored : (n h : ℕ) → h + n ≡ m → m ≤ length (c .word) → Along (λ i b. suc i) Stored h (take n (drop h (c .word)))
   stored zero h e f = tt
   stored (suc n) h e f =
-      subst (λ v. Along (λ i b. suc i) Stored h (take (suc n) v)) (sym (drop-cons (c .word) h 0 (omega arith))) ((omega arith, refl), stored n (suc h) (omega arith) f)
+      subst (λ v. Along (λ i b. suc i) Stored h (take (suc n) v)) (sym (drop-cons (c .word) h 0 (omega arith)))
+      ((omega arith, refl), stored n (suc h) (omega arith) f)
 
   owed-is : (h : ℕ) (g : Held) → owed (handed c h g) ≡ m - h
   owed-is h g = λ i. owedBy (o i) (l i) (eq-eqb (c .st .lane .counts .word) wordBytes w i) m h
@@ -366,12 +367,16 @@ module _ (s : Sub) (l w bs : List ℕ) {t : Step} {l′ : List ℕ} (e : HandedI
 module _ (c : Board) (bs : List ℕ) where
   pub call-unsound : sound (c .st) ≡ false
       → HearingIs (hearCall c bs) (record { answer = Said (Refused 10); taken = 0; sub = c .st }) (c .recv) (c .word)
-  call-unsound e = subst (λ t. HearingIs (hearBy t (roomy (c .recv) (c .word)) c bs) (record { answer = Said (Refused 10); taken = 0; sub = c .st }) (c .recv) (c .word)) (sym e) (refl, refl, refl)
+  call-unsound e =
+      subst (λ t. HearingIs t (record { answer = Said (Refused 10); taken = 0; sub = c .st }) (c .recv) (c .word))
+      (λ i. hearBy (sym e i) (roomy (c .recv) (c .word)) c bs) (refl, refl, refl)
 
   pub call-cramped : sound (c .st) ≡ true → roomy (c .recv) (c .word) ≡ false
       → HearingIs (hearCall c bs) (record { answer = Said (Refused 11); taken = 0; sub = c .st }) (c .recv) (c .word)
   call-cramped e f =
-      subst (λ t. HearingIs t (record { answer = Said (Refused 11); taken = 0; sub = c .st }) (c .recv) (c .word)) (λ i. hearBy (sym e i) (sym f i) c bs) (refl, refl, refl)
+      subst (λ t. HearingIs t (record { answer = Said (Refused 11); taken = 0; sub = c .st }) (c .recv) (c .word)) (λ i. hearBy (sym e i) (sym f i) c bs)
+      (refl, refl, refl)
 
-  pub call-on : {r : Hearing} {l k : List ℕ} → sound (c .st) ≡ true → roomy (c .recv) (c .word) ≡ true → HearingIs (hearOn c bs) r l k → HearingIs (hearCall c bs) r l k
+  pub call-on : {r : Hearing} {l k : List ℕ} → sound (c .st) ≡ true → roomy (c .recv) (c .word) ≡ true → HearingIs (hearOn c bs) r l k
+      → HearingIs (hearCall c bs) r l k
   call-on {r} {l} {k} e f h = subst (λ x. HearingIs x r l k) (λ i. hearBy (sym e i) (sym f i) c bs) h

@@ -5,4 +5,5 @@ pub mod Delivery
 pub mod Demands
 pub mod Steps
 pub mod Hearing
+pub mod Numbers
 pub mod Determined

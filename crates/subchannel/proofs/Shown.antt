@@ -33,7 +33,8 @@ use Rattle.groups.specs.Sender.{messageBytes, groupBytes}
 use Rattle.groups.specs.Word.{condition, mend, message}
 use Rattle.groups.specs.Sub.{Sub, hunting, inGroup, inMark, silent, whole, worded, grown, takes, hunt, grouping, compared, behindGroup, step, hears}
 use Rattle.subchannel.specs.declared.lane.Lane.{Lane}
-use Rattle.subchannel.specs.Called.{Board, board, sub, lane, settings, counts, moved, huntOn, wordAt, mendIn, wordOn, groupOn, compareOn, markOn, behind, eatBy, onBoard, eatByte}
+use Rattle.subchannel.specs.Called.{Board, board, sub, lane, settings, counts, huntOn, mendIn, wordOn, groupOn, compareOn, markOn}
+use Rattle.subchannel.specs.Called.{behind, eatBy, onBoard, eatByte}
 use Rattle.subchannel.specs.Called.{owedBy, owed, handWith, handOn, hearAll, inUse, handedOf, lockedWith, boardOf}
 use Rattle.subchannel.proofs.Fine.{mend-length}
 use Rattle.subchannel.proofs.Cutting.{hand-one}
@@ -218,7 +219,8 @@ module _ (r d : ℕ) (hr : r ≤ rootLimit) where
     abbrev Put : List ℕ → Reading → List ℕ → List ℕ → ℕ → ℕ → List ℕ → Type 0
     Put w q j L y p x =
         Behind
-        (let z = onBoard (heldOf q j .recv) (behind k (wordOn (ltb (suc p) wordBytes) (at (length w) (handedOf r w) (heldOf q j)) p (set L p y))) in tell (z .0) (D (z .1)))
+        (let z = onBoard (heldOf q j .recv) (behind k (wordOn (ltb (suc p) wordBytes) (at (length w) (handedOf r w) (heldOf q j)) p (set L p y))) in
+        tell (z .0) (D (z .1)))
         (worded (ltb (length x) wordBytes) r x q)
 
     put-now : (w : List ℕ) (q : Reading) (j : List ℕ) (y : ℕ) (u L : List ℕ) → length u < wordBytes → rawLimit ≤ length (heldOf q j .recv)
@@ -228,13 +230,15 @@ module _ (r d : ℕ) (hr : r ≤ rootLimit) where
         subst
         (λ m. Behind
         (let z = onBoard (heldOf q j .recv)
-        (behind k (wordOn (ltb (suc (length u)) wordBytes) (at (length w) (handedOf r w) (heldOf q j)) (length u) (set (u ++ b ∷ l) (length u) y))) in tell (z .0) (D (z .1)))
+        (behind k (wordOn (ltb (suc (length u)) wordBytes) (at (length w) (handedOf r w) (heldOf q j)) (length u) (set (u ++ b ∷ l) (length u) y))) in
+        tell (z .0) (D (z .1)))
         (worded (ltb m wordBytes) r (u ++ y ∷ []) q))
         (let e : suc (length u) ≡ length (u ++ y ∷ []) = omega (arith, length-append u (y ∷ [])) in e)
         (word-now (ltb (suc (length u)) wordBytes) (length w) (handedOf r w) u q j l y b refl h hj hw)
 
     -- a byte of the group, by what it brings
-    group-now : (o : Option ℕ) (w : List ℕ) (q : Reading) (j l : List ℕ) → length w ≤ wordBytes → rawLimit ≤ length (heldOf q j .recv) → wordBytes ≤ length (w ++ l)
+    group-now : (o : Option ℕ) (w : List ℕ) (q : Reading) (j l : List ℕ) → length w ≤ wordBytes → rawLimit ≤ length (heldOf q j .recv)
+        → wordBytes ≤ length (w ++ l)
         → Behind
         (let x = onBoard (heldOf q j .recv) (behind k (groupOn o (at (length w) (handedOf r w) (heldOf q j)) (w ++ l))) in tell (x .0) (D (x .1)))
         (takes r o w q)

@@ -23,7 +23,9 @@ turn-spec =
     let a = s .args in
     turned-full (a .depth) (a .place) (a .again) (a .cells .now) (a .byte) (n .before .before .if1 .left) (n .before .cell .ensures .0) (n .next .ensures .0)
     (again-full (a .depth) (a .place) (a .again) (a .cells .now) (c .before .if2 .taken)) refl)
-    (λ c. let s = c .before .before .before .before in omega (arith, below (s .args .depth) (s .args .place) (c .before .before .before .if1 .left) (s .pre .1)))
+    (λ c.
+    let s = c .before .before .before .before in
+    omega (arith, below (s .args .depth) (s .args .place) (c .before .before .before .if1 .left) (s .pre .1)))
     (search needs)
     (search needs)
     (λ c.

@@ -18,19 +18,23 @@ mend-spec =
     (λ c.
     let r = c .before .before .before .before in
     let s = r .before .before .before in
-    mended-told (s .args .parity) (s .args .word .now) (bytes-of (s .args .word .now) (λ i. r .before .before .slice-known .given i .fits)) (r .repair .ensures) (c .enum-told .given .1))
+    mended-told (s .args .parity) (s .args .word .now) (bytes-of (s .args .word .now) (λ i. r .before .before .slice-known .given i .fits))
+    (r .repair .ensures) (c .enum-told .given .1))
     (search needs)
     (λ c.
     let r = c .before .before .before .before .before in
     let s = r .before .before .before in
-    mended-told (s .args .parity) (s .args .word .now) (bytes-of (s .args .word .now) (λ i. r .before .before .slice-known .given i .fits)) (r .repair .ensures) (c .before .n .given .1))
+    mended-told (s .args .parity) (s .args .word .now) (bytes-of (s .args .word .now) (λ i. r .before .before .slice-known .given i .fits))
+    (r .repair .ensures) (c .before .n .given .1))
     (search needs)
     (λ c.
     let r = c .before .before .before .before in
     let s = r .before .before .before in
-    mended-told (s .args .parity) (s .args .word .now) (bytes-of (s .args .word .now) (λ i. r .before .before .slice-known .given i .fits)) (r .repair .ensures) (c .enum-told2 .given .1))
+    mended-told (s .args .parity) (s .args .word .now) (bytes-of (s .args .word .now) (λ i. r .before .before .slice-known .given i .fits))
+    (r .repair .ensures) (c .enum-told2 .given .1))
     (search needs)
     (λ c.
     let r = c .before .before .before .before in
     let s = r .before .before .before in
-    mended-told (s .args .parity) (s .args .word .now) (bytes-of (s .args .word .now) (λ i. r .before .before .slice-known .given i .fits)) (r .repair .ensures) (c .enum-told3 .given .1)))
+    mended-told (s .args .parity) (s .args .word .now) (bytes-of (s .args .word .now) (λ i. r .before .before .slice-known .given i .fits))
+    (r .repair .ensures) (c .enum-told3 .given .1)))

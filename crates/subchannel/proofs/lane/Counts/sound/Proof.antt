@@ -13,4 +13,5 @@ sound-spec =
     (λ c. simp (le-leb _ _ (c .before .before .if1 .left), lt-leb _ _ (c .if2 .taken)))
     (λ c. simp (le-leb _ _ (c .before .before .before .before .if1 .left), le-leb _ _ (c .before .before .if2 .left), lt-leb _ _ (c .if3 .taken)))
     (search needs)
-    (λ c. three-and (le-leb _ _ (c .before .before .before .before .before .if1 .left)) (le-leb _ _ (c .before .before .before .if2 .left)) (le-leb _ _ (c .before .if3 .left))))
+    (λ c. three-and (le-leb _ _ (c .before .before .before .before .before .if1 .left)) (le-leb _ _ (c .before .before .before .if2 .left))
+    (le-leb _ _ (c .before .if3 .left))))

@@ -14,7 +14,8 @@ eat-spec =
     (λ c.
     let e = c .before .before .before in
     let a = e .before .before .args in
-    eats-hunting (a .self) (a .again) (a .place) (a .cells .now) (a .word .now) (a .b) (e .if1 .left) (not-true _ (c .before .if2 .taken)) (c .hunt-byte .ensures))
+    eats-hunting (a .self) (a .again) (a .place) (a .cells .now) (a .word .now) (a .b) (e .if1 .left) (not-true _ (c .before .if2 .taken))
+    (c .hunt-byte .ensures))
     (λ c κs. let t = c .before .before in let p = t .before .before .before .before .before .before .before .pre in (p .0, t .if3 .taken, p .1))
     (search needs)
     (λ c.
@@ -23,11 +24,13 @@ eat-spec =
     let n = t .before .before .before in
     let e = n .before .before in
     let a = e .before .before .args in
-    eats-group (a .self) (a .again) (a .place) (a .cells .now) (a .word .now) (a .b) (e .if1 .left) (not-false _ (n .if2 .left)) (t .if3 .taken) (g .group-byte .ensures))
+    eats-group (a .self) (a .again) (a .place) (a .cells .now) (a .word .now) (a .b) (e .if1 .left) (not-false _ (n .if2 .left)) (t .if3 .taken)
+    (g .group-byte .ensures))
     (λ c κs. c .before .before .before .before .before .before .before .pre .0 .marker)
     (λ c.
     let t = c .before .before in
     let n = t .before .before .before in
     let e = n .before .before in
     let a = e .before .before .args in
-    eats-mark (a .self) (a .again) (a .place) (a .cells .now) (a .word .now) (a .b) (e .if1 .left) (not-false _ (n .if2 .left)) (t .if3 .left) (c .before .mark-byte .ensures)))
+    eats-mark (a .self) (a .again) (a .place) (a .cells .now) (a .word .now) (a .b) (e .if1 .left) (not-false _ (n .if2 .left)) (t .if3 .left)
+    (c .before .mark-byte .ensures)))

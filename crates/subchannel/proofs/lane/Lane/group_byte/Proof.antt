@@ -16,9 +16,11 @@ group-byte-spec =
     let v = c .before .before .before in
     let t = v .before .before .before in
     let a = t .before .before .before .before .args in
-    eats-brought (a .self) (back (a .again) (matrix (a .place) (a .cells .now))) (a .word .now) (a .b) (t .turn .ensures) (v .before .before .if1 .taken) (v .word-byte .ensures))
+    eats-brought (a .self) (back (a .again) (matrix (a .place) (a .cells .now))) (a .word .now) (a .b) (t .turn .ensures) (v .before .before .if1 .taken)
+    (v .word-byte .ensures))
     (search needs)
     (λ c.
     let t = c .before .before in
     let a = t .before .before .before .before .args in
-    eats-kept (a .self) (back (a .again) (matrix (a .place) (a .cells .now))) (a .word .now) (a .b) (t .turn .ensures) (c .before .if1 .left) (c .kept-byte .ensures)))
+    eats-kept (a .self) (back (a .again) (matrix (a .place) (a .cells .now))) (a .word .now) (a .b) (t .turn .ensures) (c .before .if1 .left)
+    (c .kept-byte .ensures)))

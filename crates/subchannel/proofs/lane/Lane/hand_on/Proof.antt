@@ -28,11 +28,21 @@ hand-on-spec =
     (λ c.
     let s = c .before .before .before .before .before .before .before .before .before in
     let a = s .args in
-    omega (arith, hand-within (a .self) (a .recv .now) (a .word .now) (s .pre .0) (s .pre .1), hand-room (a .self) (a .recv .now) (a .word .now) (s .pre .0) (s .pre .1)))
+    omega (
+      arith,
+      hand-within (a .self) (a .recv .now) (a .word .now) (s .pre .0) (s .pre .1),
+      hand-room (a .self) (a .recv .now) (a .word .now) (s .pre .0)
+          (s .pre .1),
+    ))
     (λ c.
     let s = c .before .before .before .before .before .before .before .before .before in
     let a = s .args in
-    omega (arith, hand-within (a .self) (a .recv .now) (a .word .now) (s .pre .0) (s .pre .1), hand-room (a .self) (a .recv .now) (a .word .now) (s .pre .0) (s .pre .1)))
+    omega (
+      arith,
+      hand-within (a .self) (a .recv .now) (a .word .now) (s .pre .0) (s .pre .1),
+      hand-room (a .self) (a .recv .now) (a .word .now) (s .pre .0)
+          (s .pre .1),
+    ))
     (search needs)
     (λ c.
     let r = c .before .before .before .before in
@@ -49,7 +59,8 @@ hand-on-spec =
     let o = r .before .before .before .before .before .before .before in
     let s = o .before .before .before .before in
     let a = s .args in
-    hand-more (a .self) (a .recv .now) (a .word .now) (s .pre .0) (s .pre .1) (o .before .owed .ensures) (o .if1 .left) (r .read .ensures) (c .enum-told .given .1)
+    hand-more (a .self) (a .recv .now) (a .word .now) (s .pre .0) (s .pre .1) (o .before .owed .ensures) (o .if1 .left) (r .read .ensures)
+    (c .enum-told .given .1)
     (c .before .before .handing .ensures))
     (search needs)
     (λ c.
@@ -57,5 +68,6 @@ hand-on-spec =
     let o = r .before .before .before .before .before .before .before in
     let s = o .before .before .before .before in
     let a = s .args in
-    hand-said (a .self) (a .recv .now) (a .word .now) (s .pre .0) (s .pre .1) (o .before .owed .ensures) (o .if1 .left) (r .read .ensures) _ (c .before .heard .given .1)
+    hand-said (a .self) (a .recv .now) (a .word .now) (s .pre .0) (s .pre .1) (o .before .owed .ensures) (o .if1 .left) (r .read .ensures) _
+    (c .before .heard .given .1)
     (c .before .before .before .handing .ensures)))

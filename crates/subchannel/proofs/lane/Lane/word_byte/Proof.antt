@@ -34,4 +34,5 @@ word-byte-spec =
     let m = c .before .before .before in
     let p = m .before .before .before .before in
     let a = p .before .before .before .before .before .args in
-    words-whole (a .self) (a .y) (a .word .now) (p .place-in .ensures .0) (m .before .before .if1 .left) (m .mend-in .ensures .0) (m .mend-in .ensures .1) (c .moved2 .ensures)))
+    words-whole (a .self) (a .y) (a .word .now) (p .place-in .ensures .0) (m .before .before .if1 .left) (m .mend-in .ensures .0) (m .mend-in .ensures .1)
+    (c .moved2 .ensures)))

@@ -39,7 +39,11 @@ hear-bytes-spec =
     omega (arith, t .before .before .before .before .loop-test .taken))
     (λ c.
     let t = c .before .before .before .before in
-    let l = t .before .before .before .before .before .loop in
-    (going-next (l .inv .0) (t .before .before .before .before .loop-test .taken) (t .eat .ensures) (c .if1 .left), t .eat .kept .1 .1 .1 .1 .0 ∙ l .inv .1, l .inv .2))
+    let l = t .before .before .before .before .before .loop in (
+      going-next (l .inv .0) (t .before .before .before .before .loop-test .taken) (t .eat .ensures)
+          (c .if1 .left),
+      t .eat .kept .1 .1 .1 .1 .0 ∙ l .inv .1,
+      l .inv .2,
+    ))
     (λ c. c .before .loop .inv .1)
     (λ c. going-done (c .before .loop .inv .0) (c .loop-test .left)))

@@ -28,4 +28,5 @@ hear-on-spec =
     let b = c .before .before in
     let h = b .before .before .before .before .before .before .before .before in
     let a = h .before .before .before .before .before .before .before .before .args in
-    bytes-end (a .self) (a .recv .now) (a .word .now) (a .piece .now) (h .hand-on .ensures) (b .before .before .before .before .if1 .left) (b .hear-bytes .ensures)))
+    bytes-end (a .self) (a .recv .now) (a .word .now) (a .piece .now) (h .hand-on .ensures) (b .before .before .before .before .if1 .left)
+    (b .hear-bytes .ensures)))
