@@ -26,10 +26,10 @@ zero-at zero t = refl
 zero-at (suc z) zero = refl
 zero-at (suc z) (suc t) = zero-at z t
 
-pub marked-none : (d o : List ℕ) → length o ≡ 0 → marked d o ≡ []
+marked-none : (d o : List ℕ) → length o ≡ 0 → marked d o ≡ []
 marked-none d o e = simp (eq-eqb (length o) 0 e)
 
-pub marked-some : (d o : List ℕ) → (length o ≡ 0 → ⊥) → marked d o ≡ d ++ o
+marked-some : (d o : List ℕ) → (length o ≡ 0 → ⊥) → marked d o ≡ d ++ o
 marked-some d o n = simp (ne-eqb (length o) 0 n)
 
 pub length-some : (d o : List ℕ) → (length o ≡ 0 → ⊥) → length (marked d o) ≡ length d + length o
@@ -79,7 +79,7 @@ module _ (n : ℕ) (d audio opp fixed : List ℕ) (room : length audio + length 
     in-marked h = right two (marked d opp) j h ∙ left (two ++ marked d opp) fixed j (omega (arith, length-three))
 
     -- before the marked data, and behind the audio
-    pub in-gap : length audio ≤ j → j < n - length fixed - length (marked d opp) → 0 ≡ getD (laidOut n d audio opp fixed) j 0
+    in-gap : length audio ≤ j → j < n - length fixed - length (marked d opp) → 0 ≡ getD (laidOut n d audio opp fixed) j 0
     unfolding laidOut two z
     in-gap h m =
         zero-at z (j - length audio) ∙ right audio (replicate z 0) j h ∙ left two (marked d opp) j (omega (arith, length-two))

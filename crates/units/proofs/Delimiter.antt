@@ -11,12 +11,12 @@ use Rattle.base.specs.Choice.{pick}
 use Rattle.base.proofs.Tests.{and-parts, by-test}
 use Rattle.units.specs.Unit.{begins, opened}
 
-pub begins-self : (d o : List ℕ) → begins d (d ++ o) ≡ true
+begins-self : (d o : List ℕ) → begins d (d ++ o) ≡ true
 unfolding begins
 begins-self [] o = refl
 begins-self (x ∷ d) o = rw (eq-eqb x x refl) (begins-self d o)
 
-pub drop-self : (d o : List ℕ) → drop (length d) (d ++ o) ≡ o
+drop-self : (d o : List ℕ) → drop (length d) (d ++ o) ≡ o
 drop-self [] o = refl
 drop-self (x ∷ d) o = drop-self d o
 

@@ -72,7 +72,7 @@ module _ (u : List ℕ) (i : ℕ) (l : i + 8 ≤ length u) where
   one : (k : ℕ) → k < 8 → drop (i + k) u ≡ getD u (i + k) 0 ∷ drop (i + suc k) u
   one k h = let e : suc (i + k) ≡ i + suc k = omega arith in drop-cons u (i + k) 0 (omega arith) ∙ ap (λ (n : ℕ). getD u (i + k) 0 ∷ drop n u) e
 
-  pub eight-at : take 8 (drop i u) ≡ getD u (i + 0) 0 ∷ getD u (i + 1) 0 ∷ getD u (i + 2) 0 ∷ getD u (i + 3) 0 ∷ getD u (i + 4) 0 ∷ getD u (i + 5) 0 ∷ getD u
+  eight-at : take 8 (drop i u) ≡ getD u (i + 0) 0 ∷ getD u (i + 1) 0 ∷ getD u (i + 2) 0 ∷ getD u (i + 3) 0 ∷ getD u (i + 4) 0 ∷ getD u (i + 5) 0 ∷ getD u
       (i + 6) 0 ∷ getD u (i + 7) 0 ∷ []
   eight-at =
       let z : i ≡ i + 0 = omega arith in

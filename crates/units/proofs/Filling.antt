@@ -52,7 +52,7 @@ and-true : (t : Bool) → t && true ≡ t
 and-true true = refl
 and-true false = refl
 
-pub zeros-is : (d : List ℕ) → length d ≡ 5
+zeros-is : (d : List ℕ) → length d ≡ 5
     → zeros d ≡ eqb (getD d 0 0) 0 && (eqb (getD d 1 0) 0 && (eqb (getD d 2 0) 0 && (eqb (getD d 3 0) 0 && eqb (getD d 4 0) 0)))
 unfolding zeros
 zeros-is (a ∷ b ∷ c ∷ d ∷ e ∷ []) l = ap (λ (t : Bool). eqb a 0 && (eqb b 0 && (eqb c 0 && (eqb d 0 && t)))) (and-true (eqb e 0))

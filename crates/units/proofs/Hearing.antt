@@ -27,7 +27,7 @@ use Rattle.units.proofs.Unwoven.{Reach, reaches, at-start, at-once, at-
 turn : (s n t l : ℕ) → 0 < t → 0 < n → s + (n - 1) * (t - 1) + n ≤ l → s + (n - 1) * suc (t - 1) < l
 turn s n t l h k f = rw (mul-suc (n - 1) (t - 1)) (omega arith)
 
-pub reach : (l : ℕ) (u : List ℕ) → unfit l ≡ false → lent l ≤ length u → Reach (start l) (step l - 1) (heads l) (length (bits u))
+reach : (l : ℕ) (u : List ℕ) → unfit l ≡ false → lent l ≤ length u → Reach (start l) (step l - 1) (heads l) (length (bits u))
 reach l u fit h =
     let k = accepted l fit .1 in
     let e : suc (heads l - 1) ≡ heads l = omega (arith, few l .0) in
@@ -99,10 +99,10 @@ table-low l fit =
 
 -- what is heard so far, and what is left
 pub record Heard (l : ℕ) (u : List ℕ) (n at v k : ℕ) : Type 0 where
-  pub some : k ≤ n
-  pub small : v < 2 ^ k
-  pub near : at ≤ 146176 * (k + 1)
-  pub left : number v (heard 0 (step l - 1) (n - k) (drop at (bits u))) ≡ headerOf l u
+  some : k ≤ n
+  small : v < 2 ^ k
+  near : at ≤ 146176 * (k + 1)
+  left : number v (heard 0 (step l - 1) (n - k) (drop at (bits u))) ≡ headerOf l u
 
 pub hear-none : (l : ℕ) (u : List ℕ) {n at : ℕ} → unfit l ≡ false → n ≡ heads l → at ≡ start l → Heard l u n at 0 0
 unfolding headerOf

@@ -21,7 +21,7 @@ use Rattle.units.proofs.Woven.{At, before, placed}
 use Rattle.units.proofs.Carrying.{hs, ps, room, length-hs, length-ps, holds}
 
 module _ (l cw : ℕ) (p : List ℕ) (k : 0 < step l) (e : length p ≡ payload l) where
-  pub length-bits-unit : length (unitBits l cw p) ≡ lent l * 8
+  length-bits-unit : length (unitBits l cw p) ≡ lent l * 8
   unfolding unitBits
   length-bits-unit = length-weave (start l) (step l - 1) (hs l cw p k e) (ps l cw p k e) ∙ omega (arith, length-hs l cw p k e, length-ps l cw p k e, holds l k)
 
@@ -29,7 +29,7 @@ module _ (l cw : ℕ) (p : List ℕ) (k : 0 < step l) (e : length p ≡ payload 
     padded : (t : ℕ) → getD (bits p) t 0 ≡ getD (ps l cw p k e) t 0
     padded t = sym (zeros-at (bits p) (lent l * 8 - heads l - length p * 8) t)
 
-    pub unit-before : i < start l → getD (bits p) i 0 ≡ getD (unitBits l cw p) i 0
+    unit-before : i < start l → getD (bits p) i 0 ≡ getD (unitBits l cw p) i 0
     unfolding unitBits
     unit-before h = padded i ∙ before (start l) (step l - 1) (hs l cw p k e) (ps l cw p k e) i (room l cw p k e) h
 
@@ -44,16 +44,16 @@ module _ (l cw : ℕ) (p : List ℕ) (k : 0 < step l) (e : length p ≡ payload 
       unfolding unitBits
       is = ap (λ (j : ℕ). getD (weave (start l) (step l - 1) (hs l cw p k e) (ps l cw p k e)) j 0) here
 
-      pub unit-behind : heads l ≤ (i - start l) / step l → getD (bits p) (i - heads l) 0 ≡ getD (unitBits l cw p) i 0
+      unit-behind : heads l ≤ (i - start l) / step l → getD (bits p) (i - heads l) 0 ≡ getD (unitBits l cw p) i 0
       unit-behind q =
           let f : i - heads l ≡ start l + (i - start l) - length (hs l cw p k e) = omega (arith, length-hs l cw p k e) in
           padded (i - heads l) ∙ ap (λ (j : ℕ). getD (ps l cw p k e) j 0) f ∙ there .behind (omega (arith, length-hs l cw p k e)) ∙ is
 
       module _ (q : (i - start l) / step l < heads l) where
-        pub unit-heading : (i - start l) % step l ≡ 0 → getD (digits 24 cw) ((i - start l) / step l) 0 ≡ getD (unitBits l cw p) i 0
+        unit-heading : (i - start l) % step l ≡ 0 → getD (digits 24 cw) ((i - start l) / step l) 0 ≡ getD (unitBits l cw p) i 0
         unit-heading m = sym (getD-take (heads l) (digits 24 cw) ((i - start l) / step l) 0 q) ∙ there .heading (omega (arith, length-hs l cw p k e)) m ∙ is
 
-        pub unit-between : ((i - start l) % step l ≡ 0 → ⊥) → getD (bits p) (i - ((i - start l) / step l + 1)) 0 ≡ getD (unitBits l cw p) i 0
+        unit-between : ((i - start l) % step l ≡ 0 → ⊥) → getD (bits p) (i - ((i - start l) / step l + 1)) 0 ≡ getD (unitBits l cw p) i 0
         unit-between m =
             padded (i - ((i - start l) / step l + 1)) ∙ ap (λ (j : ℕ). getD (ps l cw p k e) (j - ((i - start l) / step l + 1)) 0) (sym here)
             ∙ there .between (omega (arith, length-hs l cw p k e)) m ∙ is

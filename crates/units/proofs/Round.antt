@@ -29,19 +29,19 @@ module _ (a z m f : List ℕ) (n : ℕ) (e : length a + length z + length m + le
   grouped : a ++ z ++ m ++ f ≡ a ++ (z ++ m ++ f)
   grouped = ap (λ (x : List ℕ). x ++ f) (append-assoc a z m) ∙ append-assoc a (z ++ m) f
 
-  pub first-of : take (length a) (a ++ z ++ m ++ f) ≡ a
+  first-of : take (length a) (a ++ z ++ m ++ f) ≡ a
   first-of = ap (take (length a)) grouped ∙ take-append-seam a (z ++ m ++ f)
 
-  pub last-of : drop (n - length f) (a ++ z ++ m ++ f) ≡ f
+  last-of : drop (n - length f) (a ++ z ++ m ++ f) ≡ f
   last-of = drop-at (a ++ z ++ m) f (n - length f) (length-append (a ++ z) m ∙ ap (λ (k : ℕ). k + length m) (length-append a z) ∙ omega arith)
 
-  pub middle-of : take (n - length f - length a) (drop (length a) (a ++ z ++ m ++ f)) ≡ z ++ m
+  middle-of : take (n - length f - length a) (drop (length a) (a ++ z ++ m ++ f)) ≡ z ++ m
   middle-of =
       ap (λ (x : List ℕ). take (n - length f - length a) (drop (length a) x)) grouped
       ∙ ap (take (n - length f - length a)) (drop-append-seam a (z ++ m ++ f))
       ∙ take-at (z ++ m) f (n - length f - length a) (length-append z m ∙ omega arith)
 
-  pub long-of : length (a ++ z ++ m ++ f) ≡ n
+  long-of : length (a ++ z ++ m ++ f) ≡ n
   long-of =
       length-append (a ++ z ++ m) f
       ∙ ap (λ (k : ℕ). k + length f) (length-append (a ++ z) m ∙ ap (λ (k : ℕ). k + length m) (length-append a z)) ∙ e

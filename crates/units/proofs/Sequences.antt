@@ -26,7 +26,7 @@ sequence-mix a f o = refl
 abbrev pub Named : ℕ → ℕ → Type 0
 Named n cw = named n (number 0 (take n (digits 24 cw))) ≡ cw
 
-pub mix-told : (a f o : Bool) → (mix a f o ≡ 0 → ⊥) → (Named 24 (mix a f o)) × (Named 23 (mix a f o)) × (Named 22 (mix a f o)) × (announced (mix a f o) ≡ pick o
+mix-told : (a f o : Bool) → (mix a f o ≡ 0 → ⊥) → (Named 24 (mix a f o)) × (Named 23 (mix a f o)) × (Named 22 (mix a f o)) × (announced (mix a f o) ≡ pick o
     0 1)
 unfolding named isHeader number digits announced
 mix-told true true true n = absurd (n refl)
