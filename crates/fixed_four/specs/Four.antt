@@ -22,6 +22,7 @@ use Rattle.fixed.specs.declared.sub.Sub.{Sub}
 use Rattle.fixed.specs.Called.{Board, board, sub, lane, settings, counts, toldSub, sound, hearCall}
 use Rattle.fixed_four.specs.declared.Receiver.{Receiver}
 use Rattle.fixed_four.specs.declared.Configured.{Configured}
+use Rattle.fixed_four.specs.declared.Configuring.{Configuring}
 use Rattle.fixed_four.specs.declared.Configured.the-variants.{Told, Refused}
 
 -- sub-channel n; 3 stands for every number above 2
@@ -98,3 +99,7 @@ pub data Scheduled : Boards → List (ℕ × List ℕ) → List (ℕ × Event) �
 abbrev pub ofOne : {A : Type 0} → ℕ → List (ℕ × A) → List A
 ofOne k [] = []
 ofOne k (x ∷ xs) = pick (eqb (x .0) k) (x .1 ∷ ofOne k xs) (ofOne k xs)
+
+-- the code's result of configuring
+abbrev pub configuringOf : Configured × Receiver → Configuring
+configuringOf x = record { answer = x .0; receiver = x .1 }
