@@ -18,11 +18,13 @@ use Rattle.parity.specs.Calls.{rootLimit}
 use Rattle.interleaver.specs.Running.{depthLimit, freshBack}
 use Rattle.stream.specs.Called.{fresh}
 use Rattle.channel.specs.Channel.{Event, said, zeros}
+use Rattle.channel.specs.Called.{answered}
 use Rattle.fixed.specs.declared.sub.Sub.{Sub}
 use Rattle.fixed.specs.Called.{Board, board, sub, lane, settings, counts, toldSub, sound, hearCall}
 use Rattle.fixed_four.specs.declared.Receiver.{Receiver}
 use Rattle.fixed_four.specs.declared.Configured.{Configured}
 use Rattle.fixed_four.specs.declared.Configuring.{Configuring}
+use Rattle.fixed_four.specs.declared.Hearing.{Hearing}
 use Rattle.fixed_four.specs.declared.Configured.the-variants.{Told, Refused}
 
 -- sub-channel n; 3 stands for every number above 2
@@ -103,3 +105,18 @@ ofOne k (x ∷ xs) = pick (eqb (x .0) k) (x .1 ∷ ofOne k xs) (ofOne k xs)
 -- the code's result of configuring
 abbrev pub configuringOf : Configured × Receiver → Configuring
 configuringOf x = record { answer = x .0; receiver = x .1 }
+
+-- by: does it pass 10, does it pass 42. Then 11, as for one sub-channel: answer, bytes taken, state, receive buffer and word buffer
+abbrev pub heardBy : Bool → Bool → Receiver → ℕ → List ℕ → List ℕ → List ℕ → Option Event × ℕ × Receiver × List ℕ × List ℕ
+heardBy false t s n recv word bs = (some (said (refusal 10)), 0, s, recv, word)
+heardBy true false s n recv word bs = (some (said (refusal 42)), 0, s, recv, word)
+heardBy true true s n recv word bs =
+    let x : Option Event × ℕ × Board = hearCall (board (get s n) recv word) bs in (x .0, x .1, put s n (x .2 .st), x .2 .recv, x .2 .word)
+
+-- the call that is made on sub-channel n: 10, 42, 11
+abbrev pub hearFour : Receiver → ℕ → List ℕ → List ℕ → List ℕ → Option Event × ℕ × Receiver × List ℕ × List ℕ
+hearFour s n recv word bs = heardBy (soundFour s) (known s n) s n recv word bs
+
+-- the code's result, and the two buffers then
+abbrev pub FourIs : Option Event × ℕ × Receiver × List ℕ × List ℕ → Hearing → List ℕ → List ℕ → Type 0
+FourIs x r l k = (r ≡ record { answer = answered (x .0); taken = x .1; receiver = x .2 }) × (l ≡ x .3) × (k ≡ x .4)

@@ -1,13 +1,15 @@
-//! One to four fixed sub-channels: the receiver's state, and configuring.
+//! One to four fixed sub-channels: the receiver.
 ghost use mathlib.Core.Path.{_≡_};
-ghost use Rattle.fixed_four.specs.Four.{untold, freshReceiver, put, soundFour, configuring, configuringOf};
+ghost use Rattle.fixed_four.specs.Four.{untold, freshReceiver, get, put, soundFour, known, configuring, configuringOf, hearFour, FourIs};
 use base::Refusal;
+use channel::Answer;
 use channel::Hunting;
 use fixed::Counts;
 use fixed::Lane;
 use fixed::Settings;
 use fixed::Sub;
 use interleaver::Back;
+use packet::Judged;
 use stream::Frame;
 
 /// The receiver's state.
@@ -28,6 +30,14 @@ pub enum Configured {
 /// The result of configuring.
 pub struct Configuring {
     pub answer: Configured,
+    pub receiver: Receiver,
+}
+
+/// The result of a call.
+pub struct Hearing {
+    pub answer: Answer,
+    /// Bytes of the piece taken.
+    pub taken: usize,
     pub receiver: Receiver,
 }
 
@@ -145,6 +155,71 @@ impl Receiver {
         Configuring {
             answer: Configured::Told,
             receiver: self.put(number, Sub::told(parity, depth)),
+        }
+    }
+
+    // One of the four; 3 stands for every number above 2.
+    fn get(self, number: usize) -> Sub
+        ensures { λ r. ⌜ r ≡ get self number ⌝ }
+    {
+        let a = self.a;
+        let b = self.b;
+        let c = self.c;
+        let d = self.d;
+        if number == 0 {
+            return a;
+        }
+        if number == 1 {
+            return b;
+        }
+        if number == 2 {
+            return c;
+        }
+        d
+    }
+
+    // A refused call: the state as it was, and no byte taken.
+    fn unheard(self, number: u8) -> Hearing
+        ensures { λ r. ⌜ r ≡ record { answer = Answer.Said (Judged.Refused number); taken = 0; receiver = self } ⌝ }
+    {
+        Hearing {
+            answer: Answer::Said(Judged::Refused(number)),
+            taken: 0,
+            receiver: self,
+        }
+    }
+
+    // Whether a sub-channel is configured.
+    fn known(self, number: usize) -> bool
+        ensures { λ r. ⌜ r ≡ known self number ⌝ }
+    {
+        if 3 < number {
+            return false;
+        }
+        let sub = self.get(number);
+        let lane = sub.lane;
+        let settings = lane.settings;
+        settings.told
+    }
+
+    /// One call on a sub-channel, with its two buffers.
+    pub fn hear(self, number: usize, recv: &mut [u8], word: &mut [u8], piece: &[u8]) -> Hearing
+        ensures { λ r. ⌜ FourIs (hearFour self number (now (recv .entry)) (now (word .entry)) (now (piece .entry))) r (now (recv .exit)) (now (word .exit)) ⌝ }
+    {
+        if !self.sound() {
+            return self.unheard(Refusal::STATE);
+        }
+        if !self.known(number) {
+            return self.unheard(Refusal::SUB_CHANNEL);
+        }
+        let sub = self.get(number);
+        let heard = sub.hear(recv, word, piece);
+        let answer = heard.answer;
+        let next = heard.sub;
+        Hearing {
+            answer,
+            taken: heard.taken,
+            receiver: self.put(number, next),
         }
     }
 }
