@@ -1,0 +1,22 @@
+-- The public function's promise determines its result, and what the lent output then holds; a refused call leaves the output as it was.
+use Prim.Native.Nat.{ℕ}
+use mathlib.Core.Path.{refl}
+use mathlib.Core.List.{List}
+use lib.Dec.{ltb}
+use Rattle.base.specs.Determined.{Determined}
+use Rattle.base.specs.Written.{Keeps}
+use Rattle.base.proofs.Determining.{same-answer, same-output, buffer, skip}
+use Rattle.base.proofs.Writing.{write-keeps, refused-keeps, pick-keeps}
+use Rattle.parity.specs.Calls.{rootLimit}
+use Rattle.interleaver.specs.Running.{depthLimit}
+use Rattle.groups.specs.Sender.{sent}
+use Rattle.subsender.specs.Sending.{sending}
+use Rattle.subsender.proofs.send.Kinds as send-kinds
+use Rattle.subsender.proofs.send.Reads as send-reads
+
+pub send-determined : Determined send-kinds.ps send-kinds.r send-reads.Asked send-reads.Learnt
+send-determined κs a z z′ ws ws′ pre p q = (same-answer p q, skip (skip (skip (buffer (same-output p q) refl))))
+
+pub sending-keeps : (r d : ℕ) (bs out : List ℕ) → Keeps out (sending r d bs out)
+sending-keeps r d bs out =
+    pick-keeps (ltb rootLimit r) out (refused-keeps 30 out) (pick-keeps (ltb depthLimit d) out (refused-keeps 32 out) (write-keeps (sent r d bs) out))

@@ -1,0 +1,3 @@
+pub mod Laying
+pub mod Storing
+pub mod Determined
