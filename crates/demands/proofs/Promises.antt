@@ -6,7 +6,7 @@
 use Prim.Native.Nat.{ℕ, _-_, _≤_, min}
 use mathlib.Core.Path.{_≡_, refl}
 use mathlib.Core.Option.{some, none}
-use mathlib.Core.Bool.{true, false, not}
+use mathlib.Core.Bool.{true, false, not, _&&_}
 use mathlib.Core.List.{List, [], _∷_, _++_}
 use lib.ListN.{length, drop, replicate}
 use lib.Dec.{ltb}
@@ -39,7 +39,10 @@ use Rattle.listed.specs.Lines.{line, endLine, wrongLine}
 use Rattle.listed.specs.Apart.{well}
 use Rattle.listed.specs.declared.Place.the-variants.{Mode}
 use Rattle.tape.specs.Called.{deckOf, isMore, tapeCall}
+use Rattle.subchannel.specs.declared.sub.Sub.{Sub}
 use Rattle.subchannel.specs.Called as subchannel
+use Rattle.subsender.specs.Sending as subsender
+use Rattle.subchannels.specs.Four as subchannels
 use Rattle.units.specs.Unit as units
 use Rattle.units.specs.Reading as unit-reading
 use Rattle.readout.specs.Called as readout
@@ -77,6 +80,11 @@ use Rattle.channel.proofs.at_marker as channel-at-marker
 use Rattle.subchannel.proofs.sub.Sub.told as subchannel-told
 use Rattle.subchannel.proofs.sub.Sub.sound as subchannel-sound
 use Rattle.subchannel.proofs.sub.Sub.hear as subchannel-hear
+use Rattle.subsender.proofs.send as subsender-send
+use Rattle.subchannels.proofs.Receiver.fresh as subchannels-fresh
+use Rattle.subchannels.proofs.Receiver.sound as subchannels-sound
+use Rattle.subchannels.proofs.Receiver.configure as subchannels-configure
+use Rattle.subchannels.proofs.Receiver.hear as subchannels-hear
 use Rattle.stream.proofs.frame.Frame.fresh as stream-fresh
 use Rattle.stream.proofs.frame.Frame.read as stream-read
 use Rattle.stream.proofs.frame.Frame.sound as stream-sound
@@ -226,6 +234,41 @@ pub subchannel-hear-means : Means subchannel-hear.Statement.statement subchannel
     λ κs self recv word piece r. let x = subchannel.hearCall (subchannel.board self (now (recv .entry)) (now (word .entry))) (now piece) in
     (r ≡ record { answer = answered (x .0); taken = x .1; sub = x .2 .st }) × (now (recv .exit) ≡ x .2 .recv) × (now (word .exit) ≡ x .2 .word)
 subchannel-hear-means = (λ M. subchannel-hear.Met.met, λ κs a. tt, λ κs a z ws. (λ p. p, λ p. p))
+
+pub subsender-send-means : Means subsender-send.Statement.statement subsender-send.Kinds.ps subsender-send.Kinds.r subsender-send.Reads.Asked subsender-send.Reads.Learnt
+    λ κs parity depth stream out w. outcome w (now (out .exit)) ≡ subsender.sending parity depth (now stream) (now (out .entry))
+subsender-send-means = (λ M. subsender-send.Met.met, λ κs a. tt, λ κs a z ws. (λ p. p, λ p. p))
+
+-- ---- four of them: at first none is told its settings
+pub subchannels-fresh-means : Means subchannels-fresh.Statement.statement subchannels-fresh.Kinds.ps subchannels-fresh.Kinds.r subchannels-fresh.Reads.Asked subchannels-fresh.Reads.Learnt
+    λ κs r.
+    let u : Sub = record {
+      lane = record {
+        settings = record { told = false; parity = 0; depth = 0 };
+        locked = false;
+        lost = false;
+        hunting = record { a = 0; b = 0; c = 0; d = 0 };
+        counts = record { group = 0; marker = 0; word = 0; handed = 0 };
+        frame = record { opened = false; raw = 0; stored = 0; place = 0 };
+      };
+      back = record { again = false; matrix = record { place = 0; cells = replicate 16320 0 } };
+    }
+    in
+    r ≡ record { a = u; b = u; c = u; d = u }
+subchannels-fresh-means = (λ M. subchannels-fresh.Met.met, λ κs a. tt, λ κs a z ws. (λ p. p, λ p. p))
+
+pub subchannels-sound-means : Means subchannels-sound.Statement.statement subchannels-sound.Kinds.ps subchannels-sound.Kinds.r subchannels-sound.Reads.Asked subchannels-sound.Reads.Learnt
+    λ κs self r. r ≡ (subchannel.sound (self .a) && (subchannel.sound (self .b) && (subchannel.sound (self .c) && subchannel.sound (self .d))))
+subchannels-sound-means = (λ M. subchannels-sound.Met.met, λ κs a. tt, λ κs a z ws. (λ p. p, λ p. p))
+
+pub subchannels-configure-means : Means subchannels-configure.Statement.statement subchannels-configure.Kinds.ps subchannels-configure.Kinds.r subchannels-configure.Reads.Asked subchannels-configure.Reads.Learnt
+    λ κs self number parity depth r. let x = subchannels.configuring self number parity depth in r ≡ record { answer = x .0; receiver = x .1 }
+subchannels-configure-means = (λ M. subchannels-configure.Met.met, λ κs a. tt, λ κs a z ws. (λ p. p, λ p. p))
+
+pub subchannels-hear-means : Means subchannels-hear.Statement.statement subchannels-hear.Kinds.ps subchannels-hear.Kinds.r subchannels-hear.Reads.Asked subchannels-hear.Reads.Learnt
+    λ κs self number recv word piece r. let x = subchannels.hearFour self number (now (recv .entry)) (now (word .entry)) (now piece) in
+    (r ≡ record { answer = answered (x .0); taken = x .1; receiver = x .2 }) × (now (recv .exit) ≡ x .3) × (now (word .exit) ≡ x .4)
+subchannels-hear-means = (λ M. subchannels-hear.Met.met, λ κs a. tt, λ κs a z ws. (λ p. p, λ p. p))
 
 -- what a frame is told to be, and what a call answers, in the code's words
 pub judged-is : (p : Packet) (n : ℕ)
