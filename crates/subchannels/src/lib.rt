@@ -4,13 +4,13 @@ ghost use Rattle.subchannels.specs.Four.{untold, freshReceiver, get, put
 use base::Refusal;
 use channel::Answer;
 use channel::Hunting;
+use interleaver::Back;
+use packet::Judged;
+use stream::Frame;
 use subchannel::Counts;
 use subchannel::Lane;
 use subchannel::Settings;
 use subchannel::Sub;
-use interleaver::Back;
-use packet::Judged;
-use stream::Frame;
 
 /// The receiver's state.
 pub struct Receiver {
