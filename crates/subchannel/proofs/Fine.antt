@@ -29,7 +29,7 @@ use Rattle.blocks.specs.Channel.{shift, isMarker}
 use Rattle.channel.specs.Called.{roomy}
 use Rattle.groups.specs.Sender.{messageBytes, groupBytes}
 use Rattle.groups.specs.Word.{mend}
-use Rattle.subchannel.specs.declared.lane.Counts.{Counts}
+use Rattle.subchannel.specs.declared.settings.Counts.{Counts}
 use Rattle.subchannel.specs.declared.lane.Lane.{Lane}
 use Rattle.subchannel.specs.declared.sub.Sub.{Sub}
 use Rattle.subchannel.specs.Called.{Board, board, sub, counts, toldSub, heldIn, moved, huntOn, wordAt, mendIn, wordOn, groupOn, compareOn, markOn}

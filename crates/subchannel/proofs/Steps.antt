@@ -37,8 +37,8 @@ use Rattle.blocks.specs.Channel.{Event, conditionBy, shift, isMarker}
 use Rattle.channel.specs.Called.{answered}
 use Rattle.groups.specs.Sender.{messageBytes, groupBytes}
 use Rattle.groups.specs.Word.{condition, mend}
-use Rattle.subchannel.specs.declared.lane.Settings.{Settings}
-use Rattle.subchannel.specs.declared.lane.Counts.{Counts}
+use Rattle.subchannel.specs.declared.settings.Settings.{Settings}
+use Rattle.subchannel.specs.declared.settings.Counts.{Counts}
 use Rattle.subchannel.specs.declared.lane.Lane.{Lane}
 use Rattle.subchannel.specs.declared.lane.Step.{Step}
 use Rattle.subchannel.specs.declared.cells.Turned.{Turned}

@@ -33,8 +33,8 @@ use Rattle.channel.specs.Called.{asEvent, answered, roomy}
 use Rattle.groups.specs.Sender.{messageBytes, groupBytes}
 use Rattle.groups.specs.Word.{condition, mend}
 use Rattle.groups.specs.Sub as model
-use Rattle.subchannel.specs.declared.lane.Settings.{Settings}
-use Rattle.subchannel.specs.declared.lane.Counts.{Counts}
+use Rattle.subchannel.specs.declared.settings.Settings.{Settings}
+use Rattle.subchannel.specs.declared.settings.Counts.{Counts}
 use Rattle.subchannel.specs.declared.lane.Lane.{Lane}
 use Rattle.subchannel.specs.declared.sub.Sub.{Sub}
 use Rattle.subchannel.specs.declared.sub.Hearing.{Hearing}

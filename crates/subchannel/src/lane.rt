@@ -1,4 +1,4 @@
-//! A sub-channel's settings, and how far it is; all but the interleaver's cells.
+//! How far a sub-channel is: all of its state but the interleaver's cells.
 ghost use mathlib.Core.Path.{_≡_};
 ghost use mathlib.Core.Bool.{true, false};
 ghost use Prim.Native.Nat.{suc, _≤_, _<_};
@@ -21,35 +21,18 @@ ghost use Rattle.subchannel.specs.Called.{
   eat,
   owes,
   handing,
-  within,
-  soundCounts,
   soundLane,
 };
 ghost use Rattle.subchannel.specs.Private.{stepOf, Able, WordIs, EatenIs, HandedIs};
 use crate::cells;
+use crate::settings::Counts;
+use crate::settings::Settings;
 use crate::sub::Sub;
 use crate::word;
 use channel::Answer;
 use channel::Hunting;
 use stream::Frame;
 use stream::Heard;
-
-/// What a sub-channel is told.
-pub struct Settings {
-    pub told: bool,
-    /// Parity bytes of a word.
-    pub parity: usize,
-    /// The interleaver's depth.
-    pub depth: usize,
-}
-
-/// Bytes of the group, bytes of the next marker; bytes in the word buffer, message bytes of it handed on.
-pub struct Counts {
-    pub group: usize,
-    pub marker: usize,
-    pub word: usize,
-    pub handed: usize,
-}
 
 /// The state but for the cells.
 pub struct Lane {
@@ -78,49 +61,6 @@ pub(crate) struct Eaten {
     pub lane: Lane,
     pub again: bool,
     pub place: usize,
-}
-
-impl Settings {
-    // Whether configuring takes them.
-    fn within(self) -> bool
-        ensures { λ r. ⌜ r ≡ within self ⌝ }
-    {
-        if Sub::PARITY < self.parity {
-            return false;
-        }
-        self.depth <= Sub::DEPTH
-    }
-}
-
-impl Counts {
-    // At the start, behind the first marker, and where lock is lost.
-    pub(crate) fn zero() -> Self
-        ensures { λ r. ⌜ r ≡ counts 0 0 0 0 ⌝ }
-    {
-        Counts {
-            group: 0,
-            marker: 0,
-            word: 0,
-            handed: 0,
-        }
-    }
-
-    // Whether none is beyond its limit.
-    fn sound(self, parity: usize) -> bool
-        requires { ⌜ parity ≤ 255 ⌝ }
-        ensures { λ r. ⌜ r ≡ soundCounts parity self ⌝ }
-    {
-        if Sub::GROUP < self.group {
-            return false;
-        }
-        if 3 < self.marker {
-            return false;
-        }
-        if Sub::WORD < self.word {
-            return false;
-        }
-        self.handed <= Sub::WORD - parity
-    }
 }
 
 impl Lane {

@@ -30,7 +30,7 @@ use Rattle.blocks.specs.Channel.{Event, shift, isMarker}
 use Rattle.groups.specs.Sender.{groupBytes}
 use Rattle.groups.specs.Sub.{hears, start, answers}
 use Rattle.channel.specs.Called.{roomy}
-use Rattle.subchannel.specs.declared.lane.Settings.{Settings}
+use Rattle.subchannel.specs.declared.settings.Settings.{Settings}
 use Rattle.subchannel.specs.declared.lane.Lane.{Lane}
 use Rattle.subchannel.specs.declared.sub.Sub.{Sub}
 use Rattle.subchannel.specs.Called.{Board, board, huntOn, wordAt, wordOn, groupOn, compareOn, markOn, eatBy, owed, handOn, eatByte}
