@@ -3,11 +3,10 @@
 -- words-heard  bytes of words, and at most one more, are answered word by word
 -- came-back    of words us, and the closing push vs behind them: the bytes of us come back, and at most one more
 -- received     the answers are those of us
-use Prim.Native.Nat.{ℕ, zero, suc, _+_, _*_, _-_, _/_, _≤_, _<_}
+use Prim.Native.Nat.{ℕ, suc, _+_, _*_, _-_, _/_, _≤_, _<_}
 use native.Mathlib.Omega.{arith}
 use mathlib.Core.Path.{_≡_, refl, sym, _∙_, ap, subst}
 use mathlib.Core.Logic.{_⊎_, inl, inr}
-use mathlib.Core.Bool.{Bool}
 use mathlib.Core.List.{List, [], _∷_, _++_, append-assoc, append-nil, head-eq-of-cons-eq, tail-eq-of-cons-eq}
 use mathlib.Core.Option.{some}
 use lib.ListN.{length, take, drop, length-append, length-drop, take-append-drop}
@@ -21,7 +20,7 @@ use Rattle.base.proofs.Bytes.{each-append}
 use Rattle.base.proofs.Tests.{by-le}
 use Rattle.repair.proofs.Promising.{left-length}
 use Rattle.stream.specs.Reader.{Reading, waiting}
-use Rattle.interleaver.specs.Running.{depthLimit, size, fresh, freshBack, sent, push, pull, closingBytes}
+use Rattle.interleaver.specs.Running.{depthLimit, fresh, freshBack, sent, push, pull, closingBytes}
 use Rattle.interleaver.specs.declared.Matrix.{Matrix}
 use Rattle.interleaver.proofs.Calling.{passes, deeper}
 use Rattle.interleaver.proofs.Pushing.{sent-length}

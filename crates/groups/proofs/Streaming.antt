@@ -27,7 +27,7 @@ use Rattle.words.proofs.Clean.{parity-clean}
 use Rattle.parity.specs.Calls.{rootLimit}
 use Rattle.repair.proofs.Promising.{clean-left}
 use Rattle.stream.specs.Reader.{Reading, waiting, read, reads}
-use Rattle.stream.specs.Sender.{framesOf, stream, delivered}
+use Rattle.stream.specs.Sender.{stream, delivered}
 use Rattle.stream.proofs.Streaming.{stream-read}
 use Rattle.interleaver.specs.Running.{depthLimit}
 use Rattle.blocks.specs.Channel.{conditionBy, frames, blocks, losses, IsWord, FirstMarker}

@@ -4,12 +4,12 @@
 -- fine-told                       a sub-channel that was just told its settings passes them, with buffers that are long enough
 -- mend-length, mendIn-length      a word that is repaired keeps its length
 -- fine-hand, fine-eat             every move keeps it
-use Prim.Native.Nat.{ℕ, suc, _+_, _%_, _≤_, _<_}
+use Prim.Native.Nat.{ℕ, suc, _+_, _≤_, _<_}
 use native.Mathlib.Nat.{mod-lt}
 use native.Mathlib.Omega.{arith}
-use mathlib.Core.Path.{_≡_, refl, sym, _∙_, ap, subst}
+use mathlib.Core.Path.{_≡_, refl, sym, _∙_, ap}
 use mathlib.Core.Bool.{Bool, true, false, _&&_, not, false≢true}
-use mathlib.Core.List.{List, _++_}
+use mathlib.Core.List.{List}
 use mathlib.Core.Option.{Option, some, none}
 use lib.ListN.{length, take, drop, getD, set, length-set, length-append, take-append-drop}
 use lib.Dec.{eqb, ltb, leb}
@@ -19,7 +19,6 @@ use Rattle.base.proofs.Tests.{and-parts, by-le}
 use Rattle.frames.specs.Contents.{rawLimit}
 use Rattle.parity.specs.Calls.{rootLimit}
 use Rattle.repair.proofs.Promising.{left-length}
-use Rattle.stream.specs.Called.{Held, takeByte, Fine as FineFrame}
 use Rattle.stream.proofs.Fine.{fine-take, fine-of as frame-of, fine-is as frame-is}
 use Rattle.interleaver.specs.Running.{depthLimit, size, pull, gave, beyond}
 use Rattle.interleaver.specs.declared.Back.{Back}

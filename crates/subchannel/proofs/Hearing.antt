@@ -9,7 +9,7 @@ use native.Mathlib.Numerals.{add-one}
 use native.Mathlib.Nat.{add-zero}
 use mathlib.Core.Path.{_≡_, refl, sym, _∙_, ap, subst}
 use mathlib.Core.Bool.{Bool, true, false, false≢true}
-use mathlib.Core.List.{List, [], _∷_}
+use mathlib.Core.List.{List}
 use mathlib.Core.Option.{Option, some, none}
 use lib.ListN.{length, take, drop, getD, length-drop, set, length-replicate, drop-of-length-le}
 use lib.Seq.{drop-cons, length-take-le}
@@ -23,7 +23,6 @@ use Rattle.frames.specs.Frame.{Told, judged}
 use Rattle.frames.specs.declared.Judged.{Judged}
 use Rattle.frames.specs.declared.Judged.the-variants.{Refused}
 use Rattle.parity.specs.Calls.{rootLimit}
-use Rattle.stream.specs.declared.frame.Frame.{Frame}
 use Rattle.stream.specs.declared.frame.Read.{Read}
 use Rattle.stream.specs.declared.frame.Heard.the-variants as heard
 use Rattle.stream.specs.Called.{Held, held, takeByte, readOn, readCall, ReadIs, answered as frameAnswered, Fine as FineFrame}

@@ -31,7 +31,7 @@ use Rattle.blocks.specs.Channel.{Event, said, block, shift, isMarker}
 use Rattle.channel.specs.Called.{asEvent}
 use Rattle.groups.specs.Sender.{messageBytes, groupBytes}
 use Rattle.groups.specs.Word.{condition, mend, message}
-use Rattle.groups.specs.Sub.{Sub, hunting, inGroup, inMark, silent, whole, worded, grown, takes, hunt, grouping, compared, behindGroup, step, hears}
+use Rattle.groups.specs.Sub.{Sub, hunting, inGroup, inMark, silent, whole, worded, takes, hunt, grouping, compared, behindGroup, step, hears}
 use Rattle.subchannel.specs.declared.lane.Lane.{Lane}
 use Rattle.subchannel.specs.Called.{Board, board, sub, lane, settings, counts, huntOn, mendIn, wordOn, groupOn, compareOn, markOn}
 use Rattle.subchannel.specs.Called.{behind, eatBy, onBoard, eatByte}

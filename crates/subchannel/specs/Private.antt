@@ -25,7 +25,7 @@ use Rattle.subchannel.specs.declared.lane.Eaten.{Eaten}
 use Rattle.subchannel.specs.declared.cells.Turned.{Turned}
 use Rattle.subchannel.specs.declared.sub.Sub.{Sub}
 use Rattle.subchannel.specs.declared.sub.Hearing.{Hearing}
-use Rattle.subchannel.specs.Called.{Board, board, sub, Given, owes, hearOn, Fine, HearingIs}
+use Rattle.subchannel.specs.Called.{board, sub, Given, owes, hearOn, Fine, HearingIs}
 
 -- there is one
 abbrev pub isSome : {A : Type 0} → Option A → Bool

@@ -2,7 +2,6 @@
 ghost use mathlib.Core.Path.{_≡_};
 ghost use mathlib.Core.Bool.{true, false};
 ghost use Prim.Native.Nat.{suc, _≤_, _<_};
-ghost use lib.ListN.{length};
 ghost use lib.Dec.{ltb};
 ghost use mathlib.Core.Option.{some};
 ghost use Rattle.interleaver.specs.Running.{matrix, back, beyond};

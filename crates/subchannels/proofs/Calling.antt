@@ -4,11 +4,9 @@
 -- get-at, get-last, hear-..   one of the four, and a call on it
 -- call-is             a call among the boards is that call
 use Prim.Native.Nat.{ℕ, zero, suc, _≤_, _<_}
-use native.Mathlib.Omega.{arith}
 use mathlib.Core.Path.{_≡_, refl, sym, _∙_, ap, subst}
 use mathlib.Core.List.{List}
 use mathlib.Core.Bool.{Bool, true, false}
-use lib.Dec.{ltb}
 use borrow.Author.Tests.{lt-ltb, le-ltb, eq-eqb}
 use Rattle.base.specs.Choice.{pick}
 use Rattle.parity.specs.Calls.{rootLimit}

@@ -3,13 +3,13 @@
 -- words-more, words-flags     words one after the other; behind the stream's last byte they are words of flags
 -- all-words                   the words that are sent are the next ones of the stream, as many as there are
 -- group-next                  a group: the marker, and then its bytes through the interleaver
-use Prim.Native.Nat.{ℕ, zero, suc, _+_, _-_, _*_, _/_, _%_, _≤_, _<_}
-use native.Mathlib.Nat.{suc-mul, sub-zero, suc-sub-suc, le-of-suc-le-suc, mul-div-cancel}
+use Prim.Native.Nat.{ℕ, zero, suc, _+_, _-_, _*_, _/_, _≤_}
+use native.Mathlib.Nat.{suc-mul, sub-zero, suc-sub-suc, le-of-suc-le-suc}
 use native.Mathlib.Omega.{arith}
 use mathlib.Core.Path.{_≡_, refl, sym, _∙_, ap}
 use mathlib.Core.List.{List, [], _∷_, _++_, map, append-assoc, append-nil, map-append}
 use lib.ListN.{length, take, drop, replicate, length-append, length-replicate, length-drop, length-map, take-append-drop, replicate-append-replicate}
-use lib.Seq.{take-all, take-at, drop-at, take-append-le, drop-append-le, drop-drop, length-take-le}
+use lib.Seq.{take-at, drop-at, take-append-le, drop-append-le, length-take-le}
 use Rattle.base.specs.Calls.{joined, run}
 use Rattle.base.specs.Written.{copied}
 use Rattle.base.proofs.Calls.{run-append}

@@ -8,7 +8,7 @@ ghost use Rattle.base.specs.Written.{outcome, copied};
 ghost use Rattle.frames.specs.Escape.{flag};
 ghost use Rattle.parity.specs.Calls.{rootLimit, wordBytes};
 ghost use Rattle.interleaver.specs.Running.{depthLimit, fresh, beyond};
-ghost use Rattle.groups.specs.Sender.{messageBytes, groupWords, groupBytes, wordOf, missing, closingWords};
+ghost use Rattle.groups.specs.Sender.{groupWords, groupBytes, wordOf, missing, closingWords};
 ghost use Rattle.subsender.specs.Sending.{sending};
 ghost use Rattle.subsender.specs.Private.{messageOf, wordsFrom, groupLength, groupsFrom, GroupIs};
 use base::Refusal;

@@ -3,12 +3,12 @@
 -- each-digits, each-bits, each-weave                      each of them is 0 or 1
 -- bits-pack                                               bits as bytes, and as bits again
 use mathlib.Core.Path.{_≡_, refl, sym, ap, ap₂, _∙_}
-use mathlib.Core.List.{List, [], _∷_, _++_}
+use mathlib.Core.List.{List, [], _∷_, _++_, append-nil}
 use Prim.Native.Nat.{ℕ, zero, suc, _+_, _*_, _/_, _%_, _<_}
 use native.Mathlib.Numerals.{add-one}
 use native.Mathlib.Omega.{arith}
 use lib.ListN.{length, take, drop, length-append, length-drop, take-append-drop}
-use lib.Seq.{length-take-le}
+use lib.Seq.{length-take-le, append-snoc}
 use Rattle.base.specs.Bytes.{Each}
 use Rattle.base.proofs.Bytes.{each-append, each-take, each-drop}
 use Rattle.units.specs.Bits.{digits, bits, number, pack}
@@ -77,20 +77,12 @@ last n v x h =
 -- the bits of bits
 whole : (u : List ℕ) (v : ℕ) (n : ℕ) → Each IsBit u → digits (length u + n) (number v u) ≡ digits n v ++ u
 unfolding number
-whole [] v n h = ap (λ (k : ℕ). digits k v) (omega arith) ∙ sym (nil (digits n v))
-  where
-    nil : (l : List ℕ) → l ++ [] ≡ l
-    nil [] = refl
-    nil (x ∷ l) = ap (λ (m : List ℕ). x ∷ m) (nil l)
+whole [] v n h = ap (λ (k : ℕ). digits k v) (omega arith) ∙ sym (append-nil (digits n v))
 whole (x ∷ u) v n h =
     ap (λ (k : ℕ). digits k (number (v * 2 + x) u)) (omega arith)
     ∙ whole u (v * 2 + x) (suc n) (h .1)
     ∙ ap (λ (l : List ℕ). l ++ u) (last n v x (h .0))
-    ∙ snoc (digits n v)
-  where
-    snoc : (l : List ℕ) → l ++ x ∷ [] ++ u ≡ l ++ x ∷ u
-    snoc [] = refl
-    snoc (y ∷ l) = ap (λ (m : List ℕ). y ∷ m) (snoc l)
+    ∙ append-snoc (digits n v) x u
 
 none : (u : List ℕ) → digits 0 0 ++ u ≡ u
 unfolding digits

@@ -5,7 +5,7 @@ use mathlib.Core.Bool.{Bool, true}
 use mathlib.Core.List.{List, [], _∷_, _++_}
 use Prim.Native.Nat.{ℕ, zero, suc, _+_}
 use lib.Dec.{eqb}
-use lib.ListN.{length, drop, replicate}
+use lib.ListN.{replicate}
 use borrow.Author.Tests.{eq-eqb, eqb-true}
 use Rattle.base.specs.Choice.{pick}
 use Rattle.base.proofs.Tests.{and-parts, by-test}
@@ -15,10 +15,6 @@ begins-self : (d o : List ℕ) → begins d (d ++ o) ≡ true
 unfolding begins
 begins-self [] o = refl
 begins-self (x ∷ d) o = rw (eq-eqb x x refl) (begins-self d o)
-
-drop-self : (d o : List ℕ) → drop (length d) (d ++ o) ≡ o
-drop-self [] o = refl
-drop-self (x ∷ d) o = drop-self d o
 
 -- begins, taken apart: the first n numbers of ys are those of d
 same : (x y : ℕ) (d ys : List ℕ) → begins (x ∷ d) (y ∷ ys) ≡ true → (x ≡ y) × (begins d ys ≡ true)

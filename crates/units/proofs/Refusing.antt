@@ -13,7 +13,7 @@ use mathlib.Core.List.{List, [], _∷_, _++_}
 use Prim.Native.Nat.{ℕ, zero, suc, _+_, _-_, _≤_, _<_}
 use native.Mathlib.Omega.{arith}
 use native.Mathlib.Nat.{pos-of-ne-zero}
-use borrow.Author.Tests.{eq-eqb, ne-eqb, eqb-true, eqb-false, lt-ltb, le-ltb, ltb-true, ltb-false}
+use borrow.Author.Tests.{eq-eqb, ne-eqb, eqb-true, eqb-false, lt-ltb, ltb-true, ltb-false}
 use lib.Dec.{eqb, ltb}
 use lib.ListN.{length, take, drop, replicate, length-append, length-drop, length-replicate}
 use lib.Seq.{length-take-le}
@@ -27,7 +27,7 @@ use Rattle.units.specs.Bits.{digits, number}
 use Rattle.units.specs.Tables.{most, cw0, cw1, cw2, cw3, cw4, sequence, announced, heads, step, payload, lent, unfit}
 use Rattle.units.specs.Unit.{begins, opened, filled, laidOut, unit, hidden, written}
 use Rattle.units.specs.Reading.{headerOf, payloadOf, isHeader, named, middle, readParts, readUnit}
-use Rattle.units.specs.Refusing.{Row, First, Exact, Unfit, NoMix, Early, EarlyShort, Unnamed, noAudio, noFixed, Disagree, Unmarked, carried}
+use Rattle.units.specs.Refusing.{Row, First, Exact, Unfit, NoMix, Early, EarlyShort, noAudio, noFixed, Disagree, Unmarked, carried}
 use Rattle.units.specs.Refusing.{writeRows, partRows, readRows}
 use Rattle.units.specs.Private.{zeros}
 use Rattle.units.proofs.Hidden.{zeros-are, hidden-is}

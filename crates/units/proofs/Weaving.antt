@@ -6,7 +6,7 @@ use mathlib.Core.List.{List, [], _∷_, _++_}
 use Prim.Native.Nat.{ℕ, zero, suc, _+_, _-_, _*_, _≤_}
 use native.Mathlib.Nat.{suc-mul}
 use native.Mathlib.Omega.{arith}
-use lib.ListN.{length, take, drop, getD, length-drop}
+use lib.ListN.{length, take, drop, getD, length-drop, take-append-drop}
 use lib.Seq.{length-take-le}
 use Rattle.units.specs.Unit.{weave}
 use Rattle.units.specs.Reading.{heard, unwoven}
@@ -33,28 +33,20 @@ module _ (until h : ℕ) (p r : List ℕ) (k : until ≤ length p) where
         ap (λ (n : ℕ). take n (take until p ++ h ∷ r)) (sym long) ∙ e .2,
       )
 
-take-drop : (n : ℕ) (p : List ℕ) → take n p ++ drop n p ≡ p
-take-drop zero p = refl
-take-drop (suc n) [] = refl
-take-drop (suc n) (x ∷ p) = ap (λ (l : List ℕ). x ∷ l) (take-drop n p)
-
-left : (until : ℕ) (p : List ℕ) → length (drop until p) ≡ length p - until
-left until p = length-drop until p
-
 pub heard-weave : (until gap : ℕ) (hs p : List ℕ) → Room until gap (length hs) (length p) → heard until gap (length hs) (weave until gap hs p) ≡ hs
 unfolding heard weave
 heard-weave until gap [] p r = refl
 heard-weave until gap (h ∷ hs) p r =
     let e = front until h p (weave gap gap hs (drop until p)) (r .0) in
     ap₂ _∷_ (e .0)
-    (ap (heard gap gap (length hs)) (e .1) ∙ heard-weave gap gap hs (drop until p) (rw (left until p) (r .1)))
+    (ap (heard gap gap (length hs)) (e .1) ∙ heard-weave gap gap hs (drop until p) (rw (length-drop until p) (r .1)))
 
 pub unwoven-weave : (until gap : ℕ) (hs p : List ℕ) → Room until gap (length hs) (length p) → unwoven until gap (length hs) (weave until gap hs p) ≡ p
 unfolding unwoven weave
 unwoven-weave until gap [] p r = refl
 unwoven-weave until gap (h ∷ hs) p r =
     let e = front until h p (weave gap gap hs (drop until p)) (r .0) in
-    ap₂ _++_ (e .2) (ap (unwoven gap gap (length hs)) (e .1) ∙ unwoven-weave gap gap hs (drop until p) (rw (left until p) (r .1))) ∙ take-drop until p
+    ap₂ _++_ (e .2) (ap (unwoven gap gap (length hs)) (e .1) ∙ unwoven-weave gap gap hs (drop until p) (rw (length-drop until p) (r .1))) ∙ take-append-drop until p
 
 -- room for suc k header bits
 pub room-fits : (until gap k n : ℕ) → until + k * gap ≤ n → Room until gap (suc k) n

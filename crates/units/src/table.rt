@@ -1,7 +1,7 @@
 //! Tables 5-3 and 5-4 of source document 003.
 ghost use mathlib.Core.Path.{_≡_};
-ghost use mathlib.Core.Bool.{true, false};
-ghost use Prim.Native.Nat.{ℕ, _-_, _≤_, _<_};
+ghost use mathlib.Core.Bool.{true};
+ghost use Prim.Native.Nat.{_-_, _≤_, _<_};
 ghost use Rattle.units.specs.Tables.{most, mostBytes, sequence, heads, start, step, payload, lent, unfit};
 
 // Lengths of units, in bits.
