@@ -16,7 +16,8 @@ use Rattle.base.specs.UpTo.{upTo}
 use Rattle.base.specs.Written.{outcome, write, copied}
 use Rattle.fcs.specs.Fcs as check
 use Rattle.field.specs.Field.{add, mul, pow, alpha, inverse}
-use Rattle.words.specs.Word.{onto, scale}
+use Rattle.words.specs.Word.{clean, onto, scale}
+use Rattle.words.specs.Residue.{residue}
 use Rattle.parity.specs.Calls.{atRoots, made, checked}
 use Rattle.repair.specs.Promise.{Promised}
 use Rattle.interleaver.specs.Running.{pushing, closing, pulling}
@@ -143,6 +144,8 @@ use Rattle.field.proofs.plus as field-plus
 use Rattle.field.proofs.times as field-times
 use Rattle.field.proofs.power as field-power
 use Rattle.field.proofs.inverse as field-inverse
+use Rattle.lanes.proofs.is_clean as lanes-is-clean
+use Rattle.lanes.proofs.left as lanes-left
 use Rattle.parity.proofs.at_roots as parity-at-roots
 use Rattle.parity.proofs.subtract as parity-subtract
 use Rattle.base.proofs.least as base-least
@@ -608,6 +611,14 @@ field-power-means = (λ M. field-power.Met.met, λ κs a. tt, λ κs a z ws. (λ
 pub field-inverse-means : Means field-inverse.Statement.statement field-inverse.Kinds.ps field-inverse.Kinds.r field-inverse.Reads.Asked field-inverse.Reads.Learnt
     λ κs a r. r ≡ inverse a
 field-inverse-means = (λ M. field-inverse.Met.met, λ κs a. tt, λ κs a z ws. (λ p. p, λ p. p))
+
+pub lanes-is-clean-means : Means lanes-is-clean.Statement.statement lanes-is-clean.Kinds.ps lanes-is-clean.Kinds.r lanes-is-clean.Reads.Asked lanes-is-clean.Reads.Learnt
+    λ κs word b. b ≡ clean 32 (now word)
+lanes-is-clean-means = (λ M. lanes-is-clean.Met.met, λ κs a. tt, λ κs a z ws. (λ p. p, λ p. p))
+
+pub lanes-left-means : Means lanes-left.Statement.statement lanes-left.Kinds.ps lanes-left.Kinds.r lanes-left.Reads.Asked lanes-left.Reads.Learnt
+    λ κs bytes l. l ≡ residue 32 (now bytes)
+lanes-left-means = (λ M. lanes-left.Met.met, λ κs a. tt, λ κs a z ws. (λ p. p, λ p. p))
 
 pub parity-at-roots-means : Means parity-at-roots.Statement.statement parity-at-roots.Kinds.ps parity-at-roots.Kinds.r parity-at-roots.Reads.Asked parity-at-roots.Reads.Learnt
     λ κs r word v. v ≡ atRoots r (now word)

@@ -1,4 +1,3 @@
-pub mod Laid
 pub mod Loops
 pub mod Refusing
 pub mod Determined

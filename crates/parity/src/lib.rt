@@ -12,8 +12,6 @@ ghost use Rattle.parity.specs.Private.{atAll};
 use base::Refusal;
 use base::Written;
 
-mod lanes;
-
 /// What the check of a word finds.
 pub enum Checked {
     Clean,

@@ -22,7 +22,8 @@ use Rattle.field.specs.Field.{alpha, add, mul, pow}
 use Rattle.field.proofs.Sum.{zero-add}
 use Rattle.field.proofs.Product.{add-mul, mul-add, mul-assoc, mul-zero, zero-mul}
 use Rattle.words.specs.Word.{horner, eval, valuesFrom, scale, onto, generator, divide, remainder, clean}
-use Rattle.words.specs.Private.{laneRoots, below, fed, residue, isZero}
+use Rattle.words.specs.Residue.{residue, laneRoots}
+use Rattle.words.specs.Private.{below, fed, isZero}
 use Rattle.words.proofs.Sums.{length-scale, length-onto, onto-assoc, onto-comm, onto-append, zeros-onto, product, length-product}
 use Rattle.words.proofs.Values.{horner-append, eval-add, eval-zeros, eval-product}
 use Rattle.words.proofs.Generator.{length-generator, generator-monic, generator-root}

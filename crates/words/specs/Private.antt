@@ -1,17 +1,18 @@
--- What private functions of `parity` alone are promised by: values at points side by side, and long division byte by byte.
+-- What private functions of `parity` and `lanes` alone are promised by: values at points side by side, and long division byte by byte.
 -- points     x, alpha x, alpha^2 x, ..
 -- stepped    one step of Horner's rule at every point
--- laneRoots  the roots for which the generator, its leading 1 aside, is four numbers
+-- below      the generator for `laneRoots` roots, its leading 1 aside
 -- bytesOf    the bytes of a number
 -- fed        a step of long division
--- residue, isZero  what is left of bytes by long division; whether it is nothing
+-- isZero     whether nothing is left
 use mathlib.Core.Bool.{Bool, true, _&&_}
 use mathlib.Core.List.{List, [], _∷_, _++_}
 use Prim.Native.Nat.{ℕ, zero, suc, _/_, _%_}
 use lib.Dec.{eqb}
-use lib.ListN.{length, drop, getD, replicate}
+use lib.ListN.{drop, getD}
 use Rattle.field.specs.Field.{alpha, add, mul}
-use Rattle.words.specs.Word.{scale, onto, generator, divide}
+use Rattle.words.specs.Word.{scale, onto, generator}
+use Rattle.words.specs.Residue.{laneRoots}
 
 -- n points from x on, each alpha times the one before it
 unfoldable pub points : ℕ → ℕ → List ℕ
@@ -24,11 +25,7 @@ stepped c [] v = v
 stepped c (x ∷ p) [] = []
 stepped c (x ∷ p) (y ∷ v) = add (mul x y) c ∷ stepped c p v
 
--- roots for which the generator, its leading 1 aside, is four numbers of eight bytes
-abbrev pub laneRoots : ℕ
-laneRoots = 32
-
--- its coefficients behind the leading 1
+-- the generator's coefficients behind the leading 1
 abbrev pub below : List ℕ
 below = drop 1 (generator laneRoots)
 
@@ -40,10 +37,6 @@ bytesOf (suc n) x = bytesOf n (x / 256) ++ x % 256 ∷ []
 -- one step of division by 1 ∷ g: the first place goes, its multiple of g is taken away, and a byte comes behind
 unfoldable pub fed : List ℕ → List ℕ → ℕ → List ℕ
 fed g xs x = onto (scale (getD xs 0 0) g) (drop 1 xs ++ x ∷ [])
-
--- what long division by the generator leaves of bytes
-unfoldable pub residue : ℕ → List ℕ → List ℕ
-residue r w = divide (length w) (generator r) (replicate r 0 ++ w)
 
 -- whether every one is zero
 unfoldable pub isZero : List ℕ → Bool

@@ -1,0 +1,344 @@
+//! Division by the generator for 32 roots: what is left lies in four numbers of eight bytes, and two bytes go in at a turn.
+ghost use mathlib.Core.Path.{_≡_};
+ghost use mathlib.Core.List.{[], _∷_, _++_, map};
+ghost use Prim.Native.Nat.{_+_, _-_, _%_, _≤_, _<_};
+ghost use lib.ListN.{length, take, drop, getD, replicate};
+ghost use Rattle.field.specs.Field.{double};
+ghost use Rattle.words.specs.Word.{clean, onto};
+ghost use Rattle.words.specs.Residue.{residue, laneRoots};
+ghost use Rattle.words.specs.Private.{below, bytesOf, fed, isZero};
+ghost use Rattle.lanes.specs.Private.{laid, Doubles, Multiples, Tables};
+
+// 32 coefficients, the highest first: eight in a number.
+struct Lanes {
+    a: u64,
+    b: u64,
+    c: u64,
+    d: u64,
+}
+
+// The products with 1, 2, 4 and 8.
+struct Doublings {
+    one: Lanes,
+    two: Lanes,
+    four: Lanes,
+    eight: Lanes,
+}
+
+// The generator's roots, and so the bytes that are left.
+pub const ROOTS: usize = 32;
+
+// The low seven bits of each of eight bytes.
+const LOWS: u64 = 0x7F7F7F7F7F7F7F7F;
+// The lowest bit of each.
+const ONES: u64 = 0x0101010101010101;
+// The polynomial without x^8.
+const FOLD: u64 = (field::POLYNOMIAL % 256) as u64;
+// Seven bytes are numbers below this one.
+const SEVEN: u64 = 0x100000000000000;
+// Six bytes are numbers below this one.
+const SIX: u64 = 0x1000000000000;
+
+// A byte as a number of 64 bits.
+fn wide(x: u8) -> u64
+    ensures { λ r. ⌜ r ≡ x ⌝ }
+{
+    x as u64
+}
+
+// Eight bytes doubled in the field, side by side.
+fn double_eight(x: u64) -> u64
+    ensures { λ r. ⌜ bytesOf 8 r ≡ map double (bytesOf 8 x) ⌝ }
+{
+    let low = x & LOWS;
+    let high = x / 128 & ONES;
+    (low * 2) ^ (high * FOLD)
+}
+
+impl Lanes {
+    // Zeros.
+    fn none() -> Self
+        ensures { λ r. ⌜ laid r ≡ replicate laneRoots 0 ⌝ }
+    {
+        Lanes {
+            a: 0,
+            b: 0,
+            c: 0,
+            d: 0,
+        }
+    }
+
+    // The generator, its leading 1 aside.
+    fn generator() -> Self
+        ensures { λ r. ⌜ laid r ≡ below ⌝ }
+    {
+        Lanes {
+            a: 0xE81DBD328EF6E80F,
+            b: 0x2B52A4EE019E0D77,
+            c: 0x9EE086E3D2A3326B,
+            d: 0x281B68FD18EFD82D,
+        }
+    }
+
+    // Every byte doubled.
+    fn doubled(self) -> Self
+        ensures { λ r. ⌜ laid r ≡ map double (laid self) ⌝ }
+    {
+        Lanes {
+            a: double_eight(self.a),
+            b: double_eight(self.b),
+            c: double_eight(self.c),
+            d: double_eight(self.d),
+        }
+    }
+
+    // The sum, byte by byte.
+    fn plus(self, o: Lanes) -> Self
+        ensures { λ r. ⌜ laid r ≡ onto (laid self) (laid o) ⌝ }
+    {
+        Lanes {
+            a: self.a ^ o.a,
+            b: self.b ^ o.b,
+            c: self.c ^ o.c,
+            d: self.d ^ o.d,
+        }
+    }
+
+    // The first byte goes, and x comes behind.
+    fn shifted(self, x: u8) -> Self
+        ensures { λ r. ⌜ laid r ≡ drop 1 (laid self) ++ x ∷ [] ⌝ }
+    {
+        let w = wide(x);
+        Lanes {
+            a: self.a % SEVEN * 256 + self.b / SEVEN,
+            b: self.b % SEVEN * 256 + self.c / SEVEN,
+            c: self.c % SEVEN * 256 + self.d / SEVEN,
+            d: self.d % SEVEN * 256 + w,
+        }
+    }
+
+    // The first two bytes go, and x and y come behind.
+    fn shifted_twice(self, x: u8, y: u8) -> Self
+        ensures { λ r. ⌜ laid r ≡ drop 2 (laid self) ++ x ∷ y ∷ [] ⌝ }
+    {
+        let w = wide(x) * 256 + wide(y);
+        Lanes {
+            a: self.a % SIX * 65536 + self.b / SIX,
+            b: self.b % SIX * 65536 + self.c / SIX,
+            c: self.c % SIX * 65536 + self.d / SIX,
+            d: self.d % SIX * 65536 + w,
+        }
+    }
+
+    // The first byte.
+    fn first(self) -> usize
+        ensures { λ r. ⌜ (r ≡ getD (laid self) 0 0) × (r < 256) ⌝ }
+    {
+        (self.a / SEVEN) as usize
+    }
+
+    // The second byte.
+    fn second(self) -> usize
+        ensures { λ r. ⌜ (r ≡ getD (laid self) 1 0) × (r < 256) ⌝ }
+    {
+        (self.a / SIX % 256) as usize
+    }
+
+    // Whether every byte is zero.
+    fn is_zero(self) -> bool
+        ensures { λ r. ⌜ r ≡ isZero (laid self) ⌝ }
+    {
+        if self.a != 0 {
+            return false;
+        }
+        if self.b != 0 {
+            return false;
+        }
+        if self.c != 0 {
+            return false;
+        }
+        self.d == 0
+    }
+}
+
+// Twice, four times and eight times as much.
+fn steps(l: Lanes) -> Doublings
+    ensures { λ s. ⌜ (s .one ≡ l) × Doubles s ⌝ }
+{
+    let two = l.doubled();
+    let four = two.doubled();
+    let eight = four.doubled();
+    Doublings {
+        one: l,
+        two: two,
+        four: four,
+        eight: eight,
+    }
+}
+
+// The products with 0, 1, .. 15. It has no loop and is small, so that the compiler puts it where it is called: there it knows the first of
+// them, and makes all.
+fn rows(s: Doublings) -> [Lanes; 16]
+    requires { ⌜ Doubles s ⌝ }
+    ensures { λ m. ⌜ Multiples m (laid (s .one)) ⌝ }
+{
+    let one = s.one;
+    let two = s.two;
+    let four = s.four;
+    let eight = s.eight;
+    let three = two.plus(one);
+    let five = four.plus(one);
+    let six = four.plus(two);
+    let seven = four.plus(three);
+    [
+        Lanes::none(),
+        one,
+        two,
+        three,
+        four,
+        five,
+        six,
+        seven,
+        eight,
+        eight.plus(one),
+        eight.plus(two),
+        eight.plus(three),
+        eight.plus(four),
+        eight.plus(five),
+        eight.plus(six),
+        eight.plus(seven),
+    ]
+}
+
+// One step behind the generator itself: what a byte is worth that stands before the first.
+fn beyond(low: [Lanes; 16], high: [Lanes; 16]) -> Lanes
+    requires { ⌜ Tables low high below ⌝ }
+    ensures { λ r. ⌜ laid r ≡ fed below below 0 ⌝ }
+{
+    let g = Lanes::generator();
+    let f = g.first();
+    let lower = low[f % 16];
+    let upper = high[f / 16];
+    g.shifted(0).plus(lower).plus(upper)
+}
+
+// How many bytes are laid down before the division begins: 32 or one fewer, so that the others are pairs; of fewer bytes all.
+fn head(n: usize) -> usize
+    ensures { λ k. ⌜ (k ≤ laneRoots) × (k ≤ n) × ((n - k) % 2 ≡ 0) ⌝ }
+{
+    if n < ROOTS {
+        return n;
+    }
+    ROOTS - n % 2
+}
+
+// Eight bytes from a place on, as a number.
+fn eight(at: usize, bytes: &[u8]) -> u64
+    requires { ⌜ at + 8 ≤ length (now bytes) ⌝ }
+    ensures { λ x. ⌜ bytesOf 8 x ≡ take 8 (drop at (now (bytes .entry))) ⌝ }
+{
+    let mut x: u64 = 0;
+    let mut i: usize = 0;
+    while i < 8 {
+        x = x * 256 + wide(bytes[at + i]);
+        i += 1;
+    }
+    x
+}
+
+// The first 31 bytes, behind a zero: the head of a word, eight bytes at once.
+fn word_begun(bytes: &[u8]) -> Lanes
+    requires { ⌜ laneRoots ≤ length (now bytes) + 1 ⌝ }
+    ensures { λ l. ⌜ laid l ≡ 0 ∷ take (laneRoots - 1) (now (bytes .entry)) ⌝ }
+{
+    Lanes {
+        a: eight(0, bytes) / 256,
+        b: eight(7, bytes),
+        c: eight(15, bytes),
+        d: eight(23, bytes),
+    }
+}
+
+// The first n bytes, behind zeros: nothing is taken away from them yet.
+fn begun(n: usize, bytes: &[u8]) -> Lanes
+    requires { ⌜ (n ≤ laneRoots) × (n ≤ length (now bytes)) ⌝ }
+    ensures { λ l. ⌜ laid l ≡ replicate (laneRoots - n) 0 ++ take n (now (bytes .entry)) ⌝ }
+{
+    if n == ROOTS - 1 {
+        return word_begun(bytes);
+    }
+    let mut l = Lanes::none();
+    let mut i: usize = 0;
+    while i < n {
+        l = l.shifted(bytes[i]);
+        i += 1;
+    }
+    l
+}
+
+// Two bytes a turn. A byte's product is that of its low half and that of its high half: for the second byte in the first two tables, for the
+// first one, which stands a place further up, in the others.
+fn divided(
+    low: [Lanes; 16],
+    high: [Lanes; 16],
+    low2: [Lanes; 16],
+    high2: [Lanes; 16],
+    bytes: &[u8],
+) -> Lanes
+    requires { ⌜ Tables low high below × Tables low2 high2 (fed below below 0) ⌝ }
+    ensures { λ l. ⌜ laid l ≡ residue laneRoots (now (bytes .entry)) ⌝ }
+{
+    let mut i = head(bytes.len());
+    let mut l = begun(i, bytes);
+    while i < bytes.len() {
+        let f = l.first();
+        let s = l.second();
+        let a = low[s % 16];
+        let b = high[s / 16];
+        let c = low2[f % 16];
+        let d = high2[f / 16];
+        let e = l.shifted_twice(bytes[i], bytes[i + 1]);
+        l = e.plus(a).plus(b).plus(c).plus(d);
+        i += 2;
+    }
+    l
+}
+
+// What is left of bytes when they are divided by the generator.
+fn residue(bytes: &[u8]) -> Lanes
+    ensures { λ l. ⌜ laid l ≡ residue laneRoots (now (bytes .entry)) ⌝ }
+{
+    let g = steps(Lanes::generator());
+    let eighth = g.eight;
+    let h = steps(eighth.doubled());
+    let low = rows(g);
+    let high = rows(h);
+    let g2 = steps(beyond(low, high));
+    let eighth2 = g2.eight;
+    let h2 = steps(eighth2.doubled());
+    let low2 = rows(g2);
+    let high2 = rows(h2);
+    divided(low, high, low2, high2, bytes)
+}
+
+// Whether a word is clean: nothing is left of it.
+pub fn is_clean(word: &[u8]) -> bool
+    ensures { λ b. ⌜ b ≡ clean laneRoots (now (word .entry)) ⌝ }
+{
+    residue(word).is_zero()
+}
+
+// What is left, byte by byte.
+pub fn left(bytes: &[u8]) -> [u8; ROOTS]
+    ensures { λ l. ⌜ l ≡ residue laneRoots (now (bytes .entry)) ⌝ }
+{
+    let mut rest = residue(bytes);
+    let mut l = [0u8; ROOTS];
+    let mut i: usize = 0;
+    while i < ROOTS {
+        l[i] = rest.first() as u8;
+        rest = rest.shifted(0);
+        i += 1;
+    }
+    l
+}

@@ -1,9 +1,0 @@
--- `parity::lanes::Lanes::none` meets its contract: computed.
-use mathlib.Core.Path.{refl}
-use Rattle.words.specs.Private.{bytesOf}
-use Rattle.parity.specs.Lanes.{laid}
-use Rattle.parity.proofs.lanes.Lanes.none.Statement.{statement}
-use Rattle.parity.proofs.lanes.Lanes.none.Tie as tie
-
-pub none-spec : {M : Type 1} → statement M
-none-spec = tie.close (tie.spec (λ c. unfold laid bytesOf in refl))
