@@ -4,3 +4,4 @@ pub mod Streaming
 pub mod Altered
 pub mod Lost
 pub mod Numbers
+pub mod Returned

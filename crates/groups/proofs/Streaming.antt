@@ -2,7 +2,7 @@
 -- cut-joined, cut-each                      a stream filled to whole messages, and cut into them
 -- sent-word, sent-condition, sent-mend      a word that is sent: 255 bytes, clean, and left as it is
 -- frames-given, blocks-given, losses-given  the answers of words, by kind
--- answered, in-turn, carries, groups        what is sent of any bytes: the words that are answered, that they and the closing push are all
+-- messages, answered, in-turn, carries, groups   what is sent of any bytes: the messages, the words that are answered, that they and the closing push are all
 --                                           words sent, the bytes they carry, that they are whole groups
 -- whole-stream                              stray bytes and then a whole sent stream
 use Prim.Native.Nat.{ℕ, zero, suc, _+_, _-_, _*_, _/_, _%_, _≤_, _<_}
@@ -157,7 +157,7 @@ module _ (r d : ℕ) (hr : r ≤ rootLimit) (bs : List ℕ) (h : Bytes bs) where
   abbrev fill : ℕ
   fill = completing (length (pushed r d bs))
 
-  abbrev messages : List (List ℕ)
+  abbrev pub messages : List (List ℕ)
   messages = messagesOf r bs ++ replicate fill flags
 
   -- the words that are answered
@@ -176,7 +176,7 @@ module _ (r d : ℕ) (hr : r ≤ rootLimit) (bs : List ℕ) (h : Bytes bs) where
   flags-message : IsMessage r hr flags
   flags-message = (length-replicate (messageBytes r) flag, each-replicate IsByte (messageBytes r) flag (lit< tt))
 
-  messages-each : Each (IsMessage r hr) messages
+  pub messages-each : Each (IsMessage r hr) messages
   messages-each =
       each-append (IsMessage r hr) (messagesOf r bs) (replicate fill flags)
       (cut-each (messageBytes r) (m-pos r hr) _ (filled r bs) filled-long
