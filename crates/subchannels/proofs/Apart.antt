@@ -1,6 +1,7 @@
 -- Bytes of one sub-channel never affect another's answers.
 -- got-put, got-other       a sub-channel exchanged, and the others then
--- kept-told, kept-sound    a call keeps the settings told, and what passes 10
+-- kept-hear, kept-call     a call keeps the settings told, and what passes 10
+-- sound-at                 10 of the four is 10 of each
 -- call-other, call-own     a call on another sub-channel, and on this one
 -- configure-others         configuring one leaves the others
 -- alone, alone-means       whatever is scheduled, a sub-channel's answers, final state and buffers are those of its own pieces
@@ -129,8 +130,8 @@ kept-call c bs k = go (roomy (c .recv) (c .word)) refl
     go true q = subst (λ (x : Option Event × ℕ × Board). Kept (x .2)) (λ i. hearBy (sym (k .0) i) (sym q i) c bs) (kept-hear c bs (fine-of c (k .0) q) (k .1))
     go false q = subst (λ (x : Option Event × ℕ × Board). Kept (x .2)) (λ i. hearBy (sym (k .0) i) (sym q i) c bs) k
 
--- the four
-sound-at : (s : Receiver) (n : ℕ) → soundFour s ≡ true → sound (get s n) ≡ true
+-- the four: what passes 10, of each
+pub sound-at : (s : Receiver) (n : ℕ) → soundFour s ≡ true → sound (get s n) ≡ true
 sound-at s zero e = and-parts (sound (s .a)) _ e .0
 sound-at s (suc zero) e = and-parts (sound (s .b)) _ (and-parts (sound (s .a)) _ e .1) .0
 sound-at s (suc (suc zero)) e = and-parts (sound (s .c)) _ (and-parts (sound (s .b)) _ (and-parts (sound (s .a)) _ e .1) .1) .0

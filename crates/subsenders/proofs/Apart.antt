@@ -2,7 +2,7 @@
 -- got-put, got-other    one of the four exchanged, and the others then
 -- configured-sends      configured, a sub-channel sends by these settings
 -- configured-others     configuring one changes nothing of what another sends, or is refused by
--- ..-keeps              a refused call leaves the settings, or the output, as they were
+-- send-keeps            a refused call leaves the output as it was
 use Prim.Native.Nat.{ℕ, zero, suc, _≤_, _<_}
 use native.Mathlib.Omega.{arith}
 use mathlib.Core.Path.{_≡_, refl, sym, _∙_, ap}
@@ -77,9 +77,6 @@ module _ (s : Sender) (n r d : ℕ) where
   not-told : {m : ℕ} → Refused m ≡ Told → ⊥
   not-told e = let z : _≡_ {A = ℕ} 0 1 = cc in omega arith
 
-  not-refused : {m : ℕ} → Told ≡ Refused m → ⊥
-  not-refused e = let z : _≡_ {A = ℕ} 0 1 = cc in omega arith
-
   module _ (bs out : List ℕ) where
     pub configured-sends : configuring s n r d .0 ≡ Told → sendFour (configuring s n r d .1) n bs out ≡ write (sent r d bs) out
     configured-sends = go (soundFour s) (ltb 3 n) (ltb rootLimit r) (ltb depthLimit d) refl refl refl refl
@@ -108,16 +105,6 @@ module _ (s : Sender) (n r d : ℕ) where
             (λ i j. sendBy (w j) (leb k 3) (got-other s n k x (ltb-false _ _ f) i ne j) bs out)
             (λ i.
             (λ j. sendBy (w j) (lt-leb k 3 i j) (get (put s n x) k) bs out) ∙ (λ j. sendBy (soundFour s) (sym (lt-leb k 3 i) j) (get s k) bs out))
-
-  pub configuring-keeps : (m : ℕ) → configuring s n r d .0 ≡ Refused m → configuring s n r d ≡ (Refused m, s)
-  configuring-keeps m = go (soundFour s) (ltb 3 n) (ltb rootLimit r) (ltb depthLimit d)
-    where
-      go : (t a b c : Bool) → byTests t a b c .0 ≡ Refused m → byTests t a b c ≡ (Refused m, s)
-      go false a b c q = λ i. (q i, s)
-      go true true b c q = λ i. (q i, s)
-      go true false true c q = λ i. (q i, s)
-      go true false false true q = λ i. (q i, s)
-      go true false false false q = absurd (not-refused q)
 
 pub send-keeps : (s : Sender) (n : ℕ) (bs out : List ℕ) → Keeps out (sendFour s n bs out)
 send-keeps s n bs out =
