@@ -2,8 +2,8 @@
 -- from-start   stray bytes before the first marker
 -- words-heard  bytes of words, and at most one more, are answered word by word
 -- came-back    of words us, and the closing push vs behind them: the bytes of us come back, and at most one more
--- groups-heard the answers to groups of any bytes
--- received     .. and to those of us and vs: those of us
+-- groups-heard groups of any bytes
+-- received     the answers are those of us
 use Prim.Native.Nat.{ℕ, suc, _+_, _*_, _-_, _/_, _≤_, _<_}
 use native.Mathlib.Omega.{arith}
 use mathlib.Core.Path.{_≡_, refl, sym, _∙_, ap, subst}
@@ -33,7 +33,7 @@ use Rattle.blocks.proofs.Streaming.{bytesOf, theMarker, no-match, not-first}
 use Rattle.groups.specs.Sender.{groupWords, groupBytes, closingWords, grouped, marked}
 use Rattle.groups.specs.Word.{mend}
 use Rattle.groups.specs.Sub.{Sub, hunting, inGroup, grown, whole, worded, takes, hunt, hears, start, answers, wordsGive}
-use Rattle.groups.proofs.Groups.{Taken, takesAll, onward, takes-append, groups-read}
+use Rattle.groups.proofs.Groups.{Taken, takesAll, onward, takes-append, behind, groups-read}
 
 -- ---- hunting
 module _ (r d : ℕ) where
@@ -137,14 +137,13 @@ came-back d us vs h w c =
           ∙ there-and-back d h (joined us ++ take n js) (drop n js) (length-drop n js ∙ omega arith),
     )
 
--- stray bytes and then whole groups of any bytes rs, the marker before each: the answers are those of the bytes that come back
+-- stray bytes and then whole groups of any bytes rs, the marker before each: answers and state are those of the bytes that come back
 pub groups-heard : (r d : ℕ) (stray rs : List ℕ) (g : ℕ) → length rs ≡ suc g * groupBytes → FirstMarker stray (grouped (suc g) rs)
-    → answers r d (stray ++ grouped (suc g) rs) ≡ takesAll r (run (pull d) freshBack rs .0) [] waiting .0
+    → hears r d start (stray ++ grouped (suc g) rs) ≡ behind r d theMarker (run (pull d) freshBack rs) [] waiting
 groups-heard r d stray rs g l f =
-    ap (λ (x : List Event × Sub). x .0)
-    (from-start r d stray (take groupBytes rs ++ grouped g (drop groupBytes rs)) f ∙ groups-read r d g rs freshBack [] waiting l)
+    from-start r d stray (take groupBytes rs ++ grouped g (drop groupBytes rs)) f ∙ groups-read r d g rs freshBack [] waiting l
 
--- .. and of words, interleaved and marked, with the closing push at the end
+-- stray bytes and then words, interleaved and marked, whole groups of them, with the closing push at the end
 pub received : (r d : ℕ) (stray : List ℕ) (us vs : List (List ℕ)) (g : ℕ) → d ≤ depthLimit → Each IsWord us → Each IsWord vs
     → length vs ≡ closingWords d → length (us ++ vs) ≡ suc g * groupWords → FirstMarker stray (marked d (us ++ vs))
     → answers r d (stray ++ marked d (us ++ vs)) ≡ wordsGive r us waiting .0
@@ -155,6 +154,6 @@ received r d stray us vs g h wu wv c m f =
     pushed-length d (joined (us ++ vs)) ∙ joined-length (us ++ vs) (each-append IsWord us vs wu wv) ∙ omega arith in
     let b = came-back d us vs h wv c in
     ap (λ x. answers r d (stray ++ grouped x bytes)) n
-    ∙ groups-heard r d stray bytes g l (subst (λ x. FirstMarker stray (grouped x bytes)) n f)
+    ∙ ap (λ (x : List Event × Sub). x .0) (groups-heard r d stray bytes g l (subst (λ x. FirstMarker stray (grouped x bytes)) n f))
     ∙ ap (λ x. takesAll r x [] waiting .0) (b .2)
     ∙ words-heard r us (b .0) [] waiting wu (inl refl) (b .1)
