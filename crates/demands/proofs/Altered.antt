@@ -1,4 +1,4 @@
--- Words of which no more bytes are altered than repair puts right, one after the other on the channel.
+-- Words of which no more bytes are altered than repair puts right, one after the other, with r parity bytes; on the opportunistic channel r is 32.
 -- altered-is                        the places counted one by one are repair's distance
 -- mend-received, answer-received    such a word comes back, and the count told is exactly that of its altered bytes
 -- sent-clean-words                  the words that are sent are clean
@@ -16,21 +16,24 @@ use Rattle.base.specs.Choice.{pick}
 use Rattle.base.specs.Bytes.{Each, IsByte}
 use Rattle.base.proofs.Bytes.{each-append}
 use Rattle.words.specs.Word.{clean as cleanWord, remainder}
+use Rattle.parity.specs.Calls.{rootLimit}
 use Rattle.parity.specs.declared.Checked.the-variants as check
 use Rattle.words.proofs.Division.{bytes-remainder}
 use Rattle.words.proofs.Clean.{parity-clean}
-use Rattle.repair.specs.declared.Mended.the-variants.{Repaired}
+use Rattle.repair.specs.declared.Mended.the-variants.{Clean, Repaired}
 use Rattle.repair.specs.Promise.{distance, half, CleanWord}
 use Rattle.repair.specs.Way.{repaired as repairedWord}
 use Rattle.repair.proofs.Apart.{distance-zero, checked-is, checked-clean}
 use Rattle.repair.proofs.Meeting.{repaired-promised}
-use Rattle.repair.proofs.Promising.{restored, brought-back}
+use Rattle.repair.proofs.Promising.{restored, brought-back, clean-left}
 use Rattle.stream.specs.Reader.{Reading, reads}
 use Rattle.blocks.specs.declared.Hunting.{Hunting}
-use Rattle.blocks.specs.Sender.{messageBytes, parityBytes, wordBytes, wordOf}
-use Rattle.blocks.specs.Channel.{conditionBy, condition, mend, whole, IsWord, carried}
-use Rattle.blocks.proofs.Words.{condition-clean, mend-clean}
-use Rattle.blocks.proofs.Streaming.{IsMessage, theMarker, behindWords, sent-word}
+use Rattle.blocks.specs.Sender.{parityBytes, wordBytes}
+use Rattle.blocks.specs.Channel.{conditionBy, whole, IsWord}
+use Rattle.blocks.proofs.Streaming.{theMarker, behindWords}
+use Rattle.groups.specs.Sender.{messageBytes, wordOf}
+use Rattle.groups.specs.Word.{condition, mend, carried}
+use Rattle.groups.proofs.Streaming.{IsMessage, sent-word}
 use Rattle.demands.specs.Guarantee.{alteredFrom, altered, Repairable, ReceivedFor, Received, answerFor, received}
 
 -- ---- places
@@ -59,74 +62,80 @@ pub half-repairable : (r n : ℕ) → n ≤ half r → Repairable r n
 half-repairable r n h = omega arith
 
 -- ---- a word
-module _ (w v : List ℕ) (c : CleanWord parityBytes w) (h : ReceivedFor w v) where
-  fine : (parityBytes ≤ 64) × IsWord w × (cleanWord parityBytes w ≡ true)
-  fine = checked-clean parityBytes w (c .1)
+module _ (r : ℕ) (w v : List ℕ) (c : CleanWord r w) (h : ReceivedFor r w v) where
+  fine : (r ≤ 64) × IsWord w × (cleanWord r w ≡ true)
+  fine = checked-clean r w (c .1)
 
   is-distance : altered w v ≡ distance w v
   is-distance = altered-is w v (fine .1) (h .0)
 
-  few : distance w v ≤ half parityBytes
-  few = subst (λ (n : ℕ). n ≤ half parityBytes) is-distance (repairable-half parityBytes (altered w v) (h .2))
+  few : distance w v ≤ half r
+  few = subst (λ (n : ℕ). n ≤ half r) is-distance (repairable-half r (altered w v) (h .2))
 
-  pub mend-received : mend v ≡ w
-  mend-received = brought-back parityBytes w c v (h .1) (h .0) few
+  clean-as : repairedWord r w ≡ (Clean, w)
+  clean-as = clean-left r w (fine .0) (fine .1) (fine .2)
 
-  pub answer-received : condition v ≡ answerFor (altered w v)
+  pub mend-received : mend r v ≡ w
+  mend-received = brought-back r w c v (h .1) (h .0) few
+
+  pub answer-received : condition r v ≡ answerFor (altered w v)
   answer-received = go (altered w v) is-distance
     where
-      go : (n : ℕ) → n ≡ distance w v → condition v ≡ answerFor n
-      go zero e = ap condition (sym (distance-zero w v (fine .1 ∙ sym (h .0)) (sym e))) ∙ condition-clean w (fine .1) (fine .2)
+      go : (n : ℕ) → n ≡ distance w v → condition r v ≡ answerFor n
+      go zero e = ap (condition r) (sym (distance-zero w v (fine .1 ∙ sym (h .0)) (sym e))) ∙ ap (λ x. conditionBy (x .0)) clean-as
       go (suc n) e =
           ap conditionBy
-          (restored parityBytes w c v (h .1) (h .0) (omega arith) few (repairedWord parityBytes v .0) (mend v) (repaired-promised parityBytes v (h .1)) .0
+          (restored r w c v (h .1) (h .0) (omega arith) few (repairedWord r v .0) (mend r v) (repaired-promised r v (h .1)) .0
           ∙ ap Repaired (sym e))
 
   -- the same as of the clean word
-  mend-same : mend v ≡ mend w
-  mend-same = mend-received ∙ sym (mend-clean w (fine .1) (fine .2))
+  mend-same : mend r v ≡ mend r w
+  mend-same = mend-received ∙ sym (ap (λ x. x .1) clean-as)
 
 -- ---- the words that are sent
-pub sent-clean-word : (m : List ℕ) → IsMessage m → CleanWord parityBytes (wordOf m)
-sent-clean-word m h = (
-  each-append IsByte m (remainder parityBytes m) (h .1) (bytes-remainder parityBytes m (h .1)),
-  checked-is parityBytes (wordOf m) (omega arith) (sent-word m h) ∙ ap (λ (t : Bool). pick t check.Clean check.Damaged) (parity-clean parityBytes m (h .1)),
-)
+module _ (r : ℕ) (hr : r ≤ rootLimit) where
+  pub sent-clean-word : (m : List ℕ) → IsMessage r hr m → CleanWord r (wordOf r m)
+  sent-clean-word m h = (
+    each-append IsByte m (remainder r m) (h .1) (bytes-remainder r m (h .1)),
+    checked-is r (wordOf r m) hr (sent-word r hr m h) ∙ ap (λ (t : Bool). pick t check.Clean check.Damaged) (parity-clean r m (h .1)),
+  )
 
-pub sent-clean-words : (ms : List (List ℕ)) → Each IsMessage ms → Each (CleanWord parityBytes) (map wordOf ms)
-sent-clean-words [] h = tt
-sent-clean-words (m ∷ ms) h = (sent-clean-word m (h .0), sent-clean-words ms (h .1))
+  pub sent-clean-words : (ms : List (List ℕ)) → Each (IsMessage r hr) ms → Each (CleanWord r) (map (wordOf r) ms)
+  sent-clean-words [] h = tt
+  sent-clean-words (m ∷ ms) h = (sent-clean-word m (h .0), sent-clean-words ms (h .1))
 
 -- ---- words one after the other
-pub carried-received : (ws vs : List (List ℕ)) → Each (CleanWord parityBytes) ws → Received ws vs → carried vs ≡ carried ws
-carried-received [] [] c h = refl
-carried-received [] (v ∷ vs) c h = absurd h
-carried-received (w ∷ ws) [] c h = absurd h
-carried-received (w ∷ ws) (v ∷ vs) c h =
-    ap₂ _++_ (ap (take messageBytes) (mend-same w v (c .0) (h .0))) (carried-received ws vs (c .1) (h .1))
+module _ (r : ℕ) where
+  pub carried-received : (ws vs : List (List ℕ)) → Each (CleanWord r) ws → Received r ws vs → carried r vs ≡ carried r ws
+  carried-received [] [] c h = refl
+  carried-received [] (v ∷ vs) c h = absurd h
+  carried-received (w ∷ ws) [] c h = absurd h
+  carried-received (w ∷ ws) (v ∷ vs) c h =
+      ap₂ _++_ (ap (take (messageBytes r)) (mend-same r w v (c .0) (h .0))) (carried-received ws vs (c .1) (h .1))
 
-pub answers-received : (ws vs : List (List ℕ)) → Each (CleanWord parityBytes) ws → Received ws vs → map condition vs ≡ received ws vs
-answers-received [] [] c h = refl
-answers-received [] (v ∷ vs) c h = absurd h
-answers-received (w ∷ ws) [] c h = absurd h
-answers-received (w ∷ ws) (v ∷ vs) c h = ap₂ _∷_ (answer-received w v (c .0) (h .0)) (answers-received ws vs (c .1) (h .1))
+  pub answers-received : (ws vs : List (List ℕ)) → Each (CleanWord r) ws → Received r ws vs → map (condition r) vs ≡ received ws vs
+  answers-received [] [] c h = refl
+  answers-received [] (v ∷ vs) c h = absurd h
+  answers-received (w ∷ ws) [] c h = absurd h
+  answers-received (w ∷ ws) (v ∷ vs) c h = ap₂ _∷_ (answer-received r w v (c .0) (h .0)) (answers-received ws vs (c .1) (h .1))
 
-pub behind-received : (ws vs : List (List ℕ)) → Each (CleanWord parityBytes) ws → Received ws vs → (f : Hunting) (u : List ℕ) (r : Reading)
-    → behindWords f u vs r ≡ behindWords f u ws r
-behind-received [] [] c h f u r = refl
-behind-received [] (v ∷ vs) c h f u r = absurd h
-behind-received (w ∷ ws) [] c h f u r = absurd h
-behind-received (w ∷ ws) (v ∷ vs) c h f u r =
-    ap (λ (x : List ℕ). behindWords theMarker x vs (reads r (take messageBytes x) .1)) (mend-same w v (c .0) (h .0))
-    ∙ behind-received ws vs (c .1) (h .1) theMarker (mend w) (whole w r .1)
+  pub words-received : (ws vs : List (List ℕ)) → Received r ws vs → Each IsWord vs
+  words-received [] [] h = tt
+  words-received [] (v ∷ vs) h = absurd h
+  words-received (w ∷ ws) [] h = absurd h
+  words-received (w ∷ ws) (v ∷ vs) h = (h .0 .0, words-received ws vs (h .1))
 
-pub words-received : (ws vs : List (List ℕ)) → Received ws vs → Each IsWord vs
-words-received [] [] h = tt
-words-received [] (v ∷ vs) h = absurd h
-words-received (w ∷ ws) [] h = absurd h
-words-received (w ∷ ws) (v ∷ vs) h = (h .0 .0, words-received ws vs (h .1))
+  pub some-received : (ws vs : List (List ℕ)) → Received r ws vs → ws ≢ [] → vs ≢ []
+  some-received [] vs h n e = n refl
+  some-received (w ∷ ws) [] h n e = h
+  some-received (w ∷ ws) (v ∷ vs) h n e = subst (Received r (w ∷ ws)) e h
 
-pub some-received : (ws vs : List (List ℕ)) → Received ws vs → ws ≢ [] → vs ≢ []
-some-received [] vs h n e = n refl
-some-received (w ∷ ws) [] h n e = h
-some-received (w ∷ ws) (v ∷ vs) h n e = subst (Received (w ∷ ws)) e h
+-- the state behind them, on the opportunistic channel
+pub behind-received : (ws vs : List (List ℕ)) → Each (CleanWord parityBytes) ws → Received parityBytes ws vs → (f : Hunting) (u : List ℕ) (q : Reading)
+    → behindWords f u vs q ≡ behindWords f u ws q
+behind-received [] [] c h f u q = refl
+behind-received [] (v ∷ vs) c h f u q = absurd h
+behind-received (w ∷ ws) [] c h f u q = absurd h
+behind-received (w ∷ ws) (v ∷ vs) c h f u q =
+    ap (λ (x : List ℕ). behindWords theMarker x vs (reads q (take (messageBytes parityBytes) x) .1)) (mend-same parityBytes w v (c .0) (h .0))
+    ∙ behind-received ws vs (c .1) (h .1) theMarker (mend parityBytes w) (whole w q .1)

@@ -39,13 +39,13 @@ pub not-most : (a b : ℕ) → leb a b ≡ true → b < a → ⊥
 not-most a b e h = let k : a ≤ b = leb-true a b e in omega arith
 
 -- ---- 10 and 11, as facts
-frame-beyond : (f : Frame) → soundFrame f ≡ false → FrameBeyond f
+pub frame-beyond : (f : Frame) → soundFrame f ≡ false → FrameBeyond f
 frame-beyond f e =
     ⊎-elim (λ h. inl (eqb-false _ _ h))
     (λ h. inr (⊎-elim (λ k. inl (leb-false _ _ k)) (λ k. inr (leb-false _ _ k)) (not-both (leb (f .raw) (suc rawLimit)) (leb (f .place) placeLimit) h)))
     (not-both (eqb (f .stored) (min (f .raw) rawLimit)) (leb (f .raw) (suc rawLimit) && leb (f .place) placeLimit) e)
 
-frame-within : (f : Frame) → soundFrame f ≡ true → FrameBeyond f → ⊥
+pub frame-within : (f : Frame) → soundFrame f ≡ true → FrameBeyond f → ⊥
 frame-within f e =
     let p = and-parts (eqb (f .stored) (min (f .raw) rawLimit)) (leb (f .raw) (suc rawLimit) && leb (f .place) placeLimit) e in
     let q = and-parts (leb (f .raw) (suc rawLimit)) (leb (f .place) placeLimit) (p .1) in
@@ -166,7 +166,7 @@ small-hear c bs =
 pub event-only : {S : Type 0} (o : Option Event) (s : S) (n : ℕ) → With SmallEvent o s → OfCall n → o ≡ some (said (refusal n)) → ⊥
 event-only o s n w k e = frame-or-call n (subst (λ (o : Option Event). With SmallEvent o s) e w) k
 
-is-hear : (c : Board) (m n : ℕ) → OfCall m → ByHear (some (said (refusal m)), 0, c) n ↔ n ≡ m
+pub is-hear : {B : Type 0} (c : B) (m n : ℕ) → OfCall m → ByHear {B = B} (some (said (refusal m)), 0, c) n ↔ n ≡ m
 is-hear c m n k = (λ e. let z : m ≡ n = cc in sym z, λ e. (subst OfCall (sym e) k, λ i. some (said (refusal (sym e i)))))
 
 pub hear-exact : (c : Board) (bs : List ℕ) → Exact ByHear (hearCall c bs) ((10, Beyond (c .st)) ∷ (11, Short (c .recv) (c .word)) ∷ [])

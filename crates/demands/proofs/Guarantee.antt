@@ -9,6 +9,7 @@
 -- delivered-as-sent        at most 16 bytes of each word altered, no marker: the packets, the block answers, no lock lost ..
 -- same-state               .. and the final state is that of the stream as sent
 use Prim.Native.Nat.{ℕ, _≤_, _<_}
+use native.Mathlib.Omega.{arith}
 use mathlib.Core.Path.{_≡_, sym, _∙_, ap, subst}
 use mathlib.Core.Logic.{_↔_, _≢_}
 use mathlib.Core.List.{List, [], _++_, map}
@@ -62,15 +63,15 @@ one-byte = promising.one-restored
 -- ---- "if at most 16 bytes of each opportunistic word are altered and no marker is, the receiver delivers just what was sent": stray bytes,
 -- and then a sender's whole marked stream, the marker first appearing where that begins; its words come in as vs; cut in every way
 module _ (stray : List ℕ) (ps : List Packet) (accepted : Each Accepted ps) (first : FirstMarker stray (sent ps))
-    (vs : List (List ℕ)) (came : Received (sentWords ps) vs) where
+    (vs : List (List ℕ)) (came : Received parityBytes (sentWords ps) vs) where
   words : Each (CleanWord parityBytes) (sentWords ps)
-  words = sent-clean-words (messagesOf (stream ps)) (sent-messages ps accepted)
+  words = sent-clean-words parityBytes (omega arith) (messagesOf (stream ps)) (sent-messages ps accepted)
 
   some : vs ≢ []
-  some = some-received (sentWords ps) vs came (sent-some ps accepted)
+  some = some-received parityBytes (sentWords ps) vs came (sent-some ps accepted)
 
   heard : hears freshChannel (stray ++ framed vs) ≡ (wholes vs waiting .0, behindWords zeros [] vs waiting)
-  heard = heard-words stray vs some (words-received (sentWords ps) vs came) (first-markers stray (sentWords ps) vs (sent-some ps accepted) some first)
+  heard = heard-words stray vs some (words-received parityBytes (sentWords ps) vs came) (first-markers stray (sentWords ps) vs (sent-some ps accepted) some first)
 
   -- the frame answers are the sent packets, once each, in order, and nothing else; each block is clean, or repaired in exactly the places
   -- altered; no lock is lost
@@ -79,9 +80,9 @@ module _ (stray : List ℕ) (ps : List Packet) (accepted : Each Accepted ps) (fi
   delivered-as-sent = cut-so (every-cut (stray ++ framed vs)) λ es d cut.
       let e = cut .0 ∙ ap (λ x. x .0) heard in (
         ap frames e ∙ frames-wholes vs waiting
-            ∙ ap (λ l. reads waiting l .0) (carried-received (sentWords ps) vs words came ∙ sent-bytes ps accepted)
+            ∙ ap (λ l. reads waiting l .0) (carried-received parityBytes (sentWords ps) vs words came ∙ sent-bytes ps accepted)
             ∙ ap (λ x. x .0) (stream-read ps accepted (fillers (length (stream ps)))),
-        ap blocks e ∙ blocks-wholes vs waiting ∙ answers-received (sentWords ps) vs words came,
+        ap blocks e ∙ blocks-wholes vs waiting ∙ answers-received parityBytes (sentWords ps) vs words came,
         ap losses e ∙ losses-wholes vs waiting,
       )
 

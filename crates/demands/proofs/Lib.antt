@@ -2,6 +2,7 @@ pub mod Rows
 pub mod Frames
 pub mod Called
 pub mod Desk
+pub mod Subs
 pub mod Taken
 pub mod Showing
 pub mod Trips

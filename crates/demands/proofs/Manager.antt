@@ -22,7 +22,7 @@ use Rattle.frames.specs.Contents.{rawLimit, Packet}
 use Rattle.frames.specs.Frame.{Told}
 use Rattle.frames.specs.Sender.{Accepted}
 use Rattle.stream.specs.Sender.{delivered}
-use Rattle.blocks.specs.Sender.{wordBytes, sentWords}
+use Rattle.blocks.specs.Sender.{parityBytes, wordBytes, sentWords}
 use Rattle.blocks.specs.Channel.{Event, frames, blocks, losses, answers, FirstMarker}
 use Rattle.channel.specs.Called.{EveryCut}
 use Rattle.blocks.proofs.Streaming.{sent-each}
@@ -94,7 +94,7 @@ module _ {input out air : List ℕ} (bytes : Bytes input) (sends : Sends input o
       (subst (λ bs. EveryCut bs λ es d. (frames es ≡ map delivered (packetsOf input))
       × (blocks es ≡ received (sentWords (packetsOf input)) (airs .came)) × (losses es ≡ 0)) (airs .heard)
       (delivered-as-sent (airs .stray) (packetsOf input) accepted (subst (FirstMarker (airs .stray)) (went-out sends) (airs .first)) (airs .came)
-      (subst (λ ws. Received ws (airs .came)) the-words (airs .altered))))
+      (subst (λ ws. Received parityBytes ws (airs .came)) the-words (airs .altered))))
 
   -- whatever the sequence numbers: the bids among the lines shown are those of the accepted lines that are neither late nor repeated
   pub bids-not-old : (b : Bool) → bidsAmong (boardLines b freshTable (answers air)) ≡ map asBid (currentFrom freshTable (packetsOf input))

@@ -9,7 +9,7 @@ use mathlib.Core.Option.{some, none}
 use mathlib.Core.Bool.{true, false, not, _&&_}
 use mathlib.Core.List.{List, [], _∷_, _++_}
 use lib.ListN.{length, drop, replicate}
-use lib.Dec.{ltb}
+use lib.Dec.{ltb, leb}
 use denote.Ref.{now}
 use Rattle.base.specs.Choice.{pick}
 use Rattle.base.specs.UpTo.{upTo}
@@ -40,10 +40,12 @@ use Rattle.listed.specs.Lines.{line, endLine, wrongLine}
 use Rattle.listed.specs.Apart.{well}
 use Rattle.listed.specs.declared.Place.the-variants.{Mode}
 use Rattle.tape.specs.Called.{deckOf, isMore, tapeCall}
+use Rattle.subchannel.specs.declared.settings.Settings.{Settings}
 use Rattle.subchannel.specs.declared.sub.Sub.{Sub}
 use Rattle.subchannel.specs.Called as subchannel
 use Rattle.subsender.specs.Sending as subsender
 use Rattle.subchannels.specs.Four as subchannels
+use Rattle.subsenders.specs.Four as subsenders
 use Rattle.units.specs.Unit as units
 use Rattle.units.specs.Reading as unit-reading
 use Rattle.readout.specs.Called as readout
@@ -78,6 +80,7 @@ use Rattle.channel.proofs.receiver.Receiver.sound as channel-sound
 use Rattle.channel.proofs.receiver.Receiver.has_room as channel-has-room
 use Rattle.channel.proofs.shift as channel-shift
 use Rattle.channel.proofs.at_marker as channel-at-marker
+use Rattle.subchannel.proofs.settings.Settings.within as subchannel-within
 use Rattle.subchannel.proofs.sub.Sub.told as subchannel-told
 use Rattle.subchannel.proofs.sub.Sub.sound as subchannel-sound
 use Rattle.subchannel.proofs.sub.Sub.hear as subchannel-hear
@@ -86,6 +89,10 @@ use Rattle.subchannels.proofs.Receiver.fresh as subchannels-fresh
 use Rattle.subchannels.proofs.Receiver.sound as subchannels-sound
 use Rattle.subchannels.proofs.Receiver.configure as subchannels-configure
 use Rattle.subchannels.proofs.Receiver.hear as subchannels-hear
+use Rattle.subsenders.proofs.Sender.fresh as subsenders-fresh
+use Rattle.subsenders.proofs.Sender.sound as subsenders-sound
+use Rattle.subsenders.proofs.Sender.configure as subsenders-configure
+use Rattle.subsenders.proofs.Sender.send as subsenders-send
 use Rattle.stream.proofs.frame.Frame.fresh as stream-fresh
 use Rattle.stream.proofs.frame.Frame.read as stream-read
 use Rattle.stream.proofs.frame.Frame.sound as stream-sound
@@ -229,6 +236,10 @@ pub subchannel-told-means : Means subchannel-told.Statement.statement subchannel
     }
 subchannel-told-means = (λ M. subchannel-told.Met.met, λ κs a. tt, λ κs a z ws. (λ p. p, λ p. p))
 
+pub subchannel-within-means : Means subchannel-within.Statement.statement subchannel-within.Kinds.ps subchannel-within.Kinds.r subchannel-within.Reads.Asked subchannel-within.Reads.Learnt
+    λ κs self r. r ≡ (leb (self .parity) 64 && leb (self .depth) 64)
+subchannel-within-means = (λ M. subchannel-within.Met.met, λ κs a. tt, λ κs a z ws. (λ p. p, λ p. p))
+
 pub subchannel-sound-means : Means subchannel-sound.Statement.statement subchannel-sound.Kinds.ps subchannel-sound.Kinds.r subchannel-sound.Reads.Asked subchannel-sound.Reads.Learnt
     λ κs self r. r ≡ subchannel.sound self
 subchannel-sound-means = (λ M. subchannel-sound.Met.met, λ κs a. tt, λ κs a z ws. (λ p. p, λ p. p))
@@ -272,6 +283,23 @@ pub subchannels-hear-means : Means subchannels-hear.Statement.statement subchann
     λ κs self number recv word piece r. let x = subchannels.hearFour self number (now (recv .entry)) (now (word .entry)) (now piece) in
     (r ≡ record { answer = answered (x .0); taken = x .1; receiver = x .2 }) × (now (recv .exit) ≡ x .3) × (now (word .exit) ≡ x .4)
 subchannels-hear-means = (λ M. subchannels-hear.Met.met, λ κs a. tt, λ κs a z ws. (λ p. p, λ p. p))
+
+-- ---- their sender: at first none is told its settings
+pub subsenders-fresh-means : Means subsenders-fresh.Statement.statement subsenders-fresh.Kinds.ps subsenders-fresh.Kinds.r subsenders-fresh.Reads.Asked subsenders-fresh.Reads.Learnt
+    λ κs r. let u : Settings = record { told = false; parity = 0; depth = 0 } in r ≡ record { a = u; b = u; c = u; d = u }
+subsenders-fresh-means = (λ M. subsenders-fresh.Met.met, λ κs a. tt, λ κs a z ws. (λ p. p, λ p. p))
+
+pub subsenders-sound-means : Means subsenders-sound.Statement.statement subsenders-sound.Kinds.ps subsenders-sound.Kinds.r subsenders-sound.Reads.Asked subsenders-sound.Reads.Learnt
+    λ κs self r. r ≡ (subchannel.within (self .a) && (subchannel.within (self .b) && (subchannel.within (self .c) && subchannel.within (self .d))))
+subsenders-sound-means = (λ M. subsenders-sound.Met.met, λ κs a. tt, λ κs a z ws. (λ p. p, λ p. p))
+
+pub subsenders-configure-means : Means subsenders-configure.Statement.statement subsenders-configure.Kinds.ps subsenders-configure.Kinds.r subsenders-configure.Reads.Asked subsenders-configure.Reads.Learnt
+    λ κs self number parity depth r. let x = subsenders.configuring self number parity depth in r ≡ record { answer = x .0; sender = x .1 }
+subsenders-configure-means = (λ M. subsenders-configure.Met.met, λ κs a. tt, λ κs a z ws. (λ p. p, λ p. p))
+
+pub subsenders-send-means : Means subsenders-send.Statement.statement subsenders-send.Kinds.ps subsenders-send.Kinds.r subsenders-send.Reads.Asked subsenders-send.Reads.Learnt
+    λ κs self number stream out w. outcome w (now (out .exit)) ≡ subsenders.sendFour self number (now stream) (now (out .entry))
+subsenders-send-means = (λ M. subsenders-send.Met.met, λ κs a. tt, λ κs a z ws. (λ p. p, λ p. p))
 
 -- what a frame is told to be, and what a call answers, in the code's words
 pub judged-is : (p : Packet) (n : ℕ)

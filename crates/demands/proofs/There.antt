@@ -65,7 +65,7 @@ unfolding alteredFrom
 none-altered zero i w = refl
 none-altered (suc n) i w = rw (eq-eqb (getD w i 0) (getD w i 0) refl) (omega (arith, none-altered n (suc i) w))
 
-unaltered : (ws : List (List ℕ)) → Each IsWord ws → Each (CleanWord parityBytes) ws → Received ws ws
+unaltered : (ws : List (List ℕ)) → Each IsWord ws → Each (CleanWord parityBytes) ws → Received parityBytes ws ws
 unaltered [] h b = tt
 unaltered (w ∷ ws) h b = ((h .0, b .0 .0, omega (arith, none-altered wordBytes 0 w)), unaltered ws (h .1) (b .1))
 
@@ -74,7 +74,7 @@ pub airs-there : {input out : List ℕ} → Bytes input → Sends input out → 
 airs-there {input} b s =
     let taken = packets-accepted input b in
     let ws : List (List ℕ) = sentWords (packetsOf input) in
-    let clean = sent-clean-words (messagesOf (stream (packetsOf input))) (sent-messages (packetsOf input) taken) in
+    let clean = sent-clean-words parityBytes (omega arith) (messagesOf (stream (packetsOf input))) (sent-messages (packetsOf input) taken) in
     record {
       stray = [];
       first = λ xs ys e. omega arith;

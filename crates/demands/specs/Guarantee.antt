@@ -8,7 +8,7 @@ use lib.Dec.{eqb}
 use lib.ListN.{getD}
 use Rattle.base.specs.Choice.{pick}
 use Rattle.base.specs.Bytes.{Bytes}
-use Rattle.blocks.specs.Sender.{parityBytes, wordBytes}
+use Rattle.blocks.specs.Sender.{wordBytes}
 use Rattle.blocks.specs.Channel.{IsWord}
 use Rattle.blocks.specs.declared.Condition.{Condition}
 use Rattle.blocks.specs.declared.Condition.the-variants.{Clean as clean, Repaired as repaired}
@@ -26,16 +26,16 @@ altered v w = alteredFrom 0 wordBytes v w
 abbrev pub Repairable : ℕ → ℕ → Type 0
 Repairable r n = 2 * n ≤ r
 
--- v comes in for the opportunistic word w, which has 32 parity bytes: at most 16 bytes are altered, whichever they are
-abbrev pub ReceivedFor : List ℕ → List ℕ → Type 0
-ReceivedFor w v = IsWord v × Bytes v × Repairable parityBytes (altered w v)
+-- v comes in for the word w, which has r parity bytes: at most h bytes are altered, whichever they are
+abbrev pub ReceivedFor : ℕ → List ℕ → List ℕ → Type 0
+ReceivedFor r w v = IsWord v × Bytes v × Repairable r (altered w v)
 
 -- the words vs come in for ws, one for each, different ones altered differently
-abbrev pub Received : List (List ℕ) → List (List ℕ) → Type 0
-Received [] [] = Unit {0}
-Received [] (v ∷ vs) = ⊥
-Received (w ∷ ws) [] = ⊥
-Received (w ∷ ws) (v ∷ vs) = ReceivedFor w v × Received ws vs
+abbrev pub Received : ℕ → List (List ℕ) → List (List ℕ) → Type 0
+Received r [] [] = Unit {0}
+Received r [] (v ∷ vs) = ⊥
+Received r (w ∷ ws) [] = ⊥
+Received r (w ∷ ws) (v ∷ vs) = ReceivedFor r w v × Received r ws vs
 
 -- the answer to a block of which n bytes are altered: clean, or repaired in n places
 abbrev pub answerFor : ℕ → Condition

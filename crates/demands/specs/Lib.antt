@@ -2,6 +2,7 @@ pub mod Means
 pub mod Table
 pub mod Refusals
 pub mod Desks
+pub mod SubChannels
 pub mod Guarantee
 pub mod Way
 pub mod Numbers

@@ -31,7 +31,6 @@ use Rattle.repair.specs.declared.Mended.the-variants.{Refused as RepairRefused}
 use Rattle.stream.specs.Called.{Held, placeLimit}
 use Rattle.stream.specs.declared.frame.Frame.{Frame}
 use Rattle.blocks.specs.Channel.{Event, said}
-use Rattle.channel.specs.Called.{Board}
 use Rattle.blocks.specs.Sender.{messageBytes, wordBytes}
 use Rattle.channel.specs.declared.receiver.Receiver.{Receiver}
 use Rattle.listed.specs.declared.Spot.{Spot}
@@ -160,8 +159,8 @@ ByRepair a n = a ≡ RepairRefused n
 abbrev pub ByRead : Option Told × ℕ × Held → ℕ → Type 0
 ByRead r n = OfCall n × (r .0 ≡ some (refusal n))
 
--- a receiving call on the channel is
-abbrev pub ByHear : Option Event × ℕ × Board → ℕ → Type 0
+-- a receiving call on the channel is, the opportunistic or a fixed one
+abbrev pub ByHear : {B : Type 0} → Option Event × ℕ × B → ℕ → Type 0
 ByHear r n = OfCall n × (r .0 ≡ some (said (refusal n)))
 
 -- a call on a recording's bytes is

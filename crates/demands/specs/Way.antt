@@ -8,7 +8,7 @@ use mathlib.Core.List.{List, _++_}
 use lib.ListN.{length}
 use Rattle.base.specs.Bytes.{Each}
 use Rattle.base.specs.Calls.{joined, ReadsAll}
-use Rattle.blocks.specs.Sender.{framed, marked}
+use Rattle.blocks.specs.Sender.{parityBytes, framed, marked}
 use Rattle.blocks.specs.Channel.{IsWord, FirstMarker}
 use Rattle.bid.specs.Line.{lineLimit}
 use Rattle.office.specs.Desk.{Said, Desk, waiting, sentBy}
@@ -42,5 +42,5 @@ pub record Airs (out air : List ℕ) : Type 0 where
   pub whole : Each IsWord words
   pub blocks : framed words ≡ out
   pub came : List (List ℕ)
-  pub altered : Received words came
+  pub altered : Received parityBytes words came
   pub heard : stray ++ framed came ≡ air

@@ -1,5 +1,6 @@
 -- Depth 0 and 1: a run of words, one or more, altered at will, and no marker. So a block may be one word or a group of four.
 -- give-append, carried-append   words one after the other: their answers, and the bytes that they carry
+-- groups-begin                  where the marker first appears
 -- flat-received                 the answers of any words in whole groups
 -- earlier-same                  the answers of the earlier words stay the same
 -- others-stay                   each word has its own answer, and no lock is lost
@@ -45,7 +46,8 @@ module _ (r : ℕ) where
   carried-append [] vs = refl
   carried-append (u ∷ us) vs = ap (λ l. message r u ++ l) (carried-append us vs) ∙ sym (append-assoc (message r u) (carried r us) (carried r vs))
 
-groups-begin : (g h : ℕ) (xs bs stray : List ℕ) → FirstMarker stray (grouped (suc g) xs) → FirstMarker stray (grouped (suc h) bs)
+-- where the marker first appears, whatever the groups' bytes are
+pub groups-begin : (g h : ℕ) (xs bs stray : List ℕ) → FirstMarker stray (grouped (suc g) xs) → FirstMarker stray (grouped (suc h) bs)
 groups-begin g h xs bs stray f =
     first-marker stray (take groupBytes xs ++ grouped g (drop groupBytes xs)) (take groupBytes bs ++ grouped h (drop groupBytes bs)) f
 

@@ -2,6 +2,7 @@
 -- from-start   stray bytes before the first marker
 -- words-heard  bytes of words, and at most one more, are answered word by word
 -- came-back    of words us, and the closing push vs behind them: the bytes of us come back, and at most one more
+-- groups-heard groups of any bytes
 -- received     the answers are those of us
 use Prim.Native.Nat.{ℕ, suc, _+_, _*_, _-_, _/_, _≤_, _<_}
 use native.Mathlib.Omega.{arith}
@@ -32,7 +33,7 @@ use Rattle.blocks.proofs.Streaming.{bytesOf, theMarker, no-match, not-first}
 use Rattle.groups.specs.Sender.{groupWords, groupBytes, closingWords, grouped, marked}
 use Rattle.groups.specs.Word.{mend}
 use Rattle.groups.specs.Sub.{Sub, hunting, inGroup, grown, whole, worded, takes, hunt, hears, start, answers, wordsGive}
-use Rattle.groups.proofs.Groups.{Taken, takesAll, onward, takes-append, groups-read}
+use Rattle.groups.proofs.Groups.{Taken, takesAll, onward, takes-append, behind, groups-read}
 
 -- ---- hunting
 module _ (r d : ℕ) where
@@ -136,19 +137,23 @@ came-back d us vs h w c =
           ∙ there-and-back d h (joined us ++ take n js) (drop n js) (length-drop n js ∙ omega arith),
     )
 
+-- stray bytes and then whole groups of any bytes rs, the marker before each: answers and state are those of the bytes that come back
+pub groups-heard : (r d : ℕ) (stray rs : List ℕ) (g : ℕ) → length rs ≡ suc g * groupBytes → FirstMarker stray (grouped (suc g) rs)
+    → hears r d start (stray ++ grouped (suc g) rs) ≡ behind r d theMarker (run (pull d) freshBack rs) [] waiting
+groups-heard r d stray rs g l f =
+    from-start r d stray (take groupBytes rs ++ grouped g (drop groupBytes rs)) f ∙ groups-read r d g rs freshBack [] waiting l
+
 -- stray bytes and then words, interleaved and marked, whole groups of them, with the closing push at the end
 pub received : (r d : ℕ) (stray : List ℕ) (us vs : List (List ℕ)) (g : ℕ) → d ≤ depthLimit → Each IsWord us → Each IsWord vs
     → length vs ≡ closingWords d → length (us ++ vs) ≡ suc g * groupWords → FirstMarker stray (marked d (us ++ vs))
     → answers r d (stray ++ marked d (us ++ vs)) ≡ wordsGive r us waiting .0
 received r d stray us vs g h wu wv c m f =
     let bytes : List ℕ = run (push d) fresh (joined (us ++ vs)) .0 in
-    let cs : List ℕ = take groupBytes bytes ++ grouped g (drop groupBytes bytes) in
     let n : length (us ++ vs) / groupWords ≡ suc g = omega arith in
-    let mk : marked d (us ++ vs) ≡ marker ++ cs = ap (λ x. grouped x bytes) n in
     let l : length bytes ≡ suc g * groupBytes =
     pushed-length d (joined (us ++ vs)) ∙ joined-length (us ++ vs) (each-append IsWord us vs wu wv) ∙ omega arith in
     let b = came-back d us vs h wv c in
-    ap (λ x. answers r d (stray ++ x)) mk
-    ∙ ap (λ (x : List Event × Sub). x .0) (from-start r d stray cs (subst (FirstMarker stray) mk f) ∙ groups-read r d g bytes freshBack [] waiting l)
+    ap (λ x. answers r d (stray ++ grouped x bytes)) n
+    ∙ ap (λ (x : List Event × Sub). x .0) (groups-heard r d stray bytes g l (subst (λ x. FirstMarker stray (grouped x bytes)) n f))
     ∙ ap (λ x. takesAll r x [] waiting .0) (b .2)
     ∙ words-heard r us (b .0) [] waiting wu (inl refl) (b .1)

@@ -1,8 +1,8 @@
 -- A sub-channel's whole sent stream gives its packets, once each, in order, and nothing else, for every r and d to 64.
--- cut-joined, cut-each                      a stream filled to whole messages, and cut into them
+-- cut-joined, cut-back, -lengths, -each     a stream filled to whole messages, and cut into them
 -- sent-word, sent-condition, sent-mend      a word that is sent: 255 bytes, clean, and left as it is
 -- frames-given, blocks-given, losses-given  the answers of words, by kind
--- answered, in-turn, carries, groups        what is sent of any bytes: the words that are answered, that they and the closing push are all
+-- messages, answered, in-turn, carries, groups   what is sent of any bytes: the messages, the words that are answered, that they and the closing push are all
 --                                           words sent, the bytes they carry, that they are whole groups
 -- whole-stream                              stray bytes and then a whole sent stream
 use Prim.Native.Nat.{ℕ, zero, suc, _+_, _-_, _*_, _/_, _%_, _≤_, _<_}
@@ -60,15 +60,35 @@ module _ (m : ℕ) (pos : 0 < m) where
   cut-rest : (q : ℕ) (bs : List ℕ) → length bs ≡ suc q * m → (length (drop m bs) ≡ q * m) × (m ≤ length bs)
   cut-rest q bs e = let f : suc q * m ≡ q * m + m = suc-mul q m in (length-drop m bs ∙ omega arith, omega arith)
 
-  cut-joined : (q : ℕ) (bs : List ℕ) → length bs ≡ q * m → joined (cutUp m q bs) ≡ bs
+  pub cut-joined : (q : ℕ) (bs : List ℕ) → length bs ≡ q * m → joined (cutUp m q bs) ≡ bs
   cut-joined zero [] e = refl
   cut-joined zero (b ∷ bs) e = let z : 0 * m ≡ 0 = omega arith in absurd (omega arith)
   cut-joined (suc q) bs e = ap (λ l. take m bs ++ l) (cut-joined q (drop m bs) (cut-rest q bs e .0)) ∙ take-append-drop m bs
 
+  -- q parts of bytes, and what is left of these
+  pub cut-back : (q : ℕ) (bs : List ℕ) → q * m ≤ length bs → (l : List ℕ) × (joined (cutUp m q bs) ++ l ≡ bs) × (length l + q * m ≡ length bs)
+  cut-back zero bs h = (bs, refl, omega arith)
+  cut-back (suc q) bs h =
+      let f : suc q * m ≡ q * m + m = suc-mul q m in
+      let n : length (drop m bs) ≡ length bs - m = length-drop m bs in
+      let x = cut-back q (drop m bs) (omega arith) in
+      let e = x .2 in (
+        x .0,
+        append-assoc (take m bs) (joined (cutUp m q (drop m bs))) (x .0) ∙ ap (λ l. take m bs ++ l) (x .1) ∙ take-append-drop m bs,
+        omega arith,
+      )
+
+  pub cut-lengths : (q : ℕ) (bs : List ℕ) → q * m ≤ length bs → Each (λ (x : List ℕ). length x ≡ m) (cutUp m q bs)
+  cut-lengths zero bs h = tt
+  cut-lengths (suc q) bs h =
+      let f : suc q * m ≡ q * m + m = suc-mul q m in
+      let n : length (drop m bs) ≡ length bs - m = length-drop m bs in
+      (length-take-le m bs (omega arith), cut-lengths q (drop m bs) (omega arith))
+
   abbrev IsPart : List ℕ → Type 0
   IsPart x = (length x ≡ m) × Bytes x
 
-  cut-each : (q : ℕ) (bs : List ℕ) → length bs ≡ q * m → Bytes bs → Each IsPart (cutUp m q bs)
+  pub cut-each : (q : ℕ) (bs : List ℕ) → length bs ≡ q * m → Bytes bs → Each IsPart (cutUp m q bs)
   cut-each zero bs e h = tt
   cut-each (suc q) bs e h = (
     (length-take-le m bs (cut-rest q bs e .1), each-take IsByte m bs h),
@@ -85,7 +105,7 @@ module _ (r : ℕ) where
   all-clean (w ∷ ws) i = λ j. i .0 j ∷ all-clean ws (i .1) j
 
 module _ (r : ℕ) (h : r ≤ rootLimit) where
-  m-pos : 0 < messageBytes r
+  pub m-pos : 0 < messageBytes r
   m-pos = omega arith
 
   abbrev pub IsMessage : List ℕ → Type 0
@@ -157,7 +177,7 @@ module _ (r d : ℕ) (hr : r ≤ rootLimit) (bs : List ℕ) (h : Bytes bs) where
   abbrev fill : ℕ
   fill = completing (length (pushed r d bs))
 
-  abbrev messages : List (List ℕ)
+  abbrev pub messages : List (List ℕ)
   messages = messagesOf r bs ++ replicate fill flags
 
   -- the words that are answered
@@ -167,7 +187,7 @@ module _ (r d : ℕ) (hr : r ≤ rootLimit) (bs : List ℕ) (h : Bytes bs) where
   abbrev pub closing : List (List ℕ)
   closing = replicate (closingWords d) (flagWord r)
 
-  filled-long : length (filled r bs) ≡ length (filled r bs) / messageBytes r * messageBytes r
+  pub filled-long : length (filled r bs) ≡ length (filled r bs) / messageBytes r * messageBytes r
   filled-long =
       let n : ℕ = missing (messageBytes r) (length bs) in
       let l : length (filled r bs) ≡ length bs + n = length-append bs _ ∙ ap (λ x. length bs + x) (length-replicate n flag) in
@@ -176,7 +196,7 @@ module _ (r d : ℕ) (hr : r ≤ rootLimit) (bs : List ℕ) (h : Bytes bs) where
   flags-message : IsMessage r hr flags
   flags-message = (length-replicate (messageBytes r) flag, each-replicate IsByte (messageBytes r) flag (lit< tt))
 
-  messages-each : Each (IsMessage r hr) messages
+  pub messages-each : Each (IsMessage r hr) messages
   messages-each =
       each-append (IsMessage r hr) (messagesOf r bs) (replicate fill flags)
       (cut-each (messageBytes r) (m-pos r hr) _ (filled r bs) filled-long
@@ -213,7 +233,7 @@ module _ (r d : ℕ) (hr : r ≤ rootLimit) (bs : List ℕ) (h : Bytes bs) where
       (sym (map-append (wordOf r) (messagesOf r bs) (replicate fill flags) ∙ ap (λ l. ws ++ l) (map-replicate (wordOf r) fill flags)))
 
   -- whole groups
-  four : length (wordsOf r d bs) ≡ length (wordsOf r d bs) / groupWords * groupWords
+  pub four : length (wordsOf r d bs) ≡ length (wordsOf r d bs) / groupWords * groupWords
   four =
       let l : length (wordsOf r d bs) ≡ length (pushed r d bs) + fill =
       length-append (pushed r d bs) _ ∙ ap (λ n. length (pushed r d bs) + n) (length-replicate fill (flagWord r)) in

@@ -5,6 +5,7 @@
 -- flagWord                 a word of flags
 -- closingWords, completing   how many of them the closing push is made of, and how many complete the last group
 -- wordsOf                  all words: those of the stream, the closing push, those that complete the last group
+-- wordsBack                those of them that come back: the closing push stays in the interleaver
 -- grouped, marked, sent    groups, each with the marker before it; words and a stream as they are sent
 use Prim.Native.Nat.{ℕ, zero, suc, _*_, _-_, _/_, _%_}
 use mathlib.Core.List.{List, [], _∷_, _++_, map}
@@ -69,6 +70,10 @@ completing n = missing groupWords n
 -- .. "A group of four is always complete, filled with words of flags"
 abbrev pub wordsOf : ℕ → ℕ → List ℕ → List (List ℕ)
 wordsOf r d bs = pushed r d bs ++ replicate (completing (length (pushed r d bs))) (flagWord r)
+
+-- those that come back at the far end: the closing push stays in the interleaver
+abbrev pub wordsBack : ℕ → ℕ → List ℕ → List (List ℕ)
+wordsBack r d bs = take (length (wordsOf r d bs) - closingWords d) (wordsOf r d bs)
 
 -- q groups, the marker before each
 abbrev pub grouped : ℕ → List ℕ → List ℕ

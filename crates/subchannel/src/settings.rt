@@ -22,8 +22,8 @@ pub struct Counts {
 }
 
 impl Settings {
-    // Whether configuring takes them.
-    pub(crate) fn within(self) -> bool
+    /// Whether configuring takes them.
+    pub fn within(self) -> bool
         ensures { λ r. ⌜ r ≡ within self ⌝ }
     {
         if Sub::PARITY < self.parity {

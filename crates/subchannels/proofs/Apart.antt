@@ -1,19 +1,21 @@
 -- Bytes of one sub-channel never affect another's answers.
 -- got-put, got-other       a sub-channel exchanged, and the others then
--- kept-told, kept-sound    a call keeps the settings told, and what passes 10
+-- kept-hear, kept-call     a call keeps the settings told, and what passes 10
+-- sound-at                 10 of the four is 10 of each
 -- call-other, call-own     a call on another sub-channel, and on this one
 -- configure-others         configuring one leaves the others
+-- configure-own, told-means   .. and that one is as just told, also told again, and what it then hears means that
 -- alone, alone-means       whatever is scheduled, a sub-channel's answers, final state and buffers are those of its own pieces
 use Prim.Native.Nat.{ℕ, zero, suc, _≤_}
 use native.Mathlib.Omega.{arith}
 use mathlib.Core.Path.{_≡_, refl, sym, _∙_, ap, subst}
 use mathlib.Core.Logic.{_≢_}
-use mathlib.Core.Bool.{Bool, true, false, _&&_}
+use mathlib.Core.Bool.{Bool, true, false, _&&_, not}
 use mathlib.Core.List.{List, [], _∷_, _++_, map}
 use mathlib.Core.Option.{Option, some, none}
 use lib.Dec.{eqb, ltb, leb}
 use lib.ListN.{length, set}
-use borrow.Author.Tests.{eq-eqb, ne-eqb, le-leb, leb-true}
+use borrow.Author.Tests.{eq-eqb, ne-eqb, le-leb, leb-true, ltb-false}
 use Rattle.base.specs.Calls.{joined, Reads, ReadsAll}
 use Rattle.base.specs.Calls.Reads.{more, answer}
 use Rattle.base.specs.Calls.ReadsAll.{done, piece}
@@ -27,7 +29,7 @@ use Rattle.interleaver.specs.declared.Back.{Back}
 use Rattle.blocks.specs.declared.Hunting.{Hunting}
 use Rattle.blocks.specs.Sender.{wordBytes}
 use Rattle.blocks.specs.Channel.{Event, shift, isMarker}
-use Rattle.groups.specs.Sender.{groupBytes}
+use Rattle.groups.specs.Sender.{messageBytes, groupBytes}
 use Rattle.groups.specs.Sub.{hears, start, answers}
 use Rattle.channel.specs.Called.{roomy}
 use Rattle.subchannel.specs.declared.settings.Settings.{Settings}
@@ -35,7 +37,7 @@ use Rattle.subchannel.specs.declared.lane.Lane.{Lane}
 use Rattle.subchannel.specs.declared.sub.Sub.{Sub}
 use Rattle.subchannel.specs.Called.{Board, board, huntOn, wordAt, wordOn, groupOn, compareOn, markOn, eatBy, owed, handOn, eatByte}
 use Rattle.subchannel.specs.Called.{toldSub, sound, hearBy, hearOn, hearCall, Fine, inUse, boardOf}
-use Rattle.subchannel.proofs.Fine.{fine-of, fine-is, fine-hand, fine-eat}
+use Rattle.subchannel.proofs.Fine.{fine-of, fine-is, fine-hand, fine-eat, zero-placed}
 use Rattle.subchannel.proofs.Cutting.{hand-one}
 use Rattle.subchannel.proofs.Demands.{every-cut}
 use Rattle.subchannels.specs.declared.Receiver.{Receiver}
@@ -129,8 +131,8 @@ kept-call c bs k = go (roomy (c .recv) (c .word)) refl
     go true q = subst (λ (x : Option Event × ℕ × Board). Kept (x .2)) (λ i. hearBy (sym (k .0) i) (sym q i) c bs) (kept-hear c bs (fine-of c (k .0) q) (k .1))
     go false q = subst (λ (x : Option Event × ℕ × Board). Kept (x .2)) (λ i. hearBy (sym (k .0) i) (sym q i) c bs) k
 
--- the four
-sound-at : (s : Receiver) (n : ℕ) → soundFour s ≡ true → sound (get s n) ≡ true
+-- the four: what passes 10, of each
+pub sound-at : (s : Receiver) (n : ℕ) → soundFour s ≡ true → sound (get s n) ≡ true
 sound-at s zero e = and-parts (sound (s .a)) _ e .0
 sound-at s (suc zero) e = and-parts (sound (s .b)) _ (and-parts (sound (s .a)) _ e .1) .0
 sound-at s (suc (suc zero)) e = and-parts (sound (s .c)) _ (and-parts (sound (s .b)) _ (and-parts (sound (s .a)) _ e .1) .1) .0
@@ -141,6 +143,11 @@ sound-put s zero x e h = both h (both (sound-at s 1 e) (both (sound-at s 2 e) (s
 sound-put s (suc zero) x e h = both (sound-at s 0 e) (both h (both (sound-at s 2 e) (sound-at s 3 e)))
 sound-put s (suc (suc zero)) x e h = both (sound-at s 0 e) (both (sound-at s 1 e) (both h (sound-at s 3 e)))
 sound-put s (suc (suc (suc n))) x e h = both (sound-at s 0 e) (both (sound-at s 1 e) (both (sound-at s 2 e) h))
+
+told-sound : (r d : ℕ) → r ≤ rootLimit → d ≤ depthLimit → sound (toldSub r d) ≡ true
+told-sound r d hr hd =
+    both (both refl (both (both (le-leb r rootLimit hr) (le-leb d depthLimit hd)) (both refl (both refl (both refl (le-leb 0 (messageBytes r) (omega arith)))))))
+    (ap not (zero-placed d))
 
 -- ---- sub-channel k, configured, among the four
 module _ (k : ℕ) where
@@ -262,3 +269,37 @@ configure-others s n k r d h i e = go (soundFour s) (ltb 3 n) (ltb rootLimit r) 
     go true false true f = refl
     go true false false true = refl
     go true false false false = got-other s n k (toldSub r d) h i e
+
+-- told, also again: whatever it was before, the sub-channel is configured, passes 10, and is as one just told
+pub configure-own : (s : Receiver) (n r d : ℕ) → configuring s n r d .0 ≡ Told →
+    let t : Receiver = configuring s n r d .1 in
+    (r ≤ rootLimit) × (d ≤ depthLimit) × (soundFour t ≡ true) × (known t n ≡ true) × (get t n ≡ toldSub r d)
+configure-own s n r d = go (soundFour s) (ltb 3 n) (ltb rootLimit r) (ltb depthLimit d) refl refl refl refl
+  where
+    not-told : {m : ℕ} → Refused m ≡ Told → ⊥
+    not-told e = let z : _≡_ {A = ℕ} 0 1 = cc in omega arith
+
+    go : (a b c f : Bool) → soundFour s ≡ a → ltb 3 n ≡ b → ltb rootLimit r ≡ c → ltb depthLimit d ≡ f →
+        let x : Configured × Receiver =
+        pick a (pick b (Refused 42, s) (pick c (Refused 30, s) (pick f (Refused 32, s) (Told, put s n (toldSub r d))))) (Refused 10, s) in
+        x .0 ≡ Told → (r ≤ rootLimit) × (d ≤ depthLimit) × (soundFour (x .1) ≡ true) × (known (x .1) n ≡ true) × (get (x .1) n ≡ toldSub r d)
+    go false b c f e g h i q = absurd (not-told q)
+    go true true c f e g h i q = absurd (not-told q)
+    go true false true f e g h i q = absurd (not-told q)
+    go true false false true e g h i q = absurd (not-told q)
+    go true false false false e g h i q =
+        let hr : r ≤ rootLimit = ltb-false _ _ h in
+        let hd : d ≤ depthLimit = ltb-false _ _ i in (
+          hr,
+          hd,
+          sound-put s n (toldSub r d) e (told-sound r d hr hd),
+          both (le-leb n 3 (ltb-false _ _ g)) (ap (λ (x : Sub). x .lane .settings .told) (got-put s n (toldSub r d))),
+          got-put s n (toldSub r d),
+        )
+
+-- .. so that what it then hears means what it means to one just told
+pub told-means : (k r d : ℕ) (s : Boards) → configuring (s .st) k r d .0 ≡ Told → rawLimit ≤ length (s .recv k) → wordBytes ≤ length (s .word k)
+    → {t : Boards} {ps : List (ℕ × List ℕ)} {es : List (ℕ × Event)}
+    → Scheduled (record { st = configuring (s .st) k r d .1; recv = s .recv; word = s .word }) ps es t
+    → (ofOne k es ≡ answers r d (joined (ofOne k ps))) × (inUse (boardAt t k) ≡ inUse (boardOf r d (hears r d start (joined (ofOne k ps)) .1) [] []))
+told-means k r d s e a b c = let o = configure-own (s .st) k r d e in alone-means k r d (o .0) (o .1) (o .2, o .3) (o .4) a b c

@@ -1,0 +1,275 @@
+-- The refusals of fixed sub-channels, row by row: of one, and of four by number; and that a refused call changes nothing.
+-- Fails, fails-and, fails-most   a test that fails exactly where a row applies
+-- sub-fails, receiver-fails, sender-fails   10
+-- sub-exact, sub-same            one sub-channel's call
+-- configure-exact, -same         configuring, of the receiver and of the sender alike
+-- number-exact, -same            a receiving call by number
+-- send-exact                     a sending call by number
+use Prim.Native.Nat.{ℕ, zero, suc, _<_}
+use native.Mathlib.Omega.{arith}
+use mathlib.Core.Path.{_≡_, refl, sym, _∙_, ap, subst}
+use mathlib.Core.Bool.{Bool, true, false, _&&_, not}
+use mathlib.Core.Logic.{_⊎_, _↔_, ⊎-elim}
+use mathlib.Core.Logic._⊎_.{inl, inr}
+use mathlib.Core.List.{List, [], _∷_}
+use mathlib.Core.Option.{Option, some, none}
+use lib.Dec.{ltb, leb}
+use lib.ListN.{length, getD, set}
+use borrow.Author.Tests.{ltb-true, leb-false, not-true, not-false}
+use Rattle.base.specs.Calls.{With}
+use Rattle.base.specs.Choice.{pick}
+use Rattle.base.proofs.Calls.{with-hear}
+use Rattle.base.proofs.Tests.{and-parts}
+use Rattle.frames.specs.Frame.{Told, refusal}
+use Rattle.stream.specs.Called.{takeByte, sound as soundFrame}
+use Rattle.parity.specs.Calls.{rootLimit}
+use Rattle.interleaver.specs.Running.{depthLimit, pull, beyond}
+use Rattle.interleaver.specs.declared.Back.{Back}
+use Rattle.blocks.specs.declared.Hunting.{Hunting}
+use Rattle.blocks.specs.Sender.{wordBytes}
+use Rattle.blocks.specs.Channel.{Event, said, isMarker, shift}
+use Rattle.channel.specs.Called.{asEvent, roomy}
+use Rattle.groups.specs.Sender.{messageBytes, groupBytes, sent}
+use Rattle.subchannel.specs.declared.settings.Settings.{Settings}
+use Rattle.subchannel.specs.declared.settings.Counts.{Counts}
+use Rattle.subchannel.specs.declared.lane.Lane.{Lane}
+use Rattle.subchannel.specs.declared.sub.Sub.{Sub}
+use Rattle.subchannel.specs.Called.{Board, board, heldIn, wordAt, wordOn, groupOn, compareOn, markOn, eatBy, eatByte, owed, handOn}
+use Rattle.subchannel.specs.Called.{within, soundCounts, soundLane, sound, hearOn, hearBy, hearCall}
+use Rattle.subchannel.proofs.Cutting.{hand-one}
+use Rattle.subchannels.specs.declared.Configured.{Configured}
+use Rattle.subchannels.specs.declared.Configured.the-variants as configured
+use Rattle.subchannels.specs.declared.Receiver.{Receiver}
+use Rattle.subchannels.specs.Four as receiver
+use Rattle.subchannels.proofs.Apart.{sound-at}
+use Rattle.subsenders.specs.declared.Sender.{Sender}
+use Rattle.subsenders.specs.Four as sender
+use Rattle.demands.specs.Table.{Exact}
+use Rattle.demands.specs.Refusals.{PlaceBeyond, FrameBeyond, Short, OfFrame, OfCall, ByCall, ByHear}
+use Rattle.demands.specs.SubChannels.{SettingsBeyond, CountsBeyond, SubBeyond, ReceiverBeyond, SenderBeyond, Unknown, OfNumbered, ByConfigure, ByNumber}
+use Rattle.demands.proofs.Rows.{applies, over, row, row-not, passed, not-both, not-less, refuses, wrote, place-beyond, place-within}
+use Rattle.demands.proofs.Frames.{frame-or-call}
+use Rattle.demands.proofs.Called.{not-most, frame-beyond, frame-within, short, long, small-byte, SmallEvent, small-as, event-only, is-hear}
+
+-- ---- a test that fails exactly where a row applies
+abbrev Fails : Bool → Type 0 → Type 0
+Fails t C = (t ≡ false → C) × (t ≡ true → C → ⊥)
+
+fails-and : (a b : Bool) {A B : Type 0} → Fails a A → Fails b B → Fails (a && b) (A ⊎ B)
+fails-and a b f g = (
+  λ e. ⊎-elim (λ h. inl (f .0 h)) (λ h. inr (g .0 h)) (not-both a b e),
+  λ e. let p = and-parts a b e in ⊎-elim (f .1 (p .0)) (g .1 (p .1)),
+)
+
+fails-most : (a b : ℕ) → Fails (leb a b) (b < a)
+fails-most a b = (leb-false a b, not-most a b)
+
+fails-told : (t : Bool) → Fails t (t ≡ false)
+fails-told t = (λ e. e, λ e f. not-one (sym e ∙ f))
+  where
+    not-one : true ≡ false → ⊥
+    not-one e = let z : _≡_ {A = ℕ} 0 1 = cc in omega arith
+
+-- ---- 10
+settings-fails : (x : Settings) → Fails (within x) (SettingsBeyond x)
+settings-fails x = fails-and (leb (x .parity) rootLimit) _ (fails-most (x .parity) rootLimit) (fails-most (x .depth) depthLimit)
+
+counts-fails : (r : ℕ) (n : Counts) → Fails (soundCounts r n) (CountsBeyond r n)
+counts-fails r n =
+    fails-and (leb (n .group) groupBytes) _ (fails-most (n .group) groupBytes)
+    (fails-and (leb (n .marker) 3) _ (fails-most (n .marker) 3)
+    (fails-and (leb (n .word) wordBytes) _ (fails-most (n .word) wordBytes) (fails-most (n .handed) (messageBytes r))))
+
+place-fails : (d p : ℕ) → Fails (not (beyond d p)) (PlaceBeyond d p)
+place-fails d p = (λ e. place-beyond d p (not-false _ e), λ e. place-within d p (not-true _ e))
+
+pub sub-fails : (s : Sub) → Fails (sound s) (SubBeyond s)
+sub-fails s =
+    let l : Lane = s .lane in
+    fails-and (soundLane l) _
+    (fails-and (soundFrame (l .frame)) _ (frame-beyond (l .frame), frame-within (l .frame))
+    (fails-and (within (l .settings)) _ (settings-fails (l .settings)) (counts-fails (l .settings .parity) (l .counts))))
+    (place-fails (l .settings .depth) (s .back .matrix .place))
+
+receiver-fails : (s : Receiver) → Fails (receiver.soundFour s) (ReceiverBeyond s)
+receiver-fails s =
+    fails-and (sound (s .a)) _ (sub-fails (s .a)) (fails-and (sound (s .b)) _ (sub-fails (s .b)) (fails-and (sound (s .c)) _ (sub-fails (s .c)) (sub-fails (s .d))))
+
+sender-fails : (s : Sender) → Fails (sender.soundFour s) (SenderBeyond s)
+sender-fails s =
+    fails-and (within (s .a)) _ (settings-fails (s .a))
+    (fails-and (within (s .b)) _ (settings-fails (s .b)) (fails-and (within (s .c)) _ (settings-fails (s .c)) (settings-fails (s .d))))
+
+-- ---- a frame's numbers are none of a call
+module _ {B : Type 0} (c : B) where
+  small-word : (t : Bool) (s : Lane) (w : ℕ) (l : List ℕ) → With SmallEvent (wordOn t s w l .0) c
+  small-word true s w l = tt
+  small-word false s w l = tt
+
+  small-group : (o : Option ℕ) (s : Lane) (l : List ℕ) → With SmallEvent (groupOn o s l .0) c
+  small-group none s l = tt
+  small-group (some y) s l =
+      small-word (ltb (suc (wordAt (s .counts .word))) wordBytes) s (wordAt (s .counts .word)) (set l (wordAt (s .counts .word)) y)
+
+  small-compare : (t : Bool) (f : Hunting) (s : Lane) → With SmallEvent (compareOn t f s .0) c
+  small-compare true f s = tt
+  small-compare false f s = tt
+
+  small-mark : (t : Bool) (f : Hunting) (s : Lane) → With SmallEvent (markOn t f s .0) c
+  small-mark true f s = tt
+  small-mark false f s = small-compare (isMarker f) f s
+
+  small-eat : (o l t : Bool) (s : Lane) (k : Back) (w : List ℕ) (b : ℕ) → With SmallEvent (eatBy o l t s k w b .0) c
+  small-eat true l t s k w b = tt
+  small-eat false false t s k w b = tt
+  small-eat false true true s k w b = small-group (pull (s .settings .depth) k b .0) s w
+  small-eat false true false s k w b = small-mark (ltb (suc (s .counts .marker)) 4) (shift (s .hunting) b) s
+
+small-hand : (c : Board) → With SmallEvent (handOn c .0) (handOn c .1)
+small-hand c =
+    let b : ℕ = getD (c .word) (c .st .lane .counts .handed) 0 in
+    let x = takeByte (heldIn c) b in
+    small-as (x .0) (x .1) (handOn c .1) (small-byte (heldIn c) b)
+
+small-hear : (c : Board) (bs : List ℕ) → With SmallEvent (hearOn c bs .0) (hearOn c bs .2)
+small-hear c bs =
+    with-hear owed handOn eatByte hand-one SmallEvent small-hand
+    (λ x b. let s : Lane = x .st .lane in small-eat (eatByte x b .1) (s .lost) (s .locked) (ltb (s .counts .group) groupBytes) s (x .st .back) (x .word) b) c bs
+
+-- ---- one sub-channel's call
+pub sub-exact : (c : Board) (bs : List ℕ) → Exact ByHear (hearCall c bs) ((10, SubBeyond (c .st)) ∷ (11, Short (c .recv) (c .word)) ∷ [])
+sub-exact c bs = go (sound (c .st)) (roomy (c .recv) (c .word)) refl refl
+  where
+    go : (s r : Bool) → sound (c .st) ≡ s → roomy (c .recv) (c .word) ≡ r
+        → Exact ByHear (hearBy s r c bs) ((10, SubBeyond (c .st)) ∷ (11, Short (c .recv) (c .word)) ∷ [])
+    go false r e f = applies ByHear _ (λ n. is-hear c 10 n (inl refl)) (sub-fails (c .st) .0 e)
+    go true false e f = over ByHear (sub-fails (c .st) .1 e) (applies ByHear _ (λ n. is-hear c 11 n (inr refl)) (short (c .recv) (c .word) f))
+    go true true e f =
+        over ByHear (sub-fails (c .st) .1 e) (over ByHear (long (c .recv) (c .word) f)
+        (passed ByHear λ n b. event-only (hearOn c bs .0) (hearOn c bs .2) n (small-hear c bs) (b .0) (b .1)))
+
+pub sub-same : (c : Board) (bs : List ℕ) (n : ℕ) → ByHear (hearCall c bs) n → hearCall c bs ≡ (some (said (refusal n)), 0, c)
+sub-same c bs n = go (sound (c .st)) (roomy (c .recv) (c .word))
+  where
+    go : (s r : Bool) → ByHear (hearBy s r c bs) n → hearBy s r c bs ≡ (some (said (refusal n)), 0, c)
+    go false r b = λ i. (b .1 i, 0, c)
+    go true false b = λ i. (b .1 i, 0, c)
+    go true true b = absurd (event-only (hearOn c bs .0) (hearOn c bs .2) n (small-hear c bs) (b .0) (b .1))
+
+-- ---- configuring: s as it was, and t told
+module _ {S : Type 0} (s t : S) (passes : Bool) {C : Type 0} (f : Fails passes C) (n r d : ℕ) where
+  abbrev result : Bool → Bool → Bool → Bool → Configured × S
+  result a b c e = pick a (pick b (configured.Refused 42, s) (pick c (configured.Refused 30, s) (pick e (configured.Refused 32, s) (configured.Told, t)))) (configured.Refused 10, s)
+
+  refuses-configure : (m k : ℕ) → ByConfigure {S = S} (configured.Refused m, s) k ↔ k ≡ m
+  refuses-configure m k = (λ e. let z : m ≡ k = cc in sym z, λ e i. configured.Refused (sym e i))
+
+  pub configure-exact : Exact ByConfigure (result passes (ltb 3 n) (ltb rootLimit r) (ltb depthLimit d)) ((10, C) ∷ (42, 3 < n) ∷ (30, 64 < r) ∷ (32, 64 < d) ∷ [])
+  configure-exact =
+      row-not ByConfigure passes (refuses-configure 10) (f .0) (f .1)
+      (row ByConfigure (ltb 3 n) (refuses-configure 42) (ltb-true _ _) (not-less _ _)
+      (row ByConfigure (ltb rootLimit r) (refuses-configure 30) (ltb-true _ _) (not-less _ _)
+      (row ByConfigure (ltb depthLimit d) (refuses-configure 32) (ltb-true _ _) (not-less _ _)
+      (passed ByConfigure λ k e. let z : _≡_ {A = ℕ} 0 1 = cc in omega arith))))
+
+  pub configure-same : (m : ℕ) → ByConfigure (result passes (ltb 3 n) (ltb rootLimit r) (ltb depthLimit d)) m
+      → result passes (ltb 3 n) (ltb rootLimit r) (ltb depthLimit d) ≡ (configured.Refused m, s)
+  configure-same m = go passes (ltb 3 n) (ltb rootLimit r) (ltb depthLimit d)
+    where
+      go : (a b c e : Bool) → ByConfigure (result a b c e) m → result a b c e ≡ (configured.Refused m, s)
+      go false b c e q = λ i. (q i, s)
+      go true true c e q = λ i. (q i, s)
+      go true false true e q = λ i. (q i, s)
+      go true false false true q = λ i. (q i, s)
+      go true false false false q = let z : _≡_ {A = ℕ} 0 1 = cc in absurd (omega arith)
+
+pub receiver-configure-exact : (s : Receiver) (n r d : ℕ)
+    → Exact ByConfigure (receiver.configuring s n r d) ((10, ReceiverBeyond s) ∷ (42, 3 < n) ∷ (30, 64 < r) ∷ (32, 64 < d) ∷ [])
+receiver-configure-exact s n r d = configure-exact s _ (receiver.soundFour s) (receiver-fails s) n r d
+
+pub receiver-configure-same : (s : Receiver) (n r d m : ℕ) → ByConfigure (receiver.configuring s n r d) m → receiver.configuring s n r d ≡ (configured.Refused m, s)
+receiver-configure-same s n r d = configure-same s _ (receiver.soundFour s) (receiver-fails s) n r d
+
+pub sender-configure-exact : (s : Sender) (n r d : ℕ)
+    → Exact ByConfigure (sender.configuring s n r d) ((10, SenderBeyond s) ∷ (42, 3 < n) ∷ (30, 64 < r) ∷ (32, 64 < d) ∷ [])
+sender-configure-exact s n r d = configure-exact s _ (sender.soundFour s) (sender-fails s) n r d
+
+pub sender-configure-same : (s : Sender) (n r d m : ℕ) → ByConfigure (sender.configuring s n r d) m → sender.configuring s n r d ≡ (configured.Refused m, s)
+sender-configure-same s n r d = configure-same s _ (sender.soundFour s) (sender-fails s) n r d
+
+-- ---- a receiving call by number
+known-fails : (n : ℕ) (x : Settings) → Fails (leb n 3 && (x .told)) (Unknown n x)
+known-fails n x = fails-and (leb n 3) (x .told) (fails-most n 3) (fails-told (x .told))
+
+put-got : (s : Receiver) (n : ℕ) → receiver.put s n (receiver.get s n) ≡ s
+put-got s zero = refl
+put-got s (suc zero) = refl
+put-got s (suc (suc zero)) = refl
+put-got s (suc (suc (suc n))) = refl
+
+numbered-only : {B : Type 0} (o : Option Event) (c : B) (n : ℕ) → With SmallEvent o c → OfNumbered n → o ≡ some (said (refusal n)) → ⊥
+numbered-only o c n w k e =
+    let f : OfFrame n = subst (λ (o : Option Event). With SmallEvent o c) e w in
+    ⊎-elim (frame-or-call n f) (λ z. ⊎-elim (λ a. omega (arith, a .1, z)) (λ a. omega (arith, a, z)) f) k
+
+module _ (s : Receiver) (n : ℕ) (recv word bs : List ℕ) where
+  abbrev Result : Type 0
+  Result = Option Event × ℕ × Receiver × List ℕ × List ℕ
+
+  abbrev c : Board
+  c = board (receiver.get s n) recv word
+
+  -- a call that passes 10 and 42, by what is left of it
+  abbrev behind : Option Event × ℕ × Board → Result
+  behind x = (x .0, x .1, receiver.put s n (x .2 .st), x .2 .recv, x .2 .word)
+
+  is-number : (m k : ℕ) (x : Result) → x .0 ≡ some (said (refusal m)) → OfNumbered m → ByNumber x k ↔ k ≡ m
+  is-number m k x e h = (
+    λ b. let q : some (said (refusal m)) ≡ some (said (refusal k)) = sym e ∙ b .1 in let z : m ≡ k = cc in sym z,
+    λ q. (subst OfNumbered (sym q) h, e ∙ (λ i. some (said (refusal (sym q i))))),
+  )
+
+  pub number-exact : Exact ByNumber (receiver.hearFour s n recv word bs)
+      ((10, ReceiverBeyond s) ∷ (42, Unknown n (receiver.get s n .lane .settings)) ∷ (11, Short recv word) ∷ [])
+  number-exact = go (receiver.soundFour s) (receiver.known s n) refl refl
+    where
+      left : (t : Bool) → roomy recv word ≡ t → Exact ByNumber (behind (hearBy true t c bs)) ((11, Short recv word) ∷ [])
+      left false f = applies ByNumber _ (λ k. is-number 11 k (behind (hearBy true false c bs)) refl (inl (inr refl))) (short recv word f)
+      left true f =
+          over ByNumber (long recv word f) (passed ByNumber λ k b. numbered-only (hearOn c bs .0) (hearOn c bs .2) k (small-hear c bs) (b .0) (b .1))
+
+      go : (a b : Bool) → receiver.soundFour s ≡ a → receiver.known s n ≡ b → Exact ByNumber (receiver.heardBy a b s n recv word bs)
+          ((10, ReceiverBeyond s) ∷ (42, Unknown n (receiver.get s n .lane .settings)) ∷ (11, Short recv word) ∷ [])
+      go false b e f =
+          applies ByNumber _ (λ k. is-number 10 k (receiver.heardBy false b s n recv word bs) refl (inl (inl refl))) (receiver-fails s .0 e)
+      go true false e f =
+          over ByNumber (receiver-fails s .1 e)
+          (applies ByNumber _ (λ k. is-number 42 k (receiver.heardBy true false s n recv word bs) refl (inr refl))
+          (known-fails n (receiver.get s n .lane .settings) .0 f))
+      go true true e f =
+          over ByNumber (receiver-fails s .1 e) (over ByNumber (known-fails n (receiver.get s n .lane .settings) .1 f)
+          (subst (λ t. Exact ByNumber (behind (hearBy t (roomy recv word) c bs)) ((11, Short recv word) ∷ [])) (sym (sound-at s n e))
+          (left (roomy recv word) refl)))
+
+  pub number-same : (m : ℕ) → ByNumber (receiver.hearFour s n recv word bs) m
+      → receiver.hearFour s n recv word bs ≡ (some (said (refusal m)), 0, s, recv, word)
+  number-same m = go (receiver.soundFour s) (receiver.known s n)
+    where
+      left : (a b : Bool) → ByNumber (behind (hearBy a b c bs)) m → behind (hearBy a b c bs) ≡ (some (said (refusal m)), 0, s, recv, word)
+      left false b q = λ i. (q .1 i, 0, put-got s n i, recv, word)
+      left true false q = λ i. (q .1 i, 0, put-got s n i, recv, word)
+      left true true q = absurd (numbered-only (hearOn c bs .0) (hearOn c bs .2) m (small-hear c bs) (q .0) (q .1))
+
+      go : (a b : Bool) → ByNumber (receiver.heardBy a b s n recv word bs) m
+          → receiver.heardBy a b s n recv word bs ≡ (some (said (refusal m)), 0, s, recv, word)
+      go false b q = λ i. (q .1 i, 0, s, recv, word)
+      go true false q = λ i. (q .1 i, 0, s, recv, word)
+      go true true q = left (sound (receiver.get s n)) (roomy recv word) q
+
+-- ---- a sending call by number
+pub send-exact : (s : Sender) (n : ℕ) (bs out : List ℕ) → Exact ByCall (sender.sendFour s n bs out)
+    ((10, SenderBeyond s) ∷ (42, Unknown n (sender.get s n)) ∷ (23, length out < length (sent (sender.get s n .parity) (sender.get s n .depth) bs)) ∷ [])
+send-exact s n bs out =
+    row-not ByCall (sender.soundFour s) (refuses 10 out) (sender-fails s .0) (sender-fails s .1)
+    (row-not ByCall (sender.known s n) (refuses 42 out) (known-fails n (sender.get s n) .0) (known-fails n (sender.get s n) .1)
+    (wrote (sent (sender.get s n .parity) (sender.get s n .depth) bs) out _ refl))

@@ -1,0 +1,62 @@
+-- Rows of the refusals of fixed sub-channels (request W7).
+-- SettingsBeyond, CountsBeyond, SubBeyond   10: of one sub-channel
+-- ReceiverBeyond, SenderBeyond              .. of the state, which is all four
+-- Unknown                                   42, outside configuring
+-- OfNumbered                                the numbers of receiving calls by number
+-- ByConfigure, ByNumber                     that configuring, and a receiving call by number, refuses by a number
+use Prim.Native.Nat.{ℕ, _<_}
+use mathlib.Core.Path.{_≡_}
+use mathlib.Core.Bool.{false}
+use mathlib.Core.Logic.{_⊎_}
+use mathlib.Core.List.{List}
+use mathlib.Core.Option.{Option, some}
+use Rattle.frames.specs.Frame.{refusal}
+use Rattle.blocks.specs.Sender.{wordBytes}
+use Rattle.blocks.specs.Channel.{Event, said}
+use Rattle.groups.specs.Sender.{messageBytes, groupBytes}
+use Rattle.subchannel.specs.declared.settings.Settings.{Settings}
+use Rattle.subchannel.specs.declared.settings.Counts.{Counts}
+use Rattle.subchannel.specs.declared.sub.Sub.{Sub}
+use Rattle.subchannels.specs.declared.Configured.{Configured}
+use Rattle.subchannels.specs.declared.Configured.the-variants.{Refused}
+use Rattle.subchannels.specs.declared.Receiver.{Receiver}
+use Rattle.subsenders.specs.declared.Sender.{Sender}
+use Rattle.demands.specs.Refusals.{PlaceBeyond, FrameBeyond, OfCall}
+
+-- 10: settings that no configuring takes
+abbrev pub SettingsBeyond : Settings → Type 0
+SettingsBeyond x = (64 < x .parity) ⊎ (64 < x .depth)
+
+-- "10 also when a group counts more than four words"; marker bytes above 3, bytes of a word above 255, message bytes handed on above 255 - R
+abbrev pub CountsBeyond : ℕ → Counts → Type 0
+CountsBeyond r n = (groupBytes < n .group) ⊎ (3 < n .marker) ⊎ (wordBytes < n .word) ⊎ (messageBytes r < n .handed)
+
+-- of one sub-channel: those of its frame reader, of its settings, of its counts; a cell place of N or more
+abbrev pub SubBeyond : Sub → Type 0
+SubBeyond s =
+    (FrameBeyond (s .lane .frame) ⊎ SettingsBeyond (s .lane .settings) ⊎ CountsBeyond (s .lane .settings .parity) (s .lane .counts))
+    ⊎ PlaceBeyond (s .lane .settings .depth) (s .back .matrix .place)
+
+-- of the receiver: of any of the four, configured or not
+abbrev pub ReceiverBeyond : Receiver → Type 0
+ReceiverBeyond s = SubBeyond (s .a) ⊎ SubBeyond (s .b) ⊎ SubBeyond (s .c) ⊎ SubBeyond (s .d)
+
+-- of the sender
+abbrev pub SenderBeyond : Sender → Type 0
+SenderBeyond s = SettingsBeyond (s .a) ⊎ SettingsBeyond (s .b) ⊎ SettingsBeyond (s .c) ⊎ SettingsBeyond (s .d)
+
+-- "42 for a sub-channel number above 3 or, outside configuring, one not configured": of number n, with these settings
+abbrev pub Unknown : ℕ → Settings → Type 0
+Unknown n x = (3 < n) ⊎ (x .told ≡ false)
+
+-- the numbers that receiving calls by number are refused by
+abbrev pub OfNumbered : ℕ → Type 0
+OfNumbered n = OfCall n ⊎ (n ≡ 42)
+
+-- configuring is refused by a number
+abbrev pub ByConfigure : {S : Type 0} → Configured × S → ℕ → Type 0
+ByConfigure x n = x .0 ≡ Refused n
+
+-- a receiving call by number is
+abbrev pub ByNumber : Option Event × ℕ × Receiver × List ℕ × List ℕ → ℕ → Type 0
+ByNumber x n = OfNumbered n × (x .0 ≡ some (said (refusal n)))
