@@ -1,4 +1,5 @@
 -- Sending group by group.
+-- group-long                                    a group's bytes
 -- group-state, -roots, -depth, -short, -wrote   what the call answers and leaves
 -- count-roots, -depth, -are                     what the count answers
 -- group-goes, group-placed                      a call with room writes the next group, and behind it the place is one of the N cells again
@@ -36,6 +37,11 @@ use Rattle.subsender.proofs.Laying.{message-full, four-long, push-long}
 use Rattle.subsender.proofs.Storing.{push-placed, groups-next, groups-long, sent-is}
 
 -- ---- the call
+pub group-long : (r d : ℕ) → r ≤ rootLimit → (m : Matrix) (bs : List ℕ) → length (groupNext r d m bs .0) ≡ groupLength
+group-long r d hr m bs =
+    length-append marker (run (push d) m (joined (wordsFrom r 4 bs)) .0)
+    ∙ (let z = push-long d m (joined (wordsFrom r 4 bs)) ∙ four-long r hr bs in omega arith)
+
 module _ (r d : ℕ) (m : Matrix) (bs out : List ℕ) where
   pub group-state : beyond d (m .place) ≡ true → _≡_ {A = Outcome × ℕ × Matrix} (refused 10 out, 0, m) (groupSending r d m bs out)
   group-state e = rw e refl
@@ -51,10 +57,8 @@ module _ (r d : ℕ) (m : Matrix) (bs out : List ℕ) where
       abbrev x : List ℕ
       x = groupNext r d m bs .0
 
-      group-long : length x ≡ groupLength
-      group-long =
-          length-append marker (run (push d) m (joined (wordsFrom r 4 bs)) .0)
-          ∙ (let z = push-long d m (joined (wordsFrom r 4 bs)) ∙ four-long r hr bs in omega arith)
+      long : length x ≡ groupLength
+      long = group-long r d hr m bs
 
       module _ (hd : d ≤ depthLimit) where
         way : groupWritten r m bs (groupNext r d m bs) out ≡ groupSending r d m bs out
@@ -62,7 +66,7 @@ module _ (r d : ℕ) (m : Matrix) (bs out : List ℕ) where
 
         pub group-short : length out < groupLength → _≡_ {A = Outcome × ℕ × Matrix} (refused 23 out, 0, m) (groupSending r d m bs out)
         group-short h =
-            let l : length out < length x = omega (arith, group-long) in
+            let l : length out < length x = omega (arith, long) in
             (λ i. (
               sym (write-short x out l) i,
               pick (sym (lt-ltb (length out) (length x) l) i) 0 (min (groupStream r) (length bs)),
@@ -72,8 +76,8 @@ module _ (r d : ℕ) (m : Matrix) (bs out : List ℕ) where
         pub group-wrote : {after : List ℕ} {m′ : Matrix} {n : ℕ} → groupLength ≤ length out → GroupIs d m (joined (wordsFrom r 4 bs)) out m′ after
             → n ≡ min (groupStream r) (length bs) → _≡_ {A = Outcome × ℕ × Matrix} (outcome (Wrote groupLength) after, n, m′) (groupSending r d m bs out)
         group-wrote h g k =
-            let l : length x ≤ length out = omega (arith, group-long) in
-            (λ i. (outcome (Wrote (sym group-long i)) (g .1 i), k i, g .0 i))
+            let l : length x ≤ length out = omega (arith, long) in
+            (λ i. (outcome (Wrote (sym long i)) (g .1 i), k i, g .0 i))
             ∙ (λ i. (
               sym (write-fits x out l) i,
               pick (sym (le-ltb (length out) (length x) l) i) 0 (min (groupStream r) (length bs)),
