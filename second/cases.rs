@@ -1,19 +1,32 @@
 //! Cases for the comparison: how they are written, which are asked, and what the second program answers.
 //! crates/answers/src/main.rt has the form of a case and of an answer, crates/pieces/src, crates/channels/src, crates/listings/src and
-//! crates/rooms/src that of an answer in pieces; crates/turns/src/main.rt what is asked of the interleaver, whose states are carried over from case to case.
+//! crates/rooms/src that of an answer in pieces; crates/turns/src/main.rt what is asked of the interleaver and
+//! crates/schedules/src/main.rt of fixed sub-channels, whose states are carried over from case to case.
 
 use crate::interleaver::{Sender, Sides, CELLS};
 use crate::packet::{Delivery, Fault, Frame, Packet, FLAG, RAW_LIMIT};
 use crate::parity::WORD;
 use crate::repair::altered;
 use crate::stream::Reader;
-use crate::{board_cases, channel, channel_cases, fcs, key_cases, listing_cases, packet, parity, repair, stream};
+use crate::{board_cases, channel, channel_cases, fcs, fixed_cases, key_cases, listing_cases, packet, parity, repair, stream};
 
 pub struct Case {
     pub asked: u8,
     pub number: u64,
     pub space: u16,
     pub bytes: Vec<u8>,
+}
+
+/// What a file of cases carries over from one to the next.
+pub struct Carried {
+    sides: Sides,
+    fixed: fixed_cases::Carried,
+}
+
+impl Carried {
+    pub fn new() -> Self {
+        Carried { sides: Sides::new(), fixed: fixed_cases::Carried::new() }
+    }
 }
 
 impl Case {
@@ -26,8 +39,8 @@ impl Case {
         to.extend(&self.bytes);
     }
 
-    /// Which program answers it: `pieces` a stream, `channels` a channel, `listings` a recording, `rooms` a board, `turns` the interleaver, `calls`
-    /// each other single call. A letter belongs to one of them.
+    /// Which program answers it: `pieces` a stream, `channels` a channel, `listings` a recording, `rooms` a board, `turns` the interleaver,
+    /// `schedules` fixed sub-channels, `calls` each other single call. A letter belongs to one of them.
     pub fn kind(&self) -> &'static str {
         match self.asked {
             b'S' => "pieces",
@@ -35,12 +48,13 @@ impl Case {
             b'L' => "listings",
             b'b' => "rooms",
             b'I' | b'J' | b'Z' | b'N' | b'X' | b'V' => "turns",
+            b'n' | b'c' | b'h' | b'x' | b'v' | b's' | b'g' | b'p' | b'w' | b'q' => "schedules",
             _ => "calls",
         }
     }
 
     /// What the second program answers, as bytes.
-    pub fn reply(&self, sides: &mut Sides) -> Vec<u8> {
+    pub fn reply(&self, carried: &mut Carried) -> Vec<u8> {
         let mut out = vec![0xA5; self.space as usize];
         let mut reply = match self.asked {
             b'S' => self.stream_in_pieces(&mut out),
@@ -48,7 +62,8 @@ impl Case {
             b'L' => listing_cases::recording_in_pieces(self.number, &self.bytes, &mut out),
             b'b' => board_cases::read_by_calls(self.number, &self.bytes, &mut out),
             b'Q' => self.closed_frame(&mut out),
-            _ if self.kind() == "turns" => self.turn(sides, &mut out).to_le_bytes().to_vec(),
+            _ if self.kind() == "turns" => self.turn(&mut carried.sides, &mut out).to_le_bytes().to_vec(),
+            _ if self.kind() == "schedules" => carried.fixed.reply(self, &mut out),
             _ => self.number_of_call(&mut out).to_le_bytes().to_vec(),
         };
         reply.extend(out);
@@ -199,7 +214,7 @@ pub fn push_all(told: &mut Vec<u8>, numbers: &[u64]) {
 }
 
 /// Lays bytes at the start of the output, as many as it holds.
-fn lay(bytes: &[u8], out: &mut [u8]) {
+pub fn lay(bytes: &[u8], out: &mut [u8]) {
     let n = out.len().min(bytes.len());
     out[..n].copy_from_slice(&bytes[..n]);
 }
@@ -211,7 +226,7 @@ fn part(bytes: &[u8], out: &mut [u8]) -> u64 {
 }
 
 /// The answer of a call that writes its result to the start of the output.
-fn answer_in(result: Result<Vec<u8>, u8>, out: &mut [u8]) -> u64 {
+pub fn answer_in(result: Result<Vec<u8>, u8>, out: &mut [u8]) -> u64 {
     result.map_or_else(refusal, |bytes| {
         out[..bytes.len()].copy_from_slice(&bytes);
         bytes.len() as u64
@@ -270,6 +285,7 @@ pub fn all(seed: u64) -> Vec<Case> {
     channel_cases::all(&mut random, &mut cases);
     listing_cases::all(&mut random, &mut cases);
     board_cases::all(&mut random, &mut cases);
+    fixed_cases::all(&mut random, &mut cases);
     cases
 }
 

@@ -83,7 +83,7 @@ fn state_numbers(r: &Receiver, told: &mut Vec<u8>) {
 }
 
 /// An answer as a number; 0 is kept for "more wanted".
-fn answer_number(answer: Answer) -> u64 {
+pub fn answer_number(answer: Answer) -> u64 {
     match answer {
         Answer::Block(Some(0)) => 1,
         Answer::Block(None) => 2,

@@ -27,7 +27,7 @@ fn waits(depth: usize) -> Vec<usize> {
 }
 
 /// Refusals 10 and 32: whether the depth has cells.
-fn has_cells(depth: u64, place: u64) -> Result<bool, u8> {
+pub fn has_cells(depth: u64, place: u64) -> Result<bool, u8> {
     if depth >= 2 && place as u128 >= 255 * depth as u128 {
         return Err(10);
     }

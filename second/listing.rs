@@ -138,13 +138,13 @@ const WELL: &str = "well";
 
 /// The lines of a listing, and the totals that its last line has: packets, frame refusals, damaged blocks, lost locks.
 #[derive(Default)]
-struct Page {
-    lines: Vec<u8>,
-    totals: [u64; 4],
+pub struct Page {
+    pub lines: Vec<u8>,
+    pub totals: [u64; 4],
 }
 
 impl Page {
-    fn frame(&mut self, result: Frame) {
+    pub fn frame(&mut self, result: Frame) {
         match result {
             Ok(Delivery { port, sequence, payload_length, .. }) => {
                 self.totals[0] += 1;
@@ -161,7 +161,7 @@ impl Page {
         }
     }
 
-    fn block(&mut self, repaired: Option<usize>) {
+    pub fn block(&mut self, repaired: Option<usize>) {
         match repaired {
             Some(places) => self.print_line(b'B', &[places as u64], b""),
             None => {
@@ -171,13 +171,13 @@ impl Page {
         }
     }
 
-    fn lock_lost(&mut self) {
+    pub fn lock_lost(&mut self) {
         self.totals[3] += 1;
         self.print_line(b'L', &[], b"");
     }
 
     /// A letter, numbers in decimal, and what stands behind them.
-    fn print_line(&mut self, letter: u8, numbers: &[u64], rest: &[u8]) {
+    pub fn print_line(&mut self, letter: u8, numbers: &[u64], rest: &[u8]) {
         self.lines.push(letter);
         for number in numbers {
             let mut decimal = [b' '; 21];

@@ -12,6 +12,8 @@
 //!   second word R HEX        clean or damaged
 //!   second repair R HEX      what repair finds, and the word that it leaves
 //!   second test [SEED]       holds the second program itself to the paper (selftest.rs)
+//!   second fixed send|list R DEPTH
+//!                            standard input sent on a fixed sub-channel, or what one makes of it, as a listing (fixed.rs)
 //!   second interleave push|pull DEPTH
 //!                            standard input through the interleaver, with the closing push, or back
 //!   second list              the listing of the recording on standard input
@@ -26,9 +28,9 @@
 //!   second steady plain|marked MIB
 //!                            a clean recording to be timed, to standard output
 //!   second samples DIR       the recordings of samples/ with their listings
-//!   second cases calls|turns|pieces|channels|listings|rooms [SEED]
+//!   second cases calls|turns|pieces|channels|listings|rooms|schedules [SEED]
 //!                            cases for the proved code, to standard output: single calls, the interleaver, streams and channels in pieces,
-//!                            recordings, or boards with any room for their text
+//!                            recordings, boards with any room for their text, or fixed sub-channels
 //!   second words R PLACES N  N cases for repair: words altered in so many places
 //!   second time N M          times of N words made and checked, and of M words of each kind repaired (time.rs)
 //!   second compare CASES ANSWERS ..
@@ -41,6 +43,8 @@ mod cases;
 mod channel;
 mod channel_cases;
 mod fcs;
+mod fixed;
+mod fixed_cases;
 mod interleaver;
 mod key_cases;
 mod kinds;
@@ -55,7 +59,7 @@ mod selftest;
 mod stream;
 mod time;
 
-use interleaver::{Receiver, Sender, Sides};
+use interleaver::{Receiver, Sender};
 use std::io::{Read, Write};
 
 fn main() {
@@ -69,6 +73,8 @@ fn main() {
         ["test"] => Some(selftest::run(1)),
         ["test", seed] => number(seed).map(selftest::run),
         ["interleave", side @ ("push" | "pull"), depth] => number(depth).filter(|d| *d <= 64).map(|d| interleave(side == "push", d)),
+        ["fixed", "send", r, depth] => sub_channel(r, depth).map(|(r, depth)| fixed::send_input(r, depth)),
+        ["fixed", "list", r, depth] => sub_channel(r, depth).map(|(r, depth)| fixed::list_input(r, depth)),
         ["bids", ref rest @ ..] => std::process::exit(bids::run(rest)),
         ["board", ref rest @ ..] if board::are_options(rest) => Some(board::show(rest).expect("standard input and output")),
         ["boards", dir] => Some(board_cases::write(dir, 1)),
@@ -94,8 +100,8 @@ fn main() {
     };
     if done.is_none() {
         eprintln!("usage: second fcs HEX | parity R HEX | word R HEX | repair R HEX | interleave push|pull DEPTH | list | missed | kinds FILE..");
-        eprintln!("  | board [--recording|--stream] [--blocks] | boards DIR [SEED] | feed FIFO TEXT STREAM");
-        eprintln!("  | recordings DIR [SEED] | steady plain|marked MIB | samples DIR | cases calls|turns|pieces|channels|listings|rooms [SEED]");
+        eprintln!("  | fixed send|list R DEPTH | board [--recording|--stream] [--blocks] | boards DIR [SEED] | feed FIFO TEXT STREAM");
+        eprintln!("  | recordings DIR [SEED] | steady plain|marked MIB | samples DIR | cases calls|turns|pieces|channels|listings|rooms|schedules [SEED]");
         eprintln!("  | compare CASES ANSWERS .. | test [SEED] | words R PLACES N | time N M | numbered FILE [SEED] | tables CASES ANSWERS [SEED]");
         std::process::exit(2);
     }
@@ -103,6 +109,11 @@ fn main() {
 
 fn number(text: &str) -> Option<u64> {
     text.parse().ok()
+}
+
+/// R and the depth of a sub-channel.
+fn sub_channel(r: &str, depth: &str) -> Option<(u64, u64)> {
+    number(r).filter(|r| *r <= 64).zip(number(depth).filter(|depth| *depth <= 64))
 }
 
 fn unhex(text: &str) -> Option<Vec<u8>> {
@@ -177,7 +188,7 @@ fn write_steady(letter: u8, mib: u64) {
 }
 
 /// The programs that answer cases, `answers` the single calls.
-const KINDS: [&str; 6] = ["calls", "turns", "pieces", "channels", "listings", "rooms"];
+const KINDS: [&str; 7] = ["calls", "turns", "pieces", "channels", "listings", "rooms", "schedules"];
 
 fn write_cases(kind: &str, seed: u64) {
     write(cases::all(seed).into_iter().filter(|case| case.kind() == kind).collect());
@@ -226,11 +237,11 @@ fn compare_file(asked: &str, told: &str) -> (usize, usize) {
     let asked = std::fs::read(asked).expect("cases");
     let told = std::fs::read(told).expect("answers");
     let (mut at, mut from, mut count, mut differ) = (0, 0, 0, 0);
-    let mut sides = Sides::new();
+    let mut carried = cases::Carried::new();
     while at < asked.len() {
         let case = read_case(&asked[at..]);
         at += 13 + case.bytes.len();
-        let right = case.reply(&mut sides);
+        let right = case.reply(&mut carried);
         let end = told.len().min(from + right.len());
         if told[from..end] != right[..] {
             differ += 1;

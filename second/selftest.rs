@@ -11,7 +11,7 @@ use crate::key_cases::{self, checked, told_length, with_check, with_key};
 use crate::packet::{self, Fault, Packet, ESCAPE, FLAG, FORMAT, RAW_LIMIT, RESTRICTED};
 use crate::parity::{self, WORD};
 use crate::stream::{self, Reader};
-use crate::{board, fcs, listing, ports, repair};
+use crate::{board, fcs, fixed_cases, listing, ports, repair};
 
 pub fn run(seed: u64) {
     let mut random = Random::new(seed);
@@ -34,6 +34,7 @@ pub fn run(seed: u64) {
     let listings = listings(&mut random, seed);
     println!("{words} words, {frames} frames and {listings} recordings read in two ways: the same");
     println!("{} packets sent, altered on the way and delivered: the same", deliveries(&mut random));
+    println!("fixed sub-channels with {} settings, sent and heard in two ways: the same", fixed_cases::test(&mut Random::new(seed)));
     let [words, clean, repaired, beyond] = repairs(&mut random);
     println!("{words} words to be repaired: {clean} clean, {repaired} repaired, {beyond} beyond repair");
 }

@@ -2,6 +2,7 @@
 
 use crate::packet::{self, Frame, ESCAPE, FLAG, RAW_LIMIT};
 
+#[derive(Clone)]
 pub struct Reader {
     /// No flag was met yet, or none since lock was lost.
     pub waits: bool,

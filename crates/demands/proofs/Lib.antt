@@ -19,3 +19,4 @@ pub mod Manager
 pub mod There
 pub mod Numbers
 pub mod Missed
+pub mod Grouped

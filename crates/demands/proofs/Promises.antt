@@ -85,6 +85,8 @@ use Rattle.subchannel.proofs.sub.Sub.told as subchannel-told
 use Rattle.subchannel.proofs.sub.Sub.sound as subchannel-sound
 use Rattle.subchannel.proofs.sub.Sub.hear as subchannel-hear
 use Rattle.subsender.proofs.send as subsender-send
+use Rattle.subsender.proofs.send_group as subsender-send-group
+use Rattle.subsender.proofs.count as subsender-count
 use Rattle.subchannels.proofs.Receiver.fresh as subchannels-fresh
 use Rattle.subchannels.proofs.Receiver.sound as subchannels-sound
 use Rattle.subchannels.proofs.Receiver.configure as subchannels-configure
@@ -252,6 +254,15 @@ subchannel-hear-means = (λ M. subchannel-hear.Met.met, λ κs a. tt, λ κs a z
 pub subsender-send-means : Means subsender-send.Statement.statement subsender-send.Kinds.ps subsender-send.Kinds.r subsender-send.Reads.Asked subsender-send.Reads.Learnt
     λ κs parity depth stream out w. outcome w (now (out .exit)) ≡ subsender.sending parity depth (now stream) (now (out .entry))
 subsender-send-means = (λ M. subsender-send.Met.met, λ κs a. tt, λ κs a z ws. (λ p. p, λ p. p))
+
+pub subsender-send-group-means : Means subsender-send-group.Statement.statement subsender-send-group.Kinds.ps subsender-send-group.Kinds.r subsender-send-group.Reads.Asked subsender-send-group.Reads.Learnt
+    λ κs parity depth matrix stream out r.
+    (outcome (r .written) (now (out .exit)), r .taken, r .matrix) ≡ subsender.groupSending parity depth matrix (now stream) (now (out .entry))
+subsender-send-group-means = (λ M. subsender-send-group.Met.met, λ κs a. tt, λ κs a z ws. (λ p. p, λ p. p))
+
+pub subsender-count-means : Means subsender-count.Statement.statement subsender-count.Kinds.ps subsender-count.Kinds.r subsender-count.Reads.Asked subsender-count.Reads.Learnt
+    λ κs parity depth bytes r. r ≡ subsender.counting parity depth bytes
+subsender-count-means = (λ M. subsender-count.Met.met, λ κs a. tt, λ κs a z ws. (λ p. p, λ p. p))
 
 -- ---- four of them: at first none is told its settings
 pub subchannels-fresh-means : Means subchannels-fresh.Statement.statement subchannels-fresh.Kinds.ps subchannels-fresh.Kinds.r subchannels-fresh.Reads.Asked subchannels-fresh.Reads.Learnt

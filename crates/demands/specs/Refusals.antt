@@ -24,6 +24,9 @@ use Rattle.fcs.specs.Fcs.{fcs}
 use Rattle.frames.specs.Contents.{Packet, plainFormat, keyFormat, keyLeast, keyMost, keyAt, keyLength, payloadLimit, rawLimit, wordAt}
 use Rattle.frames.specs.Escape.{escape, plain, last, Followed}
 use Rattle.frames.specs.Frame.{Told, refusal, number}
+use Rattle.interleaver.specs.declared.Matrix.{Matrix}
+use Rattle.subsender.specs.declared.Counted.{Counted}
+use Rattle.subsender.specs.declared.Counted.the-variants.{Refused as CountRefused}
 use Rattle.parity.specs.declared.Checked.{Checked}
 use Rattle.parity.specs.declared.Checked.the-variants.{Refused as WordRefused}
 use Rattle.repair.specs.declared.Mended.{Mended}
@@ -174,3 +177,11 @@ ByTake x n = x .wants ≡ TakeRefused n
 -- a board's call is
 abbrev pub ByShow : Part → ℕ → Type 0
 ByShow x n = x .wants ≡ ShowRefused n
+
+-- a sub-channel's call that sends a group is
+abbrev pub ByGroup : Outcome × ℕ × Matrix → ℕ → Type 0
+ByGroup x n = ByCall (x .0) n
+
+-- the count of a sub-channel's groups is
+abbrev pub ByCount : Counted → ℕ → Type 0
+ByCount c n = c ≡ CountRefused n

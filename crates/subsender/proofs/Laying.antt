@@ -28,7 +28,7 @@ use Rattle.blocks.specs.Sender.{marker, wordBytes}
 use Rattle.groups.specs.Sender.{messageBytes, groupWords, groupBytes, wordOf, missing, filled, cutUp, messagesOf}
 use Rattle.groups.specs.Sender.{flagWord, closingWords, completing, pushed, wordsOf, grouped}
 use Rattle.groups.proofs.Streaming.{filled-multiple}
-use Rattle.subsender.specs.Private.{messageOf, wordsFrom}
+use Rattle.subsender.specs.Sending.{messageOf, wordsFrom}
 
 -- copying that fills all there is
 pub copied-over : (bs dst : List ℕ) → length dst ≤ length bs → copied bs dst ≡ take (length dst) bs

@@ -1,3 +1,4 @@
 pub mod Laying
 pub mod Storing
+pub mod Running
 pub mod Determined

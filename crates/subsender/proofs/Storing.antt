@@ -42,8 +42,8 @@ use Rattle.channel.proofs.Sending.{lent, back}
 use Rattle.groups.specs.Sender.{messageBytes, groupWords, groupBytes, wordOf, missing, closingWords, wordsOf, grouped}
 use Rattle.groups.specs.Sender.{sent as sent-stream}
 use Rattle.groups.proofs.Received.{joined-append}
-use Rattle.subsender.specs.Sending.{sending}
-use Rattle.subsender.specs.Private.{messageOf, wordsFrom, groupLength, groupsFrom, GroupIs}
+use Rattle.subsender.specs.Sending.{sending, messageOf, wordsFrom}
+use Rattle.subsender.specs.Private.{groupLength, groupsFrom, GroupIs}
 use Rattle.subsender.proofs.Laying.{copied-over, drop-flags, message-long, word-long, four-long, push-long, group-next}
 use Rattle.subsender.proofs.Laying.{filledMessages, groups-count, all-words}
 
@@ -192,7 +192,7 @@ words-done r bs group from at (zero, e, s) h = s
 words-done r bs group from at (suc k, e, s) h = absurd (omega arith)
 
 -- ---- groups
-push-placed : (d : ℕ) (bs : List ℕ) (m : Matrix) → beyond d (m .place) ≡ false → beyond d (run (push d) m bs .1 .place) ≡ false
+pub push-placed : (d : ℕ) (bs : List ℕ) (m : Matrix) → beyond d (m .place) ≡ false → beyond d (run (push d) m bs .1 .place) ≡ false
 push-placed d [] m e = e
 push-placed d (b ∷ bs) m e =
     ap (λ (x : Matrix). beyond d (x .place)) (state (push d m b .0) (run (push d) (push d m b .1) bs)) ∙ push-placed d bs (push d m b .1)
@@ -240,7 +240,7 @@ module _ (r d : ℕ) (hr : r ≤ rootLimit) where
   abbrev four : List ℕ → List ℕ
   four bs = joined (wordsFrom r 4 bs)
 
-  groups-next : (k : ℕ) (m : Matrix) (bs : List ℕ)
+  pub groups-next : (k : ℕ) (m : Matrix) (bs : List ℕ)
       → groupsFrom r d (suc k) m bs
       ≡ (marker ++ run (push d) m (four bs) .0) ++ groupsFrom r d k (run (push d) m (four bs) .1) (drop (4 * messageBytes r) bs)
   groups-next k m bs =
@@ -333,7 +333,7 @@ module _ (r d : ℕ) (hr : r ≤ rootLimit) where
 -- ---- the call
 module _ (r d : ℕ) (hr : r ≤ rootLimit) (hd : d ≤ depthLimit) (bs out : List ℕ) {g : ℕ}
     (e : g ≡ (filledMessages r d hr bs + closingWords d + 3) / groupWords) where
-  sent-is : groupsFrom r d g fresh bs ≡ sent-stream r d bs
+  pub sent-is : groupsFrom r d g fresh bs ≡ sent-stream r d bs
   sent-is =
       let c = groups-count r d hr bs in
       let a : length (wordsOf r d bs) / groupWords ≡ g = omega arith in

@@ -9,8 +9,9 @@ ghost use Rattle.frames.specs.Escape.{flag};
 ghost use Rattle.parity.specs.Calls.{rootLimit, wordBytes};
 ghost use Rattle.interleaver.specs.Running.{depthLimit, fresh, beyond};
 ghost use Rattle.groups.specs.Sender.{groupWords, groupBytes, wordOf, missing, closingWords};
-ghost use Rattle.subsender.specs.Sending.{sending};
-ghost use Rattle.subsender.specs.Private.{messageOf, wordsFrom, groupLength, groupsFrom, GroupIs};
+ghost use Rattle.base.specs.declared.Written.the-variants.{Refused};
+ghost use Rattle.subsender.specs.Sending.{sending, messageOf, wordsFrom, groupSending, counting};
+ghost use Rattle.subsender.specs.Private.{groupLength, groupsFrom, GroupIs};
 use base::Refusal;
 use base::Written;
 use channel::Block;
@@ -42,6 +43,24 @@ impl Group {
     /// The greatest depth.
     pub const DEPTH: usize = 64;
 }
+
+/// How many groups a stream has.
+pub enum Counted {
+    Groups(usize),
+    /// The call is refused, by this number of the paper.
+    Refused(u8),
+}
+
+/// The result of sending a group.
+pub struct Sent {
+    pub written: Written,
+    /// Bytes of the stream taken.
+    pub taken: usize,
+    pub matrix: Matrix,
+}
+
+// The columns of the interleaver's rows.
+const ROW: usize = 255;
 
 // The next m bytes of a stream, or those that are left and flags; and flags behind them.
 fn message_of(m: usize, stream: &[u8]) -> [u8; Group::WORD]
@@ -150,4 +169,70 @@ pub fn send(parity: usize, depth: usize, stream: &[u8], out: &mut [u8]) -> Writt
     }
     put_groups(parity, depth, groups, stream, out);
     Written::Wrote(Group::LENGTH * groups)
+}
+
+/// How many groups a stream of so many bytes has.
+pub fn count(parity: usize, depth: usize, bytes: usize) -> Counted
+    ensures { λ r. ⌜ r ≡ counting parity depth bytes ⌝ }
+{
+    if Group::PARITY < parity {
+        return Counted::Refused(Refusal::ROOTS);
+    }
+    if Group::DEPTH < depth {
+        return Counted::Refused(Refusal::DEPTH);
+    }
+    let words = messages_of(Group::WORD - parity, bytes);
+    Counted::Groups(groups_of(words, depth))
+}
+
+// Whether a place is none of the N cells.
+fn is_beyond(depth: usize, place: usize) -> bool
+    ensures { λ r. ⌜ r ≡ beyond depth place ⌝ }
+{
+    if depth < 2 {
+        return false;
+    }
+    depth <= place / ROW
+}
+
+// A refused call: the state as it was, and no byte taken.
+fn unsent(matrix: Matrix, number: u8) -> Sent
+    ensures { λ r. ⌜ r ≡ record { written = Refused number; taken = 0; matrix = matrix } ⌝ }
+{
+    Sent {
+        written: Written::Refused(number),
+        taken: 0,
+        matrix,
+    }
+}
+
+/// Sends the next group of a stream: up to four messages of it, and flags where it has no more.
+pub fn send_group(
+    parity: usize,
+    depth: usize,
+    matrix: Matrix,
+    stream: &[u8],
+    out: &mut [u8],
+) -> Sent
+    ensures { λ r. ⌜ (outcome (r .written) (now (out .exit)), r .taken, r .matrix) ≡ groupSending parity depth matrix (now (stream .entry)) (now (out .entry)) ⌝ }
+{
+    if is_beyond(depth, matrix.place) {
+        return unsent(matrix, Refusal::STATE);
+    }
+    if Group::PARITY < parity {
+        return unsent(matrix, Refusal::ROOTS);
+    }
+    if Group::DEPTH < depth {
+        return unsent(matrix, Refusal::DEPTH);
+    }
+    if out.len() < Group::LENGTH {
+        return unsent(matrix, Refusal::OUTPUT);
+    }
+    let group = group_of(parity, stream);
+    let next = put_group(depth, matrix, &group, out);
+    Sent {
+        written: Written::Wrote(Group::LENGTH),
+        taken: base::least(Group::WORDS * (Group::WORD - parity), stream.len()),
+        matrix: next,
+    }
 }

@@ -1,0 +1,105 @@
+-- A fixed sub-channel's stream sent group by group (request W7): a stream of any length goes through in constant memory.
+-- group-refusals, group-same   the call that sends a group: its rows; refused, it leaves output and cells, and takes nothing
+-- count-refusals               the call that says how many groups a stream has
+-- group-called                 a call with room writes the next group, and the next call is not refused with 10
+-- group-by-group               the groups of a stream, call by call, are what one call on the whole stream sends
+-- groups-counted, groups-left  as many as the count says; behind whole groups as many as it says of the rest
+-- group-handed                 a call may be handed four messages, or more of the stream: it is the same group
+use Prim.Native.Nat.{ℕ, _+_, _*_, _≤_, _<_, min}
+use mathlib.Core.Path.{_≡_, sym, _∙_, ap, subst}
+use mathlib.Core.Bool.{Bool, false}
+use mathlib.Core.Logic.{_↔_}
+use mathlib.Core.List.{List, [], _∷_}
+use lib.Dec.{ltb}
+use lib.ListN.{length, take}
+use borrow.Author.Tests.{ltb-true, lt-ltb}
+use native.Mathlib.Omega.{arith}
+use Rattle.base.specs.Choice.{pick}
+use Rattle.base.specs.Written.{Outcome, outcome, refused, copied}
+use Rattle.base.specs.declared.Written.the-variants.{Wrote, Refused}
+use Rattle.base.proofs.Tests.{by-le, by-test}
+use Rattle.interleaver.specs.Running.{fresh, beyond}
+use Rattle.interleaver.specs.declared.Matrix.{Matrix}
+use Rattle.groups.specs.Sender.{sent}
+use Rattle.subsender.specs.Sending.{groupStream, groupNext, groupSending, groupWritten, groupCount, counting, groupsBy}
+use Rattle.subsender.specs.declared.Counted.the-variants.{Groups, Refused as CountRefused}
+use Rattle.subsender.proofs.Running.{group-state, group-roots, group-depth, group-short, group-long, group-goes, group-placed, groups-sent, sent-long, count-rest, group-first}
+use Rattle.demands.specs.Table.{Exact}
+use Rattle.demands.specs.Refusals.{PlaceBeyond, ByGroup, ByCount}
+use Rattle.demands.proofs.Rows.{applies, row, passed, not-less, refuses, wrote, place-beyond, place-within}
+
+-- ---- the calls' refusals
+module _ (r d : ℕ) (m : Matrix) (bs out : List ℕ) where
+  pub group-refusals : Exact ByGroup (groupSending r d m bs out)
+      ((10, PlaceBeyond d (m .place)) ∷  -- a cell place of N or more
+      (30, 64 < r) ∷  -- R above 64
+      (32, 64 < d) ∷  -- depth above 64
+      (23, length out < 1024) ∷  -- output shorter than a group
+      [])
+  group-refusals =
+      row ByGroup (beyond d (m .place)) (refuses 10 out) (place-beyond d (m .place)) (place-within d (m .place))
+      (by-le r 64
+      (λ h.
+      row ByGroup (ltb 64 r) (refuses 30 out) (ltb-true _ _) (not-less _ _)
+      (row ByGroup (ltb 64 d) (refuses 32 out) (ltb-true _ _) (not-less _ _)
+      (record { says = wrote (groupNext r d m bs .0) out 1024 (group-long r d h m bs) .says })))
+      (λ h.
+      subst
+      (λ (t : Bool).
+      Exact {A = Outcome × ℕ × Matrix} ByGroup (pick t (refused 30 out, 0, m) (pick (ltb 64 d) (refused 32 out, 0, m) (groupWritten r m bs (groupNext r d m bs) out)))
+      ((30, 64 < r) ∷ (32, 64 < d) ∷ (23, length out < 1024) ∷ []))
+      (sym (lt-ltb 64 r h)) (applies ByGroup ((32, 64 < d) ∷ (23, length out < 1024) ∷ []) (refuses 30 out) h)))
+
+  pub group-same : (n : ℕ) → ByGroup (groupSending r d m bs out) n → groupSending r d m bs out ≡ (refused n out, 0, m)
+  group-same n q =
+      by-test (beyond d (m .place)) (λ b. by 10 (group-state r d m bs out b))
+      (λ b.
+      by-le r 64
+      (λ hr.
+      by-le d 64
+      (λ hd.
+      by-le 1024 (length out) (λ k. absurd (not-written (sym (group-goes r d m bs out b hr hd k)))) (λ k. by 23 (group-short r d m bs out b hr hd k)))
+      (λ hd. by 32 (group-depth r d m bs out b hr hd)))
+      (λ hr. by 30 (group-roots r d m bs out b hr)))
+    where
+      by : (k : ℕ) → _≡_ {A = Outcome × ℕ × Matrix} (refused k out, 0, m) (groupSending r d m bs out) → groupSending r d m bs out ≡ (refused n out, 0, m)
+      by k e =
+          let a : Refused k ≡ Refused n = ap (λ (x : Outcome × ℕ × Matrix). x .0 .answer) e ∙ q in
+          let z : k ≡ n = cc in
+          sym e ∙ ap (λ (x : ℕ). (refused x out, 0, m)) z
+
+      not-written : {o : List ℕ} {k t : ℕ} {c : Matrix} → _≡_ {A = Outcome × ℕ × Matrix} (outcome (Wrote k) o, t, c) (groupSending r d m bs out) → ⊥
+      not-written {o} {k} {t} {c} e =
+          let a : Wrote k ≡ Refused n = ap (λ (x : Outcome × ℕ × Matrix). x .0 .answer) e ∙ q in
+          let z : _≡_ {A = ℕ} 0 1 = cc in
+          omega arith
+
+pub count-refusals : (r d n : ℕ) → Exact ByCount (counting r d n)
+    ((30, 64 < r) ∷  -- R above 64
+    (32, 64 < d) ∷  -- depth above 64
+    [])
+count-refusals r d n =
+    row ByCount (ltb 64 r) (by 30) (ltb-true _ _) (not-less _ _)
+    (row ByCount (ltb 64 d) (by 32) (ltb-true _ _) (not-less _ _) (passed ByCount λ k e. let z : _≡_ {A = ℕ} 0 1 = cc in omega arith))
+  where
+    by : (m k : ℕ) → ByCount (CountRefused m) k ↔ k ≡ m
+    by m k = (λ e. let z : m ≡ k = cc in sym z, λ e i. CountRefused (sym e i))
+
+-- ---- call by call
+module _ (r d : ℕ) (hr : r ≤ 64) (hd : d ≤ 64) where
+  pub group-called : (m : Matrix) (bs out : List ℕ) → beyond d (m .place) ≡ false → 1024 ≤ length out
+      → (groupSending r d m bs out ≡ (outcome (Wrote 1024) (copied (groupNext r d m bs .0) out), min (groupStream r) (length bs), groupNext r d m bs .1))
+      × (beyond d (groupNext r d m bs .1 .place) ≡ false)
+  group-called m bs out b l = (group-goes r d m bs out b hr hd l, group-placed r d m bs out b)
+
+  pub group-by-group : (bs : List ℕ) → groupsBy r d (groupCount r d (length bs)) fresh bs ≡ sent r d bs
+  group-by-group = groups-sent r d hr hd
+
+  pub groups-counted : (bs : List ℕ) → length (sent r d bs) ≡ groupCount r d (length bs) * 1024
+  groups-counted = sent-long r d hr hd
+
+  pub groups-left : (k n : ℕ) → groupCount r d (k * groupStream r + n) ≡ k + groupCount r d n
+  groups-left = count-rest r d hr
+
+  pub group-handed : (m : Matrix) (bs : List ℕ) → groupNext r d m (take (groupStream r) bs) ≡ groupNext r d m bs
+  group-handed = group-first r d hr
