@@ -1,14 +1,15 @@
 //! Cases for the comparison: how they are written, which are asked, and what the second program answers.
 //! crates/answers/src/main.rt has the form of a case and of an answer, crates/pieces/src, crates/channels/src, crates/listings/src and
 //! crates/rooms/src that of an answer in pieces; crates/turns/src/main.rt what is asked of the interleaver and
-//! crates/schedules/src/main.rt of fixed sub-channels, whose states are carried over from case to case.
+//! crates/schedules/src/main.rt of fixed sub-channels, whose states are carried over from case to case; crates/mixes/src/main.rt what is asked of
+//! Layer 2 units.
 
 use crate::interleaver::{Sender, Sides, CELLS};
 use crate::packet::{Delivery, Fault, Frame, Packet, FLAG, RAW_LIMIT};
 use crate::parity::WORD;
 use crate::repair::altered;
 use crate::stream::Reader;
-use crate::{board_cases, channel, channel_cases, fcs, fixed_cases, key_cases, listing_cases, packet, parity, repair, stream};
+use crate::{board_cases, channel, channel_cases, fcs, fixed_cases, key_cases, listing_cases, packet, parity, repair, stream, unit_cases};
 
 pub struct Case {
     pub asked: u8,
@@ -39,14 +40,15 @@ impl Case {
         to.extend(&self.bytes);
     }
 
-    /// Which program answers it: `pieces` a stream, `channels` a channel, `listings` a recording, `rooms` a board, `turns` the interleaver,
-    /// `schedules` fixed sub-channels, `calls` each other single call. A letter belongs to one of them.
+    /// Which program answers it: `pieces` a stream, `channels` a channel, `listings` a recording, `rooms` a board, `mixes` a Layer 2 unit, `turns` the
+    /// interleaver, `schedules` fixed sub-channels, `calls` each other single call. A letter belongs to one of them.
     pub fn kind(&self) -> &'static str {
         match self.asked {
             b'S' => "pieces",
             b'O' => "channels",
             b'L' => "listings",
             b'b' => "rooms",
+            b'U' | b'u' => "mixes",
             b'I' | b'J' | b'Z' | b'N' | b'X' | b'V' => "turns",
             b'n' | b'c' | b'h' | b'x' | b'v' | b's' | b'g' | b'p' | b'w' | b'q' => "schedules",
             _ => "calls",
@@ -99,6 +101,8 @@ impl Case {
             b'H' => part(key_cases::delivery_in(self.number).key(&self.bytes), out),
             b'M' => answer_in(channel::marked_block(&self.bytes, out.len()), out),
             b'R' => answer_in(channel::in_blocks(&self.bytes, out.len()), out),
+            b'U' => answer_in(unit_cases::written(self.number, &self.bytes, out.len()), out),
+            b'u' => answer_in(unit_cases::read(self.number, &self.bytes, out.len()), out),
             _ => 0,
         }
     }

@@ -28,9 +28,10 @@
 //!   second steady plain|marked MIB
 //!                            a clean recording to be timed, to standard output
 //!   second samples DIR       the recordings of samples/ with their listings
-//!   second cases calls|turns|pieces|channels|listings|rooms|schedules [SEED]
+//!   second unit WORDS..      Layer 2 units, written and read (units.rs)
+//!   second cases calls|turns|pieces|channels|listings|rooms|schedules|mixes [SEED]
 //!                            cases for the proved code, to standard output: single calls, the interleaver, streams and channels in pieces,
-//!                            recordings, boards with any room for their text, or fixed sub-channels
+//!                            recordings, boards with any room for their text, fixed sub-channels, or Layer 2 units
 //!   second words R PLACES N  N cases for repair: words altered in so many places
 //!   second time N M          times of N words made and checked, and of M words of each kind repaired (time.rs)
 //!   second compare CASES ANSWERS ..
@@ -58,6 +59,8 @@ mod samples;
 mod selftest;
 mod stream;
 mod time;
+mod unit_cases;
+mod units;
 
 use interleaver::{Receiver, Sender};
 use std::io::{Read, Write};
@@ -80,6 +83,7 @@ fn main() {
         ["boards", dir] => Some(board_cases::write(dir, 1)),
         ["boards", dir, seed] => number(seed).map(|seed| board_cases::write(dir, seed)),
         ["feed", fifo, text, stream] => std::process::exit(board::feed(fifo, text, stream)),
+        ["unit", ref rest @ ..] => std::process::exit(units::run(rest)),
         ["list"] => Some(listing::list_input().expect("standard input and output")),
         ["missed"] => std::process::exit(ports::show_missed()),
         ["numbered", file] => Some(ports::write_numbered(file, 1)),
@@ -101,8 +105,8 @@ fn main() {
     if done.is_none() {
         eprintln!("usage: second fcs HEX | parity R HEX | word R HEX | repair R HEX | interleave push|pull DEPTH | list | missed | kinds FILE..");
         eprintln!("  | fixed send|list R DEPTH | board [--recording|--stream] [--blocks] | boards DIR [SEED] | feed FIFO TEXT STREAM");
-        eprintln!("  | recordings DIR [SEED] | steady plain|marked MIB | samples DIR | cases calls|turns|pieces|channels|listings|rooms|schedules [SEED]");
-        eprintln!("  | compare CASES ANSWERS .. | test [SEED] | words R PLACES N | time N M | numbered FILE [SEED] | tables CASES ANSWERS [SEED]");
+        eprintln!("  | recordings DIR [SEED] | steady plain|marked MIB | samples DIR | cases calls|turns|pieces|channels|listings|rooms|schedules|mixes [SEED]");
+        eprintln!("  | compare CASES ANSWERS .. | test [SEED] | words R PLACES N | time N M | numbered FILE [SEED] | tables CASES ANSWERS [SEED] | unit WORDS..");
         std::process::exit(2);
     }
 }
@@ -188,10 +192,11 @@ fn write_steady(letter: u8, mib: u64) {
 }
 
 /// The programs that answer cases, `answers` the single calls.
-const KINDS: [&str; 7] = ["calls", "turns", "pieces", "channels", "listings", "rooms", "schedules"];
+const KINDS: [&str; 8] = ["calls", "turns", "pieces", "channels", "listings", "rooms", "schedules", "mixes"];
 
 fn write_cases(kind: &str, seed: u64) {
-    write(cases::all(seed).into_iter().filter(|case| case.kind() == kind).collect());
+    let all = if kind == "mixes" { unit_cases::all(seed) } else { cases::all(seed) };
+    write(all.into_iter().filter(|case| case.kind() == kind).collect());
 }
 
 /// Standard input through the interleaver as a whole.

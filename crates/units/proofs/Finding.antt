@@ -1,19 +1,20 @@
 -- The delimiter sought, and payload bytes stored.
 -- put-more                           a turn of the loop that stores payload bytes
 -- length-payload                     how many payload bytes there are
--- begins-next, begins-done           a turn of the comparison, and its end
+-- begins-not, begins-next, begins-done   a turn of the comparison, and its end
+-- five-on, window-of, window-next, window-begins   the five bytes from a place on
 -- find-here, find-next, find-over    a turn of the search: found, not found, and its end
 -- opened-short, opened-is            what stands behind the first delimiter is the end of what was searched
 use mathlib.Core.Path.{_≡_, refl, sym, ap, ap₂, _∙_}
 use mathlib.Core.Bool.{Bool, true, false, _&&_}
-use mathlib.Core.List.{List, [], _∷_}
+use mathlib.Core.List.{List, [], _∷_, _++_}
 use Prim.Native.Nat.{ℕ, zero, suc, _+_, _-_, _≤_, _<_}
 use native.Mathlib.Nat.{sub-zero}
 use native.Mathlib.Numerals.{add-one}
 use native.Mathlib.Omega.{arith}
 use lib.Dec.{eqb}
 use lib.ListN.{length, take, drop, getD, set, length-drop, drop-of-length-le}
-use lib.Seq.{drop-cons, length-take-le, drop-length, getD-drop, paste, paste-suc}
+use lib.Seq.{drop-cons, drop-drop, length-take-le, drop-length, getD-drop, paste, paste-suc}
 use borrow.Author.Tests.{eq-eqb, ne-eqb}
 use Rattle.base.specs.Choice.{pick}
 use Rattle.base.proofs.Lists.{drop-take}
@@ -28,30 +29,23 @@ pub length-payload : (l : ℕ) (u : List ℕ) → length (payloadOf l u) ≡ pay
 unfolding payloadOf
 length-payload l u = length-pack (payload l) (unwoven (start l) (step l - 1) (heads l) (bits u))
 
--- ---- the comparison at place j
-module _ (d p : List ℕ) (j k : ℕ) (h : k < length d) (l : j + k < length p) where
-  turn : begins (drop k d) (drop (j + k) p) ≡ eqb (getD d k 0) (getD p (j + k) 0) && begins (drop (k + 1) d) (drop (j + (k + 1)) p)
+-- ---- the comparison of five bytes
+module _ (d w : List ℕ) (k : ℕ) (h : k < length d) (l : k < length w) where
+  turn : begins (drop k d) (drop k w) ≡ eqb (getD d k 0) (getD w k 0) && begins (drop (k + 1) d) (drop (k + 1) w)
   unfolding begins
   turn =
-      let e : suc (j + k) ≡ j + (k + 1) = omega arith in
       let f : suc k ≡ k + 1 = omega arith in
-      ap₂ begins (drop-cons d k 0 h) (drop-cons p (j + k) 0 l) ∙ ap₂ (λ (x y : ℕ). eqb (getD d k 0) (getD p (j + k) 0) && begins (drop x d) (drop y p)) f e
+      ap₂ begins (drop-cons d k 0 h) (drop-cons w k 0 l) ∙ ap (λ (x : ℕ). eqb (getD d k 0) (getD w k 0) && begins (drop x d) (drop x w)) f
 
-  pub begins-not : {b : ℕ} → b ≡ getD p (j + k) 0 → (getD d k 0 ≡ b → ⊥) → {t : Bool} → begins (drop k d) (drop (j + k) p) ≡ t → false ≡ t
-  begins-not {b} e n {t} i =
-      sym (turn ∙ ap (λ (x : Bool). x && begins (drop (k + 1) d) (drop (j + (k + 1)) p)) (ne-eqb (getD d k 0) (getD p (j + k) 0) (λ z. n (z ∙ sym e)))) ∙ i
+  pub begins-not : (getD d k 0 ≡ getD w k 0 → ⊥) → {t : Bool} → begins (drop k d) (drop k w) ≡ t → false ≡ t
+  begins-not n {t} i = sym (turn ∙ ap (λ (x : Bool). x && begins (drop (k + 1) d) (drop (k + 1) w)) (ne-eqb (getD d k 0) (getD w k 0) n)) ∙ i
 
-  pub begins-next : {b : ℕ} → b ≡ getD p (j + k) 0 → getD d k 0 ≡ b → {t : Bool} → begins (drop k d) (drop (j + k) p) ≡ t
-      → begins (drop (k + 1) d) (drop (j + (k + 1)) p) ≡ t
-  begins-next {b} e n {t} i =
-      sym (turn ∙ ap (λ (x : Bool). x && begins (drop (k + 1) d) (drop (j + (k + 1)) p)) (eq-eqb (getD d k 0) (getD p (j + k) 0) (n ∙ e))) ∙ i
+  pub begins-next : getD d k 0 ≡ getD w k 0 → {t : Bool} → begins (drop k d) (drop k w) ≡ t → begins (drop (k + 1) d) (drop (k + 1) w) ≡ t
+  begins-next n {t} i = sym (turn ∙ ap (λ (x : Bool). x && begins (drop (k + 1) d) (drop (k + 1) w)) (eq-eqb (getD d k 0) (getD w k 0) n)) ∙ i
 
-pub begins-first : (d p : List ℕ) (j : ℕ) → begins (drop 0 d) (drop (j + 0) p) ≡ begins d (drop j p)
-begins-first d p j = let e : j + 0 ≡ j = omega arith in ap (λ (x : ℕ). begins d (drop x p)) e
-
-pub begins-done : (d p : List ℕ) (j k : ℕ) → length d ≤ k → {t : Bool} → begins (drop k d) (drop (j + k) p) ≡ t → true ≡ t
+pub begins-done : (d w : List ℕ) (k : ℕ) → length d ≤ k → {t : Bool} → begins (drop k d) (drop k w) ≡ t → true ≡ t
 unfolding begins
-begins-done d p j k h {t} i = sym (ap (λ (x : List ℕ). begins x (drop (j + k) p)) (drop-of-length-le d h)) ∙ i
+begins-done d w k h {t} i = sym (ap (λ (x : List ℕ). begins x (drop k w)) (drop-of-length-le d h)) ∙ i
 
 begins-take : (d xs : List ℕ) (m : ℕ) → length d ≤ m → begins d (take m xs) ≡ begins d xs
 unfolding begins
@@ -59,6 +53,52 @@ begins-take [] xs m h = refl
 begins-take (x ∷ d) xs zero h = absurd (omega arith)
 begins-take (x ∷ d) [] (suc m) h = refl
 begins-take (x ∷ d) (y ∷ xs) (suc m) h = ap (λ (t : Bool). eqb x y && t) (begins-take d xs m (omega arith))
+
+-- ---- the five bytes from place j on
+five-at : (q : List ℕ) → 5 ≤ length q → getD q 0 0 ∷ getD q 1 0 ∷ getD q 2 0 ∷ getD q 3 0 ∷ getD q 4 0 ∷ [] ≡ take 5 q
+five-at (x ∷ y ∷ z ∷ u ∷ v ∷ q) h = refl
+five-at [] h = absurd (omega arith)
+five-at (_ ∷ []) h = absurd (omega arith)
+five-at (_ ∷ _ ∷ []) h = absurd (omega arith)
+five-at (_ ∷ _ ∷ _ ∷ []) h = absurd (omega arith)
+five-at (_ ∷ _ ∷ _ ∷ _ ∷ []) h = absurd (omega arith)
+
+pub five-on : (w : List ℕ) (b : ℕ) → length w ≡ 5 → getD w 1 0 ∷ getD w 2 0 ∷ getD w 3 0 ∷ getD w 4 0 ∷ b ∷ [] ≡ drop 1 w ++ b ∷ []
+five-on (x ∷ y ∷ z ∷ u ∷ v ∷ []) b h = refl
+five-on (x ∷ y ∷ z ∷ u ∷ v ∷ _ ∷ w) b h = absurd (omega arith)
+five-on [] b h = absurd (omega arith)
+five-on (_ ∷ []) b h = absurd (omega arith)
+five-on (_ ∷ _ ∷ []) b h = absurd (omega arith)
+five-on (_ ∷ _ ∷ _ ∷ []) b h = absurd (omega arith)
+five-on (_ ∷ _ ∷ _ ∷ _ ∷ []) b h = absurd (omega arith)
+
+module _ (p : List ℕ) (j : ℕ) where
+  pub window-of : {a b c d e : ℕ} → j + 5 ≤ length p → a ≡ getD p j 0 → b ≡ getD p (j + 1) 0 → c ≡ getD p (j + 2) 0 → d ≡ getD p (j + 3) 0
+      → e ≡ getD p (j + 4) 0 → a ∷ b ∷ c ∷ d ∷ e ∷ [] ≡ take 5 (drop j p)
+  window-of h pa pb pc pd pe =
+      let z : j ≡ j + 0 = omega arith in
+      rw (pa ∙ ap (λ (n : ℕ). getD p n 0) z ∙ at 0, pb ∙ at 1, pc ∙ at 2, pd ∙ at 3, pe ∙ at 4) (five-at (drop j p) (omega (arith, length-drop j p)))
+    where
+      at : (i : ℕ) → getD p (j + i) 0 ≡ getD (drop j p) i 0
+      at i = sym (getD-drop j p i 0)
+
+  module _ {w : List ℕ} (e : w ≡ take 5 (drop j p)) where
+    pub window-next : {b : ℕ} → j + 5 < length p → b ≡ getD p (j + 5) 0 → drop 1 w ++ b ∷ [] ≡ take 5 (drop (j + 1) p)
+    window-next h eb =
+        ap₂ (λ (x : List ℕ) (y : ℕ). drop 1 x ++ y ∷ []) e (eb ∙ sym (getD-drop j p 5 0))
+        ∙ next (drop j p) (omega (arith, length-drop j p)) ∙ ap (take 5) (drop-drop 1 j p)
+      where
+        next : (q : List ℕ) → 5 < length q → drop 1 (take 5 q) ++ getD q 5 0 ∷ [] ≡ take 5 (drop 1 q)
+        next (x ∷ y ∷ z ∷ u ∷ v ∷ t ∷ q) k = refl
+        next [] k = absurd (omega arith)
+        next (_ ∷ []) k = absurd (omega arith)
+        next (_ ∷ _ ∷ []) k = absurd (omega arith)
+        next (_ ∷ _ ∷ _ ∷ []) k = absurd (omega arith)
+        next (_ ∷ _ ∷ _ ∷ _ ∷ []) k = absurd (omega arith)
+        next (_ ∷ _ ∷ _ ∷ _ ∷ _ ∷ []) k = absurd (omega arith)
+
+    pub window-begins : (d : List ℕ) → length d ≡ 5 → {t : Bool} → t ≡ begins d w → t ≡ begins d (drop j p)
+    window-begins d five i = i ∙ ap (begins d) e ∙ begins-take d (drop j p) 5 (omega arith)
 
 -- ---- the search
 opened-few : (d xs : List ℕ) → length xs ≤ length d → length (opened d xs) ≡ 0

@@ -1,6 +1,7 @@
 //! Units, read.
 ghost use mathlib.Core.Path.{_≡_};
 ghost use mathlib.Core.Bool.{true, false};
+ghost use mathlib.Core.List.{_∷_, [], _++_};
 ghost use Prim.Native.Nat.{_+_, _*_, _-_, _≤_, _<_};
 ghost use lib.Dec.{eqb};
 ghost use lib.ListN.{length, getD, take, drop};
@@ -150,14 +151,33 @@ fn announced(cw: u32) -> usize
     0
 }
 
-// Whether the delimiter stands at payload byte j.
-fn delimited(size: usize, unit: &[u8], delimiter: [u8; 5], j: usize) -> bool
-    requires { ⌜ (unfit size ≡ false) × (lent size ≤ length (now unit)) × (j + 5 ≤ payload size) × (payload size < mostBytes) ⌝ }
-    ensures { λ r. ⌜ r ≡ begins delimiter (drop j (payloadOf size (now (unit .entry)))) ⌝ }
+// The five payload bytes from `from` on.
+fn window(size: usize, unit: &[u8], from: usize) -> [u8; 5]
+    requires { ⌜ (unfit size ≡ false) × (lent size ≤ length (now unit)) × (from + 5 ≤ payload size) × (payload size < mostBytes) ⌝ }
+    ensures { λ r. ⌜ r ≡ take 5 (drop from (payloadOf size (now (unit .entry)))) ⌝ }
+{
+    let a = payload_byte(size, unit, from);
+    let b = payload_byte(size, unit, from + 1);
+    let c = payload_byte(size, unit, from + 2);
+    let d = payload_byte(size, unit, from + 3);
+    let e = payload_byte(size, unit, from + 4);
+    [a, b, c, d, e]
+}
+
+// Five bytes, one further on.
+fn onward(five: [u8; 5], b: u8) -> [u8; 5]
+    ensures { λ r. ⌜ r ≡ drop 1 five ++ b ∷ [] ⌝ }
+{
+    [five[1], five[2], five[3], five[4], b]
+}
+
+// Whether five bytes are the delimiter.
+fn same(delimiter: [u8; 5], five: [u8; 5]) -> bool
+    ensures { λ r. ⌜ r ≡ begins delimiter five ⌝ }
 {
     let mut k: usize = 0;
     while k < 5 {
-        if delimiter[k] != payload_byte(size, unit, j + k) {
+        if delimiter[k] != five[k] {
             return false;
         }
         k += 1;
@@ -170,11 +190,18 @@ fn find(size: usize, unit: &[u8], delimiter: [u8; 5], from: usize, end: usize) -
     requires { ⌜ (unfit size ≡ false) × (lent size ≤ length (now unit)) × (from ≤ end) × (end ≤ payload size) × (payload size < mostBytes) ⌝ }
     ensures { λ r. ⌜ r ≡ length (opened delimiter (drop from (take end (payloadOf size (now (unit .entry)))))) ⌝ }
 {
+    if end <= from + 5 {
+        return 0;
+    }
+    let mut five = window(size, unit, from);
     let mut j = from;
     while j + 5 < end {
-        if delimited(size, unit, delimiter, j) {
+        if same(delimiter, five) {
             return end - (j + 5);
         }
+        let b = payload_byte(size, unit, j + 5);
+        let next = onward(five, b);
+        five = next;
         j += 1;
     }
     0
