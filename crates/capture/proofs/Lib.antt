@@ -2,4 +2,5 @@ pub mod Asking
 pub mod Entering
 pub mod Steps
 pub mod Hearing
+pub mod Following
 pub mod Determined

@@ -44,15 +44,15 @@ pub head-part : (t h : List ℕ) → length h + length t < 16 → reads (inHead 
 unfolding read
 head-part [] h l = ap (λ (x : List ℕ). ([], inHead x)) (sym (append-nil h))
 head-part (b ∷ t) h l =
-    rw (ne-eqb (suc (length h)) 16 (λ q. absurd (omega (arith, l, q))))
+    rw (ne-eqb (length h + 1) 16 (λ q. absurd (omega (arith, l, q))))
     (head-part t (h ++ b ∷ []) (omega (arith, l, length-append h (b ∷ []))) ∙ ap (λ (x : List ℕ). ([], inHead x)) (append-assoc h (b ∷ []) t))
 
 pub head-read : (t h : List ℕ) → length h + length t ≡ 16 → (length t ≡ 0 → ⊥) → reads (inHead h) t ≡ say (headed (h ++ t))
 unfolding read
 head-read [] h l z = absurd (z refl)
-head-read (b ∷ []) h l z = let k : suc (length h) ≡ 16 = omega (arith, l) in rw (eq-eqb _ _ k) refl
+head-read (b ∷ []) h l z = let k : length h + 1 ≡ 16 = omega (arith, l) in rw (eq-eqb _ _ k) refl
 head-read (b ∷ c ∷ t) h l z =
-    let k : suc (length h) ≡ 16 → ⊥ = λ q. absurd (omega (arith, l, q)) in
+    let k : length h + 1 ≡ 16 → ⊥ = λ q. absurd (omega (arith, l, q)) in
     let r = head-read (c ∷ t) (h ++ b ∷ []) (omega (arith, l, length-append h (b ∷ []))) (λ q. absurd (omega (arith, q))) in
     rw (ne-eqb _ _ k) (r ∙ ap (λ (x : List ℕ). say (headed x)) (append-assoc h (b ∷ []) (c ∷ t)))
 
@@ -62,15 +62,15 @@ module _ (n : ℕ) where
   unfolding read
   part-read [] bs l = ap (λ (x : List ℕ). ([], inRecord n x)) (sym (append-nil bs))
   part-read (b ∷ t) bs l =
-      rw (ne-eqb (suc (length bs)) n (λ q. absurd (omega (arith, l, q))))
+      rw (ne-eqb (length bs + 1) n (λ q. absurd (omega (arith, l, q))))
       (part-read t (bs ++ b ∷ []) (omega (arith, l, length-append bs (b ∷ []))) ∙ ap (λ (x : List ℕ). ([], inRecord n x)) (append-assoc bs (b ∷ []) t))
 
   pub bytes-read : (t bs : List ℕ) → length bs + length t ≡ n → (length t ≡ 0 → ⊥) → reads (inRecord n bs) t ≡ say (says (entry (bs ++ t)))
   unfolding read
   bytes-read [] bs l z = absurd (z refl)
-  bytes-read (b ∷ []) bs l z = let k : suc (length bs) ≡ n = omega (arith, l) in rw (eq-eqb _ _ k) refl
+  bytes-read (b ∷ []) bs l z = let k : length bs + 1 ≡ n = omega (arith, l) in rw (eq-eqb _ _ k) refl
   bytes-read (b ∷ c ∷ t) bs l z =
-      let k : suc (length bs) ≡ n → ⊥ = λ q. absurd (omega (arith, l, q)) in
+      let k : length bs + 1 ≡ n → ⊥ = λ q. absurd (omega (arith, l, q)) in
       let r = bytes-read (c ∷ t) (bs ++ b ∷ []) (omega (arith, l, length-append bs (b ∷ []))) (λ q. absurd (omega (arith, q))) in
       rw (ne-eqb _ _ k) (r ∙ ap (λ (x : List ℕ). say (says (entry x))) (append-assoc bs (b ∷ []) (c ∷ t)))
 
