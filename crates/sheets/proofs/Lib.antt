@@ -1,0 +1,5 @@
+pub mod Tallies
+pub mod Ports
+pub mod Running
+pub mod Kept
+pub mod Counted

@@ -1,0 +1,4 @@
+pub mod Tally
+pub mod Month
+pub mod Rows
+pub mod Recording
