@@ -1,7 +1,7 @@
 -- Words of which no more bytes are altered than repair puts right, one after the other, with r parity bytes; on the opportunistic channel r is 32.
 -- altered-is                        the places counted one by one are repair's distance
 -- mend-received, answer-received    such a word comes back, and the count told is exactly that of its altered bytes
--- sent-clean-words                  the words that are sent are clean
+-- sent-clean-words, unaltered       the words that are sent are clean; none of them may be altered
 -- carried-received, answers-received, behind-received   the bytes, the block answers and the state behind them
 use Prim.Native.Nat.{ℕ, zero, suc, _+_, _≤_}
 use native.Mathlib.Omega.{arith}
@@ -12,6 +12,7 @@ use mathlib.Core.List.{List, [], _∷_, _++_, map}
 use lib.ListN.{length, take, drop, getD, length-drop}
 use lib.Seq.{drop-cons}
 use lib.Dec.{eqb}
+use borrow.Author.Tests.{eq-eqb}
 use Rattle.base.specs.Choice.{pick}
 use Rattle.base.specs.Bytes.{Each, IsByte}
 use Rattle.base.proofs.Bytes.{each-append}
@@ -53,6 +54,11 @@ from-is (suc n) i v w p q =
 
 pub altered-is : (v w : List ℕ) → IsWord v → IsWord w → altered v w ≡ distance v w
 altered-is v w p q = from-is wordBytes 0 v w (sym p) (sym q)
+
+none-altered : (n i : ℕ) (w : List ℕ) → alteredFrom i n w w ≡ 0
+unfolding alteredFrom
+none-altered zero i w = refl
+none-altered (suc n) i w = rw (eq-eqb (getD w i 0) (getD w i 0) refl) (omega (arith, none-altered n (suc i) w))
 
 -- two parity bytes for each are as many as h
 pub repairable-half : (r n : ℕ) → Repairable r n → n ≤ half r
@@ -125,10 +131,21 @@ module _ (r : ℕ) where
   words-received (w ∷ ws) [] h = absurd h
   words-received (w ∷ ws) (v ∷ vs) h = (h .0 .0, words-received ws vs (h .1))
 
+  pub many-received : (ws vs : List (List ℕ)) → Received r ws vs → length vs ≡ length ws
+  many-received [] [] h = refl
+  many-received [] (v ∷ vs) h = absurd h
+  many-received (w ∷ ws) [] h = absurd h
+  many-received (w ∷ ws) (v ∷ vs) h = ap suc (many-received ws vs (h .1))
+
   pub some-received : (ws vs : List (List ℕ)) → Received r ws vs → ws ≢ [] → vs ≢ []
   some-received [] vs h n e = n refl
   some-received (w ∷ ws) [] h n e = h
   some-received (w ∷ ws) (v ∷ vs) h n e = subst (Received r (w ∷ ws)) e h
+
+  -- none altered
+  pub unaltered : (ws : List (List ℕ)) → Each (CleanWord r) ws → Received r ws ws
+  unaltered [] c = tt
+  unaltered (w ∷ ws) c = ((checked-clean r w (c .0 .1) .1, c .0 .0, omega (arith, none-altered wordBytes 0 w)), unaltered ws (c .1))
 
 -- the state behind them, on the opportunistic channel
 pub behind-received : (ws vs : List (List ℕ)) → Each (CleanWord parityBytes) ws → Received parityBytes ws vs → (f : Hunting) (u : List ℕ) (q : Reading)

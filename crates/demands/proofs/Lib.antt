@@ -14,6 +14,7 @@ pub mod Demand2
 pub mod Demand3
 pub mod Altered
 pub mod Guarantee
+pub mod SubChannels
 pub mod Framed
 pub mod Manager
 pub mod There

@@ -2,25 +2,22 @@
 -- sends-there   every input, however it is cut, is sent
 -- airs-there    what goes out may come in as it is
 -- typed-there   lines may be typed plainly, their numbers rising by one: an input of two
-use Prim.Native.Nat.{ℕ, zero, suc, _≤_}
+use Prim.Native.Nat.{ℕ, _≤_}
 use native.Mathlib.Omega.{arith}
 use mathlib.Core.Path.{_≡_, refl, sym, subst}
 use mathlib.Core.Bool.{Bool, true, false}
 use mathlib.Core.Logic._⊎_.{inl}
 use mathlib.Core.List.{List, [], _∷_, _++_}
 use lib.Dec.{eqb}
-use lib.ListN.{length, getD}
-use borrow.Author.Tests.{eq-eqb}
+use lib.ListN.{length}
 use Rattle.base.specs.Bytes.{Each, Bytes}
 use Rattle.base.specs.Calls.{joined}
 use Rattle.base.specs.Choice.{pick}
 use Rattle.base.specs.UpTo.{upTo}
 use Rattle.frames.specs.Contents.{Packet, plainPacket}
 use Rattle.frames.specs.Escape.{escape, escapeByte}
-use Rattle.repair.specs.Promise.{CleanWord}
 use Rattle.stream.specs.Sender.{stream}
-use Rattle.blocks.specs.Sender.{parityBytes, wordBytes, messagesOf, sentWords, marked}
-use Rattle.blocks.specs.Channel.{IsWord}
+use Rattle.blocks.specs.Sender.{parityBytes, messagesOf, sentWords, marked}
 use Rattle.blocks.proofs.Streaming.{sent-each, sent-messages}
 use Rattle.bid.specs.Line.{lineLimit, digits, value, numberFrom, number, judged, verdict}
 use Rattle.bid.specs.Input.{linesFrom, packets, packetsOf}
@@ -29,9 +26,8 @@ use Rattle.office.specs.Called.{holdLimit, outLimit, closeCall, lastOf}
 use Rattle.office.proofs.Cutting.{bids-cut}
 use Rattle.office.proofs.Board.{packets-accepted}
 use Rattle.shown.specs.Typed.{accepting, acceptedLines, Plainly, numbersOf, ByOne, Among}
-use Rattle.demands.specs.Guarantee.{alteredFrom, Received}
 use Rattle.demands.specs.Way.{Sends, Airs}
-use Rattle.demands.proofs.Altered.{sent-clean-words}
+use Rattle.demands.proofs.Altered.{unaltered, sent-clean-words}
 use Rattle.demands.proofs.Manager.{went-out}
 
 -- every input, however it is cut, with buffers that pass 11 and room that passes 23
@@ -60,15 +56,6 @@ sends-there line hold l h room enough last fits pieces =
       },
     )
 
-none-altered : (n i : ℕ) (w : List ℕ) → alteredFrom i n w w ≡ 0
-unfolding alteredFrom
-none-altered zero i w = refl
-none-altered (suc n) i w = rw (eq-eqb (getD w i 0) (getD w i 0) refl) (omega (arith, none-altered n (suc i) w))
-
-unaltered : (ws : List (List ℕ)) → Each IsWord ws → Each (CleanWord parityBytes) ws → Received parityBytes ws ws
-unaltered [] h b = tt
-unaltered (w ∷ ws) h b = ((h .0, b .0 .0, omega (arith, none-altered wordBytes 0 w)), unaltered ws (h .1) (b .1))
-
 -- what goes out may come in as it is
 pub airs-there : {input out : List ℕ} → Bytes input → Sends input out → Airs out out
 airs-there {input} b s =
@@ -82,7 +69,7 @@ airs-there {input} b s =
       whole = sent-each (packetsOf input) taken;
       blocks = sym (went-out s);
       came = ws;
-      altered = unaltered ws (sent-each (packetsOf input) taken) clean;
+      altered = unaltered parityBytes ws clean;
       heard = sym (went-out s);
     }
 

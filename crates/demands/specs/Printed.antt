@@ -4,8 +4,9 @@
 -- printed    the rows
 use Prim.Native.Nat.{ℕ, zero, suc, _-_}
 use mathlib.Core.Path.{_≡_, refl}
-use mathlib.Core.Bool.{false}
+use mathlib.Core.Bool.{true, false}
 use mathlib.Core.List.{List, [], _∷_, _++_, map}
+use mathlib.Core.Option.{Option, some, none}
 use lib.ListN.{length, replicate}
 use Rattle.base.specs.Calls.{joined}
 use Rattle.base.specs.Choice.{pick}
@@ -23,12 +24,19 @@ use Rattle.frames.specs.Port.{class, barred}
 use Rattle.frames.specs.Sender.{refusing}
 use Rattle.frames.specs.declared.Judged.the-variants.{Packet as Delivered, Refused as Denied, Broken}
 use Rattle.stream.specs.Reader.{waiting, reads}
-use Rattle.stream.specs.Called.{placeLimit}
+use Rattle.stream.specs.Called.{placeLimit, fresh}
 use Rattle.blocks.specs.Sender.{marker, messageBytes, parityBytes, wordBytes, blockBytes}
-use Rattle.blocks.specs.Channel.{Event, said, block, lost}
+use Rattle.blocks.specs.Channel.{Event, said, block, lost, zeros}
 use Rattle.blocks.specs.declared.Condition.the-variants.{Clean, Repaired, Beyond}
 use Rattle.channel.specs.Called.{freshReceiver}
 use Rattle.channel.specs.declared.answer.Answer.the-variants.{Said, Block, LockLost}
+use Rattle.groups.specs.Sender.{groupWords, groupBytes, closingWords, completing, grouped}
+use Rattle.subchannel.specs.Called as sub
+use Rattle.subchannels.specs.declared.Configured.{Configured}
+use Rattle.subchannels.specs.declared.Configured.the-variants.{Told as SubTold, Refused as NotTold}
+use Rattle.subchannels.specs.declared.Receiver.{Receiver}
+use Rattle.subchannels.specs.Four as four
+use Rattle.subsenders.specs.Four as senders
 use Rattle.listed.specs.Apart as listed
 use Rattle.bid.specs.Line.{lineLimit}
 use Rattle.office.specs.Called.{heldLimit, holdLimit, outLimit}
@@ -129,6 +137,34 @@ abbrev tableOf : ℕ → List Entry
 tableOf zero = []
 tableOf (suc n) = entry n 7 ∷ tableOf n
 
+-- the number by which configuring a sub-channel is refused; 0 where it is told
+abbrev untoldBy : Configured → ℕ
+untoldBy SubTold = 0
+untoldBy (NotTold n) = n
+
+-- .. of a fresh receiver, and of a fresh sender
+abbrev configuringBy : ℕ → ℕ → ℕ → List ℕ
+configuringBy n r d = untoldBy (four.configuring four.freshReceiver n r d .0) ∷ untoldBy (senders.configuring senders.freshSender n r d .0) ∷ []
+
+-- a receiver whose sub-channel 3 alone is told, and counts so many bytes of a group
+abbrev counting : ℕ → Receiver
+counting g = four.put four.freshReceiver 3 (sub.sub (sub.lane (sub.settings true 16 3) true false zeros (sub.counts g 0 0 0) fresh) interleaver.freshBack)
+
+-- the number by which an answer refuses
+abbrev deniedBy : Option Event → List ℕ
+deniedBy none = []
+deniedBy (some (said t)) = toldNumber t ∷ []
+deniedBy (some (block c)) = []
+deniedBy (some lost) = []
+
+-- .. a call on sub-channel n of that receiver, with empty buffers
+abbrev hearingBy : ℕ → ℕ → List ℕ
+hearingBy n g = deniedBy (four.hearFour (counting g) n [] [] [] .0)
+
+-- the number by which sending nothing on sub-channel n is refused, of which 3 alone is told; 0 where it writes
+abbrev sendingBy : ℕ → ℕ
+sendingBy n = numberOf (senders.sendFour (senders.configuring senders.freshSender 3 0 0 .1) n [] [] .answer)
+
 -- the number of a row, what the definitions give, what the paper prints
 abbrev pub printed : List Line
 printed =
@@ -180,4 +216,10 @@ printed =
     (46, notedLine 20736 411 First, 50 ∷ 48 ∷ 55 ∷ 51 ∷ 54 ∷ 32 ∷ 52 ∷ 49 ∷ 49 ∷ 32 ∷ 102 ∷ 105 ∷ 114 ∷ 115 ∷ 116 ∷ 10 ∷ []) ∷  -- `PORT SEQUENCE first`: 20736 411 first
     (47, joined (map (notedLine 1 2) (InOrder ∷ Repeated ∷ Late ∷ [])), 49 ∷ 32 ∷ 50 ∷ 32 ∷ 105 ∷ 110 ∷ 32 ∷ 111 ∷ 114 ∷ 100 ∷ 101 ∷ 114 ∷ 10 ∷ 49 ∷ 32 ∷ 50 ∷ 32 ∷ 114 ∷ 101 ∷ 112 ∷ 101 ∷ 97 ∷ 116 ∷ 101 ∷ 100 ∷ 10 ∷ 49 ∷ 32 ∷ 50 ∷ 32 ∷ 108 ∷ 97 ∷ 116 ∷ 101 ∷ 10 ∷ []) ∷  -- `in order`, `repeated`, `late`
     (48, joined (map (notedLine 1 2) (Missing 32766 ∷ NotNoted 40 ∷ [])), 49 ∷ 32 ∷ 50 ∷ 32 ∷ 109 ∷ 105 ∷ 115 ∷ 115 ∷ 105 ∷ 110 ∷ 103 ∷ 32 ∷ 51 ∷ 50 ∷ 55 ∷ 54 ∷ 54 ∷ 10 ∷ 49 ∷ 32 ∷ 50 ∷ 32 ∷ 114 ∷ 101 ∷ 102 ∷ 117 ∷ 115 ∷ 101 ∷ 100 ∷ 32 ∷ 52 ∷ 48 ∷ 10 ∷ []) ∷  -- `missing N`, `refused 40`
+    (49, groupWords ∷ groupBytes ∷ length (grouped 1 (replicate 1020 0)) ∷ [], 4 ∷ 1020 ∷ 1024 ∷ []) ∷  -- "the marker before every four words": 1,020 bytes, and 1,024 with it
+    (50, map closingWords (0 ∷ 1 ∷ 2 ∷ 64 ∷ []), 0 ∷ 0 ∷ 2 ∷ 64 ∷ []) ∷  -- "At depth D of 2 or more the closing push is made of D words of flags"
+    (51, map completing (0 ∷ 1 ∷ 2 ∷ 3 ∷ 4 ∷ 5 ∷ []), 0 ∷ 3 ∷ 2 ∷ 1 ∷ 0 ∷ 3 ∷ []) ∷  -- "A group of four is always complete"
+    (52, joined (configuringBy 3 64 64 ∷ configuringBy 4 64 64 ∷ configuringBy 3 65 65 ∷ configuringBy 3 64 65 ∷ configuringBy 4 65 65 ∷ []), 0 ∷ 0 ∷ 42 ∷ 42 ∷ 30 ∷ 30 ∷ 32 ∷ 32 ∷ 42 ∷ 42 ∷ []) ∷  -- "42 for a sub-channel number above 3", "30 and 32 on configuring"
+    (53, joined (hearingBy 0 1020 ∷ hearingBy 3 1020 ∷ hearingBy 4 1020 ∷ hearingBy 3 1021 ∷ hearingBy 4 1021 ∷ []), 42 ∷ 11 ∷ 42 ∷ 10 ∷ 10 ∷ []) ∷  -- 10 "when a group counts more than four words"; "then 42 for a sub-channel number above 3 or .. one not configured; then 11"
+    (54, map sendingBy (0 ∷ 3 ∷ 4 ∷ []), 42 ∷ 0 ∷ 42 ∷ []) ∷  -- .. on sending
     []

@@ -62,43 +62,23 @@ impl Sender {
     }
 
     // One of the four exchanged.
-    fn put(self, number: usize, settings: Settings) -> Self
-        ensures { λ r. ⌜ r ≡ put self number settings ⌝ }
+    fn put(self, number: usize, told: Settings) -> Self
+        ensures { λ r. ⌜ r ≡ put self number told ⌝ }
     {
         let a = self.a;
         let b = self.b;
         let c = self.c;
         let d = self.d;
         if number == 0 {
-            return Sender {
-                a: settings,
-                b,
-                c,
-                d,
-            };
+            return Sender { a: told, b, c, d };
         }
         if number == 1 {
-            return Sender {
-                a,
-                b: settings,
-                c,
-                d,
-            };
+            return Sender { a, b: told, c, d };
         }
         if number == 2 {
-            return Sender {
-                a,
-                b,
-                c: settings,
-                d,
-            };
+            return Sender { a, b, c: told, d };
         }
-        Sender {
-            a,
-            b,
-            c,
-            d: settings,
-        }
+        Sender { a, b, c, d: told }
     }
 
     // A refused configuring: the settings as they were.

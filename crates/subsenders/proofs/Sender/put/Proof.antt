@@ -7,9 +7,9 @@ pub put-spec : {M : Type 1} → statement M
 put-spec =
     tie.close
     (tie.spec
-    (λ c. let a = c .before .before .before .before .before .args in put-at (a .self) (a .settings) (c .if1 .taken))
-    (λ c. let a = c .before .before .before .before .before .before .args in put-at (a .self) (a .settings) (c .if2 .taken))
-    (λ c. let a = c .before .before .before .before .before .before .before .args in put-at (a .self) (a .settings) (c .if3 .taken))
+    (λ c. let a = c .before .before .before .before .before .args in put-at (a .self) (a .told) (c .if1 .taken))
+    (λ c. let a = c .before .before .before .before .before .before .args in put-at (a .self) (a .told) (c .if2 .taken))
+    (λ c. let a = c .before .before .before .before .before .before .before .args in put-at (a .self) (a .told) (c .if3 .taken))
     (λ c.
     let a = c .before .before .before .before .before .before .before .args in
-    put-last (a .self) (a .settings) (a .number) (c .before .before .if1 .left) (c .before .if2 .left) (c .if3 .left)))
+    put-last (a .self) (a .told) (a .number) (c .before .before .if1 .left) (c .before .if2 .left) (c .if3 .left)))

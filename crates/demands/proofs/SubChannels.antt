@@ -1,0 +1,335 @@
+-- Fixed sub-channels, in the words of request W7:
+--   "Build the sender and receiver for one to four sub-channels: each has R, a depth and its own stream, filled with flags to whole messages,
+--   the marker before every four words, words interleaved before marking. A group of four is always complete, filled with words of flags. At
+--   depth D of 2 or more the closing push is made of D words of flags in place of W3's zeros, before the group is completed. The receiver is
+--   told the settings and that the first marked block starts at row zero; when lock is lost that sub-channel gives nothing until it is told
+--   again. Bytes of one sub-channel never affect another's answers. Demand 3's cutting and its delivery of the sent packets hold for each; its
+--   recovery after an altered block holds for depth 0 and 1. Refusals: 10 also when a group counts more than four words; then 42 for a
+--   sub-channel number above 3 or, outside configuring, one not configured; then 11 for its two buffers; 30 and 32 on configuring."
+-- R is r and the depth d, each to 64. `EveryCut r d bs λ es c. ..` (crates/subchannel/specs/Called.antt): a sub-channel just told r and d hears bs,
+-- cut in any way; its calls come to their end, and it is so of their answers es, and of state and buffers c behind them.
+-- own-settings, others-settings                        the sender of four
+-- whole-messages, closing-push, complete, marked-last  what is sent
+-- told-anew, row-zero                                  the receiver is told, also again
+-- lock-lost, lost-silent                               lock lost
+-- stands-alone, others-kept                            one sub-channel and another's
+-- every-cut, same-cut, every-payload, whole-stream     demand 3's cutting and its delivery
+-- earlier-blocks, behind-flag, other-blocks            .. and its recovery
+-- repaired-as-sent, -there, -where, -flat              request W12, of a fixed sub-channel: h bytes of each word altered
+-- ..-refusals, ..-keeps-..                             the refusals, row by row, and what a refused call leaves
+use Prim.Native.Nat.{ℕ, suc, _+_, _-_, _*_, _/_, _%_, _≤_, _<_}
+use native.Mathlib.Omega.{arith}
+use mathlib.Core.Path.{_≡_, refl, sym, _∙_, ap, subst}
+use mathlib.Core.Logic.{_≢_}
+use mathlib.Core.List.{List, [], _∷_, _++_, map}
+use mathlib.Core.Option.{some}
+use lib.Dec.{ltb}
+use lib.ListN.{length, take, getD, replicate}
+use lib.Seq.{take-all}
+use borrow.Author.Tests.{lt-ltb, ltb-true}
+use Rattle.base.specs.Bytes.{Each, Bytes}
+use Rattle.base.specs.Calls.{With, joined, run, ReadsAll, Yields}
+use Rattle.base.specs.Choice.{pick}
+use Rattle.base.specs.Written.{write, Keeps}
+use Rattle.frames.specs.Contents.{Packet, rawLimit}
+use Rattle.frames.specs.Escape.{flag}
+use Rattle.frames.specs.Frame.{refusal}
+use Rattle.frames.specs.Sender.{Accepted}
+use Rattle.stream.specs.Reader.{waiting, reads}
+use Rattle.stream.specs.Sender.{stream, delivered, openedFrom}
+use Rattle.stream.proofs.Streaming.{stream-read}
+use Rattle.interleaver.specs.Places.{cell}
+use Rattle.interleaver.specs.Running.{fresh, freshBack, sent as turned, push}
+use Rattle.interleaver.specs.declared.Back.{Back}
+use Rattle.interleaver.proofs.Calling.{passes}
+use Rattle.repair.specs.Promise.{CleanWord}
+use Rattle.blocks.specs.Sender.{marker, wordBytes}
+use Rattle.blocks.specs.Channel.{Event, said, lost, frames, blocks, losses, IsWord, FirstMarker}
+use Rattle.blocks.specs.declared.Condition.the-variants.{Clean as clean}
+use Rattle.blocks.specs.declared.Hunting.{Hunting}
+use Rattle.blocks.proofs.Streaming.{theMarker, stream-bytes}
+use Rattle.groups.specs.Sender.{groupWords, wordOf, messagesOf, flagWord, closingWords, pushed, wordsOf, wordsBack, grouped, marked, sent}
+use Rattle.groups.specs.Word.{condition, carried, cameBack}
+use Rattle.groups.specs.Sub.{inGroup, silent, hears, start, answers, wordsGive}
+use Rattle.groups.proofs.Streaming.{IsMessage, messages, messages-each, answered, carries, groups, frames-given, blocks-given, losses-given}
+use Rattle.groups.proofs.Received.{joined-length}
+use Rattle.groups.proofs.Sent as laid
+use Rattle.groups.proofs.Lost as losing
+use Rattle.groups.proofs.Numbers.{begins}
+use Rattle.groups.proofs.Returned.{back-is, returned, flat-back, word-place}
+use Rattle.groups.proofs.Returned.{unaltered as came-unaltered}
+use Rattle.subchannel.specs.declared.sub.Sub.{Sub}
+use Rattle.subchannel.specs.Called.{Board, board, toldSub, hearCall, EveryCut, ThereEvent, boardOf, inUse}
+use Rattle.subchannel.proofs.Demands as one
+use Rattle.subchannel.proofs.Delivery.{payload-there}
+use Rattle.subchannels.specs.declared.Configured.the-variants.{Told, Refused}
+use Rattle.subchannels.specs.declared.Receiver.{Receiver}
+use Rattle.subchannels.specs.Four.{Boards, boardAt, Scheduled, ofOne, get, configuring, hearFour}
+use Rattle.subchannels.proofs.Apart.{Live, alone, alone-means, configure-own, configure-others, told-means}
+use Rattle.subsender.specs.Sending.{sending}
+use Rattle.subsender.proofs.Determined.{sending-keeps}
+use Rattle.subsenders.specs.declared.Sender.{Sender}
+use Rattle.subsenders.specs.Four as senders
+use Rattle.subsenders.proofs.Apart as apart
+use Rattle.demands.specs.Table.{Exact}
+use Rattle.demands.specs.Guarantee.{Received, received}
+use Rattle.demands.specs.Refusals.{Short, ByCall, ByHear}
+use Rattle.demands.specs.SubChannels.{SubBeyond, ReceiverBeyond, SenderBeyond, Unknown, ByConfigure, ByNumber}
+use Rattle.demands.proofs.Rows.{row, not-less, refuses, wrote}
+use Rattle.demands.proofs.Altered.{unaltered, sent-clean-words, carried-received, answers-received, words-received, many-received}
+use Rattle.demands.proofs.Subs as rows
+
+-- ---- "the sender .. for one to four sub-channels: each has R, a depth and its own stream": configured, a sub-channel sends a stream by its own
+-- settings ..
+pub own-settings : (s : Sender) (n r d : ℕ) (bs out : List ℕ) → senders.configuring s n r d .0 ≡ Told
+    → senders.sendFour (senders.configuring s n r d .1) n bs out ≡ write (sent r d bs) out
+own-settings = apart.configured-sends
+
+-- .. and configuring it changes nothing of what another sends, or is refused by; sending changes no state
+pub others-settings : (s : Sender) (n r d : ℕ) (bs out : List ℕ) (k : ℕ) → n ≢ k
+    → senders.sendFour (senders.configuring s n r d .1) k bs out ≡ senders.sendFour s k bs out
+others-settings = apart.configured-others
+
+-- ---- what is sent of a stream's bytes bs, `sent r d bs`
+module _ (r d : ℕ) (hr : r ≤ 64) (bs : List ℕ) (b : Bytes bs) where
+  -- "filled with flags to whole messages": messages of 255 - R bytes, fewer flags than one has
+  pub whole-messages : (k : ℕ) × (k < 255 - r) × (joined (messagesOf r bs) ≡ bs ++ replicate k flag)
+      × Each (λ (m : List ℕ). (length m ≡ 255 - r) × Bytes m) (messagesOf r bs)
+  whole-messages = laid.messages-whole r d hr bs b
+
+  -- "At depth D of 2 or more the closing push is made of D words of flags": behind the words of the messages
+  pub closing-push : (2 ≤ d → pushed r d bs ≡ map (wordOf r) (messagesOf r bs) ++ replicate d (flagWord r))
+      × (d < 2 → pushed r d bs ≡ map (wordOf r) (messagesOf r bs))
+  closing-push = laid.push-closes r d hr bs b
+
+  -- ".. before the group is completed." "A group of four is always complete, filled with words of flags": fewer than four of them
+  pub complete : (k : ℕ) × (k < 4) × (wordsOf r d bs ≡ pushed r d bs ++ replicate k (flagWord r))
+      × (length (wordsOf r d bs) ≡ length (wordsOf r d bs) / 4 * 4)
+  complete = laid.words-complete r d hr bs b
+
+  -- "the marker before every four words, words interleaved before marking": gs are the groups' bytes, four words' each; together they are the words'
+  -- bytes through the interleaver
+  pub marked-last : (gs : List (List ℕ)) × (sent r d bs ≡ joined (map (λ g. marker ++ g) gs)) × Each (λ (g : List ℕ). length g ≡ 4 * 255) gs
+      × (joined gs ≡ run (push d) fresh (joined (wordsOf r d bs)) .0)
+  marked-last = laid.groups-are r d hr bs b
+
+-- ---- "The receiver is told the settings ..": also again, and whatever it was before, it is as one just told, and what it then hears, whatever
+-- the others hear between, means what it means to one just told
+pub told-anew : (s : Receiver) (n r d : ℕ) → configuring s n r d .0 ≡ Told → get (configuring s n r d .1) n ≡ toldSub r d
+told-anew s n r d e = configure-own s n r d e .4
+
+pub told-hears : (k r d : ℕ) (s : Boards) → configuring (s .st) k r d .0 ≡ Told → rawLimit ≤ length (s .recv k) → wordBytes ≤ length (s .word k)
+    → {t : Boards} {ps : List (ℕ × List ℕ)} {es : List (ℕ × Event)}
+    → Scheduled (record { st = configuring (s .st) k r d .1; recv = s .recv; word = s .word }) ps es t
+    → (ofOne k es ≡ answers r d (joined (ofOne k ps))) × (inUse (boardAt t k) ≡ inUse (boardOf r d (hears r d start (joined (ofOne k ps)) .1) [] []))
+told-hears = told-means
+
+-- .. "and that the first marked block starts at row zero": behind the first marker the cells are fresh, at place zero
+pub row-zero : (r d : ℕ) → hears r d start marker ≡ ([], inGroup theMarker 0 freshBack [] waiting)
+row-zero = begins
+
+module _ (r d : ℕ) (hr : r ≤ 64) (hd : d ≤ 64) where
+  -- ---- "when lock is lost that sub-channel gives nothing until it is told again": behind whole groups of any bytes four that are not the marker;
+  -- that is told once, and whatever follows is not answered
+  pub lock-lost : (stray rs : List ℕ) (g : ℕ) → length rs ≡ suc g * (4 * 255) → FirstMarker stray (grouped (suc g) rs)
+      → (bs cs : List ℕ) → length bs ≡ 4 → bs ≢ marker
+      → EveryCut r d ((stray ++ grouped (suc g) rs) ++ (bs ++ cs)) λ es _. es ≡ answers r d (stray ++ grouped (suc g) rs) ++ lost ∷ []
+  lock-lost stray rs g l f bs cs h n =
+      let x = losing.lock-lost r d stray rs g l f bs cs h n in
+      one.cut-so (one.every-cut r d hr hd ((stray ++ grouped (suc g) rs) ++ (bs ++ cs))) λ es c e. e .0 ∙ ap (λ y. y .0) (x .2)
+
+  -- from wherever it is lost on
+  pub lost-silent : (bs cs : List ℕ) (f : Hunting) (k : Back) → hears r d start bs .1 ≡ silent f k → EveryCut r d (bs ++ cs) λ es c. es ≡ answers r d bs
+  lost-silent = one.stays-silent r d hr hd
+
+  -- ---- "Demand 3's cutting .. hold for each": every way of cutting yields the answers and the final state of the uncut string ..
+  pub every-cut : (bs : List ℕ) → EveryCut r d bs λ es c. (es ≡ answers r d bs) × (inUse c ≡ inUse (boardOf r d (hears r d start bs .1) [] []))
+  every-cut = one.every-cut r d hr hd
+
+  -- .. from the same buffers to the last byte of both
+  pub same-cut : (recv word : List ℕ) → rawLimit ≤ length recv → wordBytes ≤ length word → (ps qs : List (List ℕ)) → joined ps ≡ joined qs
+      → Yields hearCall (board (toldSub r d) recv word) ps
+      λ es c. Yields hearCall (board (toldSub r d) recv word) qs
+      λ fs e. (es ≡ fs) × (c ≡ e)
+  same-cut = one.same-cut r d hr hd
+
+  -- .. "and its delivery of the sent packets": once each, in order, and nothing else. Every block is clean, and no lock is lost
+  pub whole-stream : (stray : List ℕ) (ps : List Packet) → Each Accepted ps → FirstMarker stray (sent r d (stream ps))
+      → EveryCut r d (stray ++ sent r d (stream ps))
+      λ es c. (frames es ≡ map delivered ps) × (blocks es ≡ replicate (length (wordsOf r d (stream ps)) - closingWords d) clean) × (losses es ≡ 0)
+  whole-stream = one.delivers r d hr hd
+
+-- a delivery counts with its payload bytes and its key: they stand in the receive buffer
+pub every-payload : (c : Board) (bs : List ℕ) → With ThereEvent (hearCall c bs .0) (hearCall c bs .2)
+every-payload = payload-there
+
+-- ---- "its recovery after an altered block holds for depth 0 and 1": a block is a word, or a group of four; the words us, one or more, are altered
+-- at will, to vs, and no marker is
+module _ (r d : ℕ) (hr : r ≤ 64) (flat : d < 2) (stray : List ℕ) (ps : List Packet) (accepted : Each Accepted ps)
+    (first : FirstMarker stray (sent r d (stream ps))) (earlier us vs later : List (List ℕ)) (some-words : wordsOf r d (stream ps) ≡ earlier ++ (us ++ later))
+    (any : Each IsWord vs) (many : length vs ≡ length us) where
+  -- "the answers of the earlier blocks stay the same" (paper 01): fs to the stream as sent, es to the altered one
+  pub earlier-blocks : EveryCut r d (stray ++ sent r d (stream ps))
+      λ fs _. EveryCut r d (stray ++ marked d (earlier ++ (vs ++ later)))
+      λ es _. (xs ys : List Event) × (fs ≡ wordsGive r earlier waiting .0 ++ xs) × (es ≡ wordsGive r earlier waiting .0 ++ ys)
+  earlier-blocks = one.earlier-answers r d hr flat stray ps accepted first earlier us vs later some-words any many
+
+  -- "and behind the first opening flag in a later block, the frame answers are exactly the sent packets opened from that flag on, once each and
+  -- in order" (paper 01): behind the first, and behind every other
+  pub behind-flag : (pre post : List ℕ) → carried r later ≡ pre ++ flag ∷ post
+      → EveryCut r d (stray ++ marked d (earlier ++ (vs ++ later)))
+      λ es _. frames es ≡ reads waiting ((carried r (earlier ++ vs) ++ pre) ++ flag ∷ []) .0
+      ++ map delivered (openedFrom ps (length (carried r (earlier ++ us) ++ pre)))
+  behind-flag = one.later-answers r d hr flat stray ps accepted first earlier us vs later some-words any many
+
+  -- the others are still clean, and no lock is lost
+  pub other-blocks : EveryCut r d (stray ++ marked d (earlier ++ (vs ++ later)))
+      λ es _. (blocks es ≡ replicate (length earlier) clean ++ (map (condition r) vs ++ replicate (length later) clean)) × (losses es ≡ 0)
+  other-blocks = one.other-blocks r d hr flat stray ps accepted first earlier us vs later some-words any many
+
+-- ---- "Bytes of one sub-channel never affect another's answers": whatever is scheduled over the four, a configured sub-channel's answers, final
+-- state and buffers are those of its own pieces handed to it alone; told-hears has what these mean
+pub stands-alone : (k : ℕ) {s t : Boards} {ps : List (ℕ × List ℕ)} {es : List (ℕ × Event)} → Live k s → Scheduled s ps es t
+    → ReadsAll hearCall (boardAt s k) (ofOne k ps) (ofOne k es) (boardAt t k)
+stands-alone = alone
+
+-- .. and configuring one leaves the others
+pub others-kept : (s : Receiver) (n k r d : ℕ) → n ≤ 3 → k ≤ 3 → n ≢ k → get (configuring s n r d .1) k ≡ get s k
+others-kept = configure-others
+
+-- ---- request W12, of a fixed sub-channel: "if at most .. bytes of each .. word are altered and no marker is, the receiver delivers just what was
+-- sent", for every R and depth, h = INT(R/2) bytes of each word. In place of a sent stream's bytes come rs, as many, behind the same markers;
+-- of each word, as it comes out of the receiving side of the interleaver, at most h bytes are altered
+module _ (r d : ℕ) (hr : r ≤ 64) (hd : d ≤ 64) (stray : List ℕ) (ps : List Packet) (accepted : Each Accepted ps)
+    (first : FirstMarker stray (sent r d (stream ps))) where
+  b : Bytes (stream ps)
+  b = stream-bytes ps accepted
+
+  abbrev ws : List (List ℕ)
+  ws = wordsBack r d (stream ps)
+
+  clean-words : Each (CleanWord r) ws
+  clean-words =
+      subst (Each (CleanWord r)) (sym (back-is r d hr hd (stream ps) b))
+      (sent-clean-words r hr (messages r d hr (stream ps) b) (messages-each r d hr (stream ps) b))
+
+  pub repaired-as-sent : (rs : List ℕ) → length rs ≡ length (wordsOf r d (stream ps)) * 255 → Received r ws (cameBack d (length ws) rs)
+      → EveryCut r d (stray ++ grouped (length (wordsOf r d (stream ps)) / 4) rs)
+      λ es _. (frames es ≡ map delivered ps) × (blocks es ≡ received ws (cameBack d (length ws) rs)) × (losses es ≡ 0)
+  repaired-as-sent rs many came = one.cut-so (one.every-cut r d hr hd (stray ++ grouped (length (wordsOf r d (stream ps)) / 4) rs)) λ es _ cut.
+      let vs : List (List ℕ) = cameBack d (length ws) rs in
+      let e = cut .0 ∙ returned r d hr hd (stream ps) b (omega arith) stray first rs many in
+      let k = carries r d hr (stream ps) b in (
+        ap frames e ∙ frames-given r vs waiting
+            ∙ ap (λ l. reads waiting l .0) (carried-received r ws vs clean-words came ∙ ap (carried r) (back-is r d hr hd (stream ps) b) ∙ k .1)
+            ∙ ap (λ x. x .0) (stream-read ps accepted (k .0)),
+        ap blocks e ∙ blocks-given r vs waiting ∙ answers-received r ws vs clean-words came,
+        ap losses e ∙ losses-given r vs waiting,
+      )
+
+  -- that can be met: by the bytes as they are sent
+  pub repaired-there : Received r ws (cameBack d (length ws) (run (push d) fresh (joined (wordsOf r d (stream ps))) .0))
+  repaired-there = subst (Received r ws) (sym (came-unaltered r d hr hd (stream ps) b)) (unaltered r ws clean-words)
+
+-- where on the air a byte of such a word stands, at depth 2 or more: byte i of word j, byte t of all words, is byte v of those received, markers
+-- not counted, the one of the N = 255 d from t on that the equations read from cell t mod N.
+pub repaired-where : (d : ℕ) → 2 ≤ d → d ≤ 64 → (n : ℕ) (rs : List ℕ) → n * 255 + 255 * d ≤ length rs + 1 → (j i : ℕ) → j < n → i < 255
+    → let t : ℕ = j * 255 + i in
+    (v : ℕ) × (t ≤ v) × (v < t + 255 * d) × (cell d v ≡ t % (255 * d)) × (getD (getD (cameBack d n rs) j []) i 0 ≡ getD rs v 0)
+repaired-where = word-place
+
+-- .. at depth 0 and 1, of each word as it stands on the air: the words vs come in for those sent
+module _ (r d : ℕ) (hr : r ≤ 64) (flat : d < 2) (stray : List ℕ) (ps : List Packet) (accepted : Each Accepted ps)
+    (first : FirstMarker stray (sent r d (stream ps))) (vs : List (List ℕ)) (came : Received r (wordsOf r d (stream ps)) vs) where
+  all-back : wordsBack r d (stream ps) ≡ wordsOf r d (stream ps)
+  all-back =
+      let w : List (List ℕ) = wordsOf r d (stream ps) in
+      ap (λ t. take (length w - pick t 0 d) w) (lt-ltb d 2 flat) ∙ take-all (length w - 0) w (omega arith)
+
+  as-many : length vs ≡ length (wordsOf r d (stream ps))
+  as-many = many-received r (wordsOf r d (stream ps)) vs came
+
+  back : cameBack d (length (wordsBack r d (stream ps))) (joined vs) ≡ vs
+  back =
+      ap (λ n. cameBack d n (joined vs)) (ap length all-back ∙ sym as-many) ∙ flat-back d flat vs (words-received r (wordsOf r d (stream ps)) vs came)
+
+  on-air : grouped (length (wordsOf r d (stream ps)) / 4) (joined vs) ≡ marked d vs
+  on-air = λ i. grouped (sym as-many i / 4) (sym (passes d (turned d) flat fresh (joined vs)) i .0)
+
+  pub repaired-flat : EveryCut r d (stray ++ marked d vs)
+      λ es _. (frames es ≡ map delivered ps) × (blocks es ≡ received (wordsOf r d (stream ps)) vs) × (losses es ≡ 0)
+  repaired-flat =
+      subst (λ (x : List ℕ). EveryCut r d (stray ++ x) λ es _. (frames es ≡ map delivered ps) × (blocks es ≡ received (wordsOf r d (stream ps)) vs)
+      × (losses es ≡ 0)) on-air
+      (one.cut-so
+      (repaired-as-sent r d hr (omega arith) stray ps accepted first (joined vs)
+      (joined-length vs (words-received r (wordsOf r d (stream ps)) vs came) ∙ (let z = as-many in omega arith))
+      (subst (λ x. Received r x (cameBack d (length (wordsBack r d (stream ps))) (joined vs))) (sym all-back)
+      (subst (Received r (wordsOf r d (stream ps))) (sym back) came)))
+      λ es _ x. (x .0, x .1 ∙ (λ i. received (all-back i) (back i)), x .2))
+
+-- ---- "Refusals: 10 also when a group counts more than four words; .. then 11 for its two buffers": one sub-channel's call
+pub sub-hear-refusals : (c : Board) (bs : List ℕ) → Exact ByHear (hearCall c bs)
+    ((10, SubBeyond (c .st)) ∷  -- a count of the state is beyond its limit
+    (11, Short (c .recv) (c .word)) ∷  -- receive buffer under 8,272 bytes, word buffer under 255
+    [])
+sub-hear-refusals = rows.sub-exact
+
+-- .. and its sender's: "30 and 32", 23 behind them
+pub sub-send-refusals : (r d : ℕ) (bs out : List ℕ) → Exact ByCall (sending r d bs out)
+    ((30, 64 < r) ∷  -- R above 64
+    (32, 64 < d) ∷  -- depth above 64
+    (23, length out < length (sent r d bs)) ∷  -- output shorter than the result
+    [])
+sub-send-refusals r d bs out =
+    row ByCall (ltb 64 r) (refuses 30 out) (ltb-true _ _) (not-less _ _)
+    (row ByCall (ltb 64 d) (refuses 32 out) (ltb-true _ _) (not-less _ _) (wrote (sent r d bs) out _ refl))
+
+-- "then 42 for a sub-channel number above 3 or, outside configuring, one not configured; then 11 for its two buffers": by number
+pub number-hear-refusals : (s : Receiver) (n : ℕ) (recv word bs : List ℕ) → Exact ByNumber (hearFour s n recv word bs)
+    ((10, ReceiverBeyond s) ∷  -- a count of the state, which is all four, is beyond its limit
+    (42, Unknown n (get s n .lane .settings)) ∷  -- a number above 3, or one not configured
+    (11, Short recv word) ∷  -- its receive buffer under 8,272 bytes, its word buffer under 255
+    [])
+number-hear-refusals = rows.number-exact
+
+pub number-send-refusals : (s : Sender) (n : ℕ) (bs out : List ℕ) → Exact ByCall (senders.sendFour s n bs out)
+    ((10, SenderBeyond s) ∷  -- settings that no configuring takes, of any of the four
+    (42, Unknown n (senders.get s n)) ∷  -- a number above 3, or one not configured
+    (23, length out < length (sent (senders.get s n .parity) (senders.get s n .depth) bs)) ∷  -- output shorter than the result
+    [])
+number-send-refusals = rows.send-exact
+
+-- "30 and 32 on configuring", the receiver's ..
+pub configure-refusals : (s : Receiver) (n r d : ℕ) → Exact ByConfigure (configuring s n r d)
+    ((10, ReceiverBeyond s) ∷  -- a count of the state, which is all four, is beyond its limit
+    (42, 3 < n) ∷  -- a number above 3
+    (30, 64 < r) ∷  -- R above 64
+    (32, 64 < d) ∷  -- depth above 64
+    [])
+configure-refusals = rows.receiver-configure-exact
+
+-- .. and the sender's
+pub sender-configure-refusals : (s : Sender) (n r d : ℕ) → Exact ByConfigure (senders.configuring s n r d)
+    ((10, SenderBeyond s) ∷ (42, 3 < n) ∷ (30, 64 < r) ∷ (32, 64 < d) ∷ [])
+sender-configure-refusals = rows.sender-configure-exact
+
+-- ---- a refused call changes nothing: state and buffers as they were, no byte taken or written
+pub sub-hear-keeps-all : (c : Board) (bs : List ℕ) (n : ℕ) → ByHear (hearCall c bs) n → hearCall c bs ≡ (some (said (refusal n)), 0, c)
+sub-hear-keeps-all = rows.sub-same
+
+pub sub-send-keeps-out : (r d : ℕ) (bs out : List ℕ) → Keeps out (sending r d bs out)
+sub-send-keeps-out = sending-keeps
+
+pub number-hear-keeps-all : (s : Receiver) (n : ℕ) (recv word bs : List ℕ) (m : ℕ) → ByNumber (hearFour s n recv word bs) m
+    → hearFour s n recv word bs ≡ (some (said (refusal m)), 0, s, recv, word)
+number-hear-keeps-all = rows.number-same
+
+pub number-send-keeps-out : (s : Sender) (n : ℕ) (bs out : List ℕ) → Keeps out (senders.sendFour s n bs out)
+number-send-keeps-out = apart.send-keeps
+
+pub configure-keeps-all : (s : Receiver) (n r d m : ℕ) → ByConfigure (configuring s n r d) m → configuring s n r d ≡ (Refused m, s)
+configure-keeps-all = rows.receiver-configure-same
+
+pub sender-configure-keeps-all : (s : Sender) (n r d m : ℕ) → ByConfigure (senders.configuring s n r d) m → senders.configuring s n r d ≡ (Refused m, s)
+sender-configure-keeps-all = rows.sender-configure-same
