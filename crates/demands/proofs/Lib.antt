@@ -18,3 +18,5 @@ pub mod Manager
 pub mod There
 pub mod Numbers
 pub mod Missed
+pub mod UnitRows
+pub mod Units
