@@ -159,7 +159,7 @@ pub excess-ignored : (l : ℕ) (d : List ℕ) (a f : ℕ) (u v out : List ℕ) �
     → readUnit l d a f u out ≡ readUnit l d a f v out
 excess-ignored = ignored.read-alike
 
--- ---- "Reading returns what was written", for every length, delimiter and content that writing accepts: the parts, one behind the other
+-- ---- "Reading returns what was written", for every length, content and "five delimiter bytes" that writing accepts: the parts, one behind the other
 pub round-trip : (l : ℕ) (d audio opp fixed : List ℕ) → length d ≡ 5 → Bytes d → Bytes audio → Bytes opp → Bytes fixed
     → (m : ℕ) (out out′ : List ℕ) → written l d audio opp fixed out .answer ≡ Wrote m
     → readUnit l d (length audio) (length fixed) (take m (written l d audio opp fixed out .output)) out′ ≡ write (audio ++ opp ++ fixed) out′
