@@ -25,8 +25,9 @@ pub fn run(seed: u64) {
     ports::test();
     println!("request W1's distances and tables: held");
     println!("source document 003's tables: held, and {} units there and back", units::test(&mut Random::new(seed)));
-    let counts = unit_cases::answers(seed);
-    assert!([0, 50, 51, 52, 53, 54, 23].iter().all(|number| counts[*number] >= 10), "{counts:?}");
+    let [written, read] = unit_cases::answers(seed);
+    assert!([0, 50, 51, 53, 54, 23].iter().all(|number| written[*number] >= 10), "{written:?}");
+    assert!([0, 50, 52, 53, 54, 23].iter().all(|number| read[*number] >= 10), "{read:?}");
     println!("the board's lines: held, and of {} recordings line by line by their listings", board::test(&mut Random::new(seed)));
     checks(&mut random);
     elements();

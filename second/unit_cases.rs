@@ -200,13 +200,12 @@ fn searches(random: &mut Random, length: u64, room: usize, cases: &mut Vec<Case>
     }
 }
 
-/// How many cases had each answer: 0 where bytes were written, else a refusal.
-pub fn answers(seed: u64) -> [usize; 55] {
-    let mut counts = [0; 55];
+/// How many cases that write, and that read, had each answer: 0 where bytes were written, else a refusal.
+pub fn answers(seed: u64) -> [[usize; 55]; 2] {
+    let mut counts = [[0; 55]; 2];
     for case in all(seed) {
-        let answer = if case.asked == b'U' { written } else { read };
-        let answer = answer(case.number, &case.bytes, case.space as usize);
-        counts[answer.map_or_else(usize::from, |_| 0)] += 1;
+        let (side, answer): (usize, fn(u64, &[u8], usize) -> Result<Vec<u8>, u8>) = if case.asked == b'U' { (0, written) } else { (1, read) };
+        counts[side][answer(case.number, &case.bytes, case.space as usize).map_or_else(usize::from, |_| 0)] += 1;
     }
     counts
 }

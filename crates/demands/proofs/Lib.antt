@@ -21,3 +21,5 @@ pub mod There
 pub mod Numbers
 pub mod Missed
 pub mod Grouped
+pub mod UnitRows
+pub mod Units

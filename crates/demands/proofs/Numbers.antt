@@ -15,6 +15,9 @@ use Rattle.listed.specs.Lines.{decimal, decimalBy, told, lines, count, endLine,
 use Rattle.listed.specs.Listing.{heard, lastLine, listed, listing}
 use Rattle.lines.specs.Noted.{notedLine}
 use Rattle.ports.specs.Ports.{placeOf, freePlace, twice, noting, forgetting}
+use Rattle.units.specs.Bits.{digits, number}
+use Rattle.units.specs.Tables.{heads, start, step, unfit}
+use Rattle.units.specs.Reading.{isHeader, named}
 use Rattle.demands.specs.Numbers.{table, wrong}
 use Rattle.demands.specs.Printed.{printed}
 
@@ -23,5 +26,5 @@ unfolding fcs register entered contents withCheck judge closed closedBy judgeCon
 numbers = refl
 
 pub as-printed : wrong printed ≡ []
-unfolding fcs register entered contents withCheck escape escapeByte judge closed closedBy judgeContents judgeBody scan last wrongFrom right plain class told lines count endLine wrongLine decimal decimalBy heard lastLine listed listing apart inStream nextAt notedLine noting forgetting placeOf freePlace twice
+unfolding fcs register entered contents withCheck escape escapeByte judge closed closedBy judgeContents judgeBody scan last wrongFrom right plain class told lines count endLine wrongLine decimal decimalBy heard lastLine listed listing apart inStream nextAt notedLine noting forgetting placeOf freePlace twice digits number isHeader named heads start step unfit
 as-printed = refl

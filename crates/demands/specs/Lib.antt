@@ -8,3 +8,4 @@ pub mod Way
 pub mod Numbers
 pub mod Printed
 pub mod Missed
+pub mod Units

@@ -1,6 +1,6 @@
 -- What the paper prints: its fixed numbers and letters said a second time, in the form of Numbers, so that a slip is seen even where code and
 -- definition slip together. The fresh states stand in proofs/Promises, the rows of refusals in proofs/Demand1, and what a law says for all numbers
--- in proofs/Demand2 (classes) and proofs/Interleaving.
+-- in proofs/Demand2 (classes), proofs/Interleaving and proofs/Units.
 -- printed    the rows
 use Prim.Native.Nat.{ℕ, zero, suc, _-_}
 use mathlib.Core.Path.{_≡_, refl}
@@ -54,6 +54,9 @@ use Rattle.ports.specs.declared.Noted.{Noted}
 use Rattle.ports.specs.declared.Noted.the-variants.{First, InOrder, Repeated, Missing, Late, Refused as NotNoted}
 use Rattle.ports.specs.declared.Forgot.{Forgot}
 use Rattle.ports.specs.declared.Forgot.the-variants.{Forgotten, Refused as Unforgotten}
+use Rattle.units.specs.Bits.{digits, number}
+use Rattle.units.specs.Tables as units
+use Rattle.units.specs.Reading.{named}
 use Rattle.demands.specs.Numbers.{Line, inNumbers, heard}
 
 -- the number by which a frame is refused; 0 where it is a packet
@@ -165,6 +168,18 @@ hearingBy n g = deniedBy (four.hearFour (counting g) n [] [] [] .0)
 abbrev sendingBy : ℕ → ℕ
 sendingBy n = numberOf (senders.sendFour (senders.configuring senders.freshSender 3 0 0 .1) n [] [] .answer)
 
+-- the sequence that 24 header bits name; 0 for none
+abbrev namedBy : ℕ → ℕ
+namedBy cw = named 24 (number 0 (digits 24 cw))
+
+-- N start, N offset and header length of a unit of l bits
+abbrev spreadOf : ℕ → List ℕ
+spreadOf l = units.start l ∷ (units.step l - 1) ∷ units.heads l ∷ []
+
+-- 1 where no unit has l bits
+abbrev unfitOf : ℕ → ℕ
+unfitOf l = pick (units.unfit l) 1 0
+
 -- the number of a row, what the definitions give, what the paper prints
 abbrev pub printed : List Line
 printed =
@@ -222,4 +237,10 @@ printed =
     (52, joined (configuringBy 3 64 64 ∷ configuringBy 4 64 64 ∷ configuringBy 3 65 65 ∷ configuringBy 3 64 65 ∷ configuringBy 4 65 65 ∷ []), 0 ∷ 0 ∷ 42 ∷ 42 ∷ 30 ∷ 30 ∷ 32 ∷ 32 ∷ 42 ∷ 42 ∷ []) ∷  -- "42 for a sub-channel number above 3", "30 and 32 on configuring"
     (53, joined (hearingBy 0 1020 ∷ hearingBy 3 1020 ∷ hearingBy 4 1020 ∷ hearingBy 3 1021 ∷ hearingBy 4 1021 ∷ []), 42 ∷ 11 ∷ 42 ∷ 10 ∷ 10 ∷ []) ∷  -- 10 "when a group counts more than four words"; "then 42 for a sub-channel number above 3 or .. one not configured; then 11"
     (54, map sendingBy (0 ∷ 3 ∷ 4 ∷ []), 42 ∷ 0 ∷ 42 ∷ []) ∷  -- .. on sending
+    (55, units.most ∷ units.mostBytes ∷ length (digits 24 units.cw0) ∷ [], 146176 ∷ 18272 ∷ 24 ∷ []) ∷  -- "units of up to 146,176 bits", which are 18,272 bytes; a 24-bit sequence
+    (56, units.cw0 ∷ units.cw1 ∷ units.cw2 ∷ units.cw3 ∷ units.cw4 ∷ [], 0x38D8D3 ∷ 0xCE3634 ∷ 0xE3634C ∷ 0x8D8D33 ∷ 0x3634CE ∷ []) ∷  -- table 5-3, CW0 to CW4
+    (57, digits 24 units.cw1, 1 ∷ 1 ∷ 0 ∷ 0 ∷ 1 ∷ 1 ∷ 1 ∷ 0 ∷ 0 ∷ 0 ∷ 1 ∷ 1 ∷ 0 ∷ 1 ∷ 1 ∷ 0 ∷ 0 ∷ 0 ∷ 1 ∷ 1 ∷ 0 ∷ 1 ∷ 0 ∷ 0 ∷ []) ∷  -- .. CW1 in binary, h0 first
+    (58, map namedBy (0x38D8D3 ∷ 0xCE3634 ∷ 0xE3634C ∷ 0x8D8D33 ∷ 0x3634CE ∷ 0x8D338D ∷ 0xD8D338 ∷ 0x634CE3 ∷ []), 0x38D8D3 ∷ 0xCE3634 ∷ 0xE3634C ∷ 0x8D8D33 ∷ 0x3634CE ∷ 0 ∷ 0 ∷ 0 ∷ []) ∷  -- .. what a reader takes each for: CW5 to CW7 are reserved
+    (59, joined (map spreadOf (71992 ∷ 71999 ∷ 71998 ∷ 72000 ∷ 72007 ∷ 72001 ∷ [])), 120 ∷ 2993 ∷ 24 ∷ 120 ∷ 3119 ∷ 23 ∷ 120 ∷ 3263 ∷ 22 ∷ 42000 ∷ 1247 ∷ 24 ∷ 42001 ∷ 1303 ∷ 23 ∷ 42001 ∷ 1359 ∷ 22 ∷ []) ∷  -- table 5-4, a length of each row: N start, N offset, header length
+    (60, map unfitOf (143 ∷ 144 ∷ 145 ∷ 288 ∷ 289 ∷ 295 ∷ 303 ∷ 146176 ∷ 146177 ∷ []), 1 ∷ 0 ∷ 1 ∷ 0 ∷ 0 ∷ 1 ∷ 0 ∷ 0 ∷ 1 ∷ []) ∷  -- 50: a header spacing below zero, a length above the limit
     []

@@ -1,5 +1,6 @@
 -- A unit carries its header and its payload.
 -- length-unit      a unit takes as many bytes as its length says
+-- woven            its bits are header bits woven into those of the payload, and zeros
 -- header-unit      its header bits are those of its sequence
 -- unwoven-unit     its other bits are those of the payload, and zeros
 -- payload-unit     its payload bytes are those written
@@ -52,7 +53,7 @@ module _ (l cw : ℕ) (p : List ℕ) (k : 0 < step l) (e : length p ≡ payload 
   pub room : Room (start l) (step l - 1) (length hs) (length ps)
   room = rw (length-hs, length-ps) (room-of l (lent l * 8 - heads l) k (omega (arith, spans l k)))
 
-  woven : bits (unit l cw p) ≡ weave (start l) (step l - 1) hs ps
+  pub woven : bits (unit l cw p) ≡ weave (start l) (step l - 1) hs ps
   unfolding unit unitBits
   woven =
       bits-pack (lent l) (unitBits l cw p)

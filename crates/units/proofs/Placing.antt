@@ -1,11 +1,12 @@
 -- A bit of a unit, by its place: as the code has it.
 -- unit-before, unit-heading, unit-between, unit-behind   a bit before, of, between and behind the header bits
+-- header-at                                              a header bit, by its number
 -- length-bits-unit                                       there are eight to a byte
-use mathlib.Core.Path.{_≡_, refl, sym, ap, ap₂, _∙_}
+use mathlib.Core.Path.{_≡_, refl, sym, ap, ap₂, subst, _∙_}
 use mathlib.Core.Bool.{false}
 use mathlib.Core.List.{List, [], _∷_, _++_}
 use Prim.Native.Nat.{ℕ, zero, suc, _+_, _-_, _*_, _/_, _%_, _≤_, _<_}
-use native.Mathlib.Nat.{mod-add-div', le-mul-of-pos-right, pos-of-ne-zero, div-le-self}
+use native.Mathlib.Nat.{mod-add-div', le-mul-of-pos-right, pos-of-ne-zero, div-le-self, add-sub-cancel-left, mul-div-cancel, mul-mod-left}
 use native.Mathlib.Numerals.{add-one}
 use native.Mathlib.Omega.{arith}
 use lib.ListN.{length, take, drop, getD, set}
@@ -18,7 +19,7 @@ use Rattle.units.proofs.Rows.{accepted, few}
 use Rattle.units.proofs.Contents.{length-laid}
 use Rattle.units.proofs.Digits.{zeros-at}
 use Rattle.units.proofs.Woven.{At, before, placed}
-use Rattle.units.proofs.Carrying.{hs, ps, room, length-hs, length-ps, holds}
+use Rattle.units.proofs.Carrying.{hs, ps, room, length-hs, length-ps, holds, woven}
 
 module _ (l cw : ℕ) (p : List ℕ) (k : 0 < step l) (e : length p ≡ payload l) where
   length-bits-unit : length (unitBits l cw p) ≡ lent l * 8
@@ -57,6 +58,17 @@ module _ (l cw : ℕ) (p : List ℕ) (k : 0 < step l) (e : length p ≡ payload 
         unit-between m =
             padded (i - ((i - start l) / step l + 1)) ∙ ap (λ (j : ℕ). getD (ps l cw p k e) (j - ((i - start l) / step l + 1)) 0) (sym here)
             ∙ there .between (omega (arith, length-hs l cw p k e)) m ∙ is
+
+  -- header bit i of a unit's bytes
+  pub header-at : (i : ℕ) → i < heads l → getD (bits (unit l cw p)) (start l + i * step l) 0 ≡ getD (digits 24 cw) i 0
+  unfolding unitBits
+  header-at i h =
+      let d : start l + i * step l - start l ≡ i * step l = add-sub-cancel-left (start l) (i * step l) in
+      let q : (start l + i * step l - start l) / step l ≡ i = ap (λ (x : ℕ). x / step l) d ∙ mul-div-cancel i k in
+      ap (λ (u : List ℕ). getD u (start l + i * step l) 0) (woven l cw p k e)
+      ∙ sym (unit-heading (start l + i * step l) (omega arith) (subst (λ (x : ℕ). x < heads l) (sym q) h)
+      (ap (λ (x : ℕ). x % step l) d ∙ mul-mod-left i (step l)))
+      ∙ ap (λ (x : ℕ). getD (digits 24 cw) x 0) q
 
 -- ---- as the code has it, with what it has of the tables
 under : (x s : ℕ) → 0 < s → (x % s ≡ 0 → ⊥) → x / s + 1 ≤ x

@@ -1,11 +1,14 @@
--- When the two calls refuse: each number exactly when its row of the table applies and none above it.
--- found-opens, opens-found     a delimiter at a place, and what stands behind the first
--- early-is, early-short        54 on writing, by the search and shortly
--- by-name                      a fact of the sequence named, from a fact of each
--- write-refusals               the table of the call that writes
--- read-refusals                the table of the call that reads
--- accepts                      a call that no row refuses writes
-use mathlib.Core.Path.{_≡_, refl, sym, ap, ap₂, subst, _∙_}
+-- What the two calls refuse for, from the tests by which they do, and back. The tables are in `demands`.
+-- unfit-is, fit-not                    50
+-- mix-none, mix-some                   51
+-- found-opens, opens-found             a delimiter at a place, and what stands behind the first
+-- early-is, early-not, early-short     54 on writing, by the search and shortly
+-- unnamed-is, named-not                52
+-- by-name                              a fact of the sequence named, from a fact of each
+-- differ, alike                        53, of told lengths
+-- unmarked-is, marked-not              54 on reading
+-- length-parts, length-plain           how many bytes are read
+use mathlib.Core.Path.{_≡_, refl, sym, ap, ap₂, _∙_}
 use mathlib.Core.Bool.{Bool, true, false, _&&_, not, false≢true, true≢false}
 use mathlib.Core.Logic.{_⊎_, _↔_, _≢_, ⊎-elim}
 use mathlib.Core.Logic._⊎_.{inl, inr}
@@ -13,61 +16,28 @@ use mathlib.Core.List.{List, [], _∷_, _++_}
 use Prim.Native.Nat.{ℕ, zero, suc, _+_, _-_, _≤_, _<_}
 use native.Mathlib.Omega.{arith}
 use native.Mathlib.Nat.{pos-of-ne-zero}
-use borrow.Author.Tests.{eq-eqb, ne-eqb, eqb-true, eqb-false, lt-ltb, ltb-true, ltb-false}
+use borrow.Author.Tests.{eq-eqb, ne-eqb, eqb-true, eqb-false, lt-ltb, ltb-true}
 use lib.Dec.{eqb, ltb}
 use lib.ListN.{length, take, drop, replicate, length-append, length-drop, length-replicate}
 use lib.Seq.{length-take-le}
 use Rattle.base.specs.Bytes.{Each}
 use Rattle.base.specs.Choice.{pick}
-use Rattle.base.specs.Written.{Outcome, outcome, refused, write}
-use Rattle.base.specs.declared.Written.{Written}
-use Rattle.base.specs.declared.Written.the-variants.{Wrote, Refused}
 use Rattle.base.proofs.Tests.{and-parts, by-test}
 use Rattle.units.specs.Bits.{digits, number}
-use Rattle.units.specs.Tables.{most, cw0, cw1, cw2, cw3, cw4, sequence, announced, heads, step, payload, lent, unfit}
-use Rattle.units.specs.Unit.{begins, opened, filled, laidOut, unit, hidden, written}
-use Rattle.units.specs.Reading.{headerOf, payloadOf, isHeader, named, middle, readParts, readUnit}
-use Rattle.units.specs.Refusing.{Row, First, Exact, Unfit, NoMix, Early, EarlyShort, noAudio, noFixed, Disagree, Unmarked, carried}
-use Rattle.units.specs.Refusing.{writeRows, partRows, readRows}
+use Rattle.units.specs.Tables.{most, cw0, cw1, cw2, cw3, cw4, sequence, announced, step, unfit}
+use Rattle.units.specs.Unit.{begins, opened, hidden}
+use Rattle.units.specs.Reading.{isHeader, named}
+use Rattle.units.specs.Refusing.{Unfit, NoMix, Early, EarlyShort, noAudio, noFixed, Disagree, Unmarked}
 use Rattle.units.specs.Private.{zeros}
 use Rattle.units.proofs.Hidden.{zeros-are, hidden-is}
 use Rattle.units.proofs.Sequences.{mix, sequence-mix}
-use Rattle.units.proofs.Finding.{length-payload}
-use Rattle.units.proofs.Carrying.{length-unit}
-
--- ---- tables
-refuses : (m : ℕ) (out : List ℕ) (n : ℕ) → refused m out .answer ≡ Refused n ↔ n ≡ m
-refuses m out n = (λ e. let k : m ≡ n = cc in sym k, λ e i. Refused (sym e i))
-
-applies : (m : ℕ) {C : Type 0} (out : List ℕ) (rows : List Row) → C → Exact (refused m out) ((m, C) ∷ rows)
-applies m out rows c =
-    record { says = λ n. (λ e. inl (refuses m out n .0 e, c), ⊎-elim (λ f. refuses m out n .1 (f .0)) (λ f. absurd (f .0 c))) }
-
-over : {m : ℕ} {C : Type 0} {x : Outcome} {rows : List Row} → (C → ⊥) → Exact x rows → Exact x ((m, C) ∷ rows)
-over h rest = record { says = λ n. (λ e. inr (h, rest .says n .0 e), ⊎-elim (λ f. absurd (h (f .1))) (λ f. rest .says n .1 (f .1))) }
-
-row : (t : Bool) (m : ℕ) {C : Type 0} (out : List ℕ) {y : Outcome} {rows : List Row}
-    → (t ≡ true → C) → (t ≡ false → C → ⊥) → Exact y rows → Exact (pick t (refused m out) y) ((m, C) ∷ rows)
-row true m out {rows = rows} holds fails rest = applies m out rows (holds refl)
-row false m out holds fails rest = over (fails refl) rest
-
-not-less : (a b : ℕ) → ltb a b ≡ false → a < b → ⊥
-not-less a b e h = let k : b ≤ a = ltb-false a b e in omega arith
-
-none : (k : ℕ) (out : List ℕ) → Exact (outcome (Wrote k) out) []
-none k out = record { says = λ n. (λ e. let z : _≡_ {A = ℕ} 0 1 = cc in absurd (omega arith), λ f. absurd f) }
-
-wrote : (bs out : List ℕ) (k : ℕ) → length bs ≡ k → Exact (write bs out) ((23, length out < k) ∷ [])
-wrote bs out k e =
-    subst (λ (m : ℕ). Exact (write bs out) ((23, length out < m) ∷ [])) e
-    (row (ltb (length out) (length bs)) 23 out (ltb-true _ _) (not-less _ _) (none (length bs) (bs ++ drop (length bs) out)))
 
 -- ---- 50
-unfit-is : (l : ℕ) → unfit l ≡ true → Unfit l
+pub unfit-is : (l : ℕ) → unfit l ≡ true → Unfit l
 unfolding unfit
 unfit-is l h = by-test (ltb most l) (λ t. inl (ltb-true _ _ t)) (λ t. inr (eqb-true (step l) 0 (rw t at h)))
 
-fit-not : (l : ℕ) → unfit l ≡ false → Unfit l → ⊥
+pub fit-not : (l : ℕ) → unfit l ≡ false → Unfit l → ⊥
 unfolding unfit
 fit-not l h =
     ⊎-elim (λ t. true≢false (sym (ap (λ (x : Bool). pick x true (eqb (step l) 0)) (lt-ltb most l t)) ∙ h))
@@ -78,7 +48,7 @@ fit-not l h =
     late false e = e
 
 -- ---- 51
-mix-none : (a f o : ℕ) → eqb (sequence a f o) 0 ≡ true → NoMix a f o
+pub mix-none : (a f o : ℕ) → eqb (sequence a f o) 0 ≡ true → NoMix a f o
 unfolding sequence
 mix-none a f o = go (eqb a 0) (eqb f 0) (eqb o 0) refl refl refl
   where
@@ -92,7 +62,7 @@ mix-none a f o = go (eqb a 0) (eqb f 0) (eqb o 0) refl refl refl
     go false false true ea ef eo h = absurd (false≢true h)
     go false false false ea ef eo h = absurd (false≢true h)
 
-mix-some : (a f o : ℕ) → eqb (sequence a f o) 0 ≡ false → NoMix a f o → ⊥
+pub mix-some : (a f o : ℕ) → eqb (sequence a f o) 0 ≡ false → NoMix a f o → ⊥
 unfolding sequence
 mix-some a f o h c = go (eqb a 0) (eqb f 0) (eqb o 0) (eq-eqb a 0 (c .0)) refl refl (c .1) h
   where
@@ -186,19 +156,6 @@ module _ (d : List ℕ) (gap : ℕ) (opp : List ℕ) where
           ∙ ap₂ (λ (x y : Bool). pick x false (pick y false (zeros d))) (ne-eqb (length opp) 0 (above _ (c .0))) (ne-eqb gap 0 (above _ (c .1)))
           ∙ ap zeros (c .2) ∙ five-zeros)
 
--- ---- the table of the call that writes
-pub write-refusals : (l : ℕ) (d audio opp fixed out : List ℕ) → Exact (written l d audio opp fixed out) (writeRows l d audio opp fixed (length out))
-unfolding written
-write-refusals l d audio opp fixed out =
-    row (unfit l) 50 out (unfit-is l) (fit-not l)
-    (row (eqb (sequence (length audio) (length fixed) (length opp)) 0) 51 out
-    (mix-none (length audio) (length fixed) (length opp)) (mix-some (length audio) (length fixed) (length opp))
-    (row (ltb (payload l) (filled d audio opp fixed)) 53 out (ltb-true _ _) (not-less _ _)
-    (row (hidden d (payload l - filled d audio opp fixed) opp) 54 out
-    (early-is d (payload l - filled d audio opp fixed) opp) (early-not d (payload l - filled d audio opp fixed) opp)
-    (wrote (unit l (sequence (length audio) (length fixed) (length opp)) (laidOut (payload l) d audio opp fixed)) out (lent l)
-    (length-unit l (sequence (length audio) (length fixed) (length opp)) (laidOut (payload l) d audio opp fixed))))))
-
 -- ---- 52
 module _ (h a b c d e : ℕ) where
   abbrev choice : ℕ
@@ -221,6 +178,15 @@ module _ (h a b c d e : ℕ) where
   choice-some k n =
       true≢false
       (rw (ne-eqb h a (n .0), ne-eqb h b (n .1 .0), ne-eqb h c (n .1 .1 .0), ne-eqb h d (n .1 .1 .1 .0), ne-eqb h e (n .1 .1 .1 .1 .0)) at k)
+
+-- 52, of a header of n bits
+pub unnamed-is : (n h : ℕ) → eqb (named n h) 0 ≡ true → Each (λ cw. h ≢ number 0 (take n (digits 24 cw))) (cw0 ∷ cw1 ∷ cw2 ∷ cw3 ∷ cw4 ∷ [])
+unfolding named isHeader
+unnamed-is n h = choice-none h _ _ _ _ _
+
+pub named-not : (n h : ℕ) → eqb (named n h) 0 ≡ false → Each (λ cw. h ≢ number 0 (take n (digits 24 cw))) (cw0 ∷ cw1 ∷ cw2 ∷ cw3 ∷ cw4 ∷ []) → ⊥
+unfolding named isHeader
+named-not n h = choice-some h _ _ _ _ _
 
 -- a fact of the sequence named, from a fact of each
 pub by-name : (P : ℕ → Type 0) (n h : ℕ) → P 0 → P cw0 → P cw1 → P cw2 → P cw3 → P cw4 → P (named n h)
@@ -279,13 +245,13 @@ module _ (a f n h : ℕ) where
       first : (c : ℕ) → eqb (sequence a f (announced c)) c ≡ eqb (mix (eqb a 0) (eqb f 0) (eqb (announced c) 0)) c
       first c = ap (λ (x : ℕ). eqb x c) (sequence-mix a f (announced c))
 
-  differ : eqb says 0 ≡ false → eqb (sequence a f (announced says)) says ≡ false → Disagree says a f
+  pub differ : eqb says 0 ≡ false → eqb (sequence a f (announced says)) says ≡ false → Disagree says a f
   differ k e =
       by-test (same (eqb a 0) (noAudio says))
       (λ t. inr (same-false _ _ (sym (ap (λ (x : Bool). x && same (eqb f 0) (noFixed says)) t) ∙ sym (agreed k) ∙ e)))
       (λ t. inl (same-false _ _ t))
 
-  alike : eqb says 0 ≡ false → eqb (sequence a f (announced says)) says ≡ true → Disagree says a f → ⊥
+  pub alike : eqb says 0 ≡ false → eqb (sequence a f (announced says)) says ≡ true → Disagree says a f → ⊥
   alike k e =
       let p = and-parts (same (eqb a 0) (noAudio says)) (same (eqb f 0) (noFixed says)) (sym (agreed k) ∙ e) in
       ⊎-elim (λ x. x (same-true _ _ (p .0))) (λ x. x (same-true _ _ (p .1)))
@@ -300,97 +266,28 @@ announced-one cw = go (eqb cw cw1) (eqb cw cw3)
     go false true e = refl
     go false false e = absurd (true≢false e)
 
-unmarked-is : (cw : ℕ) (d xs : List ℕ) → eqb (announced cw) 0 ≡ false → eqb (length (opened d xs)) 0 ≡ true → Unmarked cw d xs
+pub unmarked-is : (cw : ℕ) (d xs : List ℕ) → eqb (announced cw) 0 ≡ false → eqb (length (opened d xs)) 0 ≡ true → Unmarked cw d xs
 unmarked-is cw d xs k e = (announced-one cw k, λ j b h. let z : length (opened d xs) ≡ 0 = eqb-true _ _ e in omega (arith, found-opens d xs j b))
 
-marked-not : (cw : ℕ) (d xs : List ℕ) → eqb (length (opened d xs)) 0 ≡ false → Unmarked cw d xs → ⊥
+pub marked-not : (cw : ℕ) (d xs : List ℕ) → eqb (length (opened d xs)) 0 ≡ false → Unmarked cw d xs → ⊥
 marked-not cw d xs e c =
     let p : 0 < length (opened d xs) = pos-of-ne-zero (eqb-false _ _ e) in
     let r = opens-found d xs p in
     c .1 (r .0) (r .1) (omega (arith, r .2))
 
--- ---- the table of the call that reads
--- of a header h of n bits, a payload p, and told lengths
-module _ (l n h : ℕ) (d : List ℕ) (a f : ℕ) (p out : List ℕ) (whole : length p ≡ payload l) where
-  abbrev cw : ℕ
-  cw = named n h
+-- ---- 23
+-- of a payload p of n bytes, with a of audio and f of fixed data told
+module _ (n a f : ℕ) (p : List ℕ) (whole : length p ≡ n) (h : a + f ≤ n) where
+  length-audio : length (take a p) ≡ a
+  length-audio = length-take-le a p (omega (arith, whole))
 
-  abbrev xs : List ℕ
-  xs = middle a f p
+  length-fixed : length (drop (n - f) p) ≡ f
+  length-fixed = length-drop (n - f) p ∙ omega (arith, whole)
 
-  module _ (ha : a + f ≤ payload l) where
-    length-audio : length (take a p) ≡ a
-    length-audio = length-take-le a p (omega (arith, whole))
+  pub length-parts : (o : List ℕ) → length (take a p ++ o ++ drop (n - f) p) ≡ a + length o + f
+  length-parts o =
+      length-append (take a p ++ o) (drop (n - f) p)
+      ∙ ap₂ _+_ (length-append (take a p) o ∙ ap (λ (k : ℕ). k + length o) length-audio) length-fixed
 
-    length-fixed : length (drop (payload l - f) p) ≡ f
-    length-fixed = length-drop (payload l - f) p ∙ omega (arith, whole)
-
-    length-parts : (o : List ℕ) → length (take a p ++ o ++ drop (payload l - f) p) ≡ a + length o + f
-    length-parts o =
-        length-append (take a p ++ o) (drop (payload l - f) p)
-        ∙ ap₂ _+_ (length-append (take a p) o ∙ ap (λ (k : ℕ). k + length o) length-audio) length-fixed
-
-    length-plain : length (take a p ++ drop (payload l - f) p) ≡ a + 0 + f
-    length-plain = length-append (take a p) (drop (payload l - f) p) ∙ ap₂ _+_ length-audio length-fixed ∙ omega arith
-
-    third : (q : Bool) → eqb (announced cw) 0 ≡ q
-        → Exact
-        (pick q (write (take a p ++ drop (payload l - f) p) out)
-        (pick (eqb (length (opened d xs)) 0) (refused 54 out) (write (take a p ++ opened d xs ++ drop (payload l - f) p) out)))
-        ((54, Unmarked cw d xs) ∷ (23, length out < a + length (pick q [] (opened d xs)) + f) ∷ [])
-    third true e =
-        over (λ c. let z : _≡_ {A = ℕ} 1 0 = sym (c .0) ∙ eqb-true _ _ e in omega arith)
-        (wrote (take a p ++ drop (payload l - f) p) out (a + 0 + f) length-plain)
-    third false e =
-        row (eqb (length (opened d xs)) 0) 54 out (unmarked-is cw d xs e) (marked-not cw d xs)
-        (wrote (take a p ++ opened d xs ++ drop (payload l - f) p) out (a + length (opened d xs) + f) (length-parts (opened d xs)))
-
-  second : eqb cw 0 ≡ false → (s : Bool) → eqb (sequence a f (announced cw)) cw ≡ s
-      → Exact
-      (pick s
-      (pick (ltb (payload l) (a + f)) (refused 53 out)
-      (pick (eqb (announced cw) 0) (write (take a p ++ drop (payload l - f) p) out)
-      (pick (eqb (length (opened d xs)) 0) (refused 54 out) (write (take a p ++ opened d xs ++ drop (payload l - f) p) out))))
-      (refused 53 out))
-      ((53, Disagree cw a f ⊎ (payload l < a + f)) ∷ (54, Unmarked cw d xs) ∷ (23, length out < a + length (carried cw d xs) + f) ∷ [])
-  second k false e = applies 53 out _ (inl (differ a f n h k e))
-  second k true e =
-      by-test (ltb (payload l) (a + f))
-      (λ t. rw t (applies 53 out _ (inr (ltb-true _ _ t))))
-      (λ t. rw t (over (⊎-elim (alike a f n h k e) (not-less _ _ t)) (third (ltb-false _ _ t) (eqb (announced cw) 0) refl)))
-
--- 52, of a header of n bits
-unnamed-is : (n h : ℕ) → eqb (named n h) 0 ≡ true → Each (λ cw. h ≢ number 0 (take n (digits 24 cw))) (cw0 ∷ cw1 ∷ cw2 ∷ cw3 ∷ cw4 ∷ [])
-unfolding named isHeader
-unnamed-is n h = choice-none h _ _ _ _ _
-
-named-not : (n h : ℕ) → eqb (named n h) 0 ≡ false → Each (λ cw. h ≢ number 0 (take n (digits 24 cw))) (cw0 ∷ cw1 ∷ cw2 ∷ cw3 ∷ cw4 ∷ []) → ⊥
-unfolding named isHeader
-named-not n h = choice-some h _ _ _ _ _
-
-part-refusals : (l : ℕ) (u d : List ℕ) (a f : ℕ) (out : List ℕ)
-    → Exact (readParts (payload l) (named (heads l) (headerOf l u)) d a f (payloadOf l u) out)
-    (partRows l u a f d (length out) (named (heads l) (headerOf l u)) (middle a f (payloadOf l u)))
-unfolding readParts
-part-refusals l u d a f out =
-    by-test (eqb (named (heads l) (headerOf l u)) 0)
-    (λ t. rw t (applies 52 out _ (unnamed-is (heads l) (headerOf l u) t)))
-    (λ t. rw t (over (named-not (heads l) (headerOf l u) t)
-    (second l (heads l) (headerOf l u) d a f (payloadOf l u) out (length-payload l u) t
-    (eqb (sequence a f (announced (named (heads l) (headerOf l u)))) (named (heads l) (headerOf l u))) refl)))
-
-pub read-refusals : (l : ℕ) (d : List ℕ) (a f : ℕ) (u out : List ℕ) → Exact (readUnit l d a f u out) (readRows l d a f u (length out))
-unfolding readUnit
-read-refusals l d a f u out =
-    by-test (unfit l)
-    (λ t. rw t (applies 50 out _ (inl (unfit-is l t))))
-    (λ t. rw t
-    (row (ltb (length u) (lent l)) 50 out (λ s. inr (ltb-true _ _ s)) (λ s. ⊎-elim (fit-not l t) (not-less _ _ s)) (part-refusals l u d a f out)))
-
--- ---- a call that no row of its table refuses writes
-pub accepts : (o : Outcome) {rows : List Row} → Exact o rows → ((n : ℕ) → First rows n → ⊥) → (m : ℕ) × (o .answer ≡ Wrote m)
-accepts o x free = go (o .answer) refl
-  where
-    go : (w : Written) → o .answer ≡ w → (m : ℕ) × (o .answer ≡ Wrote m)
-    go (Wrote m) e = (m, e)
-    go (Refused n) e = absurd (free n (x .says n .0 e))
+  pub length-plain : length (take a p ++ drop (n - f) p) ≡ a + 0 + f
+  length-plain = length-append (take a p) (drop (n - f) p) ∙ ap₂ _+_ length-audio length-fixed ∙ omega arith
