@@ -1,3 +1,4 @@
 pub mod Entry
 pub mod Reading
+pub mod Exactly
 pub mod Numbers
