@@ -1,33 +1,26 @@
 -- What the answers of an import say of the file.
--- first-fault      packets, and behind them at most one fault, which is the last answer
--- sixty-exactly    60 exactly where the first 24 bytes are not the header's
--- Next, next       how the bytes behind the header, or behind a record, go on ..
--- ..-next          .. and what is answered of each: 61 for a record cut short or lengths unequal, 62 for no packet that the sender would accept
--- import-only      what is imported whole is a capture of those packets, times aside
+-- quiet           behind a fault all bytes are taken and have no effect
+-- first-fault     packets, and behind them at most one fault, which is the last answer
+-- sixty-exactly   60 exactly where the first 24 bytes are not the header's
 use mathlib.Core.Path.{_≡_, refl, sym, ap, subst, _∙_}
 use mathlib.Core.Bool.{Bool, true, false}
 use mathlib.Core.Logic.{_↔_}
-use mathlib.Core.List.{List, [], _∷_, _++_, map, append-assoc, append-nil, cons≢nil, nil≢cons, head-eq-of-cons-eq, tail-eq-of-cons-eq}
+use mathlib.Core.List.{List, [], _∷_, _++_, map, append-nil, nil≢cons, head-eq-of-cons-eq, tail-eq-of-cons-eq}
 use mathlib.Core.Option.{Option, some, none}
-use Prim.Native.Nat.{ℕ, zero, suc, _+_, _*_, _-_, _/_, _%_, _≤_, _<_}
+use Prim.Native.Nat.{ℕ, _+_, _≤_}
 use native.Mathlib.Omega.{arith}
 use borrow.Author.Tests.{eq-eqb, ne-eqb}
 use lib.Dec.{eqb}
-use lib.ListN.{length, getD, take, drop, length-append, length-drop, take-append-drop}
-use lib.Seq.{length-take-le}
-use Rattle.base.specs.Bytes.{Each, IsByte, Bytes}
-use Rattle.base.specs.Calls.{tell, andThen}
+use lib.ListN.{length, getD, take, drop}
+use Rattle.base.specs.Calls.{tell}
 use Rattle.base.specs.Choice.{pick}
-use Rattle.base.proofs.Bytes.{each-take, each-drop, each-append-left, each-append-right}
 use Rattle.base.proofs.Lists.{next as cons-at}
-use Rattle.base.proofs.Tests.{by-eq, by-le}
-use Rattle.frames.specs.Contents.{Packet, packed}
+use Rattle.base.proofs.Tests.{by-eq}
+use Rattle.frames.specs.Contents.{Packet}
 use Rattle.frames.specs.Frame.{Told, packet, refusal}
-use Rattle.frames.specs.Sender.{Accepted}
-use Rattle.captures.specs.File.{four, header, timed, Recorded, CaptureOf}
-use Rattle.captures.specs.Import.{entry, Reading, inHeader, inHead, inRecord, behind, fresh, fourAt, says, recordBy, headed, read, reads, ends, imported}
-use Rattle.captures.proofs.Entry.{packet-not, same-packet, entry-ways, entry-only}
-use Rattle.captures.proofs.Reading.{say, reads-then, head-part, head-read, part-read, headOf, headed-past, headed-as, record-read}
+use Rattle.captures.specs.File.{header}
+use Rattle.captures.specs.Import.{entry, Reading, inHeader, inHead, inRecord, behind, fresh, fourAt, says, recordBy, read, reads, ends, imported}
+use Rattle.captures.proofs.Entry.{entry-ways}
 
 -- behind a fault all bytes are taken and have no effect
 pub quiet : (n : ℕ) (bs : List ℕ) → reads (behind n) bs ≡ ([], behind n)
@@ -41,7 +34,7 @@ one s b bs e = ap (λ (x : Option Told × Reading). tell (x .0) (reads (x .1) bs
 
 -- ---- the header
 -- the bytes from place k of the header on, hs, are there; one of them is wrong; the file ends among them
-data Begun (k : ℕ) (hs bs : List ℕ) : Type 0 where
+pub data Begun (k : ℕ) (hs bs : List ℕ) : Type 0 where
   right : (rest : List ℕ) → bs ≡ hs ++ rest → reads (inHeader k) bs ≡ reads (inHead []) rest → Begun k hs bs
   wrong : (take (length hs) bs ≡ hs → ⊥) → reads (inHeader k) bs ≡ (refusal 60 ∷ [], behind 60) → Begun k hs bs
   short : (take (length hs) bs ≡ hs → ⊥) → (j : ℕ) → reads (inHeader k) bs ≡ ([], inHeader j) → Begun k hs bs
@@ -86,7 +79,7 @@ begun (h ∷ hs) (b ∷ bs) k n z d = by-eq b h (λ e. go hs n (tail-eq-of-cons-
         step (wrong w r) on = wrong (λ q. w (tail-eq-of-cons-eq q)) (on ∙ r)
         step (short w j r) on = short (λ q. w (tail-eq-of-cons-eq q)) j (on ∙ r)
 
-first : (bs : List ℕ) → Begun 0 header bs
+pub first : (bs : List ℕ) → Begun 0 header bs
 first bs = begun header bs 0 refl (λ z. absurd (omega (arith, z))) refl
 
 -- ---- behind the header

@@ -1,4 +1,5 @@
 pub mod Entry
 pub mod Reading
 pub mod Exactly
+pub mod Order
 pub mod Numbers

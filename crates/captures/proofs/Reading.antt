@@ -25,6 +25,7 @@ use Rattle.frames.specs.Frame.{Told, packet, refusal}
 use Rattle.frames.specs.Sender.{Accepted}
 use Rattle.captures.specs.File.{four, header, timed, recordOf, records, captured, Recorded, CaptureOf}
 use Rattle.captures.specs.Import.{entry, entryLimit, Reading, inHeader, inHead, inRecord, behind, fresh, fourAt, says, recordBy, headed, read, reads, ends}
+use Rattle.captures.specs.Order.{headOf}
 use Rattle.captures.proofs.Entry.{entry-packed, entry-most}
 
 -- what one step gives, as a run
@@ -75,18 +76,14 @@ module _ (n : ℕ) where
       rw (ne-eqb _ _ k) (r ∙ ap (λ (x : List ℕ). say (says (entry x))) (append-assoc bs (b ∷ []) (c ∷ t)))
 
 -- ---- a whole record
--- the head of n bytes with some times
-abbrev pub headOf : List ℕ → ℕ → List ℕ
-headOf times n = times ++ (four n ++ four n)
-
 module _ (times : List ℕ) (eight : length times ≡ 8) where
   past : (l : List ℕ) (i : ℕ) → getD (times ++ l) (8 + i) 0 ≡ getD l i 0
   past l i = ap (λ (n : ℕ). getD (times ++ l) (n + i) 0) (sym eight) ∙ getD-append-add times l i 0
 
-  past-8 : (l : List ℕ) → fourAt (times ++ l) 8 ≡ fourAt l 0
+  pub past-8 : (l : List ℕ) → fourAt (times ++ l) 8 ≡ fourAt l 0
   past-8 l = λ j. past l 0 j + 256 * (past l 1 j + 256 * (past l 2 j + 256 * past l 3 j))
 
-  past-12 : (l : List ℕ) → fourAt (times ++ l) 12 ≡ fourAt l 4
+  pub past-12 : (l : List ℕ) → fourAt (times ++ l) 12 ≡ fourAt l 4
   past-12 l = λ j. past l 4 j + 256 * (past l 5 j + 256 * (past l 6 j + 256 * past l 7 j))
 
   -- a head's times are not looked at
@@ -158,7 +155,7 @@ export-import ps a = import-any ps a (captured ps) (captured-is ps)
 abbrev pub seen : Reading → List ℕ → List Told × ℕ
 seen s bs = (reads s bs .0, ends (reads s bs .1))
 
-some-end : (bs : List ℕ) → 0 < length bs → ends (inHead bs) ≡ 61
+pub some-end : (bs : List ℕ) → 0 < length bs → ends (inHead bs) ≡ 61
 some-end [] h = absurd (omega (arith, h))
 some-end (b ∷ bs) h = refl
 
