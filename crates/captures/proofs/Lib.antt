@@ -1,5 +1,5 @@
 pub mod Entry
-pub mod Reading
-pub mod Exactly
+pub mod Export
+pub mod Faults
 pub mod Order
 pub mod Numbers

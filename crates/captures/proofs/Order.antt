@@ -11,7 +11,7 @@ use lib.Dec.{eqb}
 use lib.ListN.{length, take, drop, length-append, length-drop, take-append-drop}
 use lib.Seq.{length-take-le}
 use Rattle.base.specs.Bytes.{Each, IsByte, Bytes}
-use Rattle.base.specs.Calls.{tell, andThen}
+use Rattle.base.specs.Calls.{andThen}
 use Rattle.base.specs.Choice.{pick}
 use Rattle.base.proofs.Bytes.{each-take, each-drop, each-append-left, each-append-right}
 use Rattle.base.proofs.Tests.{by-eq, by-le}
@@ -19,11 +19,11 @@ use Rattle.frames.specs.Contents.{Packet, packed}
 use Rattle.frames.specs.Frame.{Told, packet, refusal}
 use Rattle.frames.specs.Sender.{Accepted}
 use Rattle.captures.specs.File.{four, header, timed, Recorded, CaptureOf}
-use Rattle.captures.specs.Import.{entry, Reading, inHead, inRecord, behind, fresh, fourAt, says, recordBy, headed, reads, ends, imported}
+use Rattle.captures.specs.Import.{entry, Reading, inHead, inRecord, behind, fresh, fourAt, says, recordBy, reads, ends, imported}
 use Rattle.captures.specs.Order.{headOf, Next, ended, in-head, unequal, in-bytes, whole}
 use Rattle.captures.proofs.Entry.{packet-not, same-packet, entry-ways, entry-only}
-use Rattle.captures.proofs.Reading.{say, reads-then, head-part, head-read, part-read, past-8, past-12, headed-as, record-read, some-end}
-use Rattle.captures.proofs.Exactly.{quiet, Begun, right, wrong, short, first}
+use Rattle.captures.proofs.Export.{say, reads-then, head-part, head-read, part-read, past-8, past-12, headed-as, record-read, some-end}
+use Rattle.captures.proofs.Faults.{quiet, Begun, right, wrong, short, first}
 
 -- ---- every way a file may go on
 -- four bytes are those of their number

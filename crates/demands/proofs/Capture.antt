@@ -4,7 +4,7 @@
 -- same-packets, stands                           ".. and gives the same packets back"
 -- nothing-else                                   .. and of nothing but a capture of them
 -- begin-refusals, enter-refusals, ..             the calls' own refusals, row by row, and what a refused call leaves
--- sixty, sixty-one, sixty-two, in-order          60 to 62
+-- sixty, sixty-one-.., sixty-two, in-order       60 to 62
 use Prim.Native.Nat.{ℕ, _+_, _≤_, _<_}
 use mathlib.Core.Path.{_≡_, refl, ap, _∙_}
 use mathlib.Core.Logic.{_↔_}
@@ -12,19 +12,19 @@ use mathlib.Core.List.{List, [], _∷_, _++_, map}
 use mathlib.Core.Option.{some}
 use lib.ListN.{length, take}
 use Rattle.base.specs.Bytes.{Each, Bytes}
-use Rattle.base.specs.Calls.{With}
+use Rattle.base.specs.Calls.{andThen, With}
 use Rattle.base.specs.Written.{write, Keeps}
 use Rattle.base.proofs.Calls.{yields-so}
 use Rattle.base.proofs.Writing.{write-keeps, refused-keeps}
 use Rattle.frames.specs.Contents.{Packet, packed}
 use Rattle.frames.specs.Frame.{Told, packet, refusal, broken, delivery, closed}
 use Rattle.frames.specs.Sender.{Accepted}
-use Rattle.captures.specs.File.{four, header, recordOf, records, captured, CaptureOf}
-use Rattle.captures.specs.Import.{entry, entryLimit, Reading, inHead, inRecord, behind, fresh, fourAt, reads, ends, imported}
+use Rattle.captures.specs.File.{four, header, timed, recordOf, captured, CaptureOf}
+use Rattle.captures.specs.Import.{entry, entryLimit, Reading, inHead, inRecord, behind, fresh, fourAt, says, reads, ends, imported}
 use Rattle.captures.specs.Order.{headOf, Next}
 use Rattle.captures.proofs.Entry.{entry-packed, none-exactly}
-use Rattle.captures.proofs.Reading.{seen, import-any, captured-is, times-ignored}
-use Rattle.captures.proofs.Exactly.{faultOf, first-fault, sixty-exactly}
+use Rattle.captures.proofs.Export.{say, seen, import-any, captured-is, times-ignored}
+use Rattle.captures.proofs.Faults.{faultOf, first-fault, sixty-exactly}
 use Rattle.captures.proofs.Order.{next, head-next, unequal-next, bytes-next, whole-next, import-only}
 use Rattle.capture.specs.Export.{packedPart, enteringBy, entering}
 use Rattle.capture.specs.Called.{Held, readCall, finishing, endedAs, EveryCut, Stands}
@@ -103,6 +103,11 @@ sixty-one-unequal = unequal-next
 -- "62 no packet the sender would accept": of a whole record
 pub sixty-two : (bs : List ℕ) → Bytes bs → (entry bs ≡ refusal 62) ↔ NoPacket bs
 sixty-two = none-exactly
+
+-- .. the answer is what its bytes are told to be, whatever its times are, and then what stands behind it
+pub whole-record : (times bs rest : List ℕ) → length times ≡ 8 → length bs < 4294967296
+    → reads (inHead []) (timed times bs ++ rest) ≡ andThen (say (says (entry bs))) (λ t. reads t rest)
+whole-record = whole-next
 
 -- "first found in file order": the bytes behind the header, or behind a record, go on in one of these ways, no other; packets, and behind them at most one
 -- fault, which is the last answer

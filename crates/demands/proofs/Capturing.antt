@@ -1,11 +1,11 @@
 -- The refusals of request W11's calls, row by row.
 -- enter-exact, import-exact, end-exact   each number exactly when its row applies and none above it
 -- import-same                            refused, no byte is taken, and state and store are as they were
-use Prim.Native.Nat.{ℕ, suc, _+_, _≤_, _<_}
+use Prim.Native.Nat.{ℕ, _+_, _≤_, _<_}
 use native.Mathlib.Omega.{arith}
-use mathlib.Core.Path.{_≡_, refl, sym, ap, subst, _∙_}
-use mathlib.Core.Bool.{Bool, true, false, _&&_}
-use mathlib.Core.Logic.{_⊎_, _↔_, ⊎-elim}
+use mathlib.Core.Path.{_≡_, refl, sym, subst, _∙_}
+use mathlib.Core.Bool.{Bool, true, false}
+use mathlib.Core.Logic.{_↔_, ⊎-elim}
 use mathlib.Core.Logic._⊎_.{inl, inr}
 use mathlib.Core.List.{List, [], _∷_}
 use mathlib.Core.Option.{Option, some, none}
@@ -22,16 +22,15 @@ use Rattle.captures.specs.File.{header, recordOf}
 use Rattle.captures.specs.Import.{entry, entryLimit, fourAt}
 use Rattle.captures.proofs.Entry.{entry-ways, entry-only, none-exactly}
 use Rattle.capture.specs.Export.{enteringBy, entering}
-use Rattle.capture.specs.Called.{Held, held, says, with, takeBy, takeByte, readOn, readBy, readCall, sound, ending, finishing}
+use Rattle.capture.specs.Called.{Held, held, says, takeBy, takeByte, readOn, readBy, readCall, sound, ending, finishing}
 use Rattle.capture.specs.declared.reader.Capture.{Capture}
 use Rattle.capture.specs.declared.reader.Capture.the-variants.{Header, Head, Record, Behind}
-use Rattle.capture.specs.declared.reader.Ended.{Ended}
 use Rattle.capture.specs.declared.reader.Ended.the-variants.{Whole, Refused}
 use Rattle.capture.proofs.Entering.{length-record}
 use Rattle.demands.specs.Table.{Exact}
 use Rattle.demands.specs.Refusals.{OfCall, ByCall}
 use Rattle.demands.specs.Captures.{CaptureBeyond, NoPacket, HeaderMissed, RecordCut, FaultBefore, ByImport, ByEnd}
-use Rattle.demands.proofs.Rows.{applies, over, passed, not-both, not-less, refuses, wrote}
+use Rattle.demands.proofs.Rows.{applies, over, passed, not-both, refuses, wrote}
 use Rattle.demands.proofs.Called.{not-most}
 
 -- ---- a record written

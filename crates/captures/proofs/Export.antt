@@ -1,15 +1,14 @@
--- A capture, imported.
+-- An export, imported.
 -- header-read                    the header
 -- head-part, head-read           a record's head, in part and whole
 -- part-read, bytes-read          a record's bytes, likewise
 -- record-read                    a whole record of any bytes, whatever its times are
 -- import-any, export-import      every capture of some packets gives them back, the exported one among them
 -- times-ignored                  a record's times do not matter, whatever stands behind them
-use mathlib.Core.Path.{_≡_, refl, sym, ap, subst, _∙_}
-use mathlib.Core.Bool.{Bool, true, false}
+use mathlib.Core.Path.{_≡_, refl, sym, ap, _∙_}
 use mathlib.Core.List.{List, [], _∷_, _++_, map, append-assoc, append-nil}
 use mathlib.Core.Option.{Option, some, none}
-use Prim.Native.Nat.{ℕ, zero, suc, _+_, _*_, _/_, _%_, _≤_, _<_}
+use Prim.Native.Nat.{ℕ, suc, _+_, _*_, _<_}
 use native.Mathlib.Omega.{arith}
 use borrow.Author.Tests.{eq-eqb, ne-eqb}
 use lib.Dec.{eqb}
@@ -17,14 +16,14 @@ use lib.ListN.{length, getD, take, drop, length-append, take-append-drop}
 use lib.Seq.{getD-append-add, length-take-le}
 use Rattle.base.specs.Choice.{pick}
 use Rattle.base.specs.Bytes.{Each}
-use Rattle.base.specs.Calls.{tell, andThen, run}
+use Rattle.base.specs.Calls.{tell, andThen}
 use Rattle.base.proofs.Calls.{run-append}
 use Rattle.base.proofs.Tests.{by-eq, by-le}
 use Rattle.frames.specs.Contents.{Packet, packed}
 use Rattle.frames.specs.Frame.{Told, packet, refusal}
 use Rattle.frames.specs.Sender.{Accepted}
-use Rattle.captures.specs.File.{four, header, timed, recordOf, records, captured, Recorded, CaptureOf}
-use Rattle.captures.specs.Import.{entry, entryLimit, Reading, inHeader, inHead, inRecord, behind, fresh, fourAt, says, recordBy, headed, read, reads, ends}
+use Rattle.captures.specs.File.{four, header, timed, records, captured, Recorded, CaptureOf}
+use Rattle.captures.specs.Import.{entry, Reading, inHead, inRecord, fresh, fourAt, says, recordBy, headed, read, reads, ends}
 use Rattle.captures.specs.Order.{headOf}
 use Rattle.captures.proofs.Entry.{entry-packed, entry-most}
 
@@ -144,7 +143,7 @@ records-are [] i = refl
 records-are (p ∷ ps) i = (four i ++ four 0, records (suc i) ps, refl, refl, records-are ps (suc i))
 
 pub captured-is : (ps : List Packet) → CaptureOf ps (captured ps)
-captured-is ps = (records 0 ps, refl, records-are ps 0)
+captured-is ps = (_, refl, records-are ps _)
 
 -- the import of an export gives the same packets back, and the file ends well
 pub export-import : (ps : List Packet) → Each Accepted ps → reads fresh (captured ps) ≡ (map packet ps, inHead [])
