@@ -7,24 +7,23 @@ use mathlib.Core.Path.{_≡_, refl, sym, ap, subst, _∙_}
 use mathlib.Core.Bool.{Bool, true, false}
 use mathlib.Core.List.{List, [], _∷_, _++_}
 use mathlib.Core.Option.{Option, some, none, Option·none-ne-some}
-use Prim.Native.Nat.{ℕ, suc, _+_, _≤_, _<_}
+use Prim.Native.Nat.{ℕ, _+_, _≤_, _<_}
 use native.Mathlib.Numerals.{add-one}
 use native.Mathlib.Omega.{arith}
 use borrow.Author.Tests.{eq-eqb, ne-eqb, eqb-false, lt-ltb, le-ltb, le-leb}
 use lib.Dec.{eqb, ltb}
-use lib.ListN.{length, getD, take, set, length-append, length-set}
+use lib.ListN.{length, getD, take, set, length-append}
 use lib.Seq.{take-suc-set, getD-take, length-take-le}
 use Rattle.base.specs.Choice.{pick}
 use Rattle.base.specs.Calls.{tell}
 use Rattle.base.proofs.Tests.{by-eq, by-le}
-use Rattle.frames.specs.Frame.{Told, packet, refusal, broken, judged}
+use Rattle.frames.specs.Frame.{Told, refusal}
 use Rattle.captures.specs.File.{header}
 use Rattle.captures.specs.Import.{entry, entryLimit, Reading, inHeader, inHead, inRecord, behind, fourAt, headed, read, reads, ends}
 use Rattle.captures.specs.Import as import
 use Rattle.captures.proofs.Entry.{entry-ways, entry-long}
-use Rattle.capture.specs.declared.reader.Capture.{Capture}
 use Rattle.capture.specs.declared.reader.Capture.the-variants.{Header, Head, Record, Behind}
-use Rattle.capture.specs.Called.{Held, held, says, next, headerBy, headedBy, headBy, wholeBy, recordBy, with, takeBy, takeByte, readAll, sound, ending, finishing, endedAs, Fine}
+use Rattle.capture.specs.Called.{Held, held, says, headedBy, with, takeBy, takeByte, readAll, ending, finishing, endedAs}
 use Rattle.capture.proofs.Hearing.{take-length}
 
 -- the bytes of a head stand in the store, and those of a record that is not longer than a packet

@@ -6,11 +6,11 @@ use mathlib.Core.Path.{_≡_, refl, sym, ap, subst, _∙_}
 use mathlib.Core.Bool.{Bool, true, false, false≢true}
 use mathlib.Core.List.{List, [], _∷_}
 use mathlib.Core.Option.{Option, some, none}
-use Prim.Native.Nat.{ℕ, zero, suc, _+_, _≤_, _<_}
+use Prim.Native.Nat.{ℕ, _+_, _≤_, _<_}
 use native.Mathlib.Nat.{add-zero}
 use native.Mathlib.Omega.{arith}
 use borrow.Author.Tests.{eq-eqb, ne-eqb, lt-ltb, le-leb, lt-leb, ltb-true}
-use lib.Dec.{eqb, ltb, leb}
+use lib.Dec.{eqb, ltb}
 use lib.ListN.{length, getD, take, drop, set, length-set}
 use Rattle.base.specs.Calls.{tell, unless, oneMore, after}
 use Rattle.base.specs.Choice.{pick}
@@ -27,8 +27,8 @@ use Rattle.capture.specs.declared.reader.Capture.{Capture}
 use Rattle.capture.specs.declared.reader.Capture.the-variants.{Header, Head, Record, Behind}
 use Rattle.capture.specs.declared.reader.Read.{Read}
 use Rattle.capture.specs.declared.reader.Step.{Step}
-use Rattle.capture.specs.Called.{Held, held, says, next as behind, headerBy, headedBy, headBy, wholeBy, recordBy, takeBy, takeByte, readAll, readOn, readBy, readCall, sound, Fine, readOf, ReadIs}
-use Rattle.capture.specs.Private.{isSome, stepOf, StepIs}
+use Rattle.capture.specs.Called.{Held, held, says, next as behind, wholeBy, takeBy, takeByte, readAll, readOn, readCall, sound, Fine, readOf, ReadIs}
+use Rattle.capture.specs.Private.{isSome, StepIs}
 
 -- ---- counts within their limits, behind each byte
 headed-sound : (m n : ℕ) → sound (pick (eqb m n) (pick (eqb m 0) (says (refusal 62)) (none, Record m 0)) (says (refusal 61)) .1) ≡ true

@@ -5,8 +5,8 @@
 use mathlib.Core.Path.{_≡_, refl, sym, ap, subst, _∙_}
 use mathlib.Core.Bool.{Bool, true, false}
 use mathlib.Core.List.{List, [], _∷_, _++_, append-assoc}
-use mathlib.Core.Option.{Option, some, none}
-use Prim.Native.Nat.{ℕ, _+_, _-_, _≤_, _<_}
+use mathlib.Core.Option.{Option, none}
+use Prim.Native.Nat.{ℕ, _+_, _≤_}
 use native.Mathlib.Omega.{arith}
 use borrow.Author.Tests.{ne-eqb, le-ltb, ltb-false}
 use lib.Dec.{eqb, ltb, leb}
@@ -20,7 +20,7 @@ use Rattle.base.proofs.Calls.{none-owed, with-hear}
 use Rattle.fcs.specs.Fcs.{fcs}
 use Rattle.frames.specs.Contents.{Packet, plainPacket, keyFormat, rawLimit, two, opening, packed, keyAt, payloadAt, withCheck, contents}
 use Rattle.frames.specs.Escape.{plain, scan}
-use Rattle.frames.specs.Frame.{Told, packet, refusal, broken, judged, delivery, kept, closedBy, closed, part, There}
+use Rattle.frames.specs.Frame.{Told, packet, refusal, judged, delivery, kept, closedBy, closed, part, There}
 use Rattle.frames.specs.Sender.{Accepted}
 use Rattle.frames.specs.declared.Escapes.{Escapes}
 use Rattle.frames.specs.declared.Escapes.the-variants.{Right, Unfinished, Wrong}

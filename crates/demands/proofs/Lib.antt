@@ -5,11 +5,13 @@ pub mod Desk
 pub mod Subs
 pub mod Taken
 pub mod Showing
+pub mod Capturing
 pub mod Trips
 pub mod Promises
 pub mod Calling
 pub mod Demand1
 pub mod Interleaving
+pub mod Capture
 pub mod Demand2
 pub mod Demand3
 pub mod Altered

@@ -1,6 +1,7 @@
--- The paper's numbers, (a) to (m), and what else it prints (specs/Numbers, specs/Printed): no row disagrees.
+-- The paper's numbers, (a) to (m), what else it prints, and what paper 02 prints (specs/Numbers, specs/Printed, specs/Requested): no row disagrees.
 -- numbers      of (a) to (m)
 -- as-printed   of the fixed numbers and letters
+-- as-requested   of those of later requests
 use mathlib.Core.Path.{_≡_, refl}
 use mathlib.Core.List.{[]}
 use Rattle.fcs.specs.Fcs.{fcs, register, entered}
@@ -10,6 +11,8 @@ use Rattle.frames.specs.Contents.{withCheck, contents}
 use Rattle.frames.specs.Escape.{escape, escapeByte, plain, wrongFrom, right, last, scan}
 use Rattle.frames.specs.Frame.{judgeBody, judgeContents, closedBy, closed, judge}
 use Rattle.frames.specs.Port.{class}
+use Rattle.captures.specs.File.{records}
+use Rattle.captures.specs.Import.{entry, read}
 use Rattle.listed.specs.Apart.{nextAt, inStream, apart}
 use Rattle.listed.specs.Lines.{decimal, decimalBy, told, lines, count, endLine, wrongLine}
 use Rattle.listed.specs.Listing.{heard, lastLine, listed, listing}
@@ -20,11 +23,16 @@ use Rattle.units.specs.Tables.{heads, start, step, unfit}
 use Rattle.units.specs.Reading.{isHeader, named}
 use Rattle.demands.specs.Numbers.{table, wrong}
 use Rattle.demands.specs.Printed.{printed}
+use Rattle.demands.specs.Requested.{requested}
 
 pub numbers : wrong table ≡ []
 unfolding fcs register entered contents withCheck judge closed closedBy judgeContents judgeBody scan last wrongFrom right plain escape escapeByte mul shiftAdd double add pow remainder divide generator timesRoot onto scale
 numbers = refl
 
 pub as-printed : wrong printed ≡ []
-unfolding fcs register entered contents withCheck escape escapeByte judge closed closedBy judgeContents judgeBody scan last wrongFrom right plain class told lines count endLine wrongLine decimal decimalBy heard lastLine listed listing apart inStream nextAt notedLine noting forgetting placeOf freePlace twice digits number isHeader named heads start step unfit
+unfolding fcs register entered contents withCheck escape escapeByte judge closed closedBy judgeContents judgeBody scan last wrongFrom right plain class told lines count endLine wrongLine decimal decimalBy heard lastLine listed listing apart inStream nextAt notedLine noting forgetting placeOf freePlace twice
 as-printed = refl
+
+pub as-requested : wrong requested ≡ []
+unfolding digits number isHeader named heads start step unfit records read entry judgeBody plain
+as-requested = refl

@@ -7,5 +7,7 @@ pub mod Guarantee
 pub mod Way
 pub mod Numbers
 pub mod Printed
+pub mod Requested
 pub mod Missed
 pub mod Units
+pub mod Captures

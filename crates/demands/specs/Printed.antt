@@ -1,12 +1,11 @@
 -- What the paper prints: its fixed numbers and letters said a second time, in the form of Numbers, so that a slip is seen even where code and
 -- definition slip together. The fresh states stand in proofs/Promises, the rows of refusals in proofs/Demand1, and what a law says for all numbers
--- in proofs/Demand2 (classes), proofs/Interleaving and proofs/Units.
+-- in proofs/Demand2 (classes) and proofs/Interleaving.
 -- printed    the rows
 use Prim.Native.Nat.{ℕ, zero, suc, _-_}
 use mathlib.Core.Path.{_≡_, refl}
-use mathlib.Core.Bool.{true, false}
+use mathlib.Core.Bool.{false}
 use mathlib.Core.List.{List, [], _∷_, _++_, map}
-use mathlib.Core.Option.{Option, some, none}
 use lib.ListN.{length, replicate}
 use Rattle.base.specs.Calls.{joined}
 use Rattle.base.specs.Choice.{pick}
@@ -24,19 +23,12 @@ use Rattle.frames.specs.Port.{class, barred}
 use Rattle.frames.specs.Sender.{refusing}
 use Rattle.frames.specs.declared.Judged.the-variants.{Packet as Delivered, Refused as Denied, Broken}
 use Rattle.stream.specs.Reader.{waiting, reads}
-use Rattle.stream.specs.Called.{placeLimit, fresh}
+use Rattle.stream.specs.Called.{placeLimit}
 use Rattle.blocks.specs.Sender.{marker, messageBytes, parityBytes, wordBytes, blockBytes}
-use Rattle.blocks.specs.Channel.{Event, said, block, lost, zeros}
+use Rattle.blocks.specs.Channel.{Event, said, block, lost}
 use Rattle.blocks.specs.declared.Condition.the-variants.{Clean, Repaired, Beyond}
 use Rattle.channel.specs.Called.{freshReceiver}
 use Rattle.channel.specs.declared.answer.Answer.the-variants.{Said, Block, LockLost}
-use Rattle.groups.specs.Sender.{groupWords, groupBytes, closingWords, completing, grouped}
-use Rattle.subchannel.specs.Called as sub
-use Rattle.subchannels.specs.declared.Configured.{Configured}
-use Rattle.subchannels.specs.declared.Configured.the-variants.{Told as SubTold, Refused as NotTold}
-use Rattle.subchannels.specs.declared.Receiver.{Receiver}
-use Rattle.subchannels.specs.Four as four
-use Rattle.subsenders.specs.Four as senders
 use Rattle.listed.specs.Apart as listed
 use Rattle.bid.specs.Line.{lineLimit}
 use Rattle.office.specs.Called.{heldLimit, holdLimit, outLimit}
@@ -54,13 +46,10 @@ use Rattle.ports.specs.declared.Noted.{Noted}
 use Rattle.ports.specs.declared.Noted.the-variants.{First, InOrder, Repeated, Missing, Late, Refused as NotNoted}
 use Rattle.ports.specs.declared.Forgot.{Forgot}
 use Rattle.ports.specs.declared.Forgot.the-variants.{Forgotten, Refused as Unforgotten}
-use Rattle.units.specs.Bits.{digits, number}
-use Rattle.units.specs.Tables as units
-use Rattle.units.specs.Reading.{named}
 use Rattle.demands.specs.Numbers.{Line, inNumbers, heard}
 
 -- the number by which a frame is refused; 0 where it is a packet
-abbrev toldNumber : Told → ℕ
+abbrev pub toldNumber : Told → ℕ
 toldNumber (packet p) = 0
 toldNumber (refusal n) = n
 toldNumber (broken n) = 3
@@ -113,7 +102,7 @@ abbrev places : List ℕ → List ℕ
 places bs = joined (map placeOf (reads waiting bs .0))
 
 -- the number by which a call is refused; 0 where it writes
-abbrev numberOf : Written → ℕ
+abbrev pub numberOf : Written → ℕ
 numberOf (Wrote n) = 0
 numberOf (Refused n) = n
 
@@ -139,46 +128,6 @@ unforgottenOf (Unforgotten n) = n ∷ []
 abbrev tableOf : ℕ → List Entry
 tableOf zero = []
 tableOf (suc n) = entry n 7 ∷ tableOf n
-
--- the number by which configuring a sub-channel is refused; 0 where it is told
-abbrev untoldBy : Configured → ℕ
-untoldBy SubTold = 0
-untoldBy (NotTold n) = n
-
--- .. of a fresh receiver, and of a fresh sender
-abbrev configuringBy : ℕ → ℕ → ℕ → List ℕ
-configuringBy n r d = untoldBy (four.configuring four.freshReceiver n r d .0) ∷ untoldBy (senders.configuring senders.freshSender n r d .0) ∷ []
-
--- a receiver whose sub-channel 3 alone is told, and counts so many bytes of a group
-abbrev counting : ℕ → Receiver
-counting g = four.put four.freshReceiver 3 (sub.sub (sub.lane (sub.settings true 16 3) true false zeros (sub.counts g 0 0 0) fresh) interleaver.freshBack)
-
--- the number by which an answer refuses
-abbrev deniedBy : Option Event → List ℕ
-deniedBy none = []
-deniedBy (some (said t)) = toldNumber t ∷ []
-deniedBy (some (block c)) = []
-deniedBy (some lost) = []
-
--- .. a call on sub-channel n of that receiver, with empty buffers
-abbrev hearingBy : ℕ → ℕ → List ℕ
-hearingBy n g = deniedBy (four.hearFour (counting g) n [] [] [] .0)
-
--- the number by which sending nothing on sub-channel n is refused, of which 3 alone is told; 0 where it writes
-abbrev sendingBy : ℕ → ℕ
-sendingBy n = numberOf (senders.sendFour (senders.configuring senders.freshSender 3 0 0 .1) n [] [] .answer)
-
--- the sequence that 24 header bits name; 0 for none
-abbrev namedBy : ℕ → ℕ
-namedBy cw = named 24 (number 0 (digits 24 cw))
-
--- N start, N offset and header length of a unit of l bits
-abbrev spreadOf : ℕ → List ℕ
-spreadOf l = units.start l ∷ (units.step l - 1) ∷ units.heads l ∷ []
-
--- 1 where no unit has l bits
-abbrev unfitOf : ℕ → ℕ
-unfitOf l = pick (units.unfit l) 1 0
 
 -- the number of a row, what the definitions give, what the paper prints
 abbrev pub printed : List Line
@@ -231,16 +180,4 @@ printed =
     (46, notedLine 20736 411 First, 50 ∷ 48 ∷ 55 ∷ 51 ∷ 54 ∷ 32 ∷ 52 ∷ 49 ∷ 49 ∷ 32 ∷ 102 ∷ 105 ∷ 114 ∷ 115 ∷ 116 ∷ 10 ∷ []) ∷  -- `PORT SEQUENCE first`: 20736 411 first
     (47, joined (map (notedLine 1 2) (InOrder ∷ Repeated ∷ Late ∷ [])), 49 ∷ 32 ∷ 50 ∷ 32 ∷ 105 ∷ 110 ∷ 32 ∷ 111 ∷ 114 ∷ 100 ∷ 101 ∷ 114 ∷ 10 ∷ 49 ∷ 32 ∷ 50 ∷ 32 ∷ 114 ∷ 101 ∷ 112 ∷ 101 ∷ 97 ∷ 116 ∷ 101 ∷ 100 ∷ 10 ∷ 49 ∷ 32 ∷ 50 ∷ 32 ∷ 108 ∷ 97 ∷ 116 ∷ 101 ∷ 10 ∷ []) ∷  -- `in order`, `repeated`, `late`
     (48, joined (map (notedLine 1 2) (Missing 32766 ∷ NotNoted 40 ∷ [])), 49 ∷ 32 ∷ 50 ∷ 32 ∷ 109 ∷ 105 ∷ 115 ∷ 115 ∷ 105 ∷ 110 ∷ 103 ∷ 32 ∷ 51 ∷ 50 ∷ 55 ∷ 54 ∷ 54 ∷ 10 ∷ 49 ∷ 32 ∷ 50 ∷ 32 ∷ 114 ∷ 101 ∷ 102 ∷ 117 ∷ 115 ∷ 101 ∷ 100 ∷ 32 ∷ 52 ∷ 48 ∷ 10 ∷ []) ∷  -- `missing N`, `refused 40`
-    (49, groupWords ∷ groupBytes ∷ length (grouped 1 (replicate 1020 0)) ∷ [], 4 ∷ 1020 ∷ 1024 ∷ []) ∷  -- "the marker before every four words": 1,020 bytes, and 1,024 with it
-    (50, map closingWords (0 ∷ 1 ∷ 2 ∷ 64 ∷ []), 0 ∷ 0 ∷ 2 ∷ 64 ∷ []) ∷  -- "At depth D of 2 or more the closing push is made of D words of flags"
-    (51, map completing (0 ∷ 1 ∷ 2 ∷ 3 ∷ 4 ∷ 5 ∷ []), 0 ∷ 3 ∷ 2 ∷ 1 ∷ 0 ∷ 3 ∷ []) ∷  -- "A group of four is always complete"
-    (52, joined (configuringBy 3 64 64 ∷ configuringBy 4 64 64 ∷ configuringBy 3 65 65 ∷ configuringBy 3 64 65 ∷ configuringBy 4 65 65 ∷ []), 0 ∷ 0 ∷ 42 ∷ 42 ∷ 30 ∷ 30 ∷ 32 ∷ 32 ∷ 42 ∷ 42 ∷ []) ∷  -- "42 for a sub-channel number above 3", "30 and 32 on configuring"
-    (53, joined (hearingBy 0 1020 ∷ hearingBy 3 1020 ∷ hearingBy 4 1020 ∷ hearingBy 3 1021 ∷ hearingBy 4 1021 ∷ []), 42 ∷ 11 ∷ 42 ∷ 10 ∷ 10 ∷ []) ∷  -- 10 "when a group counts more than four words"; "then 42 for a sub-channel number above 3 or .. one not configured; then 11"
-    (54, map sendingBy (0 ∷ 3 ∷ 4 ∷ []), 42 ∷ 0 ∷ 42 ∷ []) ∷  -- .. on sending
-    (55, units.most ∷ units.mostBytes ∷ length (digits 24 units.cw0) ∷ [], 146176 ∷ 18272 ∷ 24 ∷ []) ∷  -- "units of up to 146,176 bits", which are 18,272 bytes; a 24-bit sequence
-    (56, units.cw0 ∷ units.cw1 ∷ units.cw2 ∷ units.cw3 ∷ units.cw4 ∷ [], 0x38D8D3 ∷ 0xCE3634 ∷ 0xE3634C ∷ 0x8D8D33 ∷ 0x3634CE ∷ []) ∷  -- table 5-3, CW0 to CW4
-    (57, digits 24 units.cw1, 1 ∷ 1 ∷ 0 ∷ 0 ∷ 1 ∷ 1 ∷ 1 ∷ 0 ∷ 0 ∷ 0 ∷ 1 ∷ 1 ∷ 0 ∷ 1 ∷ 1 ∷ 0 ∷ 0 ∷ 0 ∷ 1 ∷ 1 ∷ 0 ∷ 1 ∷ 0 ∷ 0 ∷ []) ∷  -- .. CW1 in binary, h0 first
-    (58, map namedBy (0x38D8D3 ∷ 0xCE3634 ∷ 0xE3634C ∷ 0x8D8D33 ∷ 0x3634CE ∷ 0x8D338D ∷ 0xD8D338 ∷ 0x634CE3 ∷ []), 0x38D8D3 ∷ 0xCE3634 ∷ 0xE3634C ∷ 0x8D8D33 ∷ 0x3634CE ∷ 0 ∷ 0 ∷ 0 ∷ []) ∷  -- .. what a reader takes each for: CW5 to CW7 are reserved
-    (59, joined (map spreadOf (71992 ∷ 71999 ∷ 71998 ∷ 72000 ∷ 72007 ∷ 72001 ∷ [])), 120 ∷ 2993 ∷ 24 ∷ 120 ∷ 3119 ∷ 23 ∷ 120 ∷ 3263 ∷ 22 ∷ 42000 ∷ 1247 ∷ 24 ∷ 42001 ∷ 1303 ∷ 23 ∷ 42001 ∷ 1359 ∷ 22 ∷ []) ∷  -- table 5-4, a length of each row: N start, N offset, header length
-    (60, map unfitOf (143 ∷ 144 ∷ 145 ∷ 288 ∷ 289 ∷ 295 ∷ 303 ∷ 146176 ∷ 146177 ∷ []), 1 ∷ 0 ∷ 1 ∷ 0 ∷ 0 ∷ 1 ∷ 0 ∷ 0 ∷ 1 ∷ []) ∷  -- 50: a header spacing below zero, a length above the limit
     []
