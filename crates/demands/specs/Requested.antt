@@ -96,8 +96,11 @@ requested =
     -- "A group of four is always complete"
     (3, map completing (0 ∷ 1 ∷ 2 ∷ 3 ∷ 4 ∷ 5 ∷ []), 0 ∷ 3 ∷ 2 ∷ 1 ∷ 0 ∷ 3 ∷ []) ∷
     -- "42 for a sub-channel number above 3", "30 and 32 on configuring"
-    (4, joined (configuringBy 3 64 64 ∷ configuringBy 4 64 64 ∷ configuringBy 3 65 65 ∷ configuringBy 3 64 65 ∷ configuringBy 4 65 65 ∷ []),
-    0 ∷ 0 ∷ 42 ∷ 42 ∷ 30 ∷ 30 ∷ 32 ∷ 32 ∷ 42 ∷ 42 ∷ []) ∷
+    (
+      4,
+      joined (configuringBy 3 64 64 ∷ configuringBy 4 64 64 ∷ configuringBy 3 65 65 ∷ configuringBy 3 64 65 ∷ configuringBy 4 65 65 ∷ []),
+      0 ∷ 0 ∷ 42 ∷ 42 ∷ 30 ∷ 30 ∷ 32 ∷ 32 ∷ 42 ∷ 42 ∷ [],
+    ) ∷
     -- 10 "when a group counts more than four words"; "then 42 for a sub-channel number above 3 or .. one not configured; then 11"
     (5, joined (hearingBy 0 1020 ∷ hearingBy 3 1020 ∷ hearingBy 4 1020 ∷ hearingBy 3 1021 ∷ hearingBy 4 1021 ∷ []), 42 ∷ 11 ∷ 42 ∷ 10 ∷ 10 ∷ []) ∷
     -- .. on sending
@@ -111,8 +114,11 @@ requested =
     -- .. what a reader takes each for: CW5 to CW7 are reserved
     (10, map namedBy (sequences ++ reserved), sequences ++ (0 ∷ 0 ∷ 0 ∷ [])) ∷
     -- table 5-4, a length of each row: N start, N offset, header length
-    (11, joined (map spreadOf (71992 ∷ 71999 ∷ 71998 ∷ 72000 ∷ 72007 ∷ 72001 ∷ [])),
-    120 ∷ 2993 ∷ 24 ∷ 120 ∷ 3119 ∷ 23 ∷ 120 ∷ 3263 ∷ 22 ∷ 42000 ∷ 1247 ∷ 24 ∷ 42001 ∷ 1303 ∷ 23 ∷ 42001 ∷ 1359 ∷ 22 ∷ []) ∷
+    (
+      11,
+      joined (map spreadOf (71992 ∷ 71999 ∷ 71998 ∷ 72000 ∷ 72007 ∷ 72001 ∷ [])),
+      120 ∷ 2993 ∷ 24 ∷ 120 ∷ 3119 ∷ 23 ∷ 120 ∷ 3263 ∷ 22 ∷ 42000 ∷ 1247 ∷ 24 ∷ 42001 ∷ 1303 ∷ 23 ∷ 42001 ∷ 1359 ∷ 22 ∷ [],
+    ) ∷
     -- 50: a header spacing below zero, a length above the limit
     (12, map unfitOf (143 ∷ 144 ∷ 145 ∷ 288 ∷ 289 ∷ 295 ∷ 303 ∷ 146176 ∷ 146177 ∷ []), 1 ∷ 0 ∷ 1 ∷ 0 ∷ 0 ∷ 1 ∷ 0 ∷ 0 ∷ 1 ∷ []) ∷
     -- W11: a classic little-endian pcap file, version 2.4, zone and accuracy 0, snapshot length 65,535, link type 147
@@ -120,8 +126,12 @@ requested =
     -- "format byte to last payload byte, seconds being the packet's number from 0"; not escaped, without the check
     (14, records 0 (plainPacket 0x5100 0 (0x41 ∷ []) ∷ plainPacket 0x5100 0 (0x7E ∷ []) ∷ []), recorded 0 0x41 ++ recorded 1 0x7E) ∷
     -- "60 first 24 bytes not these, 61 record cut short or lengths unequal, 62 no packet the sender would accept"
-    (15, map importNumber ([] ∷ (0xA1 ∷ header) ∷ header ∷ (header ++ (0 ∷ [])) ∷ (header ++ replicate 16 0)
-    ∷ (header ++ (replicate 12 0 ++ (1 ∷ 0 ∷ 0 ∷ 0 ∷ []))) ∷ []), 60 ∷ 60 ∷ 0 ∷ 61 ∷ 62 ∷ 61 ∷ []) ∷
+    (
+      15,
+      map importNumber ([] ∷ (0xA1 ∷ header) ∷ header ∷ (header ++ (0 ∷ [])) ∷ (header ++ replicate 16 0)
+          ∷ (header ++ (replicate 12 0 ++ (1 ∷ 0 ∷ 0 ∷ 0 ∷ []))) ∷ []),
+      60 ∷ 60 ∷ 0 ∷ 61 ∷ 62 ∷ 61 ∷ [],
+    ) ∷
     -- 11 where the store of an import is under 8,231 bytes
     (16, entryLimit ∷ [], 8231 ∷ []) ∷
     []
