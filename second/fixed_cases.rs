@@ -382,6 +382,42 @@ fn refused(random: &mut Random, cases: &mut Vec<Case>) {
     }
 }
 
+/// Streams for bin/fixed, into a folder: plain, as sent, and damaged; their names tell R and the depth.
+pub fn write_streams(dir: &str, seed: u64) {
+    let mut random = Random::new(seed);
+    for (i, r) in PARITIES.into_iter().enumerate() {
+        for (j, depth) in DEPTHS.into_iter().enumerate() {
+            let m = WORD - r as usize;
+            let n = [0, 1, 4 * m, 4 * m - 1, 9000, 20000 + random.below(500)][(i + j) % 6];
+            let (stream, few) = (channel_cases::packets(&mut random, n.max(1))[..n].to_vec(), r as usize / 2);
+            let mut words = fixed::words(r, depth, &stream);
+            words.iter_mut().for_each(|word| {
+                let places = random.below(few + 2);
+                alter(&mut random, word, places);
+            });
+            let mut damaged = fixed::marked(depth, &words);
+            if i % 3 == 2 && !damaged.is_empty() {
+                let at = damaged.len() - 1024;
+                damaged[at] ^= 1;
+            }
+            for (kind, bytes) in [("stream", &stream), ("sent", &fixed::marked(depth, &fixed::words(r, depth, &stream))), ("damaged", &damaged)] {
+                std::fs::write(format!("{dir}/{r}-{depth}.{kind}"), bytes).expect(dir);
+            }
+        }
+    }
+}
+
+/// So many MiB of a sub-channel's bytes as received without a fault, for bench/fixed: the words of some packets, over and over.
+pub fn steady(r: u64, depth: u64, mib: usize) -> Vec<u8> {
+    let mut stream = vec![FLAG];
+    for sequence in 0..300 {
+        stream.extend(Packet::new(0x5100, sequence, &[0x41; 90]).escaped(usize::MAX).unwrap());
+    }
+    let words = fixed::words(r, 0, &stream);
+    let many: Vec<Vec<u8>> = words.iter().cycle().take((mib << 20) / 1024 * FOUR).cloned().collect();
+    fixed::marked(depth, &many)
+}
+
 /// Holds the second program to the request: how many settings were tried.
 pub fn test(random: &mut Random) -> usize {
     (0..=64).for_each(|r| assert!(fixed::words(r, 2, &[]).iter().all(|word| *word == [FLAG; WORD]), "a word of flags is 255 flags"));

@@ -14,6 +14,10 @@
 //!   second test [SEED]       holds the second program itself to the paper (selftest.rs)
 //!   second fixed send|list R DEPTH
 //!                            standard input sent on a fixed sub-channel, or what one makes of it, as a listing (fixed.rs)
+//!   second fixed steady R DEPTH MIB
+//!                            received bytes of a sub-channel, clean, to be timed, to standard output
+//!   second fixed streams DIR [SEED]
+//!                            streams for fixed sub-channels, plain, sent and damaged, into a folder (fixed_cases.rs)
 //!   second interleave push|pull DEPTH
 //!                            standard input through the interleaver, with the closing push, or back
 //!   second list              the listing of the recording on standard input
@@ -77,6 +81,9 @@ fn main() {
         ["test", seed] => number(seed).map(selftest::run),
         ["interleave", side @ ("push" | "pull"), depth] => number(depth).filter(|d| *d <= 64).map(|d| interleave(side == "push", d)),
         ["fixed", "send", r, depth] => sub_channel(r, depth).map(|(r, depth)| fixed::send_input(r, depth)),
+        ["fixed", "steady", r, depth, mib] => sub_channel(r, depth).zip(number(mib)).map(|((r, depth), mib)| write_sub_channel(r, depth, mib)),
+        ["fixed", "streams", dir] => Some(fixed_cases::write_streams(dir, 1)),
+        ["fixed", "streams", dir, seed] => number(seed).map(|seed| fixed_cases::write_streams(dir, seed)),
         ["fixed", "list", r, depth] => sub_channel(r, depth).map(|(r, depth)| fixed::list_input(r, depth)),
         ["bids", ref rest @ ..] => std::process::exit(bids::run(rest)),
         ["board", ref rest @ ..] if board::are_options(rest) => Some(board::show(rest).expect("standard input and output")),
@@ -104,7 +111,7 @@ fn main() {
     };
     if done.is_none() {
         eprintln!("usage: second fcs HEX | parity R HEX | word R HEX | repair R HEX | interleave push|pull DEPTH | list | missed | kinds FILE..");
-        eprintln!("  | fixed send|list R DEPTH | board [--recording|--stream] [--blocks] | boards DIR [SEED] | feed FIFO TEXT STREAM");
+        eprintln!("  | fixed send|list R DEPTH | fixed steady R DEPTH MIB | fixed streams DIR [SEED] | board [--recording|--stream] [--blocks] | boards DIR [SEED] | feed FIFO TEXT STREAM");
         eprintln!("  | recordings DIR [SEED] | steady plain|marked MIB | samples DIR | cases calls|turns|pieces|channels|listings|rooms|schedules|mixes [SEED]");
         eprintln!("  | compare CASES ANSWERS .. | test [SEED] | words R PLACES N | time N M | numbered FILE [SEED] | tables CASES ANSWERS [SEED] | unit WORDS..");
         std::process::exit(2);
@@ -118,6 +125,10 @@ fn number(text: &str) -> Option<u64> {
 /// R and the depth of a sub-channel.
 fn sub_channel(r: &str, depth: &str) -> Option<(u64, u64)> {
     number(r).filter(|r| *r <= 64).zip(number(depth).filter(|depth| *depth <= 64))
+}
+
+fn write_sub_channel(r: u64, depth: u64, mib: u64) {
+    std::io::stdout().write_all(&fixed_cases::steady(r, depth, mib as usize)).expect("standard output");
 }
 
 fn unhex(text: &str) -> Option<Vec<u8>> {

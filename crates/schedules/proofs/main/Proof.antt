@@ -1,0 +1,35 @@
+-- `schedules::main` is safe and ends: the buffers keep their lengths, and the cases that may come grow fewer.
+use mathlib.Core.Path.{_≡_}
+use Prim.Native.Nat.{_*_}
+use lib.ListN.{length}
+use borrow.Author.Needs.{needs}
+use Rattle.frames.specs.Contents.{rawLimit}
+use Rattle.blocks.specs.Sender.{wordBytes}
+use Rattle.schedules.proofs.main.Statement.{statement}
+use Rattle.schedules.proofs.main.Tie as tie
+
+abbrev Inv-loop : tie.InvT-loop
+Inv-loop bytes₀ out₀ recv₀ word₀ carried₀ cases₀ bytes out recv word carried cases =
+    (65536 ≡ length bytes) × (65536 ≡ length out) × (4 * rawLimit ≡ length recv) × (4 * wordBytes ≡ length word)
+
+abbrev μ-loop : tie.MeasureT-loop
+μ-loop bytes₀ out₀ recv₀ word₀ carried₀ cases₀ bytes out recv word carried cases = cases
+
+pub main-spec : {M : Type 1} → statement M
+main-spec =
+    tie.close
+    (tie.spec Inv-loop μ-loop
+    (search needs)
+    (search needs)
+    (search needs)
+    (search needs)
+    (search needs)
+    (search needs)
+    (search needs)
+    (search needs)
+    (search needs)
+    (search needs)
+    (search needs)
+    (search needs)
+    (search needs)
+    (search needs))
