@@ -7,6 +7,11 @@
 //!   second boards DIR [SEED] streams and recordings for the board, into a folder (board_cases.rs)
 //!   second feed FIFO TEXT STREAM
 //!                            a stream into a board, byte by byte; fails where a line is not there with its byte (board.rs)
+//!   second capture           the delivered packets of the recording on standard input as a capture (capture.rs)
+//!   second replay            the packets of the capture on standard input as a recording
+//!   second captures DIR [SEED]
+//!                            captures to be replayed, good and damaged, into a folder (capture_cases.rs)
+//!   second viewed            what the viewer should show of the capture on standard input, a line for each record
 //!   second fcs HEX           the check of bytes
 //!   second parity R HEX      the parity of a message
 //!   second word R HEX        clean or damaged
@@ -37,6 +42,8 @@
 mod bids;
 mod board;
 mod board_cases;
+mod capture;
+mod capture_cases;
 mod cases;
 mod channel;
 mod channel_cases;
@@ -73,6 +80,11 @@ fn main() {
         ["board", ref rest @ ..] if board::are_options(rest) => Some(board::show(rest).expect("standard input and output")),
         ["boards", dir] => Some(board_cases::write(dir, 1)),
         ["boards", dir, seed] => number(seed).map(|seed| board_cases::write(dir, seed)),
+        ["capture"] => std::process::exit(capture::export()),
+        ["replay"] => std::process::exit(capture::replay()),
+        ["captures", dir] => Some(capture_cases::write(dir, 1)),
+        ["captures", dir, seed] => number(seed).map(|seed| capture_cases::write(dir, seed)),
+        ["viewed"] => Some(capture::view()),
         ["feed", fifo, text, stream] => std::process::exit(board::feed(fifo, text, stream)),
         ["list"] => Some(listing::list_input().expect("standard input and output")),
         ["missed"] => std::process::exit(ports::show_missed()),
@@ -94,6 +106,7 @@ fn main() {
     };
     if done.is_none() {
         eprintln!("usage: second fcs HEX | parity R HEX | word R HEX | repair R HEX | interleave push|pull DEPTH | list | missed | kinds FILE..");
+        eprintln!("  | capture | replay | captures DIR [SEED] | viewed");
         eprintln!("  | board [--recording|--stream] [--blocks] | boards DIR [SEED] | feed FIFO TEXT STREAM");
         eprintln!("  | recordings DIR [SEED] | steady plain|marked MIB | samples DIR | cases calls|turns|pieces|channels|listings|rooms [SEED]");
         eprintln!("  | compare CASES ANSWERS .. | test [SEED] | words R PLACES N | time N M | numbered FILE [SEED] | tables CASES ANSWERS [SEED]");

@@ -11,7 +11,7 @@ use crate::key_cases::{self, checked, told_length, with_check, with_key};
 use crate::packet::{self, Fault, Packet, ESCAPE, FLAG, FORMAT, RAW_LIMIT, RESTRICTED};
 use crate::parity::{self, WORD};
 use crate::stream::{self, Reader};
-use crate::{board, fcs, listing, ports, repair};
+use crate::{board, capture, fcs, listing, ports, repair};
 
 pub fn run(seed: u64) {
     let mut random = Random::new(seed);
@@ -25,6 +25,8 @@ pub fn run(seed: u64) {
     ports::test();
     println!("request W1's distances and tables: held");
     println!("the board's lines: held, and of {} recordings line by line by their listings", board::test(&mut Random::new(seed)));
+    let [recordings, captures] = capture::test(seed);
+    println!("request W11's captures: held, of {recordings} recordings and {captures} captures");
     checks(&mut random);
     elements();
     matrices(&mut random);
