@@ -180,14 +180,15 @@ pub fn replay() -> i32 {
 
 // ---- in the viewer
 
-/// `second viewed`: of a capture with whole records, the fields of each one as viewer/tirunqesh.lua shows them, tabs between: time, length,
-/// format, the key's length, number and bytes, port, class, sequence, the payload's length and bytes, text, and why it is no packet.
+/// `second viewed`: of a capture with whole records, the fields of each one as viewer/tirunqesh.lua shows them, tabs between: time, length
+/// twice, format, the key's length, number and bytes, port, class, sequence, the payload's length and bytes, text, and why it is no packet.
 pub fn view() {
     let capture = input();
     let mut rest = &capture[24..];
     while let Some((bytes, behind)) = whole_record(rest) {
         let time = |at: usize| u32::from_le_bytes(rest[at..at + 4].try_into().unwrap());
-        println!("{}.{:06}000\t{}\t{}", time(0), time(4), bytes.len(), shown(bytes).join("\t"));
+        let length = bytes.len();
+        println!("{}.{:06}000\t{length}\t{length}\t{}", time(0), time(4), shown(bytes).join("\t"));
         rest = behind;
     }
 }

@@ -1,8 +1,8 @@
 //! Captures to be replayed, good and damaged: a fault in every place, lengths of every kind, a byte altered anywhere, other times.
 //!
-//!   second captures DIR [SEED]   into a folder, by name; those in whose records nothing is cut short are `*.whole.pcap`
+//!   second captures DIR [SEED]   into a folder, by name; viewed-*.pcap are for the viewer too, their records whole
 
-use crate::capture::{captured, header, imported, packed, record};
+use crate::capture::{captured, header, packed, record};
 use crate::cases::{Random, PORTS};
 use crate::key_cases::{longest, with_key};
 use crate::listing_cases::Named;
@@ -10,9 +10,7 @@ use crate::packet::{Packet, FORMAT, RESTRICTED};
 
 pub fn write(dir: &str, seed: u64) {
     for (name, bytes) in all(seed) {
-        let number = imported(&bytes).1.map(|refusal| refusal.number);
-        let kind = if matches!(number, None | Some(62)) && !name.starts_with("two-") { ".whole" } else { "" };
-        std::fs::write(format!("{dir}/{name}{kind}.pcap"), bytes).expect(dir);
+        std::fs::write(format!("{dir}/{name}.pcap"), bytes).expect(dir);
     }
 }
 
@@ -25,7 +23,7 @@ pub fn all(seed: u64) -> Vec<Named> {
     lengths(&mut all);
     no_packets(random, &mut all);
     for n in 0..40 {
-        all.push((format!("two-drawn-{n:02}"), drawn(random, n)));
+        all.push((format!("drawn-{n:02}"), drawn(random, n)));
     }
     all
 }
@@ -56,14 +54,14 @@ fn good(random: &mut Random, all: &mut Vec<Named>) {
     let long = [vec![0x41; 8192], vec![0x7E; 4096]].map(|payload| [plain(&payload), longest(0x507D, &payload)]).concat();
     let many = any_packets(random, 300);
     for (name, packets) in [("none", vec![]), ("one", any_packets(random, 1)), ("ports", ports), ("keys", keyed), ("longest", long), ("many", many)] {
-        all.push((name.to_string(), captured(&packets)));
+        all.push((format!("viewed-{name}"), captured(&packets)));
     }
     let mut other = header();
     for i in 0..20 {
         let (bytes, times) = (packed(&any_packet(random, 60)), [random.next() as u32, random.next() as u32]);
         other.extend(record([[0, u32::MAX], [u32::MAX, 0], times][i % 3], [bytes.len() as u32; 2], &bytes));
     }
-    all.push(("two-times".to_string(), other));
+    all.push(("times".to_string(), other));
 }
 
 /// What other programs write in the first 24 bytes, and each of these cut off or altered.
@@ -106,10 +104,12 @@ fn lengths(all: &mut Vec<Named>) {
     let before = captured(&[Packet::new(0x5100, 0, b"A")]);
     let plain = packed(&Packet::new(0x5100, 0, &[0x41; 65_536]));
     let keyed = packed(&Packet::new(0x5100, 0, &[0x41; 65_536]).restricted(7, &[0x7E; 32]));
+    let mut viewed = header();
     for (format, bytes) in [("plain", plain), ("keyed", keyed)] {
         for n in [0usize, 1, 5, 6, 38, 39, 40, 8197, 8198, 8231, 8232, 65_535, 65_536] {
             let held = &bytes[..n];
             let length = n as u32;
+            viewed.extend(whole(held));
             all.push((format!("length-{format}-{n:05}"), [&before[..], &whole(held), &before[24..]].concat()));
             if n > 0 && n % 5 == 1 || n == 65_535 {
                 all.push((format!("length-{format}-{n:05}-short"), [&before[..], &record([1, 0], [length + 1; 2], held)].concat()));
@@ -117,6 +117,7 @@ fn lengths(all: &mut Vec<Named>) {
             }
         }
     }
+    all.push(("viewed-lengths".to_string(), viewed));
     for byte in 0..8 {
         let mut unequal = [&before[..], &before[24..]].concat();
         unequal[before.len() + 8 + byte] ^= 0x80;
@@ -152,7 +153,7 @@ fn no_packets(random: &mut Random, all: &mut Vec<Named>) {
         let (before, behind) = packets.split_at(random.below(4));
         all.push((format!("bad-{name}"), [captured(before), whole(bytes), captured(behind)[24..].to_vec()].concat()));
     }
-    all.push(("bad-all".to_string(), [header(), bad.iter().flat_map(|(_, bytes)| whole(bytes)).collect()].concat()));
+    all.push(("viewed-bad".to_string(), [header(), bad.iter().flat_map(|(_, bytes)| whole(bytes)).collect()].concat()));
 }
 
 /// A capture with bytes altered, put in, taken out, or cut off.
