@@ -1,0 +1,15 @@
+-- `capture::entry::payload_at` meets its contract: by whether there is a key.
+use mathlib.Core.Path.{sym}
+use borrow.Author.Needs.{needs}
+use borrow.Author.Tests.{eq-eqb, ne-eqb}
+use Rattle.capture.proofs.entry.payload_at.Statement.{statement}
+use Rattle.capture.proofs.entry.payload_at.Tie as tie
+
+pub payload-at-spec : {M : Type 1} → statement M
+payload-at-spec =
+    tie.close
+    (tie.spec
+    (search needs)
+    (search needs)
+    (λ c. simp (eq-eqb _ _ (c .if1 .taken)))
+    (λ c. simp (ne-eqb _ _ (c .if1 .left))))

@@ -1,0 +1,25 @@
+-- A capture written (request W11).
+-- packedPart   what is fetched behind a delivery, to be written
+-- entering     what the call for one record answers and leaves
+use Prim.Native.Nat.{ℕ, _+_}
+use mathlib.Core.List.{List}
+use Rattle.base.specs.Written.{Outcome, refused, write}
+use Rattle.frames.specs.Contents.{payloadAt}
+use Rattle.frames.specs.Frame.{Told, packet, refusal, broken, part}
+use Rattle.frames.specs.declared.Delivery.{Delivery}
+use Rattle.captures.specs.File.{recordOf}
+use Rattle.captures.specs.Import.{entry}
+
+-- format byte to last payload byte are a part of the receive buffer, from its start
+abbrev pub packedPart : Delivery → List ℕ → List ℕ
+packedPart d recv = part 0 (payloadAt (d .key) + d .length) recv
+
+-- by what the bytes are told to be
+abbrev pub enteringBy : Told → ℕ → List ℕ → List ℕ → Outcome
+enteringBy (packet p) number bs out = write (recordOf number bs) out
+enteringBy (refusal n) number bs out = refused n out
+enteringBy (broken n) number bs out = refused 62 out
+
+-- one record: 62 no packet that the sender would accept; then 23 as for every call that writes
+abbrev pub entering : ℕ → List ℕ → List ℕ → Outcome
+entering number bs out = enteringBy (entry bs) number bs out
