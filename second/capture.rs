@@ -9,6 +9,7 @@
 //! All of it works on whole files: a stream is cut at its flags and at its markers, and a capture's records are cut out of it.
 
 use crate::board::apart;
+use crate::capture_calls::imported_by_calls;
 use crate::capture_cases;
 use crate::cases::Random;
 use crate::channel::{BLOCK, MARKER, MESSAGE, ROOTS};
@@ -254,7 +255,10 @@ pub fn test(seed: u64) -> [usize; 2] {
     recordings.extend((0..400).map(|kind| any(random, kind)));
     recordings.iter().for_each(|recording| exported(random, recording));
     let captures = capture_cases::all(seed);
-    captures.iter().for_each(|(name, capture)| held(name, capture));
+    for (name, capture) in &captures {
+        held(name, capture);
+        assert_eq!(imported_by_calls(capture, 1 + random.next() % 1000), imported(capture), "{name}");
+    }
     [recordings.len(), captures.len()]
 }
 

@@ -130,8 +130,19 @@ fn lengths(all: &mut Vec<Named>) {
 
 /// What the sender would refuse, first, in the middle and last.
 fn no_packets(random: &mut Random, all: &mut Vec<Named>) {
+    let bad = refused();
+    for (name, bytes) in &bad {
+        let packets = any_packets(random, 3);
+        let (before, behind) = packets.split_at(random.below(4));
+        all.push((format!("bad-{name}"), [captured(before), whole(bytes), captured(behind)[24..].to_vec()].concat()));
+    }
+    all.push(("viewed-bad".to_string(), [header(), bad.iter().flat_map(|(_, bytes)| whole(bytes)).collect()].concat()));
+}
+
+/// The bytes of a record that the sender would refuse, by name.
+fn refused() -> Vec<Named> {
     let bid = |port| Packet::new(port, 5, b"bid");
-    let mut bad: Vec<(String, Vec<u8>)> = Vec::new();
+    let mut bad = Vec::new();
     for port in [0x7D00, 0x7E7D, 0x7EFF] {
         bad.push((format!("port-{port:04x}"), packed(&bid(port))));
         bad.push((format!("port-keyed-{port:04x}"), packed(&bid(port).restricted(7, b"key"))));
@@ -148,12 +159,16 @@ fn no_packets(random: &mut Random, all: &mut Vec<Named>) {
     bad.push(("empty".to_string(), packed(&Packet::new(0x5100, 0, b""))));
     bad.push(("above".to_string(), packed(&Packet::new(0x5100, 0, &[0x7E; 4097]))));
     bad.push(("above-keyed".to_string(), packed(&longest(0x507D, &[0x41; 8193]))));
-    for (name, bytes) in &bad {
-        let packets = any_packets(random, 3);
-        let (before, behind) = packets.split_at(random.below(4));
-        all.push((format!("bad-{name}"), [captured(before), whole(bytes), captured(behind)[24..].to_vec()].concat()));
+    bad
+}
+
+/// Bytes of records: what the sender accepts, both formats, up to the longest, and what it refuses.
+pub fn entries(random: &mut Random) -> Vec<Vec<u8>> {
+    let mut packets = any_packets(random, 40);
+    for payload in [vec![0x41; 8192], vec![0x7E; 4096]] {
+        packets.extend([Packet::new(0x507D, 0x7E7D, &payload), longest(0x507D, &payload)]);
     }
-    all.push(("viewed-bad".to_string(), [header(), bad.iter().flat_map(|(_, bytes)| whole(bytes)).collect()].concat()));
+    packets.iter().map(packed).chain(refused().into_iter().map(|(_, bytes)| bytes)).collect()
 }
 
 /// A capture with bytes altered, put in, taken out, or cut off.

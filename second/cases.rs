@@ -1,13 +1,14 @@
 //! Cases for the comparison: how they are written, which are asked, and what the second program answers.
-//! crates/answers/src/main.rt has the form of a case and of an answer, crates/pieces/src, crates/channels/src, crates/listings/src and
-//! crates/rooms/src that of an answer in pieces; crates/turns/src/main.rt what is asked of the interleaver, whose states are carried over from case to case.
+//! crates/answers/src/main.rt has the form of a case and of an answer, crates/pieces/src, crates/channels/src, crates/listings/src,
+//! crates/rooms/src and crates/imports/src that of an answer in pieces; crates/turns/src/main.rt what is asked of the interleaver, whose states are
+//! carried over from case to case.
 
 use crate::interleaver::{Sender, Sides, CELLS};
 use crate::packet::{Delivery, Fault, Frame, Packet, FLAG, RAW_LIMIT};
 use crate::parity::WORD;
 use crate::repair::altered;
 use crate::stream::Reader;
-use crate::{board_cases, channel, channel_cases, fcs, key_cases, listing_cases, packet, parity, repair, stream};
+use crate::{board_cases, capture_calls, channel, channel_cases, fcs, key_cases, listing_cases, packet, parity, repair, stream};
 
 pub struct Case {
     pub asked: u8,
@@ -26,14 +27,15 @@ impl Case {
         to.extend(&self.bytes);
     }
 
-    /// Which program answers it: `pieces` a stream, `channels` a channel, `listings` a recording, `rooms` a board, `turns` the interleaver, `calls`
-    /// each other single call. A letter belongs to one of them.
+    /// Which program answers it: `pieces` a stream, `channels` a channel, `listings` a recording, `rooms` a board, `imports` a capture, `turns` the
+    /// interleaver, `calls` each other single call. A letter belongs to one of them.
     pub fn kind(&self) -> &'static str {
         match self.asked {
             b'S' => "pieces",
             b'O' => "channels",
             b'L' => "listings",
             b'b' => "rooms",
+            b'c' | b'e' | b'g' | b'p' => "imports",
             b'I' | b'J' | b'Z' | b'N' | b'X' | b'V' => "turns",
             _ => "calls",
         }
@@ -47,6 +49,7 @@ impl Case {
             b'O' => channel_cases::channel_in_pieces(self.number, &self.bytes, &mut out),
             b'L' => listing_cases::recording_in_pieces(self.number, &self.bytes, &mut out),
             b'b' => board_cases::read_by_calls(self.number, &self.bytes, &mut out),
+            b'c' => capture_calls::capture_in_pieces(self.number, &self.bytes, &mut out),
             b'Q' => self.closed_frame(&mut out),
             _ if self.kind() == "turns" => self.turn(sides, &mut out).to_le_bytes().to_vec(),
             _ => self.number_of_call(&mut out).to_le_bytes().to_vec(),
@@ -82,6 +85,9 @@ impl Case {
             }
             b'D' => part(key_cases::delivery_in(self.number).payload(&self.bytes), out),
             b'H' => part(key_cases::delivery_in(self.number).key(&self.bytes), out),
+            b'g' => answer_in(capture_calls::begun(out.len()), out),
+            b'e' => answer_in(capture_calls::entered(self.number as u32, &self.bytes, out.len()), out),
+            b'p' => part(capture_calls::all_bytes(key_cases::delivery_in(self.number), &self.bytes), out),
             b'M' => answer_in(channel::marked_block(&self.bytes, out.len()), out),
             b'R' => answer_in(channel::in_blocks(&self.bytes, out.len()), out),
             _ => 0,
@@ -270,6 +276,7 @@ pub fn all(seed: u64) -> Vec<Case> {
     channel_cases::all(&mut random, &mut cases);
     listing_cases::all(&mut random, &mut cases);
     board_cases::all(&mut random, &mut cases);
+    capture_calls::all(&mut random, seed, &mut cases);
     cases
 }
 

@@ -31,9 +31,9 @@
 //!   second steady plain|marked MIB
 //!                            a clean recording to be timed, to standard output
 //!   second samples DIR       the recordings of samples/ with their listings
-//!   second cases calls|turns|pieces|channels|listings|rooms [SEED]
+//!   second cases calls|turns|pieces|channels|listings|rooms|imports [SEED]
 //!                            cases for the proved code, to standard output: single calls, the interleaver, streams and channels in pieces,
-//!                            recordings, or boards with any room for their text
+//!                            recordings, boards with any room for their text, or captures written and read by calls
 //!   second words R PLACES N  N cases for repair: words altered in so many places
 //!   second time N M          times of N words made and checked, and of M words of each kind repaired (time.rs)
 //!   second compare CASES ANSWERS ..
@@ -43,6 +43,7 @@ mod bids;
 mod board;
 mod board_cases;
 mod capture;
+mod capture_calls;
 mod capture_cases;
 mod cases;
 mod channel;
@@ -108,7 +109,7 @@ fn main() {
         eprintln!("usage: second fcs HEX | parity R HEX | word R HEX | repair R HEX | interleave push|pull DEPTH | list | missed | kinds FILE..");
         eprintln!("  | capture | replay | captures DIR [SEED] | viewed");
         eprintln!("  | board [--recording|--stream] [--blocks] | boards DIR [SEED] | feed FIFO TEXT STREAM");
-        eprintln!("  | recordings DIR [SEED] | steady plain|marked MIB | samples DIR | cases calls|turns|pieces|channels|listings|rooms [SEED]");
+        eprintln!("  | recordings DIR [SEED] | steady plain|marked MIB | samples DIR | cases calls|turns|pieces|channels|listings|rooms|imports [SEED]");
         eprintln!("  | compare CASES ANSWERS .. | test [SEED] | words R PLACES N | time N M | numbered FILE [SEED] | tables CASES ANSWERS [SEED]");
         std::process::exit(2);
     }
@@ -190,7 +191,7 @@ fn write_steady(letter: u8, mib: u64) {
 }
 
 /// The programs that answer cases, `answers` the single calls.
-const KINDS: [&str; 6] = ["calls", "turns", "pieces", "channels", "listings", "rooms"];
+const KINDS: [&str; 7] = ["calls", "turns", "pieces", "channels", "listings", "rooms", "imports"];
 
 fn write_cases(kind: &str, seed: u64) {
     write(cases::all(seed).into_iter().filter(|case| case.kind() == kind).collect());
