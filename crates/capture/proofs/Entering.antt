@@ -11,7 +11,6 @@ use native.Mathlib.Nat.{add-comm}
 use native.Mathlib.Omega.{arith}
 use borrow.Author.Tests.{lt-ltb, le-ltb}
 use borrow.Rule.Slice.PartMut.{putMid}
-use lib.Dec.{ltb}
 use lib.ListN.{length, take, drop, length-drop}
 use lib.Seq.{drop-drop}
 use Rattle.base.specs.Choice.{pick}
@@ -24,7 +23,7 @@ use Rattle.frames.specs.Frame.{Told, packet, refusal, broken, judged}
 use Rattle.frames.specs.declared.Delivery.{Delivery}
 use Rattle.frames.specs.declared.Judged.{Judged}
 use Rattle.frames.specs.declared.Judged.the-variants.{Packet as Delivered, Refused, Broken}
-use Rattle.captures.specs.File.{four, recordOf}
+use Rattle.captures.specs.File.{recordOf}
 use Rattle.captures.specs.Import.{entry, entryLimit}
 use Rattle.captures.proofs.Entry.{entry-most}
 use Rattle.capture.specs.Export.{packedPart, enteringBy, entering}

@@ -1,18 +1,18 @@
 -- What the code's ways through a call give.
--- fine-fresh, fine-take                 states and stores that pass 10 and 11: before the first byte, and behind each
+-- fine-fresh, fine-take, fine-all       states and stores that pass 10 and 11: before the first byte, and behind each
 -- going-first, -next, -end, -done       the loop over the bytes of a piece
 -- call-unsound, call-cramped, call-on   refused with 10, with 11, or let on
 use mathlib.Core.Path.{_≡_, refl, sym, ap, subst, _∙_}
 use mathlib.Core.Bool.{Bool, true, false, false≢true}
-use mathlib.Core.List.{List, _∷_}
+use mathlib.Core.List.{List, [], _∷_}
 use mathlib.Core.Option.{Option, some, none}
-use Prim.Native.Nat.{ℕ, zero, suc, _+_, _≤_, _<_}
+use Prim.Native.Nat.{ℕ, _+_, _≤_, _<_}
 use native.Mathlib.Nat.{add-zero}
 use native.Mathlib.Omega.{arith}
 use borrow.Author.Tests.{eq-eqb, ne-eqb, lt-ltb, le-leb, lt-leb, ltb-true}
-use lib.Dec.{eqb, ltb, leb}
+use lib.Dec.{eqb, ltb}
 use lib.ListN.{length, getD, take, drop, set, length-set}
-use Rattle.base.specs.Calls.{unless, oneMore, after}
+use Rattle.base.specs.Calls.{tell, unless, oneMore, after}
 use Rattle.base.specs.Choice.{pick}
 use Rattle.base.proofs.Calls.{after-none, after-more}
 use Rattle.base.proofs.Lists.{next, over}
@@ -27,8 +27,8 @@ use Rattle.capture.specs.declared.reader.Capture.{Capture}
 use Rattle.capture.specs.declared.reader.Capture.the-variants.{Header, Head, Record, Behind}
 use Rattle.capture.specs.declared.reader.Read.{Read}
 use Rattle.capture.specs.declared.reader.Step.{Step}
-use Rattle.capture.specs.Called.{Held, held, says, next as behind, headerBy, headedBy, headBy, wholeBy, recordBy, takeBy, takeByte, readOn, readBy, readCall, sound, Fine, readOf, ReadIs}
-use Rattle.capture.specs.Private.{isSome, stepOf, StepIs}
+use Rattle.capture.specs.Called.{Held, held, says, next as behind, wholeBy, takeBy, takeByte, readAll, readOn, readCall, sound, Fine, readOf, ReadIs}
+use Rattle.capture.specs.Private.{isSome, StepIs}
 
 -- ---- counts within their limits, behind each byte
 headed-sound : (m n : ℕ) → sound (pick (eqb m n) (pick (eqb m 0) (says (refusal 62)) (none, Record m 0)) (says (refusal 61)) .1) ≡ true
@@ -78,6 +78,14 @@ fine-take h b f = record {
   counts = take-sound (h .st) (h .store) b (f .counts);
   room = subst (λ (n : ℕ). entryLimit ≤ n) (sym (take-length (h .st) (h .store) b)) (f .room);
 }
+
+pub fine-all : (bs : List ℕ) (h : Held) → Fine h → Fine (readAll h bs .1)
+fine-all [] h f = f
+fine-all (b ∷ bs) h f = subst Fine (sym (tell-state (takeByte h b .0) (readAll (takeByte h b .1) bs))) (fine-all bs (takeByte h b .1) (fine-take h b f))
+  where
+    tell-state : (o : Option Told) (r : List Told × Held) → tell o r .1 ≡ r .1
+    tell-state none r = refl
+    tell-state (some a) r = refl
 
 -- ---- the loop: the call on the piece is the one on the bytes left, after those taken
 pub record Going (h : Held) (piece : List ℕ) (i : ℕ) (t : Held) : Type 0 where

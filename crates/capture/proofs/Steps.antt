@@ -5,17 +5,16 @@
 use mathlib.Core.Path.{_≡_, refl, sym, ap, subst, _∙_}
 use mathlib.Core.Bool.{Bool, true, false, _&&_}
 use mathlib.Core.List.{List}
-use mathlib.Core.Option.{Option, some, none}
+use mathlib.Core.Option.{Option, none}
 use Prim.Native.Nat.{ℕ, _+_, _-_, _≤_, _<_}
 use native.Mathlib.Nat.{sub-zero}
 use native.Mathlib.Omega.{arith}
 use borrow.Author.Tests.{eq-eqb, ne-eqb, lt-ltb, le-ltb, le-leb, lt-leb, ltb-true}
-use lib.Dec.{eqb, ltb, leb}
+use lib.Dec.{eqb, leb}
 use lib.ListN.{length, getD, take, set, length-set}
 use Rattle.base.specs.Choice.{pick}
 use Rattle.frames.specs.Frame.{Told, refusal, judged}
 use Rattle.frames.specs.declared.Judged.{Judged}
-use Rattle.frames.specs.declared.Judged.the-variants.{Refused}
 use Rattle.stream.specs.declared.frame.Heard.the-variants.{Said}
 use Rattle.captures.specs.File.{header}
 use Rattle.captures.specs.Import.{entry, entryLimit, fourAt}

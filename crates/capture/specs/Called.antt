@@ -6,6 +6,7 @@
 -- finishing, endedAs the end of the file, and its number
 -- EveryCut           a file, cut in every way
 -- Fine               states and stores that pass 10 and 11
+-- Stands             that a delivered packet's bytes stand in the store
 use Prim.Native.Nat.{ℕ, _+_, _≤_}
 use mathlib.Core.Path.{_≡_}
 use mathlib.Core.Bool.{Bool, true, false, _&&_}
@@ -13,14 +14,17 @@ use mathlib.Core.List.{List}
 use mathlib.Core.Option.{Option, some, none}
 use lib.Dec.{eqb, ltb, leb}
 use lib.ListN.{length, getD, take, set}
+use Rattle.base.specs.Bytes.{Bytes}
 use Rattle.base.specs.Calls.{joined, owesNone, handsNone, all, hear, Yields}
 use Rattle.base.specs.Choice.{pick}
-use Rattle.frames.specs.Frame.{Told, refusal, judged}
+use Rattle.frames.specs.Contents.{packed}
+use Rattle.frames.specs.Frame.{Told, packet, refusal, broken, judged, delivery, There}
 use Rattle.frames.specs.declared.Judged.{Judged}
 use Rattle.frames.specs.declared.Judged.the-variants as judges
 use Rattle.stream.specs.Called.{answered}
 use Rattle.captures.specs.File.{header}
 use Rattle.captures.specs.Import.{entry, entryLimit, fourAt}
+use Rattle.capture.specs.Export.{packedPart}
 use Rattle.capture.specs.declared.reader.Capture.{Capture}
 use Rattle.capture.specs.declared.reader.Capture.the-variants.{Header, Head, Record, Behind}
 use Rattle.capture.specs.declared.reader.Read.{Read}
@@ -110,6 +114,12 @@ readBy true true h bs = readOn h bs
 -- one call
 abbrev pub readCall : Held → List ℕ → Option Told × ℕ × Held
 readCall h bs = readBy (sound (h .st)) (leb entryLimit (length (h .store))) h bs
+
+-- a delivered packet's bytes stand in the store that comes back: its payload, its key, and format byte to last payload byte
+abbrev pub Stands : Told → Held → Type 0
+Stands (packet p) h = Bytes (h .store) → There (packet p) (h .store) × (packedPart (delivery p) (h .store) ≡ packed p)
+Stands (refusal n) h = Unit {0}
+Stands (broken n) h = Unit {0}
 
 -- the code's result of a call
 abbrev pub readOf : Option Told × ℕ × Held → Read

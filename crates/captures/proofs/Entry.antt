@@ -3,16 +3,16 @@
 -- entry-packed   a packet that the sender accepts, format byte to last payload byte, is that packet
 -- entry-only     .. and nothing else is a packet
 -- none-exactly   62 exactly where they are no packet that the sender would accept
--- entry-most     how many bytes a packet has, at most
+-- entry-most, entry-long   how many bytes a packet has, at most; more of them are none
 use mathlib.Core.Path.{_≡_, refl, sym, ap, subst, _∙_}
 use mathlib.Core.Bool.{Bool, true, false}
 use mathlib.Core.Logic.{_↔_}
 use mathlib.Core.List.{List, _++_}
-use Prim.Native.Nat.{ℕ, _+_, _-_, _≤_}
+use Prim.Native.Nat.{ℕ, _+_, _-_, _≤_, _<_}
 use native.Mathlib.Omega.{arith}
 use borrow.Author.Tests.{le-ltb, ltb-false}
 use lib.Dec.{eqb, ltb}
-use lib.ListN.{length, take, drop, length-append, length-drop}
+use lib.ListN.{length, drop, length-append, length-drop}
 use lib.Seq.{take-append-seam}
 use Rattle.base.specs.Bytes.{Bytes}
 use Rattle.base.specs.Choice.{pick}
@@ -97,3 +97,7 @@ body-most bs p =
 pub entry-most : (bs : List ℕ) (p : Packet) → entry bs ≡ packet p → length bs ≤ entryLimit
 entry-most bs p =
     entry-ways bs (λ (t : Told). t ≡ packet p → length bs ≤ entryLimit) (λ e. absurd (packet-not e)) (λ q l f e. body-most bs q f)
+
+pub entry-long : (bs : List ℕ) → entryLimit < length bs → entry bs ≡ refusal 62
+entry-long bs h =
+    entry-ways bs (λ (t : Told). entry bs ≡ t → entry bs ≡ refusal 62) (λ e. e) (λ p l f e. absurd (omega (arith, entry-most bs p e, h))) refl

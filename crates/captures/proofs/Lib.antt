@@ -1,3 +1,5 @@
 pub mod Entry
-pub mod Reading
+pub mod Export
+pub mod Faults
+pub mod Order
 pub mod Numbers

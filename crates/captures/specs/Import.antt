@@ -5,7 +5,7 @@
 -- read, reads   one byte, and a byte string
 -- ends          what the end of the file says
 -- imported      of a whole file
-use Prim.Native.Nat.{ℕ, suc, _+_, _*_}
+use Prim.Native.Nat.{ℕ, _+_, _*_}
 use mathlib.Core.Bool.{Bool, true, false}
 use mathlib.Core.List.{List, [], _∷_, _++_}
 use mathlib.Core.Option.{Option, some, none}
@@ -63,9 +63,9 @@ headed h = pick (eqb (fourAt h 8) (fourAt h 12)) (recordBy (eqb (fourAt h 8) 0) 
 
 -- one byte: 60 not the header's
 unfoldable pub read : Reading → ℕ → Option Told × Reading
-read (inHeader k) b = pick (eqb b (getD header k 0)) (none, pick (eqb (suc k) 24) (inHead []) (inHeader (suc k))) (says (refusal 60))
-read (inHead h) b = pick (eqb (suc (length h)) 16) (headed (h ++ b ∷ [])) (none, inHead (h ++ b ∷ []))
-read (inRecord n bs) b = recordBy (eqb (suc (length bs)) n) n (bs ++ b ∷ [])
+read (inHeader k) b = pick (eqb b (getD header k 0)) (none, pick (eqb (k + 1) 24) (inHead []) (inHeader (k + 1))) (says (refusal 60))
+read (inHead h) b = pick (eqb (length h + 1) 16) (headed (h ++ b ∷ [])) (none, inHead (h ++ b ∷ []))
+read (inRecord n bs) b = recordBy (eqb (length bs + 1) n) n (bs ++ b ∷ [])
 read (behind n) b = (none, behind n)
 
 -- a byte string: its packets and its fault, and the state behind it

@@ -4,11 +4,13 @@ pub mod Called
 pub mod Desk
 pub mod Taken
 pub mod Showing
+pub mod Capturing
 pub mod Trips
 pub mod Promises
 pub mod Calling
 pub mod Demand1
 pub mod Interleaving
+pub mod Capture
 pub mod Demand2
 pub mod Demand3
 pub mod Altered

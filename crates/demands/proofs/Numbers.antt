@@ -10,6 +10,8 @@ use Rattle.frames.specs.Contents.{withCheck, contents}
 use Rattle.frames.specs.Escape.{escape, escapeByte, plain, wrongFrom, right, last, scan}
 use Rattle.frames.specs.Frame.{judgeBody, judgeContents, closedBy, closed, judge}
 use Rattle.frames.specs.Port.{class}
+use Rattle.captures.specs.File.{records}
+use Rattle.captures.specs.Import.{entry, read}
 use Rattle.listed.specs.Apart.{nextAt, inStream, apart}
 use Rattle.listed.specs.Lines.{decimal, decimalBy, told, lines, count, endLine, wrongLine}
 use Rattle.listed.specs.Listing.{heard, lastLine, listed, listing}
@@ -23,5 +25,5 @@ unfolding fcs register entered contents withCheck judge closed closedBy judgeCon
 numbers = refl
 
 pub as-printed : wrong printed ≡ []
-unfolding fcs register entered contents withCheck escape escapeByte judge closed closedBy judgeContents judgeBody scan last wrongFrom right plain class told lines count endLine wrongLine decimal decimalBy heard lastLine listed listing apart inStream nextAt notedLine noting forgetting placeOf freePlace twice
+unfolding records read entry fcs register entered contents withCheck escape escapeByte judge closed closedBy judgeContents judgeBody scan last wrongFrom right plain class told lines count endLine wrongLine decimal decimalBy heard lastLine listed listing apart inStream nextAt notedLine noting forgetting placeOf freePlace twice
 as-printed = refl

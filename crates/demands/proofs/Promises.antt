@@ -3,7 +3,7 @@
 -- with these laws they speak of the code.
 -- CRATE-FUNCTION-means   of each public function of each library crate
 -- judged-is, ..          what the code's answers are, case by case
-use Prim.Native.Nat.{ℕ, _-_, _≤_, min}
+use Prim.Native.Nat.{ℕ, _+_, _-_, _≤_, min}
 use mathlib.Core.Path.{_≡_, refl}
 use mathlib.Core.Option.{some, none}
 use mathlib.Core.Bool.{true, false, not, _&&_}
@@ -43,6 +43,10 @@ use Rattle.subchannel.specs.declared.sub.Sub.{Sub}
 use Rattle.subchannel.specs.Called as subchannel
 use Rattle.subsender.specs.Sending as subsender
 use Rattle.subchannels.specs.Four as subchannels
+use Rattle.captures.specs.File as capture-file
+use Rattle.capture.specs.Export.{entering}
+use Rattle.capture.specs.Called as capture
+use Rattle.capture.specs.declared.reader.Capture.the-variants.{Header}
 use Rattle.units.specs.Unit as units
 use Rattle.units.specs.Reading as unit-reading
 use Rattle.readout.specs.Called as readout
@@ -90,6 +94,12 @@ use Rattle.stream.proofs.frame.Frame.read as stream-read
 use Rattle.stream.proofs.frame.Frame.sound as stream-sound
 use Rattle.stream.proofs.payload as stream-payload
 use Rattle.stream.proofs.key as stream-key
+use Rattle.capture.proofs.begin as capture-begin
+use Rattle.capture.proofs.enter as capture-enter
+use Rattle.capture.proofs.packed as capture-packed
+use Rattle.capture.proofs.reader.Capture.fresh as capture-fresh
+use Rattle.capture.proofs.reader.Capture.read as capture-read
+use Rattle.capture.proofs.reader.Capture.finish as capture-finish
 use Rattle.packet.proofs.judge as packet-judge
 use Rattle.packet.proofs.wrong_behind as packet-wrong-behind
 use Rattle.packet.proofs.class_of as packet-class-of
@@ -350,6 +360,33 @@ interleaver-back-fresh-means = (λ M. interleaver-back-fresh.Met.met, λ κs a. 
 pub interleaver-pull-means : Means interleaver-pull.Statement.statement interleaver-pull.Kinds.ps interleaver-pull.Kinds.r interleaver-pull.Reads.Asked interleaver-pull.Reads.Learnt
     λ κs self depth bytes out r. (outcome (r .written) (now (out .exit)), r .back) ≡ pulling depth self (now bytes) (now (out .entry))
 interleaver-pull-means = (λ M. interleaver-pull.Met.met, λ κs a. tt, λ κs a z ws. (λ p. p, λ p. p))
+
+-- ---- a capture, written: what stands before the first record, one record; and what is fetched for it behind a delivery
+pub capture-begin-means : Means capture-begin.Statement.statement capture-begin.Kinds.ps capture-begin.Kinds.r capture-begin.Reads.Asked capture-begin.Reads.Learnt
+    λ κs out w. outcome w (now (out .exit)) ≡ write capture-file.header (now (out .entry))
+capture-begin-means = (λ M. capture-begin.Met.met, λ κs a. tt, λ κs a z ws. (λ p. p, λ p. p))
+
+pub capture-enter-means : Means capture-enter.Statement.statement capture-enter.Kinds.ps capture-enter.Kinds.r capture-enter.Reads.Asked capture-enter.Reads.Learnt
+    λ κs number packed out w. outcome w (now (out .exit)) ≡ entering number (now packed) (now (out .entry))
+capture-enter-means = (λ M. capture-enter.Met.met, λ κs a. tt, λ κs a z ws. (λ p. p, λ p. p))
+
+pub capture-packed-means : Means capture-packed.Statement.statement capture-packed.Kinds.ps capture-packed.Kinds.r capture-packed.Reads.Asked capture-packed.Reads.Learnt
+    λ κs recv delivery r. now r ≡ part 0 (payloadAt (delivery .key) + delivery .length) (now recv)
+capture-packed-means = (λ M. capture-packed.Met.met, λ κs a. tt, λ κs a z ws. (λ p. p, λ p. p))
+
+-- .. and read: before the first byte, a call, the end of the file
+pub capture-fresh-means : Means capture-fresh.Statement.statement capture-fresh.Kinds.ps capture-fresh.Kinds.r capture-fresh.Reads.Asked capture-fresh.Reads.Learnt
+    λ κs r. r ≡ Header 0
+capture-fresh-means = (λ M. capture-fresh.Met.met, λ κs a. tt, λ κs a z ws. (λ p. p, λ p. p))
+
+pub capture-read-means : Means capture-read.Statement.statement capture-read.Kinds.ps capture-read.Kinds.r capture-read.Reads.Asked capture-read.Reads.Learnt
+    λ κs self store piece r. let x = capture.readCall (capture.held self (now (store .entry))) (now piece) in
+    (r ≡ record { heard = plain.answered (x .0); taken = x .1; capture = x .2 .st }) × (now (store .exit) ≡ x .2 .store)
+capture-read-means = (λ M. capture-read.Met.met, λ κs a. tt, λ κs a z ws. (λ p. p, λ p. p))
+
+pub capture-finish-means : Means capture-finish.Statement.statement capture-finish.Kinds.ps capture-finish.Kinds.r capture-finish.Reads.Asked capture-finish.Reads.Learnt
+    λ κs self r. r ≡ capture.finishing self
+capture-finish-means = (λ M. capture-finish.Met.met, λ κs a. tt, λ κs a z ws. (λ p. p, λ p. p))
 
 -- ---- a recording's bytes. Before the first one: at the byte that says which stream it is, with a fresh receiver
 pub tape-fresh-means : Means tape-fresh.Statement.statement tape-fresh.Kinds.ps tape-fresh.Kinds.r tape-fresh.Reads.Asked tape-fresh.Reads.Learnt

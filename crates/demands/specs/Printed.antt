@@ -29,6 +29,8 @@ use Rattle.blocks.specs.Channel.{Event, said, block, lost}
 use Rattle.blocks.specs.declared.Condition.the-variants.{Clean, Repaired, Beyond}
 use Rattle.channel.specs.Called.{freshReceiver}
 use Rattle.channel.specs.declared.answer.Answer.the-variants.{Said, Block, LockLost}
+use Rattle.captures.specs.File.{header, records}
+use Rattle.captures.specs.Import.{entryLimit, imported}
 use Rattle.listed.specs.Apart as listed
 use Rattle.bid.specs.Line.{lineLimit}
 use Rattle.office.specs.Called.{heldLimit, holdLimit, outLimit}
@@ -129,6 +131,10 @@ abbrev tableOf : ℕ → List Entry
 tableOf zero = []
 tableOf (suc n) = entry n 7 ∷ tableOf n
 
+-- the number that a capture ends with; 0 where it is whole
+abbrev importNumber : List ℕ → ℕ
+importNumber bs = imported bs .1
+
 -- the number of a row, what the definitions give, what the paper prints
 abbrev pub printed : List Line
 printed =
@@ -180,4 +186,8 @@ printed =
     (46, notedLine 20736 411 First, 50 ∷ 48 ∷ 55 ∷ 51 ∷ 54 ∷ 32 ∷ 52 ∷ 49 ∷ 49 ∷ 32 ∷ 102 ∷ 105 ∷ 114 ∷ 115 ∷ 116 ∷ 10 ∷ []) ∷  -- `PORT SEQUENCE first`: 20736 411 first
     (47, joined (map (notedLine 1 2) (InOrder ∷ Repeated ∷ Late ∷ [])), 49 ∷ 32 ∷ 50 ∷ 32 ∷ 105 ∷ 110 ∷ 32 ∷ 111 ∷ 114 ∷ 100 ∷ 101 ∷ 114 ∷ 10 ∷ 49 ∷ 32 ∷ 50 ∷ 32 ∷ 114 ∷ 101 ∷ 112 ∷ 101 ∷ 97 ∷ 116 ∷ 101 ∷ 100 ∷ 10 ∷ 49 ∷ 32 ∷ 50 ∷ 32 ∷ 108 ∷ 97 ∷ 116 ∷ 101 ∷ 10 ∷ []) ∷  -- `in order`, `repeated`, `late`
     (48, joined (map (notedLine 1 2) (Missing 32766 ∷ NotNoted 40 ∷ [])), 49 ∷ 32 ∷ 50 ∷ 32 ∷ 109 ∷ 105 ∷ 115 ∷ 115 ∷ 105 ∷ 110 ∷ 103 ∷ 32 ∷ 51 ∷ 50 ∷ 55 ∷ 54 ∷ 54 ∷ 10 ∷ 49 ∷ 32 ∷ 50 ∷ 32 ∷ 114 ∷ 101 ∷ 102 ∷ 117 ∷ 115 ∷ 101 ∷ 100 ∷ 32 ∷ 52 ∷ 48 ∷ 10 ∷ []) ∷  -- `missing N`, `refused 40`
+    (49, header, 0xD4 ∷ 0xC3 ∷ 0xB2 ∷ 0xA1 ∷ 2 ∷ 0 ∷ 4 ∷ 0 ∷ 0 ∷ 0 ∷ 0 ∷ 0 ∷ 0 ∷ 0 ∷ 0 ∷ 0 ∷ 0xFF ∷ 0xFF ∷ 0 ∷ 0 ∷ 147 ∷ 0 ∷ 0 ∷ 0 ∷ []) ∷  -- a classic little-endian pcap file, version 2.4, zone and accuracy 0, snapshot length 65,535, link type 147
+    (50, records 0 (paying (0x41 ∷ []) ∷ paying (0x7E ∷ []) ∷ []), 0 ∷ 0 ∷ 0 ∷ 0 ∷ 0 ∷ 0 ∷ 0 ∷ 0 ∷ 6 ∷ 0 ∷ 0 ∷ 0 ∷ 6 ∷ 0 ∷ 0 ∷ 0 ∷ 0x21 ∷ 0x00 ∷ 0x51 ∷ 0x00 ∷ 0x00 ∷ 0x41 ∷ 1 ∷ 0 ∷ 0 ∷ 0 ∷ 0 ∷ 0 ∷ 0 ∷ 0 ∷ 6 ∷ 0 ∷ 0 ∷ 0 ∷ 6 ∷ 0 ∷ 0 ∷ 0 ∷ 0x21 ∷ 0x00 ∷ 0x51 ∷ 0x00 ∷ 0x00 ∷ 0x7E ∷ []) ∷  -- format byte to last payload byte, seconds the packet's number from 0, microseconds 0
+    (51, map importNumber ([] ∷ (0xA1 ∷ header) ∷ header ∷ (header ++ (0 ∷ [])) ∷ (header ++ replicate 16 0) ∷ (header ++ (replicate 12 0 ++ (1 ∷ 0 ∷ 0 ∷ 0 ∷ []))) ∷ []), 60 ∷ 60 ∷ 0 ∷ 61 ∷ 62 ∷ 61 ∷ []) ∷  -- 60 first 24 bytes not these, 61 record cut short or lengths unequal, 62 no packet
+    (52, entryLimit ∷ [], 8231 ∷ []) ∷  -- 11 where the store of an import is under 8,231 bytes
     []

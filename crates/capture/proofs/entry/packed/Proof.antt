@@ -1,9 +1,6 @@
 -- `capture::entry::packed` meets its contract.
-use Prim.Native.Nat.{_+_}
 use native.Mathlib.Omega.{arith}
-use lib.ListN.{length}
 use borrow.Author.Needs.{needs}
-use borrow.Author.Tests.{lt-ltb, le-ltb}
 use Rattle.capture.proofs.Entering.{part-short, part-long}
 use Rattle.capture.proofs.entry.packed.Statement.{statement}
 use Rattle.capture.proofs.entry.packed.Tie as tie

@@ -1,5 +1,4 @@
 -- `capture::entry::payload_at` meets its contract: by whether there is a key.
-use mathlib.Core.Path.{sym}
 use borrow.Author.Needs.{needs}
 use borrow.Author.Tests.{eq-eqb, ne-eqb}
 use Rattle.capture.proofs.entry.payload_at.Statement.{statement}

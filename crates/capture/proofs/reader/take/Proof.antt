@@ -1,5 +1,4 @@
 -- `capture::reader::take` meets its contract: each state by its own phase.
-use mathlib.Core.Path.{_≡_}
 use borrow.Author.Needs.{needs}
 use Rattle.capture.proofs.Steps.{sound-header, sound-head, sound-record, as-header, as-head, as-record, as-behind, room-set}
 use Rattle.capture.proofs.reader.take.Statement.{statement}

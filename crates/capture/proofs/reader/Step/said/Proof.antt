@@ -1,5 +1,4 @@
 -- `Step::said` meets its contract.
-use mathlib.Core.Path.{_≡_}
 use mathlib.Core.Bool.{true}
 use borrow.Author.Needs.{needs}
 use Rattle.stream.specs.declared.frame.Heard.the-variants.{Said}

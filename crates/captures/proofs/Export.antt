@@ -1,30 +1,30 @@
--- A capture, imported.
+-- An export, imported.
 -- header-read                    the header
 -- head-part, head-read           a record's head, in part and whole
 -- part-read, bytes-read          a record's bytes, likewise
 -- record-read                    a whole record of any bytes, whatever its times are
 -- import-any, export-import      every capture of some packets gives them back, the exported one among them
 -- times-ignored                  a record's times do not matter, whatever stands behind them
-use mathlib.Core.Path.{_≡_, refl, sym, ap, subst, _∙_}
-use mathlib.Core.Bool.{Bool, true, false}
+use mathlib.Core.Path.{_≡_, refl, sym, ap, _∙_}
 use mathlib.Core.List.{List, [], _∷_, _++_, map, append-assoc, append-nil}
 use mathlib.Core.Option.{Option, some, none}
-use Prim.Native.Nat.{ℕ, zero, suc, _+_, _*_, _/_, _%_, _≤_, _<_}
+use Prim.Native.Nat.{ℕ, suc, _+_, _*_, _<_}
 use native.Mathlib.Omega.{arith}
 use borrow.Author.Tests.{eq-eqb, ne-eqb}
 use lib.Dec.{eqb}
-use lib.ListN.{length, getD, drop, length-append}
-use lib.Seq.{getD-append-add}
+use lib.ListN.{length, getD, take, drop, length-append, take-append-drop}
+use lib.Seq.{getD-append-add, length-take-le}
 use Rattle.base.specs.Choice.{pick}
 use Rattle.base.specs.Bytes.{Each}
-use Rattle.base.specs.Calls.{tell, andThen, run}
+use Rattle.base.specs.Calls.{tell, andThen}
 use Rattle.base.proofs.Calls.{run-append}
-use Rattle.base.proofs.Tests.{by-eq}
+use Rattle.base.proofs.Tests.{by-eq, by-le}
 use Rattle.frames.specs.Contents.{Packet, packed}
 use Rattle.frames.specs.Frame.{Told, packet, refusal}
 use Rattle.frames.specs.Sender.{Accepted}
-use Rattle.captures.specs.File.{four, header, timed, recordOf, records, captured, Recorded, CaptureOf}
-use Rattle.captures.specs.Import.{entry, entryLimit, Reading, inHeader, inHead, inRecord, behind, fresh, fourAt, says, recordBy, headed, read, reads, ends}
+use Rattle.captures.specs.File.{four, header, timed, records, captured, Recorded, CaptureOf}
+use Rattle.captures.specs.Import.{entry, Reading, inHead, inRecord, fresh, fourAt, says, recordBy, headed, read, reads, ends}
+use Rattle.captures.specs.Order.{headOf}
 use Rattle.captures.proofs.Entry.{entry-packed, entry-most}
 
 -- what one step gives, as a run
@@ -44,15 +44,15 @@ pub head-part : (t h : List ℕ) → length h + length t < 16 → reads (inHead 
 unfolding read
 head-part [] h l = ap (λ (x : List ℕ). ([], inHead x)) (sym (append-nil h))
 head-part (b ∷ t) h l =
-    rw (ne-eqb (suc (length h)) 16 (λ q. absurd (omega (arith, l, q))))
+    rw (ne-eqb (length h + 1) 16 (λ q. absurd (omega (arith, l, q))))
     (head-part t (h ++ b ∷ []) (omega (arith, l, length-append h (b ∷ []))) ∙ ap (λ (x : List ℕ). ([], inHead x)) (append-assoc h (b ∷ []) t))
 
 pub head-read : (t h : List ℕ) → length h + length t ≡ 16 → (length t ≡ 0 → ⊥) → reads (inHead h) t ≡ say (headed (h ++ t))
 unfolding read
 head-read [] h l z = absurd (z refl)
-head-read (b ∷ []) h l z = let k : suc (length h) ≡ 16 = omega (arith, l) in rw (eq-eqb _ _ k) refl
+head-read (b ∷ []) h l z = let k : length h + 1 ≡ 16 = omega (arith, l) in rw (eq-eqb _ _ k) refl
 head-read (b ∷ c ∷ t) h l z =
-    let k : suc (length h) ≡ 16 → ⊥ = λ q. absurd (omega (arith, l, q)) in
+    let k : length h + 1 ≡ 16 → ⊥ = λ q. absurd (omega (arith, l, q)) in
     let r = head-read (c ∷ t) (h ++ b ∷ []) (omega (arith, l, length-append h (b ∷ []))) (λ q. absurd (omega (arith, q))) in
     rw (ne-eqb _ _ k) (r ∙ ap (λ (x : List ℕ). say (headed x)) (append-assoc h (b ∷ []) (c ∷ t)))
 
@@ -62,39 +62,38 @@ module _ (n : ℕ) where
   unfolding read
   part-read [] bs l = ap (λ (x : List ℕ). ([], inRecord n x)) (sym (append-nil bs))
   part-read (b ∷ t) bs l =
-      rw (ne-eqb (suc (length bs)) n (λ q. absurd (omega (arith, l, q))))
+      rw (ne-eqb (length bs + 1) n (λ q. absurd (omega (arith, l, q))))
       (part-read t (bs ++ b ∷ []) (omega (arith, l, length-append bs (b ∷ []))) ∙ ap (λ (x : List ℕ). ([], inRecord n x)) (append-assoc bs (b ∷ []) t))
 
   pub bytes-read : (t bs : List ℕ) → length bs + length t ≡ n → (length t ≡ 0 → ⊥) → reads (inRecord n bs) t ≡ say (says (entry (bs ++ t)))
   unfolding read
   bytes-read [] bs l z = absurd (z refl)
-  bytes-read (b ∷ []) bs l z = let k : suc (length bs) ≡ n = omega (arith, l) in rw (eq-eqb _ _ k) refl
+  bytes-read (b ∷ []) bs l z = let k : length bs + 1 ≡ n = omega (arith, l) in rw (eq-eqb _ _ k) refl
   bytes-read (b ∷ c ∷ t) bs l z =
-      let k : suc (length bs) ≡ n → ⊥ = λ q. absurd (omega (arith, l, q)) in
+      let k : length bs + 1 ≡ n → ⊥ = λ q. absurd (omega (arith, l, q)) in
       let r = bytes-read (c ∷ t) (bs ++ b ∷ []) (omega (arith, l, length-append bs (b ∷ []))) (λ q. absurd (omega (arith, q))) in
       rw (ne-eqb _ _ k) (r ∙ ap (λ (x : List ℕ). say (says (entry x))) (append-assoc bs (b ∷ []) (c ∷ t)))
 
 -- ---- a whole record
--- the head of n bytes with some times
-abbrev pub headOf : List ℕ → ℕ → List ℕ
-headOf times n = times ++ (four n ++ four n)
-
 module _ (times : List ℕ) (eight : length times ≡ 8) where
   past : (l : List ℕ) (i : ℕ) → getD (times ++ l) (8 + i) 0 ≡ getD l i 0
   past l i = ap (λ (n : ℕ). getD (times ++ l) (n + i) 0) (sym eight) ∙ getD-append-add times l i 0
 
-  past-8 : (l : List ℕ) → fourAt (times ++ l) 8 ≡ fourAt l 0
+  pub past-8 : (l : List ℕ) → fourAt (times ++ l) 8 ≡ fourAt l 0
   past-8 l = λ j. past l 0 j + 256 * (past l 1 j + 256 * (past l 2 j + 256 * past l 3 j))
 
-  past-12 : (l : List ℕ) → fourAt (times ++ l) 12 ≡ fourAt l 4
+  pub past-12 : (l : List ℕ) → fourAt (times ++ l) 12 ≡ fourAt l 4
   past-12 l = λ j. past l 4 j + 256 * (past l 5 j + 256 * (past l 6 j + 256 * past l 7 j))
+
+  -- a head's times are not looked at
+  pub headed-past : (l : List ℕ) → headed (times ++ l) ≡ pick (eqb (fourAt l 0) (fourAt l 4)) (recordBy (eqb (fourAt l 0) 0) (fourAt l 0) []) (says (refusal 61))
+  headed-past l = λ i. pick (eqb (past-8 l i) (past-12 l i)) (recordBy (eqb (past-8 l i) 0) (past-8 l i) []) (says (refusal 61))
 
   module _ (n : ℕ) (l : n < 4294967296) where
     pub headed-as : headed (headOf times n) ≡ recordBy (eqb n 0) n []
     headed-as =
-        let a : fourAt (headOf times n) 8 ≡ n = past-8 (four n ++ four n) ∙ omega arith in
-        let b : fourAt (headOf times n) 12 ≡ n = past-12 (four n ++ four n) ∙ omega arith in
-        rw (a, b, eq-eqb n n refl) refl
+        let a : fourAt (four n ++ four n) 0 ≡ n = omega arith in
+        headed-past (four n ++ four n) ∙ rw (a, eq-eqb n n refl) refl
 
   pub record-read : (bs : List ℕ) → length bs < 4294967296 → reads (inHead []) (timed times bs) ≡ say (says (entry bs))
   record-read bs l = ap (reads (inHead [])) (sym (append-assoc times (four n ++ four n) bs)) ∙ reads-then (inHead []) head bs first ∙ by-eq n 0 empty some
@@ -144,8 +143,44 @@ records-are [] i = refl
 records-are (p ∷ ps) i = (four i ++ four 0, records (suc i) ps, refl, refl, records-are ps (suc i))
 
 pub captured-is : (ps : List Packet) → CaptureOf ps (captured ps)
-captured-is ps = (records 0 ps, refl, records-are ps 0)
+captured-is ps = (_, refl, records-are ps _)
 
 -- the import of an export gives the same packets back, and the file ends well
 pub export-import : (ps : List Packet) → Each Accepted ps → reads fresh (captured ps) ≡ (map packet ps, inHead [])
 export-import ps a = import-any ps a (captured ps) (captured-is ps)
+
+-- ---- a record's times
+-- answers, and what the end of the file says
+abbrev pub seen : Reading → List ℕ → List Told × ℕ
+seen s bs = (reads s bs .0, ends (reads s bs .1))
+
+pub some-end : (bs : List ℕ) → 0 < length bs → ends (inHead bs) ≡ 61
+some-end [] h = absurd (omega (arith, h))
+some-end (b ∷ bs) h = refl
+
+module _ (times others : List ℕ) (e : length times ≡ 8) (f : length others ≡ 8) where
+  part-seen : (ts rest : List ℕ) → length ts ≡ 8 → length rest < 8 → seen (inHead []) (ts ++ rest) ≡ ([], 61)
+  part-seen ts rest l h =
+      let n = length-append ts rest in
+      ap (λ (r : List Told × Reading). (r .0, ends (r .1))) (head-part (ts ++ rest) [] (omega (arith, n, l, h)))
+      ∙ (λ i. ([], some-end (ts ++ rest) (omega (arith, n, l)) i))
+
+  head-times : (q rest : List ℕ) → length q ≡ 8 → reads (inHead []) ((times ++ q) ++ rest) ≡ reads (inHead []) ((others ++ q) ++ rest)
+  head-times q rest l =
+      let m = length-append times q in
+      let n = length-append others q in
+      reads-then (inHead []) (times ++ q) rest
+      (head-read (times ++ q) [] (omega (arith, m, e, l)) (λ z. absurd (omega (arith, z, m, e))) ∙ ap say (headed-past times e q ∙ sym (headed-past others f q))
+      ∙ sym (head-read (others ++ q) [] (omega (arith, n, f, l)) (λ z. absurd (omega (arith, z, n, f)))))
+      ∙ sym (reads-then (inHead []) (others ++ q) rest refl)
+
+  -- whatever stands behind them, whole or cut short
+  pub times-ignored : (rest : List ℕ) → seen (inHead []) (times ++ rest) ≡ seen (inHead []) (others ++ rest)
+  times-ignored rest =
+      by-le 8 (length rest)
+      (λ h.
+      let q = take 8 rest in
+      let w : (ts : List ℕ) → ts ++ rest ≡ (ts ++ q) ++ drop 8 rest = λ ts. ap (λ (l : List ℕ). ts ++ l) (sym (take-append-drop 8 rest)) ∙ sym (append-assoc ts q (drop 8 rest)) in
+      ap (λ (r : List Told × Reading). (r .0, ends (r .1)))
+      (ap (reads (inHead [])) (w times) ∙ head-times q (drop 8 rest) (length-take-le 8 rest h) ∙ ap (reads (inHead [])) (sym (w others))))
+      (λ h. part-seen times rest e h ∙ sym (part-seen others rest f h))

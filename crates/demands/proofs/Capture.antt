@@ -1,0 +1,159 @@
+-- Request W11, sentence by sentence. What the calls promise stands in Promises.
+-- begins-with, record-holds, fetched, entered    "Export delivered packets as a classic little-endian pcap file .."
+-- times-aside                                    "Import ignores the records' times"
+-- same-packets, stands                           ".. and gives the same packets back"
+-- nothing-else                                   .. and of nothing but a capture of them
+-- begin-refusals, enter-refusals, ..             the calls' own refusals, row by row, and what a refused call leaves
+-- sixty, sixty-one-.., sixty-two, in-order       60 to 62
+use Prim.Native.Nat.{ℕ, _+_, _≤_, _<_}
+use mathlib.Core.Path.{_≡_, refl, ap, _∙_}
+use mathlib.Core.Logic.{_↔_}
+use mathlib.Core.List.{List, [], _∷_, _++_, map}
+use mathlib.Core.Option.{some}
+use lib.ListN.{length, take}
+use Rattle.base.specs.Bytes.{Each, Bytes}
+use Rattle.base.specs.Calls.{andThen, With}
+use Rattle.base.specs.Written.{write, Keeps}
+use Rattle.base.proofs.Calls.{yields-so}
+use Rattle.base.proofs.Writing.{write-keeps, refused-keeps}
+use Rattle.frames.specs.Contents.{Packet, packed}
+use Rattle.frames.specs.Frame.{Told, packet, refusal, broken, delivery, closed}
+use Rattle.frames.specs.Sender.{Accepted}
+use Rattle.captures.specs.File.{four, header, timed, recordOf, captured, CaptureOf}
+use Rattle.captures.specs.Import.{entry, entryLimit, Reading, inHead, inRecord, behind, fresh, fourAt, says, reads, ends, imported}
+use Rattle.captures.specs.Order.{headOf, Next}
+use Rattle.captures.proofs.Entry.{entry-packed, none-exactly}
+use Rattle.captures.proofs.Export.{say, seen, import-any, captured-is, times-ignored}
+use Rattle.captures.proofs.Faults.{faultOf, first-fault, sixty-exactly}
+use Rattle.captures.proofs.Order.{next, head-next, unequal-next, bytes-next, whole-next, import-only}
+use Rattle.capture.specs.Export.{packedPart, enteringBy, entering}
+use Rattle.capture.specs.Called.{Held, readCall, finishing, endedAs, EveryCut, Stands}
+use Rattle.capture.specs.declared.reader.Capture.{Capture}
+use Rattle.capture.proofs.Cutting.{every-cut}
+use Rattle.capture.proofs.There.{export-there, read-there}
+use Rattle.demands.specs.Table.{Exact}
+use Rattle.demands.specs.Refusals.{ByCall}
+use Rattle.demands.specs.Captures.{CaptureBeyond, NoPacket, HeaderMissed, RecordCut, FaultBefore, ByImport, ByEnd}
+use Rattle.demands.proofs.Rows.{wrote}
+use Rattle.demands.proofs.Capturing.{enter-exact, import-exact, import-same, end-exact}
+
+-- ---- "Export delivered packets as a classic little-endian pcap file, version 2.4, snapshot length 65,535, link type 147": zone "and accuracy are 0"
+pub begins-with : header ≡ four 0xA1B2C3D4 ++ (2 ∷ 0 ∷ 4 ∷ 0 ∷ (four 0 ++ (four 0 ++ (four 65535 ++ four 147))))
+begins-with = refl
+
+-- "each record holding format byte to last payload byte, seconds being the packet's number from 0; microseconds .. are 0": between them twice the length
+pub record-holds : (i : ℕ) (p : Packet) → let n = length (packed p) in recordOf i (packed p) ≡ four i ++ (four 0 ++ (four n ++ (four n ++ packed p)))
+record-holds i p = refl
+
+-- "delivered packets": behind a frame of m raw bytes that is judged to be a packet, what is fetched is format byte to last payload byte ..
+pub fetched : (recv : List ℕ) (m : ℕ) → m ≤ length recv → Bytes recv → (p : Packet) → closed recv m .told ≡ packet p
+    → packedPart (delivery p) (closed recv m .recv) ≡ packed p
+fetched = export-there
+
+-- .. and of a packet that the sender accepts its record is written: 23 is then the only refusal
+pub entered : (i : ℕ) (p : Packet) → Accepted p → (out : List ℕ) → entering i (packed p) out ≡ write (recordOf i (packed p)) out
+entered i p a out = ap (λ (t : Told). enteringBy t i (packed p) out) (entry-packed p a)
+
+-- ---- "Import ignores the records' times": eight bytes before the lengths, whatever stands behind them
+pub times-aside : (times others : List ℕ) → length times ≡ 8 → length others ≡ 8 → (rest : List ℕ)
+    → seen (inHead []) (times ++ rest) ≡ seen (inHead []) (others ++ rest)
+times-aside = times-ignored
+
+-- ---- "and gives the same packets back": whatever the times, cut in every way, with every store that passes 11, the calls come to their end, their answers
+-- are the packets, and the file ends well ..
+pub same-packets : (ps : List Packet) → Each Accepted ps → (bs : List ℕ) → CaptureOf ps bs
+    → EveryCut bs λ ts g. (ts ≡ map packet ps) × (endedAs (finishing (g .st)) ≡ 0)
+same-packets ps a bs c st room pieces cut =
+    let r = import-any ps a bs c in
+    yields-so (every-cut bs st room pieces cut) λ ts g e.
+    (ap (λ (x : List Told × ℕ). x .0) e ∙ ap (λ (x : List Told × Reading). x .0) r, ap (λ (x : List Told × ℕ). x .1) e ∙ ap (λ (x : List Told × Reading). ends (x .1)) r)
+
+-- .. so the export of packets, imported, gives them back ..
+pub export-import : (ps : List Packet) → Each Accepted ps → EveryCut (captured ps) λ ts g. (ts ≡ map packet ps) × (endedAs (finishing (g .st)) ≡ 0)
+export-import ps a = same-packets ps a (captured ps) (captured-is ps)
+
+-- .. and behind each delivery payload, key, and all bytes of the packet stand in the store
+pub stands : (h : Held) (bs : List ℕ) → With Stands (readCall h bs .0) (readCall h bs .2)
+stands = read-there
+
+-- what is imported whole is a capture of those packets, times aside, and the sender would accept each of them
+pub nothing-else : (ps : List Packet) (bs : List ℕ) → Bytes bs → imported bs ≡ (map packet ps, 0) → CaptureOf ps bs × Each Accepted ps
+nothing-else = import-only
+
+-- ---- "Refusals": the answers of every file, cut in every way, are what is imported of it, and so is the number that its end says
+pub every-file : (bs : List ℕ) → EveryCut bs λ ts g. (ts, endedAs (finishing (g .st))) ≡ imported bs
+every-file = every-cut
+
+-- "60 first 24 bytes not these"
+pub sixty : (bs : List ℕ) → (imported bs .1 ≡ 60) ↔ (take 24 bs ≡ header → ⊥)
+sixty = sixty-exactly
+
+-- "61 record cut short": in its head, in its bytes ..
+pub sixty-one-head : (h : List ℕ) → 0 < length h → length h < 16 → (reads (inHead []) h ≡ ([], inHead h)) × (ends (inHead h) ≡ 61)
+sixty-one-head = head-next
+
+pub sixty-one-bytes : (times : List ℕ) (n : ℕ) (bs : List ℕ) → length times ≡ 8 → n < 4294967296 → length bs < n
+    → (reads (inHead []) (headOf times n ++ bs) ≡ ([], inRecord n bs)) × (ends (inRecord n bs) ≡ 61)
+sixty-one-bytes times n bs e l m = (bytes-next times n bs e l m, refl)
+
+-- .. "or lengths unequal", whatever stands behind them
+pub sixty-one-unequal : (h rest : List ℕ) → length h ≡ 16 → (fourAt h 8 ≡ fourAt h 12 → ⊥) → reads (inHead []) (h ++ rest) ≡ (refusal 61 ∷ [], behind 61)
+sixty-one-unequal = unequal-next
+
+-- "62 no packet the sender would accept": of a whole record
+pub sixty-two : (bs : List ℕ) → Bytes bs → (entry bs ≡ refusal 62) ↔ NoPacket bs
+sixty-two = none-exactly
+
+-- .. the answer is what its bytes are told to be, whatever its times are, and then what stands behind it
+pub whole-record : (times bs rest : List ℕ) → length times ≡ 8 → length bs < 4294967296
+    → reads (inHead []) (timed times bs ++ rest) ≡ andThen (say (says (entry bs))) (λ t. reads t rest)
+whole-record = whole-next
+
+-- "first found in file order": the bytes behind the header, or behind a record, go on in one of these ways, no other; packets, and behind them at most one
+-- fault, which is the last answer
+pub goes-on : (bs : List ℕ) → Bytes bs → Next bs
+goes-on = next
+
+pub in-order : (bs : List ℕ) → (ps : List Packet) × (reads fresh bs .0 ≡ map packet ps ++ faultOf (reads fresh bs .1))
+in-order = first-fault
+
+-- ---- the calls' own refusals
+pub begin-refusals : (out : List ℕ) → Exact ByCall (write header out)
+    ((23, length out < 24) ∷  -- output shorter than the result
+    [])
+begin-refusals out = wrote header out 24 refl
+
+pub enter-refusals : (i : ℕ) (bs out : List ℕ) → Bytes bs → Exact ByCall (entering i bs out)
+    ((62, NoPacket bs) ∷  -- no packet the sender would accept
+    (23, length out < length bs + 16) ∷  -- output shorter than the result
+    [])
+enter-refusals = enter-exact
+
+pub import-refusals : (h : Held) (bs : List ℕ) → Exact ByImport (readCall h bs)
+    ((10, CaptureBeyond (h .st)) ∷  -- a count of the state is beyond its limit
+    (11, length (h .store) < entryLimit) ∷  -- store under 8,231 bytes
+    [])
+import-refusals = import-exact
+
+pub finish-refusals : (c : Capture) → Exact ByEnd (finishing c)
+    ((10, CaptureBeyond c) ∷  -- a count of the state is beyond its limit
+    (60, HeaderMissed c) ∷  -- the first 24 bytes are not all there, or not these
+    (61, RecordCut c) ∷  -- a record cut short, or lengths unequal before
+    (62, FaultBefore c) ∷  -- no packet before
+    [])
+finish-refusals = end-exact
+
+-- a refused call changes nothing
+pub begin-keeps : (out : List ℕ) → Keeps out (write header out)
+begin-keeps out = write-keeps header out
+
+pub enter-keeps : (i : ℕ) (bs out : List ℕ) → Keeps out (entering i bs out)
+enter-keeps i bs out = go (entry bs)
+  where
+    go : (t : Told) → Keeps out (enteringBy t i bs out)
+    go (packet p) = write-keeps (recordOf i bs) out
+    go (refusal n) = refused-keeps n out
+    go (broken n) = refused-keeps 62 out
+
+pub import-keeps : (h : Held) (bs : List ℕ) (n : ℕ) → ByImport (readCall h bs) n → readCall h bs ≡ (some (refusal n), 0, h)
+import-keeps = import-same

@@ -1,0 +1,59 @@
+-- Rows of refusals of request W11.
+-- CaptureBeyond                    10: a count of the state is beyond its limit
+-- NoPacket                         62: no packet that the sender would accept
+-- HeaderMissed, RecordCut, FaultBefore   60 to 62 at the end of a file
+-- ByImport, ByEnd                  that an answer refuses by a number
+use Prim.Native.Nat.{ℕ, _≤_, _<_}
+use mathlib.Core.Path.{_≡_}
+use mathlib.Core.Logic.{_⊎_}
+use mathlib.Core.List.{List}
+use mathlib.Core.Option.{Option, some}
+use Rattle.frames.specs.Contents.{Packet, packed}
+use Rattle.frames.specs.Frame.{Told, refusal}
+use Rattle.frames.specs.Sender.{Accepted}
+use Rattle.capture.specs.Called.{Held}
+use Rattle.capture.specs.declared.reader.Capture.{Capture}
+use Rattle.capture.specs.declared.reader.Capture.the-variants.{Header, Head, Record, Behind}
+use Rattle.capture.specs.declared.reader.Ended.{Ended}
+use Rattle.capture.specs.declared.reader.Ended.the-variants.{Refused}
+use Rattle.demands.specs.Refusals.{OfCall}
+
+-- 24 bytes of the header or more, 16 of a record's head or more, all of its bytes or more, or a fault other than 60 to 62
+abbrev pub CaptureBeyond : Capture → Type 0
+CaptureBeyond (Header k) = 24 ≤ k
+CaptureBeyond (Head k) = 16 ≤ k
+CaptureBeyond (Record n d) = n ≤ d
+CaptureBeyond (Behind f) = (f < 60) ⊎ (62 < f)
+
+-- no packet that the sender would accept has these bytes, format byte to last payload byte
+abbrev pub NoPacket : List ℕ → Type 0
+NoPacket bs = (p : Packet) → Accepted p → packed p ≡ bs → ⊥
+
+-- the file ends inside the header, or was refused with 60
+abbrev pub HeaderMissed : Capture → Type 0
+HeaderMissed (Header k) = Unit {0}
+HeaderMissed (Head k) = ⊥
+HeaderMissed (Record n d) = ⊥
+HeaderMissed (Behind f) = f ≡ 60
+
+-- it ends inside a record, or was refused with 61
+abbrev pub RecordCut : Capture → Type 0
+RecordCut (Header k) = ⊥
+RecordCut (Head k) = 0 < k
+RecordCut (Record n d) = Unit {0}
+RecordCut (Behind f) = f ≡ 61
+
+-- it was refused with 62
+abbrev pub FaultBefore : Capture → Type 0
+FaultBefore (Header k) = ⊥
+FaultBefore (Head k) = ⊥
+FaultBefore (Record n d) = ⊥
+FaultBefore (Behind f) = f ≡ 62
+
+-- a call on a capture's bytes is refused: by a number of calls, and not of captures
+abbrev pub ByImport : Option Told × ℕ × Held → ℕ → Type 0
+ByImport r n = OfCall n × (r .0 ≡ some (refusal n))
+
+-- the end of a capture is
+abbrev pub ByEnd : Ended → ℕ → Type 0
+ByEnd e n = e ≡ Refused n
