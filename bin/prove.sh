@@ -28,12 +28,26 @@ prove_under() {
         case " $needed $1 " in *" $crate "*) ;; *) continue ;; esac
         # shellcheck disable=SC2086
         if stale "$crate" $under; then
-            echo "bin/$1: proving $crate" >&2
+            echo "bin/${0##*/}: proving $crate" >&2
         elif [ "$crate" != "$1" ]; then
             continue
         fi
         prove "$crate" "$top/target/$1.log" || exit 1
     done
+}
+
+# from_file [FILE]: standard input is the file from here on.
+from_file() {
+    if [ $# -gt 1 ]; then
+        echo "usage: bin/${0##*/} [FILE]" >&2
+        exit 2
+    fi
+    [ $# -eq 1 ] || return 0
+    if [ ! -r "$1" ]; then
+        echo "bin/${0##*/}: no such file: $1" >&2
+        exit 2
+    fi
+    exec <"$1"
 }
 
 # heed PROGRAM WORDS..: runs it, proved. A proved program cannot set its exit status: where it says something on standard error, it has failed.

@@ -1,6 +1,6 @@
 //! Cases for the comparison: how they are written, which are asked, and what the second program answers.
-//! crates/answers/src/main.rt has the form of a case and of an answer, crates/pieces/src, crates/channels/src, crates/listings/src and
-//! crates/rooms/src that of an answer in pieces; crates/turns/src/main.rt what is asked of the interleaver and
+//! crates/answers/src/main.rt has the form of a case and of an answer, crates/pieces/src, crates/channels/src, crates/listings/src,
+//! crates/rooms/src and crates/imports/src that of an answer in pieces; crates/turns/src/main.rt what is asked of the interleaver and
 //! crates/schedules/src/main.rt of fixed sub-channels, whose states are carried over from case to case; crates/mixes/src/main.rt what is asked of
 //! Layer 2 units.
 
@@ -9,7 +9,7 @@ use crate::packet::{Delivery, Fault, Frame, Packet, FLAG, RAW_LIMIT};
 use crate::parity::WORD;
 use crate::repair::altered;
 use crate::stream::Reader;
-use crate::{board_cases, channel, channel_cases, fcs, fixed_cases, key_cases, listing_cases, packet, parity, repair, stream, unit_cases};
+use crate::{board_cases, capture_calls, channel, channel_cases, fcs, fixed_cases, key_cases, listing_cases, packet, parity, repair, stream, unit_cases};
 
 pub struct Case {
     pub asked: u8,
@@ -40,8 +40,8 @@ impl Case {
         to.extend(&self.bytes);
     }
 
-    /// Which program answers it: `pieces` a stream, `channels` a channel, `listings` a recording, `rooms` a board, `mixes` a Layer 2 unit, `turns` the
-    /// interleaver, `schedules` fixed sub-channels, `calls` each other single call. A letter belongs to one of them.
+    /// Which program answers it: `pieces` a stream, `channels` a channel, `listings` a recording, `rooms` a board, `imports` a capture, `mixes` a Layer 2
+    /// unit, `turns` the interleaver, `schedules` fixed sub-channels, `calls` each other single call. A letter belongs to one of them.
     pub fn kind(&self) -> &'static str {
         match self.asked {
             b'S' => "pieces",
@@ -49,6 +49,7 @@ impl Case {
             b'L' => "listings",
             b'b' => "rooms",
             b'U' | b'u' => "mixes",
+            b'r' | b'e' | b'f' | b'd' => "imports",
             b'I' | b'J' | b'Z' | b'N' | b'X' | b'V' => "turns",
             b'n' | b'c' | b'h' | b'x' | b'v' | b's' | b'g' | b'p' | b'w' | b'q' => "schedules",
             _ => "calls",
@@ -63,6 +64,7 @@ impl Case {
             b'O' => channel_cases::channel_in_pieces(self.number, &self.bytes, &mut out),
             b'L' => listing_cases::recording_in_pieces(self.number, &self.bytes, &mut out),
             b'b' => board_cases::read_by_calls(self.number, &self.bytes, &mut out),
+            b'r' => capture_calls::capture_in_pieces(self.number, &self.bytes, &mut out),
             b'Q' => self.closed_frame(&mut out),
             _ if self.kind() == "turns" => self.turn(&mut carried.sides, &mut out).to_le_bytes().to_vec(),
             _ if self.kind() == "schedules" => carried.fixed.reply(self, &mut out),
@@ -99,6 +101,9 @@ impl Case {
             }
             b'D' => part(key_cases::delivery_in(self.number).payload(&self.bytes), out),
             b'H' => part(key_cases::delivery_in(self.number).key(&self.bytes), out),
+            b'f' => answer_in(capture_calls::begun(out.len()), out),
+            b'e' => answer_in(capture_calls::entered(self.number as u32, &self.bytes, out.len()), out),
+            b'd' => part(capture_calls::all_bytes(key_cases::delivery_in(self.number), &self.bytes), out),
             b'M' => answer_in(channel::marked_block(&self.bytes, out.len()), out),
             b'R' => answer_in(channel::in_blocks(&self.bytes, out.len()), out),
             b'U' => answer_in(unit_cases::written(self.number, &self.bytes, out.len()), out),
@@ -290,6 +295,7 @@ pub fn all(seed: u64) -> Vec<Case> {
     listing_cases::all(&mut random, &mut cases);
     board_cases::all(&mut random, &mut cases);
     fixed_cases::all(&mut random, &mut cases);
+    capture_calls::all(&mut random, seed, &mut cases);
     cases
 }
 

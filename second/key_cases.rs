@@ -144,7 +144,7 @@ fn payloads_written(random: &mut Random, cases: &mut Vec<Case>) {
 }
 
 /// Key and payload handed out of buffers long enough and too short, also with key lengths that no answer tells.
-fn handed_out(random: &mut Random, cases: &mut Vec<Case>) {
+pub fn handed_out(random: &mut Random, cases: &mut Vec<Case>) {
     for key_length in [0, 1, 2, 3, 7, 31, 32, 33, 254, 255] {
         let opening = 7 + key_length;
         let lengths = [0, 1, 2, 3, 4, 5, 6, 7, 9, key_length + 2, key_length + 3, opening - 1, opening, opening + 1, opening + 40, RAW_LIMIT];

@@ -7,6 +7,11 @@
 //!   second boards DIR [SEED] streams and recordings for the board, into a folder (board_cases.rs)
 //!   second feed FIFO TEXT STREAM
 //!                            a stream into a board, byte by byte; fails where a line is not there with its byte (board.rs)
+//!   second capture           the delivered packets of the recording on standard input as a capture (capture.rs)
+//!   second replay            the packets of the capture on standard input as a recording
+//!   second captures DIR [SEED]
+//!                            captures to be replayed, good and damaged, into a folder (capture_cases.rs)
+//!   second viewed            what the viewer should show of the capture on standard input, a line for each record
 //!   second fcs HEX           the check of bytes
 //!   second parity R HEX      the parity of a message
 //!   second word R HEX        clean or damaged
@@ -33,9 +38,9 @@
 //!                            a clean recording to be timed, to standard output
 //!   second samples DIR       the recordings of samples/ with their listings
 //!   second unit WORDS..      Layer 2 units, written and read (units.rs)
-//!   second cases calls|turns|pieces|channels|listings|rooms|schedules|mixes [SEED]
+//!   second cases calls|turns|pieces|channels|listings|rooms|schedules|mixes|imports [SEED]
 //!                            cases for the proved code, to standard output: single calls, the interleaver, streams and channels in pieces,
-//!                            recordings, boards with any room for their text, fixed sub-channels, or Layer 2 units
+//!                            recordings, boards with any room for their text, fixed sub-channels, Layer 2 units, or captures
 //!   second words R PLACES N  N cases for repair: words altered in so many places
 //!   second time N M          times of N words made and checked, and of M words of each kind repaired (time.rs)
 //!   second compare CASES ANSWERS ..
@@ -44,6 +49,9 @@
 mod bids;
 mod board;
 mod board_cases;
+mod capture;
+mod capture_calls;
+mod capture_cases;
 mod cases;
 mod channel;
 mod channel_cases;
@@ -89,6 +97,11 @@ fn main() {
         ["board", ref rest @ ..] if board::are_options(rest) => Some(board::show(rest).expect("standard input and output")),
         ["boards", dir] => Some(board_cases::write(dir, 1)),
         ["boards", dir, seed] => number(seed).map(|seed| board_cases::write(dir, seed)),
+        ["capture"] => std::process::exit(capture::export()),
+        ["replay"] => std::process::exit(capture::replay()),
+        ["captures", dir] => Some(capture_cases::write(dir, 1)),
+        ["captures", dir, seed] => number(seed).map(|seed| capture_cases::write(dir, seed)),
+        ["viewed"] => Some(capture::view()),
         ["feed", fifo, text, stream] => std::process::exit(board::feed(fifo, text, stream)),
         ["unit", ref rest @ ..] => std::process::exit(units::run(rest)),
         ["list"] => Some(listing::list_input().expect("standard input and output")),
@@ -112,7 +125,8 @@ fn main() {
     if done.is_none() {
         eprintln!("usage: second fcs HEX | parity R HEX | word R HEX | repair R HEX | interleave push|pull DEPTH | list | missed | kinds FILE..");
         eprintln!("  | fixed send|list R DEPTH | fixed steady R DEPTH MIB | fixed streams DIR [SEED] | board [--recording|--stream] [--blocks] | boards DIR [SEED] | feed FIFO TEXT STREAM");
-        eprintln!("  | recordings DIR [SEED] | steady plain|marked MIB | samples DIR | cases calls|turns|pieces|channels|listings|rooms|schedules|mixes [SEED]");
+        eprintln!("  | capture | replay | captures DIR [SEED] | viewed");
+        eprintln!("  | recordings DIR [SEED] | steady plain|marked MIB | samples DIR | cases calls|turns|pieces|channels|listings|rooms|schedules|mixes|imports [SEED]");
         eprintln!("  | compare CASES ANSWERS .. | test [SEED] | words R PLACES N | time N M | numbered FILE [SEED] | tables CASES ANSWERS [SEED] | unit WORDS..");
         std::process::exit(2);
     }
@@ -203,7 +217,7 @@ fn write_steady(letter: u8, mib: u64) {
 }
 
 /// The programs that answer cases, `answers` the single calls.
-const KINDS: [&str; 8] = ["calls", "turns", "pieces", "channels", "listings", "rooms", "schedules", "mixes"];
+const KINDS: [&str; 9] = ["calls", "turns", "pieces", "channels", "listings", "rooms", "schedules", "mixes", "imports"];
 
 fn write_cases(kind: &str, seed: u64) {
     let all = if kind == "mixes" { unit_cases::all(seed) } else { cases::all(seed) };

@@ -3,6 +3,7 @@
 //! breaks off. And the morning as it comes from the air, a bare stream.
 
 use crate::board;
+use crate::capture;
 use crate::channel::{self, BLOCK, MARKER};
 use crate::listing;
 use crate::listing_cases::{recorded, OPPORTUNISTIC, PLAIN};
@@ -106,7 +107,7 @@ fn from_the_air() -> Vec<u8> {
     [b"stray", &MARKER[..3], &blocks].concat()
 }
 
-/// Writes the recordings, each with its listing, the bids that it misses and what the board shows; and the stream.
+/// Writes the recordings, each with its listing, the bids that it misses, what the board shows and its capture; and the stream.
 pub fn write(dir: &str) -> std::io::Result<()> {
     let air = from_the_air();
     std::fs::write(format!("{dir}/morning-air.stream"), &air)?;
@@ -116,6 +117,7 @@ pub fn write(dir: &str) -> std::io::Result<()> {
         std::fs::write(format!("{dir}/{name}.listing"), listing::listing(&bytes))?;
         std::fs::write(format!("{dir}/{name}.missed"), ports::missed(&bytes).0)?;
         std::fs::write(format!("{dir}/{name}.board"), board::of_recording(&bytes, false))?;
+        std::fs::write(format!("{dir}/{name}.pcap"), capture::captured(&capture::delivered(&bytes).0))?;
     }
     Ok(())
 }
