@@ -9,8 +9,8 @@
 -- R is r and the depth d, each to 64. `EveryCut r d bs λ es c. ..` (crates/subchannel/specs/Called.antt): a sub-channel just told r and d hears bs,
 -- cut in any way; its calls come to their end, and it is so of their answers es, and of state and buffers c behind them.
 -- own-settings, others-settings                        the sender of four
--- whole-messages, closing-push, complete, marked-last  what is sent
--- told-anew, row-zero                                  the receiver is told, also again
+-- whole-messages, closing-push, complete, flags-alone, marked-last   what is sent
+-- told-anew, told-hears, row-zero                      the receiver is told, also again
 -- lock-lost, lost-silent                               lock lost
 -- stands-alone, others-kept                            one sub-channel and another's
 -- every-cut, same-cut, every-payload, whole-stream     demand 3's cutting and its delivery
@@ -48,24 +48,23 @@ use Rattle.blocks.specs.Channel.{Event, said, lost, frames, blocks, losses, IsW
 use Rattle.blocks.specs.declared.Condition.the-variants.{Clean as clean}
 use Rattle.blocks.specs.declared.Hunting.{Hunting}
 use Rattle.blocks.proofs.Streaming.{theMarker, stream-bytes}
-use Rattle.groups.specs.Sender.{groupWords, wordOf, messagesOf, flagWord, closingWords, pushed, wordsOf, wordsBack, grouped, marked, sent}
+use Rattle.groups.specs.Sender.{wordOf, messagesOf, flagWord, closingWords, pushed, wordsOf, wordsBack, grouped, marked, sent}
 use Rattle.groups.specs.Word.{condition, carried, cameBack}
 use Rattle.groups.specs.Sub.{inGroup, silent, hears, start, answers, wordsGive}
-use Rattle.groups.proofs.Streaming.{IsMessage, messages, messages-each, answered, carries, groups, frames-given, blocks-given, losses-given}
+use Rattle.groups.proofs.Streaming.{messages, messages-each, carries, frames-given, blocks-given, losses-given}
 use Rattle.groups.proofs.Received.{joined-length}
 use Rattle.groups.proofs.Sent as laid
+use Rattle.groups.proofs.Flags.{flag-word}
 use Rattle.groups.proofs.Lost as losing
 use Rattle.groups.proofs.Numbers.{begins}
-use Rattle.groups.proofs.Returned.{back-is, returned, flat-back, word-place}
-use Rattle.groups.proofs.Returned.{unaltered as came-unaltered}
-use Rattle.subchannel.specs.declared.sub.Sub.{Sub}
+use Rattle.groups.proofs.Returned.{back-is, returned, unaltered as came-unaltered, flat-back, word-place}
 use Rattle.subchannel.specs.Called.{Board, board, toldSub, hearCall, EveryCut, ThereEvent, boardOf, inUse}
 use Rattle.subchannel.proofs.Demands as one
 use Rattle.subchannel.proofs.Delivery.{payload-there}
 use Rattle.subchannels.specs.declared.Configured.the-variants.{Told, Refused}
 use Rattle.subchannels.specs.declared.Receiver.{Receiver}
 use Rattle.subchannels.specs.Four.{Boards, boardAt, Scheduled, ofOne, get, configuring, hearFour}
-use Rattle.subchannels.proofs.Apart.{Live, alone, alone-means, configure-own, configure-others, told-means}
+use Rattle.subchannels.proofs.Apart.{Live, alone, configure-own, configure-others, told-means}
 use Rattle.subsender.specs.Sending.{sending}
 use Rattle.subsender.proofs.Determined.{sending-keeps}
 use Rattle.subsenders.specs.declared.Sender.{Sender}
@@ -106,6 +105,10 @@ module _ (r d : ℕ) (hr : r ≤ 64) (bs : List ℕ) (b : Bytes bs) where
   pub complete : (k : ℕ) × (k < 4) × (wordsOf r d bs ≡ pushed r d bs ++ replicate k (flagWord r))
       × (length (wordsOf r d bs) ≡ length (wordsOf r d bs) / 4 * 4)
   complete = laid.words-complete r d hr bs b
+
+  -- a word of flags is 255 flags at every R: parity and all
+  pub flags-alone : flagWord r ≡ replicate 255 flag
+  flags-alone = flag-word r hr
 
   -- "the marker before every four words, words interleaved before marking": gs are the groups' bytes, four words' each; together they are the words'
   -- bytes through the interleaver
