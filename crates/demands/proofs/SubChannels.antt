@@ -12,7 +12,7 @@
 -- whole-messages, closing-push, complete, flags-alone, marked-last   what is sent
 -- told-anew, told-hears, row-zero                      the receiver is told, also again
 -- lock-lost, lost-silent                               lock lost
--- stands-alone, others-kept                            one sub-channel and another's
+-- stands-alone, others-kept, schedules-end             one sub-channel and another's
 -- every-cut, same-cut, every-payload, whole-stream     demand 3's cutting and its delivery
 -- earlier-blocks, behind-flag, other-blocks            .. and its recovery
 -- repaired-as-sent, -there, -where, -flat              request W12, of a fixed sub-channel: h bytes of each word altered
@@ -64,6 +64,7 @@ use Rattle.subchannel.proofs.Delivery.{payload-there}
 use Rattle.subchannels.specs.declared.Configured.the-variants.{Told, Refused}
 use Rattle.subchannels.specs.declared.Receiver.{Receiver}
 use Rattle.subchannels.specs.Four.{Boards, boardAt, Scheduled, ofOne, get, configuring, hearFour}
+use Rattle.subchannels.proofs.Ending.{Ready, schedule-ends}
 use Rattle.subchannels.proofs.Apart.{Live, alone, configure-own, configure-others, told-means}
 use Rattle.subsender.specs.Sending.{sending}
 use Rattle.subsender.proofs.Determined.{sending-keeps}
@@ -145,6 +146,23 @@ module _ (r d : ℕ) (hr : r ≤ 64) (hd : d ≤ 64) where
   pub lost-silent : (bs cs : List ℕ) (f : Hunting) (k : Back) → hears r d start bs .1 ≡ silent f k → EveryCut r d (bs ++ cs) λ es c. es ≡ answers r d bs
   lost-silent = one.stays-silent r d hr hd
 
+-- ---- "Bytes of one sub-channel never affect another's answers": whatever is scheduled over the four, a configured sub-channel's answers, final
+-- state and buffers are those of its own pieces handed to it alone; told-hears has what these mean. A call of a schedule is the one that the code
+-- makes, `hearFour` with that sub-channel's buffers (`call-is` (crates/subchannels/proofs/Calling.antt))
+pub stands-alone : (k : ℕ) {s t : Boards} {ps : List (ℕ × List ℕ)} {es : List (ℕ × Event)} → Live k s → Scheduled s ps es t
+    → ReadsAll hearCall (boardAt s k) (ofOne k ps) (ofOne k es) (boardAt t k)
+stands-alone = alone
+
+-- .. and configuring one leaves the others
+pub others-kept : (s : Receiver) (n k r d : ℕ) → n ≤ 3 → k ≤ 3 → n ≢ k → get (configuring s n r d .1) k ≡ get s k
+others-kept = configure-others
+
+-- .. and every schedule comes to its end, whose pieces are each for a configured sub-channel with buffers that pass 11
+pub schedules-end : (ps : List (ℕ × List ℕ)) (s : Boards) → Each (λ (x : ℕ × List ℕ). Ready s (x .0)) ps
+    → (es : List (ℕ × Event)) × (t : Boards) × Scheduled s ps es t
+schedules-end = schedule-ends
+
+module _ (r d : ℕ) (hr : r ≤ 64) (hd : d ≤ 64) where
   -- ---- "Demand 3's cutting .. hold for each": every way of cutting yields the answers and the final state of the uncut string ..
   pub every-cut : (bs : List ℕ) → EveryCut r d bs λ es c. (es ≡ answers r d bs) × (inUse c ≡ inUse (boardOf r d (hears r d start bs .1) [] []))
   every-cut = one.every-cut r d hr hd
@@ -189,16 +207,6 @@ module _ (r d : ℕ) (hr : r ≤ 64) (flat : d < 2) (stray : List ℕ) (ps : Lis
   pub other-blocks : EveryCut r d (stray ++ marked d (earlier ++ (vs ++ later)))
       λ es _. (blocks es ≡ replicate (length earlier) clean ++ (map (condition r) vs ++ replicate (length later) clean)) × (losses es ≡ 0)
   other-blocks = one.other-blocks r d hr flat stray ps accepted first earlier us vs later some-words any many
-
--- ---- "Bytes of one sub-channel never affect another's answers": whatever is scheduled over the four, a configured sub-channel's answers, final
--- state and buffers are those of its own pieces handed to it alone; told-hears has what these mean
-pub stands-alone : (k : ℕ) {s t : Boards} {ps : List (ℕ × List ℕ)} {es : List (ℕ × Event)} → Live k s → Scheduled s ps es t
-    → ReadsAll hearCall (boardAt s k) (ofOne k ps) (ofOne k es) (boardAt t k)
-stands-alone = alone
-
--- .. and configuring one leaves the others
-pub others-kept : (s : Receiver) (n k r d : ℕ) → n ≤ 3 → k ≤ 3 → n ≢ k → get (configuring s n r d .1) k ≡ get s k
-others-kept = configure-others
 
 -- ---- request W12, of a fixed sub-channel: "if at most .. bytes of each .. word are altered and no marker is, the receiver delivers just what was
 -- sent", for every R and depth, h = INT(R/2) bytes of each word. In place of a sent stream's bytes come rs, as many, behind the same markers;
