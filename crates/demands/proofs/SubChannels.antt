@@ -9,10 +9,10 @@
 -- R is r and the depth d, each to 64. `EveryCut r d bs λ es c. ..` (crates/subchannel/specs/Called.antt): a sub-channel just told r and d hears bs,
 -- cut in any way; its calls come to their end, and it is so of their answers es, and of state and buffers c behind them.
 -- own-settings, others-settings                        the sender of four
--- whole-messages, closing-push, complete, marked-last  what is sent
--- told-anew, row-zero                                  the receiver is told, also again
+-- whole-messages, closing-push, complete, flags-alone, marked-last   what is sent
+-- told-anew, told-hears, row-zero                      the receiver is told, also again
 -- lock-lost, lost-silent                               lock lost
--- stands-alone, others-kept                            one sub-channel and another's
+-- stands-alone, others-kept, schedules-end             one sub-channel and another's
 -- every-cut, same-cut, every-payload, whole-stream     demand 3's cutting and its delivery
 -- earlier-blocks, behind-flag, other-blocks            .. and its recovery
 -- repaired-as-sent, -there, -where, -flat              request W12, of a fixed sub-channel: h bytes of each word altered
@@ -48,24 +48,24 @@ use Rattle.blocks.specs.Channel.{Event, said, lost, frames, blocks, losses, IsW
 use Rattle.blocks.specs.declared.Condition.the-variants.{Clean as clean}
 use Rattle.blocks.specs.declared.Hunting.{Hunting}
 use Rattle.blocks.proofs.Streaming.{theMarker, stream-bytes}
-use Rattle.groups.specs.Sender.{groupWords, wordOf, messagesOf, flagWord, closingWords, pushed, wordsOf, wordsBack, grouped, marked, sent}
+use Rattle.groups.specs.Sender.{wordOf, messagesOf, flagWord, closingWords, pushed, wordsOf, wordsBack, grouped, marked, sent}
 use Rattle.groups.specs.Word.{condition, carried, cameBack}
 use Rattle.groups.specs.Sub.{inGroup, silent, hears, start, answers, wordsGive}
-use Rattle.groups.proofs.Streaming.{IsMessage, messages, messages-each, answered, carries, groups, frames-given, blocks-given, losses-given}
+use Rattle.groups.proofs.Streaming.{messages, messages-each, carries, frames-given, blocks-given, losses-given}
 use Rattle.groups.proofs.Received.{joined-length}
 use Rattle.groups.proofs.Sent as laid
+use Rattle.groups.proofs.Flags.{flag-word}
 use Rattle.groups.proofs.Lost as losing
 use Rattle.groups.proofs.Numbers.{begins}
-use Rattle.groups.proofs.Returned.{back-is, returned, flat-back, word-place}
-use Rattle.groups.proofs.Returned.{unaltered as came-unaltered}
-use Rattle.subchannel.specs.declared.sub.Sub.{Sub}
+use Rattle.groups.proofs.Returned.{back-is, returned, unaltered as came-unaltered, flat-back, word-place}
 use Rattle.subchannel.specs.Called.{Board, board, toldSub, hearCall, EveryCut, ThereEvent, boardOf, inUse}
 use Rattle.subchannel.proofs.Demands as one
 use Rattle.subchannel.proofs.Delivery.{payload-there}
 use Rattle.subchannels.specs.declared.Configured.the-variants.{Told, Refused}
 use Rattle.subchannels.specs.declared.Receiver.{Receiver}
 use Rattle.subchannels.specs.Four.{Boards, boardAt, Scheduled, ofOne, get, configuring, hearFour}
-use Rattle.subchannels.proofs.Apart.{Live, alone, alone-means, configure-own, configure-others, told-means}
+use Rattle.subchannels.proofs.Ending.{Ready, schedule-ends}
+use Rattle.subchannels.proofs.Apart.{Live, alone, configure-own, configure-others, told-means}
 use Rattle.subsender.specs.Sending.{sending}
 use Rattle.subsender.proofs.Determined.{sending-keeps}
 use Rattle.subsenders.specs.declared.Sender.{Sender}
@@ -107,6 +107,10 @@ module _ (r d : ℕ) (hr : r ≤ 64) (bs : List ℕ) (b : Bytes bs) where
       × (length (wordsOf r d bs) ≡ length (wordsOf r d bs) / 4 * 4)
   complete = laid.words-complete r d hr bs b
 
+  -- a word of flags is 255 flags at every R: parity and all
+  pub flags-alone : flagWord r ≡ replicate 255 flag
+  flags-alone = flag-word r hr
+
   -- "the marker before every four words, words interleaved before marking": gs are the groups' bytes, four words' each; together they are the words'
   -- bytes through the interleaver
   pub marked-last : (gs : List (List ℕ)) × (sent r d bs ≡ joined (map (λ g. marker ++ g) gs)) × Each (λ (g : List ℕ). length g ≡ 4 * 255) gs
@@ -142,6 +146,23 @@ module _ (r d : ℕ) (hr : r ≤ 64) (hd : d ≤ 64) where
   pub lost-silent : (bs cs : List ℕ) (f : Hunting) (k : Back) → hears r d start bs .1 ≡ silent f k → EveryCut r d (bs ++ cs) λ es c. es ≡ answers r d bs
   lost-silent = one.stays-silent r d hr hd
 
+-- ---- "Bytes of one sub-channel never affect another's answers": whatever is scheduled over the four, a configured sub-channel's answers, final
+-- state and buffers are those of its own pieces handed to it alone; told-hears has what these mean. A call of a schedule is the one that the code
+-- makes, `hearFour` with that sub-channel's buffers (`call-is` (crates/subchannels/proofs/Calling.antt))
+pub stands-alone : (k : ℕ) {s t : Boards} {ps : List (ℕ × List ℕ)} {es : List (ℕ × Event)} → Live k s → Scheduled s ps es t
+    → ReadsAll hearCall (boardAt s k) (ofOne k ps) (ofOne k es) (boardAt t k)
+stands-alone = alone
+
+-- .. and configuring one leaves the others
+pub others-kept : (s : Receiver) (n k r d : ℕ) → n ≤ 3 → k ≤ 3 → n ≢ k → get (configuring s n r d .1) k ≡ get s k
+others-kept = configure-others
+
+-- .. and every schedule comes to its end, whose pieces are each for a configured sub-channel with buffers that pass 11
+pub schedules-end : (ps : List (ℕ × List ℕ)) (s : Boards) → Each (λ (x : ℕ × List ℕ). Ready s (x .0)) ps
+    → (es : List (ℕ × Event)) × (t : Boards) × Scheduled s ps es t
+schedules-end = schedule-ends
+
+module _ (r d : ℕ) (hr : r ≤ 64) (hd : d ≤ 64) where
   -- ---- "Demand 3's cutting .. hold for each": every way of cutting yields the answers and the final state of the uncut string ..
   pub every-cut : (bs : List ℕ) → EveryCut r d bs λ es c. (es ≡ answers r d bs) × (inUse c ≡ inUse (boardOf r d (hears r d start bs .1) [] []))
   every-cut = one.every-cut r d hr hd
@@ -186,16 +207,6 @@ module _ (r d : ℕ) (hr : r ≤ 64) (flat : d < 2) (stray : List ℕ) (ps : Lis
   pub other-blocks : EveryCut r d (stray ++ marked d (earlier ++ (vs ++ later)))
       λ es _. (blocks es ≡ replicate (length earlier) clean ++ (map (condition r) vs ++ replicate (length later) clean)) × (losses es ≡ 0)
   other-blocks = one.other-blocks r d hr flat stray ps accepted first earlier us vs later some-words any many
-
--- ---- "Bytes of one sub-channel never affect another's answers": whatever is scheduled over the four, a configured sub-channel's answers, final
--- state and buffers are those of its own pieces handed to it alone; told-hears has what these mean
-pub stands-alone : (k : ℕ) {s t : Boards} {ps : List (ℕ × List ℕ)} {es : List (ℕ × Event)} → Live k s → Scheduled s ps es t
-    → ReadsAll hearCall (boardAt s k) (ofOne k ps) (ofOne k es) (boardAt t k)
-stands-alone = alone
-
--- .. and configuring one leaves the others
-pub others-kept : (s : Receiver) (n k r d : ℕ) → n ≤ 3 → k ≤ 3 → n ≢ k → get (configuring s n r d .1) k ≡ get s k
-others-kept = configure-others
 
 -- ---- request W12, of a fixed sub-channel: "if at most .. bytes of each .. word are altered and no marker is, the receiver delivers just what was
 -- sent", for every R and depth, h = INT(R/2) bytes of each word. In place of a sent stream's bytes come rs, as many, behind the same markers;

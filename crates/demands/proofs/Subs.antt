@@ -7,7 +7,7 @@
 -- send-exact                     a sending call by number
 use Prim.Native.Nat.{ℕ, zero, suc, _<_}
 use native.Mathlib.Omega.{arith}
-use mathlib.Core.Path.{_≡_, refl, sym, _∙_, ap, subst}
+use mathlib.Core.Path.{_≡_, refl, sym, _∙_, subst}
 use mathlib.Core.Bool.{Bool, true, false, _&&_, not}
 use mathlib.Core.Logic.{_⊎_, _↔_, ⊎-elim}
 use mathlib.Core.Logic._⊎_.{inl, inr}
@@ -28,7 +28,7 @@ use Rattle.interleaver.specs.declared.Back.{Back}
 use Rattle.blocks.specs.declared.Hunting.{Hunting}
 use Rattle.blocks.specs.Sender.{wordBytes}
 use Rattle.blocks.specs.Channel.{Event, said, isMarker, shift}
-use Rattle.channel.specs.Called.{asEvent, roomy}
+use Rattle.channel.specs.Called.{roomy}
 use Rattle.groups.specs.Sender.{messageBytes, groupBytes, sent}
 use Rattle.subchannel.specs.declared.settings.Settings.{Settings}
 use Rattle.subchannel.specs.declared.settings.Counts.{Counts}
@@ -45,7 +45,7 @@ use Rattle.subchannels.proofs.Apart.{sound-at}
 use Rattle.subsenders.specs.declared.Sender.{Sender}
 use Rattle.subsenders.specs.Four as sender
 use Rattle.demands.specs.Table.{Exact}
-use Rattle.demands.specs.Refusals.{PlaceBeyond, FrameBeyond, Short, OfFrame, OfCall, ByCall, ByHear}
+use Rattle.demands.specs.Refusals.{PlaceBeyond, Short, OfFrame, ByCall, ByHear}
 use Rattle.demands.specs.SubChannels.{SettingsBeyond, CountsBeyond, SubBeyond, ReceiverBeyond, SenderBeyond, Unknown, OfNumbered, ByConfigure, ByNumber}
 use Rattle.demands.proofs.Rows.{applies, over, row, row-not, passed, not-both, not-less, refuses, wrote, place-beyond, place-within}
 use Rattle.demands.proofs.Frames.{frame-or-call}

@@ -2,6 +2,7 @@ pub mod Groups
 pub mod Received
 pub mod Streaming
 pub mod Sent
+pub mod Flags
 pub mod Altered
 pub mod Lost
 pub mod Numbers

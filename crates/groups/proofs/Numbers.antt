@@ -1,6 +1,5 @@
 -- Computed cases that hold the definitions' numbers, and that a word with 32 parity bytes is the opportunistic channel's.
 -- counts        message bytes of a word, bytes of a group, words of the closing push, words that complete a group, flags that fill a message
--- flag-words    a word of flags is 255 flags
 -- places        words of a stream: 5 become 8 at depth 0 and 1; and, with the closing push, at depth 2 and 64
 -- groups-laid   a marker, 1,020 bytes, a marker
 -- begins        four bytes that are the marker, of the first marked block: row zero, no word yet, waiting for a flag
@@ -10,14 +9,12 @@ use mathlib.Core.Path.{_≡_, refl}
 use mathlib.Core.List.{List, [], _∷_, _++_, map}
 use lib.ListN.{length, replicate}
 use Rattle.frames.specs.Escape.{flag}
-use Rattle.field.specs.Field.{add, double, shiftAdd, mul, pow}
-use Rattle.words.specs.Word.{scale, onto, timesRoot, generator, divide, remainder}
 use Rattle.stream.specs.Reader.{waiting}
 use Rattle.interleaver.specs.Running.{freshBack}
 use Rattle.blocks.specs.Sender as channel
 use Rattle.blocks.specs.Channel as received
 use Rattle.blocks.proofs.Streaming.{theMarker}
-use Rattle.groups.specs.Sender.{messageBytes, groupBytes, wordOf, missing, flagWord, closingWords, completing, wordsOf, grouped}
+use Rattle.groups.specs.Sender.{messageBytes, groupBytes, wordOf, missing, closingWords, completing, wordsOf, grouped}
 use Rattle.groups.specs.Word.{condition, mend, message}
 use Rattle.groups.specs.Sub.{inGroup, hears, start}
 
@@ -28,10 +25,6 @@ pub counts : _≡_ {A = List (List ℕ)} (
     (255 ∷ 254 ∷ 223 ∷ 191 ∷ []) ∷ (1020 ∷ []) ∷ (0 ∷ 0 ∷ 2 ∷ 64 ∷ []) ∷ (0 ∷ 3 ∷ 2 ∷ 1 ∷ 0 ∷ 3 ∷ []) ∷ (0 ∷ 190 ∷ 1 ∷ 0 ∷ 190 ∷ []) ∷ []
     )
 counts = refl
-
-pub flag-words : _≡_ {A = List (List ℕ)} (map flagWord (0 ∷ 1 ∷ 2 ∷ [])) (replicate 3 (replicate 255 flag))
-unfolding remainder divide generator timesRoot onto scale pow mul shiftAdd double add
-flag-words = refl
 
 pub places : _≡_ {A = List ℕ} (
     length (wordsOf 0 0 (replicate 1021 flag)) ∷ length (wordsOf 0 1 (replicate 1021 flag)) ∷ length (wordsOf 0 2 (replicate 1021 flag))

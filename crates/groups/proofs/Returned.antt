@@ -10,7 +10,7 @@ use native.Mathlib.Omega.{arith}
 use mathlib.Core.Path.{_≡_, refl, sym, _∙_, ap, subst}
 use mathlib.Core.Logic._⊎_.{inl}
 use mathlib.Core.List.{List, [], _∷_, _++_, append-assoc, append-nil}
-use lib.ListN.{length, take, drop, getD, length-append, length-drop, length-replicate, take-append-drop}
+use lib.ListN.{length, take, drop, getD, length-append, length-replicate}
 use lib.Seq.{take-at, drop-at, length-take-le, getD-take, getD-drop}
 use lib.Dec.{lit<}
 use borrow.Author.Tests.{lt-ltb, le-ltb}
@@ -27,7 +27,7 @@ use Rattle.interleaver.proofs.Calling.{passes}
 use Rattle.interleaver.proofs.Round.{returned-told, returned-length}
 use Rattle.blocks.specs.Sender.{wordBytes}
 use Rattle.blocks.specs.Channel.{Event, IsWord, FirstMarker}
-use Rattle.groups.specs.Sender.{groupWords, groupBytes, cutUp, flagWord, closingWords, wordsOf, wordsBack, grouped, sent}
+use Rattle.groups.specs.Sender.{groupWords, cutUp, flagWord, closingWords, wordsOf, wordsBack, grouped, sent}
 use Rattle.groups.specs.Word.{cameBack}
 use Rattle.groups.specs.Sub.{Sub, answers, wordsGive}
 use Rattle.groups.proofs.Groups.{takesAll}

@@ -8,7 +8,7 @@ use Prim.Native.Nat.{ℕ, zero, suc, _-_, _*_, _/_, _%_, _≤_, _<_}
 use native.Mathlib.Nat.{mod-lt}
 use native.Mathlib.Omega.{arith}
 use mathlib.Core.Path.{_≡_, refl, sym, _∙_, ap, subst}
-use mathlib.Core.List.{List, [], _∷_, _++_, map, append-nil}
+use mathlib.Core.List.{List, _++_, map, append-nil}
 use lib.ListN.{length, take, drop, replicate}
 use lib.Dec.{lit<}
 use borrow.Author.Tests.{lt-ltb, le-ltb}
@@ -22,7 +22,7 @@ use Rattle.interleaver.specs.Running.{fresh, push}
 use Rattle.blocks.specs.Sender.{marker, wordBytes}
 use Rattle.blocks.specs.Channel.{IsWord}
 use Rattle.groups.specs.Sender.{messageBytes, groupWords, groupBytes, wordOf, missing, filled, cutUp, messagesOf}
-use Rattle.groups.specs.Sender.{flagWord, closingWords, completing, pushed, wordsOf, grouped, sent}
+use Rattle.groups.specs.Sender.{flagWord, completing, pushed, wordsOf, grouped, sent}
 use Rattle.groups.proofs.Received.{joined-length, pushed-length}
 use Rattle.groups.proofs.Streaming.{cut-joined, cut-lengths, cut-each, m-pos, IsMessage, filled-long, answered, answered-each, closing, closing-each, in-turn, four}
 

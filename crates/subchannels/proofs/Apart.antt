@@ -178,11 +178,11 @@ module _ (k : ℕ) where
           )
 
   -- a call on this one
-  call-own : (s : Boards) (bs : List ℕ) → Live s → (x : Option Event × ℕ × Board) → hearCall (boardAt s k) bs ≡ x
+  pub call-own : (s : Boards) (bs : List ℕ) → Live s → (x : Option Event × ℕ × Board) → hearCall (boardAt s k) bs ≡ x
       → callOn k s bs ≡ (x .0, x .1, exchanged s k (x .2))
   call-own s bs l x e = (λ i. callBy (l .0 i) (l .1 i) k s bs) ∙ ap (λ (y : Option Event × ℕ × Board). (y .0, y .1, exchanged s k (y .2))) e
 
-  live-own : (s : Boards) (bs : List ℕ) → Live s → Live (exchanged s k (hearCall (boardAt s k) bs .2))
+  pub live-own : (s : Boards) (bs : List ℕ) → Live s → Live (exchanged s k (hearCall (boardAt s k) bs .2))
   live-own s bs l =
       let c : Board = hearCall (boardAt s k) bs .2 in
       let b = within (s .st) k (l .1) in
@@ -190,7 +190,7 @@ module _ (k : ℕ) where
       (sound-put (s .st) k (c .st) (l .0) (m .0), both (le-leb k 3 (b .0)) (ap (λ (x : Board). x .st .lane .settings .told) (board-own s k c) ∙ m .1))
 
   -- a piece for another one, handed in until "more wanted"
-  reads-other : (n : ℕ) → n ≢ k → {s t : Boards} {p : List ℕ} {xs : List Event} → Live s → Reads (callOn n) s p xs t
+  pub reads-other : (n : ℕ) → n ≢ k → {s t : Boards} {p : List ℕ} {xs : List Event} → Live s → Reads (callOn n) s p xs t
       → (boardAt t k ≡ boardAt s k) × Live t
   reads-other n e {s} {p = p} l (more a q) =
       let c = call-other n s p e l in
@@ -210,7 +210,7 @@ module _ (k : ℕ) where
         subst (λ (z : Option Event × ℕ × Boards). Live (z .2)) y (live-own s p l),
       )
 
-  reads-own : {s t : Boards} {p : List ℕ} {xs : List Event} → Live s → Reads (callOn k) s p xs t
+  pub reads-own : {s t : Boards} {p : List ℕ} {xs : List Event} → Live s → Reads (callOn k) s p xs t
       → Reads hearCall (boardAt s k) p xs (boardAt t k) × Live t
   reads-own {s} {p = p} l (more a q) = let c = own-call s p l q in (more a (c .0), c .1)
   reads-own {s} {p = p} l (answer a q r) = let c = own-call s p l q in let d = reads-own (c .1) r in (answer a (c .0) (d .0), d .1)

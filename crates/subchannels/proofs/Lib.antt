@@ -1,3 +1,4 @@
 pub mod Apart
+pub mod Ending
 pub mod Calling
 pub mod Determined
