@@ -24,7 +24,7 @@ use Rattle.base.specs.Written.{write, Keeps}
 use Rattle.base.specs.declared.Written.the-variants.{Wrote}
 use Rattle.units.specs.Bits.{digits, bits}
 use Rattle.units.specs.Tables.{sequence, heads, start, step, payload, lent, unfit}
-use Rattle.units.specs.Unit.{begins, opened, filled, laidOut, unit, written}
+use Rattle.units.specs.Unit.{begins, opened, laidOut, unit, written}
 use Rattle.units.specs.Reading.{heard, unwoven, headerOf, payloadOf, named, middle, readUnit}
 use Rattle.units.specs.Refusing.{Early, EarlyShort, carried}
 use Rattle.units.proofs.Digits.{digit-at, bits-at}

@@ -1,10 +1,10 @@
 -- The delimiter sought, and payload bytes stored.
--- put-more                           a turn of the loop that stores payload bytes
--- length-payload                     how many payload bytes there are
--- begins-not, begins-next, begins-done   a turn of the comparison, and its end
+-- length-payload                                   how many payload bytes there are
+-- begins-not, begins-next, begins-done             a turn of the comparison, and its end
 -- five-on, window-of, window-next, window-begins   the five bytes from a place on
--- find-here, find-next, find-over    a turn of the search: found, not found, and its end
--- opened-short, opened-is            what stands behind the first delimiter is the end of what was searched
+-- find-here, find-next, find-over                  a turn of the search: found, not found, and its end
+-- opened-short, opened-is                          what stands behind the first delimiter is the end of what was searched
+-- put-more, put-done                               a turn of the loop that stores payload bytes, and its end
 use mathlib.Core.Path.{_≡_, refl, sym, ap, ap₂, _∙_}
 use mathlib.Core.Bool.{Bool, true, false, _&&_}
 use mathlib.Core.List.{List, [], _∷_, _++_}
