@@ -17,7 +17,7 @@ use Rattle.base.specs.Written.{write, Keeps}
 use Rattle.base.proofs.Calls.{yields-so}
 use Rattle.base.proofs.Writing.{write-keeps, refused-keeps}
 use Rattle.frames.specs.Contents.{Packet, packed}
-use Rattle.frames.specs.Frame.{Told, packet, refusal, broken, delivery, closed}
+use Rattle.frames.specs.Frame.{Told, packet, refusal, broken, closed}
 use Rattle.frames.specs.Sender.{Accepted}
 use Rattle.captures.specs.File.{four, header, timed, recordOf, captured, CaptureOf}
 use Rattle.captures.specs.Import.{entry, entryLimit, Reading, inHead, inRecord, behind, fresh, fourAt, says, reads, ends, imported}
@@ -25,8 +25,8 @@ use Rattle.captures.specs.Order.{headOf, Next}
 use Rattle.captures.proofs.Entry.{entry-packed, none-exactly}
 use Rattle.captures.proofs.Export.{say, seen, import-any, captured-is, times-ignored}
 use Rattle.captures.proofs.Faults.{faultOf, first-fault, sixty-exactly}
-use Rattle.captures.proofs.Order.{next, head-next, unequal-next, bytes-next, whole-next, import-only}
-use Rattle.capture.specs.Export.{packedPart, enteringBy, entering}
+use Rattle.captures.proofs.Order.{next, head-next, unequal-next, bytes-next, whole-next, long-next, import-only}
+use Rattle.capture.specs.Export.{Fetched, enteringBy, entering}
 use Rattle.capture.specs.Called.{Held, readCall, finishing, endedAs, EveryCut, Stands}
 use Rattle.capture.specs.declared.reader.Capture.{Capture}
 use Rattle.capture.proofs.Cutting.{every-cut}
@@ -46,8 +46,7 @@ pub record-holds : (i : ℕ) (p : Packet) → let n = length (packed p) in recor
 record-holds i p = refl
 
 -- "delivered packets": behind a frame of m raw bytes that is judged to be a packet, what is fetched is format byte to last payload byte ..
-pub fetched : (recv : List ℕ) (m : ℕ) → m ≤ length recv → Bytes recv → (p : Packet) → closed recv m .told ≡ packet p
-    → packedPart (delivery p) (closed recv m .recv) ≡ packed p
+pub fetched : (recv : List ℕ) (m : ℕ) → Fetched (closed recv m .told) (closed recv m .recv)
 fetched = export-there
 
 -- .. and of a packet that the sender accepts its record is written: 23 is then the only refusal
@@ -108,6 +107,11 @@ sixty-two = none-exactly
 pub whole-record : (times bs rest : List ℕ) → length times ≡ 8 → length bs < 4294967296
     → reads (inHead []) (timed times bs ++ rest) ≡ andThen (say (says (entry bs))) (λ t. reads t rest)
 whole-record = whole-next
+
+-- .. longer than any packet's, 8,231 bytes, it is none
+pub sixty-two-long : (times bs rest : List ℕ) → length times ≡ 8 → length bs < 4294967296 → 8231 < length bs
+    → reads (inHead []) (timed times bs ++ rest) ≡ (refusal 62 ∷ [], behind 62)
+sixty-two-long = long-next
 
 -- "first found in file order": the bytes behind the header, or behind a record, go on in one of these ways, no other; packets, and behind them at most one
 -- fault, which is the last answer
