@@ -6,6 +6,7 @@ pub mod Subs
 pub mod Taken
 pub mod Showing
 pub mod Capturing
+pub mod Fetching
 pub mod Trips
 pub mod Promises
 pub mod Calling
