@@ -7,7 +7,7 @@
 -- times-ignored                  a record's times do not matter, whatever stands behind them
 use mathlib.Core.Path.{_≡_, refl, sym, ap, _∙_}
 use mathlib.Core.List.{List, [], _∷_, _++_, map, append-assoc, append-nil}
-use mathlib.Core.Option.{Option, some, none}
+use mathlib.Core.Option.{Option}
 use Prim.Native.Nat.{ℕ, suc, _+_, _*_, _<_}
 use native.Mathlib.Omega.{arith}
 use borrow.Author.Tests.{eq-eqb, ne-eqb}
@@ -18,7 +18,7 @@ use Rattle.base.specs.Choice.{pick}
 use Rattle.base.specs.Bytes.{Each}
 use Rattle.base.specs.Calls.{tell, andThen}
 use Rattle.base.proofs.Calls.{run-append}
-use Rattle.base.proofs.Tests.{by-eq, by-le}
+use Rattle.base.proofs.Tests.{by-le}
 use Rattle.frames.specs.Contents.{Packet, packed}
 use Rattle.frames.specs.Frame.{Told, packet, refusal}
 use Rattle.frames.specs.Sender.{Accepted}
@@ -75,6 +75,14 @@ module _ (n : ℕ) where
       rw (ne-eqb _ _ k) (r ∙ ap (λ (x : List ℕ). say (says (entry x))) (append-assoc bs (b ∷ []) (c ∷ t)))
 
 -- ---- a whole record
+-- behind its head
+record-rest : (bs : List ℕ) → andThen (say (recordBy (eqb (length bs) 0) (length bs) [])) (λ t. reads t bs) ≡ say (says (entry bs))
+unfolding entry
+record-rest [] = refl
+record-rest (b ∷ bs) =
+    let z : length (b ∷ bs) ≡ 0 → ⊥ = λ e. absurd (omega (arith, e)) in
+    rw (ne-eqb (length (b ∷ bs)) 0 z) (bytes-read (length (b ∷ bs)) (b ∷ bs) [] (omega arith) z)
+
 module _ (times : List ℕ) (eight : length times ≡ 8) where
   past : (l : List ℕ) (i : ℕ) → getD (times ++ l) (8 + i) 0 ≡ getD l i 0
   past l i = ap (λ (n : ℕ). getD (times ++ l) (n + i) 0) (sym eight) ∙ getD-append-add times l i 0
@@ -96,30 +104,12 @@ module _ (times : List ℕ) (eight : length times ≡ 8) where
         headed-past (four n ++ four n) ∙ rw (a, eq-eqb n n refl) refl
 
   pub record-read : (bs : List ℕ) → length bs < 4294967296 → reads (inHead []) (timed times bs) ≡ say (says (entry bs))
-  record-read bs l = ap (reads (inHead [])) (sym (append-assoc times (four n ++ four n) bs)) ∙ reads-then (inHead []) head bs first ∙ by-eq n 0 empty some
-    where
-      n : ℕ
-      n = length bs
-
-      head : List ℕ
-      head = headOf times n
-
-      first : reads (inHead []) head ≡ say (recordBy (eqb n 0) n [])
-      first = head-read head [] (omega (arith, eight, length-append times (four n ++ four n))) (λ z. absurd (omega (arith, z, eight, length-append times (four n ++ four n)))) ∙ ap say (headed-as n l)
-
-      empty : n ≡ 0 → andThen (say (recordBy (eqb n 0) n [])) (λ t. reads t bs) ≡ say (says (entry bs))
-      empty z = go bs z
-        where
-          go : (bs : List ℕ) → length bs ≡ 0 → andThen (say (recordBy (eqb (length bs) 0) (length bs) [])) (λ t. reads t bs) ≡ say (says (entry bs))
-          go [] e = nothing (says (entry []))
-            where
-              nothing : (r : Option Told × Reading) → andThen (say r) (λ t. reads t []) ≡ say r
-              nothing (none, s) = refl
-              nothing (some a, s) = refl
-          go (b ∷ bs) e = absurd (omega (arith, e))
-
-      some : (n ≡ 0 → ⊥) → andThen (say (recordBy (eqb n 0) n [])) (λ t. reads t bs) ≡ say (says (entry bs))
-      some z = rw (ne-eqb n 0 z) (bytes-read n bs [] (omega arith) z)
+  record-read bs l =
+      let n = length bs in
+      let m = length-append times (four n ++ four n) in
+      ap (reads (inHead [])) (sym (append-assoc times (four n ++ four n) bs))
+      ∙ reads-then (inHead []) (headOf times n) bs
+      (head-read (headOf times n) [] (omega (arith, eight, m)) (λ z. absurd (omega (arith, z, eight, m))) ∙ ap say (headed-as n l)) ∙ record-rest bs
 
 -- ---- a capture of some packets
 packet-read : (times : List ℕ) → length times ≡ 8 → (p : Packet) → Accepted p → (rest : List ℕ)
