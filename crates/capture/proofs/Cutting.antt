@@ -1,27 +1,22 @@
 -- A capture, read by calls.
--- read-agrees, read-law   the law of a call
--- every-cut               every way of cutting a file comes to its end, and yields what is imported of it
-use mathlib.Core.Path.{_≡_, refl, sym, ap, _∙_}
+-- read-yields   from any state and store that pass 10 and 11: every way of cutting comes to its end, and yields what the uncut bytes mean
+-- every-cut     .. a whole file: what is imported of it
+use mathlib.Core.Path.{_≡_, refl, ap, _∙_}
 use mathlib.Core.List.{List}
 use Prim.Native.Nat.{ℕ}
 use native.Mathlib.Omega.{arith}
 use borrow.Author.Tests.{le-leb}
 use lib.ListN.{length}
-use Rattle.base.specs.Calls.{joined, owesNone, handsNone, told, Yields}
-use Rattle.base.proofs.Calls.{none-owed, law, yields-all, yields-so}
+use Rattle.base.specs.Calls.{joined, owesNone, handsNone, Yields}
+use Rattle.base.proofs.Calls.{none-owed, yields-all, yields-so}
 use Rattle.captures.specs.Import.{entryLimit, fresh, imported}
 use Rattle.capture.specs.declared.reader.Capture.the-variants.{Header}
 use Rattle.capture.specs.Called.{Held, held, takeByte, readAll, readOn, readCall, finishing, endedAs, Fine, EveryCut}
 use Rattle.capture.proofs.Hearing.{fine-fresh, fine-take, fine-all}
 use Rattle.capture.proofs.Following.{in-header, shows-all, ends-as}
 
-pub read-agrees : (h : Held) (bs : List ℕ) → Fine h → readCall h bs ≡ readOn h bs
+read-agrees : (h : Held) (bs : List ℕ) → Fine h → readCall h bs ≡ readOn h bs
 read-agrees h bs f = rw (f .counts, le-leb entryLimit (length (h .store)) (f .room)) refl
-
--- the law of a call: its answer is the first, and the others are had from its state and the bytes it left
-pub read-law : (h : Held) (bs : List ℕ) → Fine h → readAll h bs ≡ told owesNone handsNone takeByte (readCall h bs) bs
-read-law h bs f =
-    law owesNone handsNone takeByte none-owed h bs ∙ ap (λ r. told owesNone handsNone takeByte r bs) (sym (read-agrees h bs f))
 
 -- from any state and store that pass 10 and 11 every way of cutting comes to its end, and yields the answers and the final state of the
 -- uncut string

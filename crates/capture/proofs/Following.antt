@@ -34,7 +34,7 @@ pub data Shows : Held → Reading → Type 0 where
   in-fault : {f : ℕ} {st : List ℕ} → 60 ≤ f → f ≤ 62 → Shows (held (Behind f) st) (behind f)
 
 -- the same answer, and what is shown is the reading
-abbrev pub Follows : Option Told × Held → Option Told × Reading → Type 0
+abbrev Follows : Option Told × Held → Option Told × Reading → Type 0
 Follows x y = (x .0 ≡ y .0) × Shows (x .1) (y .1)
 
 follow : {x x′ : Option Told × Held} {y y′ : Option Told × Reading} → x ≡ x′ → y ≡ y′ → Follows x′ y′ → Follows x y

@@ -6,34 +6,33 @@ use mathlib.Core.Path.{_≡_, refl, sym, ap, subst, _∙_}
 use mathlib.Core.Bool.{Bool, true, false}
 use mathlib.Core.List.{List, [], _∷_, _++_, append-assoc}
 use mathlib.Core.Option.{Option, none}
-use Prim.Native.Nat.{ℕ, _+_, _≤_}
+use Prim.Native.Nat.{ℕ, _+_, _-_, _≤_}
 use native.Mathlib.Omega.{arith}
 use borrow.Author.Tests.{ne-eqb, le-ltb, ltb-false}
 use lib.Dec.{eqb, ltb, leb}
 use lib.ListN.{length, getD, take, drop, set, length-append, take-append-drop}
-use lib.Seq.{drop-at, take-append-seam}
+use lib.Seq.{drop-at, take-append-seam, length-take-le}
 use Rattle.base.specs.Bytes.{IsByte, Bytes}
 use Rattle.base.specs.Calls.{With, owesNone, handsNone}
 use Rattle.base.specs.Choice.{pick}
-use Rattle.base.proofs.Bytes.{each-take}
+use Rattle.base.proofs.Bytes.{each-take, each-append-left}
 use Rattle.base.proofs.Calls.{none-owed, with-hear}
 use Rattle.fcs.specs.Fcs.{fcs}
-use Rattle.frames.specs.Contents.{Packet, plainPacket, keyFormat, rawLimit, two, opening, packed, keyAt, payloadAt, withCheck, contents}
+use Rattle.frames.specs.Contents.{Packet, plainPacket, keyFormat, rawLimit, two, opening, packed, keyAt, payloadAt, wordAt, body}
 use Rattle.frames.specs.Escape.{plain, scan}
-use Rattle.frames.specs.Frame.{Told, packet, refusal, judged, delivery, kept, closedBy, closed, part, There}
+use Rattle.frames.specs.Frame.{Told, packet, refusal, broken, judged, delivery, judgeBody, judgeContents, kept, closedBy, closed, part, There}
 use Rattle.frames.specs.Sender.{Accepted}
 use Rattle.frames.specs.declared.Escapes.{Escapes}
 use Rattle.frames.specs.declared.Escapes.the-variants.{Right, Unfinished, Wrong}
-use Rattle.frames.proofs.Judging.{judge-is}
-use Rattle.frames.proofs.Only.{body-only, judge-only}
+use Rattle.frames.proofs.Only.{body-only}
 use Rattle.frames.proofs.Round.{by-format}
 use Rattle.captures.specs.File.{header}
 use Rattle.captures.specs.Import.{entry, entryLimit, fourAt}
-use Rattle.captures.proofs.Entry.{packet-not, entry-ways}
+use Rattle.captures.proofs.Entry.{entry-ways}
 use Rattle.capture.specs.declared.reader.Capture.{Capture}
 use Rattle.capture.specs.declared.reader.Capture.the-variants.{Header, Head, Record, Behind}
 use Rattle.capture.specs.Called.{Held, held, next, says, with, takeBy, takeByte, sound, readBy, readCall, Stands}
-use Rattle.capture.specs.Export.{packedPart}
+use Rattle.capture.specs.Export.{packedPart, Fetched}
 
 -- a part that stands behind some bytes
 part-at : (at : ℕ) (xs ys t : List ℕ) → length xs ≡ at → part at (length ys) (xs ++ (ys ++ t)) ≡ ys
@@ -71,39 +70,45 @@ module _ (p : Packet) (a : Accepted p) (t : List ℕ) where
       )
 
 -- ---- in the receive buffer, behind a frame
-pub export-there : (recv : List ℕ) (n : ℕ) → n ≤ length recv → Bytes recv → (p : Packet) → closed recv n .told ≡ packet p
-    → packedPart (delivery p) (closed recv n .recv) ≡ packed p
-unfolding closed closedBy contents withCheck
-export-there recv n l h p e = go (ltb rawLimit n) refl (scan (take n recv)) refl e
+contents-there : (cs t : List ℕ) → Fetched (judgeContents cs) (cs ++ t)
+unfolding judgeContents
+contents-there cs t = go (ltb (length cs) 8) refl (eqb (fcs (body cs)) (wordAt cs (length cs - 2)))
   where
-    raw : List ℕ
-    raw = take n recv
+    told : 8 ≤ length cs → (j : Told) → judgeBody (body cs) ≡ j → Fetched j (cs ++ t)
+    told l (refusal n) e = tt
+    told l (broken n) e = tt
+    told l (packet p) e = λ h.
+        let n = length cs - 2 in
+        let o = body-only (body cs) (each-take IsByte n cs (each-append-left IsByte cs t h)) (omega (arith, length-take-le n cs (omega arith), l)) p e in
+        let s : cs ++ t ≡ packed p ++ (drop n cs ++ t) =
+        ap (λ (x : List ℕ). x ++ t) (sym (ap (λ (x : List ℕ). x ++ drop n cs) (o .0) ∙ take-append-drop n cs)) ∙ append-assoc (packed p) (drop n cs) t in
+        ap (packedPart (delivery p)) s ∙ packed-there p (o .1) (drop n cs ++ t) .1
 
-    found : n ≤ rawLimit → plain raw ++ drop (length (plain raw)) recv ≡ packed p ++ (two (fcs (packed p)) ++ drop (length (plain raw)) recv)
-    found m =
-        let o = judge-only raw (each-take IsByte n recv h) p (sym (judge-is recv n m l) ∙ e) in
-        ap (λ (x : List ℕ). x ++ drop (length (plain raw)) recv) (sym (o .0)) ∙ append-assoc (packed p) (two (fcs (packed p))) (drop (length (plain raw)) recv)
+    go : (short : Bool) → ltb (length cs) 8 ≡ short → (right : Bool) → Fetched (pick short (refusal 4) (pick right (judgeBody (body cs)) (refusal 5))) (cs ++ t)
+    go true e r = tt
+    go false e false = tt
+    go false e true = told (ltb-false _ _ e) (judgeBody (body cs)) refl
 
-    accepted : n ≤ rawLimit → Accepted p
-    accepted m = judge-only raw (each-take IsByte n recv h) p (sym (judge-is recv n m l) ∙ e) .1
-
-    go : (t : Bool) → ltb rawLimit n ≡ t → (s : Escapes) → scan (take n recv) ≡ s → pick t (kept 1 recv) (closedBy s (take n recv) recv) .told ≡ packet p
-        → packedPart (delivery p) (pick t (kept 1 recv) (closedBy s (take n recv) recv) .recv) ≡ packed p
-    go true f s g q = absurd (packet-not q)
-    go false f Unfinished g q = absurd (packet-not q)
-    go false f (Wrong i) g q = absurd (let z : _≡_ {A = ℕ} 0 1 = cc in omega arith)
-    go false f Right g q =
-        let m = ltb-false rawLimit n f in
-        ap (packedPart (delivery p)) (found m) ∙ packed-there p (accepted m) (two (fcs (packed p)) ++ drop (length (plain raw)) recv) .1
+pub export-there : (recv : List ℕ) (n : ℕ) → Fetched (closed recv n .told) (closed recv n .recv)
+unfolding closed closedBy
+export-there recv n = go (ltb rawLimit n) (scan (take n recv))
+  where
+    go : (t : Bool) (s : Escapes) → Fetched (pick t (kept 1 recv) (closedBy s (take n recv) recv) .told) (pick t (kept 1 recv) (closedBy s (take n recv) recv) .recv)
+    go true s = tt
+    go false Unfinished = tt
+    go false (Wrong i) = tt
+    go false Right = contents-there (plain (take n recv)) (drop (length (plain (take n recv))) recv)
 
 -- ---- in the store, behind an import's delivery
 told-there : (n : ℕ) (st : List ℕ) (c : Capture) → Stands (entry (take n st)) (held c st)
 told-there n st c =
     entry-ways (take n st) (λ (t : Told). Stands t (held c st)) tt
-    (λ p l e h.
+    (λ p l e.
+    let both : Bytes st → There (packet p) st × (packedPart (delivery p) st ≡ packed p) = λ h.
     let o = body-only (take n st) (each-take IsByte n st h) l p e in
     let s : st ≡ packed p ++ drop n st = sym (ap (λ (x : List ℕ). x ++ drop n st) (o .0) ∙ take-append-drop n st) in
-    subst (λ (x : List ℕ). There (packet p) x × (packedPart (delivery p) x ≡ packed p)) (sym s) (packed-there p (o .1) (drop n st)))
+    subst (λ (x : List ℕ). There (packet p) x × (packedPart (delivery p) x ≡ packed p)) (sym s) (packed-there p (o .1) (drop n st)) in
+    (λ h. both h .0, λ h. both h .1))
 
 take-there : (c : Capture) (st : List ℕ) (b : ℕ) → With Stands (takeBy c st b .0) (takeBy c st b .1)
 take-there (Header k) st b = go (eqb b (getD header k 0))

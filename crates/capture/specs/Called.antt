@@ -17,14 +17,13 @@ use lib.ListN.{length, getD, take, set}
 use Rattle.base.specs.Bytes.{Bytes}
 use Rattle.base.specs.Calls.{joined, owesNone, handsNone, all, hear, Yields}
 use Rattle.base.specs.Choice.{pick}
-use Rattle.frames.specs.Contents.{packed}
-use Rattle.frames.specs.Frame.{Told, packet, refusal, broken, judged, delivery, There}
+use Rattle.frames.specs.Frame.{Told, packet, refusal, broken, judged, There}
 use Rattle.frames.specs.declared.Judged.{Judged}
 use Rattle.frames.specs.declared.Judged.the-variants as judges
 use Rattle.stream.specs.Called.{answered}
 use Rattle.captures.specs.File.{header}
 use Rattle.captures.specs.Import.{entry, entryLimit, fourAt}
-use Rattle.capture.specs.Export.{packedPart}
+use Rattle.capture.specs.Export.{Fetched}
 use Rattle.capture.specs.declared.reader.Capture.{Capture}
 use Rattle.capture.specs.declared.reader.Capture.the-variants.{Header, Head, Record, Behind}
 use Rattle.capture.specs.declared.reader.Read.{Read}
@@ -117,7 +116,7 @@ readCall h bs = readBy (sound (h .st)) (leb entryLimit (length (h .store))) h bs
 
 -- a delivered packet's bytes stand in the store that comes back: its payload, its key, and format byte to last payload byte
 abbrev pub Stands : Told → Held → Type 0
-Stands (packet p) h = Bytes (h .store) → There (packet p) (h .store) × (packedPart (delivery p) (h .store) ≡ packed p)
+Stands (packet p) h = (Bytes (h .store) → There (packet p) (h .store)) × Fetched (packet p) (h .store)
 Stands (refusal n) h = Unit {0}
 Stands (broken n) h = Unit {0}
 

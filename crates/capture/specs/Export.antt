@@ -1,11 +1,13 @@
--- A capture written (request W11).
--- packedPart   what is fetched behind a delivery, to be written
+-- A capture, written (request W11).
+-- packedPart   what is fetched behind a delivery, to be written, and Fetched, that it is the packet's own bytes
 -- entering     what the call for one record answers and leaves
 use Prim.Native.Nat.{ℕ, _+_}
+use mathlib.Core.Path.{_≡_}
 use mathlib.Core.List.{List}
+use Rattle.base.specs.Bytes.{Bytes}
 use Rattle.base.specs.Written.{Outcome, refused, write}
-use Rattle.frames.specs.Contents.{payloadAt}
-use Rattle.frames.specs.Frame.{Told, packet, refusal, broken, part}
+use Rattle.frames.specs.Contents.{packed, payloadAt}
+use Rattle.frames.specs.Frame.{Told, packet, refusal, broken, delivery, part}
 use Rattle.frames.specs.declared.Delivery.{Delivery}
 use Rattle.captures.specs.File.{recordOf}
 use Rattle.captures.specs.Import.{entry}
@@ -13,6 +15,12 @@ use Rattle.captures.specs.Import.{entry}
 -- format byte to last payload byte are a part of the receive buffer, from its start
 abbrev pub packedPart : Delivery → List ℕ → List ℕ
 packedPart d recv = part 0 (payloadAt (d .key) + d .length) recv
+
+-- of a packet, they are its own in the buffer that came back
+abbrev pub Fetched : Told → List ℕ → Type 0
+Fetched (packet p) recv = Bytes recv → packedPart (delivery p) recv ≡ packed p
+Fetched (refusal n) recv = Unit {0}
+Fetched (broken n) recv = Unit {0}
 
 -- by what the bytes are told to be
 abbrev pub enteringBy : Told → ℕ → List ℕ → List ℕ → Outcome

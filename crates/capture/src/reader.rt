@@ -86,7 +86,7 @@ fn next(judged: Judged) -> Capture
     match judged {
         Judged::Packet(_) => Capture::Head(0),
         Judged::Refused(n) => Capture::Behind(n),
-        Judged::Broken(_) => Capture::Behind(3),
+        Judged::Broken(_) => Capture::Behind(Refusal::ESCAPE),
     }
 }
 

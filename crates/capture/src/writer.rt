@@ -54,7 +54,7 @@ pub fn begin(out: &mut [u8]) -> Written
 }
 
 // The sixteen bytes before a record's own.
-fn head(number: u32, size: u32) -> [u8; 16]
+fn head(number: u32, size: u32) -> [u8; Capture::HEAD]
     ensures { λ r. ⌜ r ≡ headOf number size ⌝ }
 {
     [
@@ -84,7 +84,7 @@ fn put(number: u32, bytes: &[u8], out: &mut [u8])
 {
     let head = head(number, bytes.len() as u32);
     base::copy(&head, out);
-    base::copy(bytes, &mut out[16..]);
+    base::copy(bytes, &mut out[Capture::HEAD..]);
 }
 
 /// Writes the record of the packet with this number from 0, whose bytes are these, format byte to last payload byte.

@@ -35,7 +35,7 @@ say r = tell (r .0) ([], r .1)
 pub reads-then : (s : Reading) (cs bs : List ℕ) {r : List Told × Reading} → reads s cs ≡ r → reads s (cs ++ bs) ≡ andThen r (λ t. reads t bs)
 reads-then s cs bs e = run-append read s cs bs ∙ ap (λ (r : List Told × Reading). andThen r (λ t. reads t bs)) e
 
-pub header-read : reads fresh header ≡ ([], inHead [])
+header-read : reads fresh header ≡ ([], inHead [])
 unfolding read
 header-read = refl
 

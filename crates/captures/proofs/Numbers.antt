@@ -1,16 +1,18 @@
 -- Numbers of captures, computed.
 -- begins                        the header's 24 bytes
 -- file, back                    a capture of two packets, and its import
+-- longest                       a packet of 8,231 bytes
 -- sixty, sixty-one, sixty-two   each fault: 61 before 62 in one record, records in file order
 use Prim.Native.Nat.{ℕ}
 use mathlib.Core.Path.{_≡_, refl}
 use mathlib.Core.List.{List, [], _∷_, _++_}
-use lib.ListN.{take}
+use lib.ListN.{length, take, replicate}
 use Rattle.frames.specs.Contents.{Packet, plainPacket, keyPacket, packed}
 use Rattle.frames.specs.Escape.{escape, escapeByte}
 use Rattle.frames.specs.Frame.{Told, packet, refusal, broken, judgeBody}
+use Rattle.frames.specs.Sender.{refusing}
 use Rattle.captures.specs.File.{four, header, timed, records, captured}
-use Rattle.captures.specs.Import.{entry, read, imported}
+use Rattle.captures.specs.Import.{entry, entryLimit, read, imported}
 
 pub begins : header ≡ 0xD4 ∷ 0xC3 ∷ 0xB2 ∷ 0xA1 ∷ 2 ∷ 0 ∷ 4 ∷ 0 ∷ 0 ∷ 0 ∷ 0 ∷ 0 ∷ 0 ∷ 0 ∷ 0 ∷ 0 ∷ 0xFF ∷ 0xFF ∷ 0 ∷ 0 ∷ 147 ∷ 0 ∷ 0 ∷ 0 ∷ []
 begins = refl
@@ -31,6 +33,14 @@ file = refl
 pub back : imported (captured (letter ∷ locked ∷ [])) ≡ (packet letter ∷ packet locked ∷ [], 0)
 unfolding records read entry judgeBody escape escapeByte
 back = refl
+
+-- 32 key bytes and 8,192 of payload: the sender accepts it, and it is as long as a packet may be
+abbrev most : Packet
+most = keyPacket 255 (replicate 32 0xAA) 0x5100 0 (replicate 8192 0x41)
+
+pub longest : length (packed most) ∷ refusing most (λ n. n) 0 ∷ entryLimit ∷ [] ≡ 8231 ∷ 0 ∷ 8231 ∷ []
+unfolding escape escapeByte
+longest = refl
 
 -- an import in numbers: 0 for a packet, else the fault; the last is what the end says
 abbrev numbered : List Told → ℕ → List ℕ

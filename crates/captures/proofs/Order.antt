@@ -19,9 +19,9 @@ use Rattle.frames.specs.Contents.{Packet, packed}
 use Rattle.frames.specs.Frame.{Told, packet, refusal}
 use Rattle.frames.specs.Sender.{Accepted}
 use Rattle.captures.specs.File.{four, header, timed, Recorded, CaptureOf}
-use Rattle.captures.specs.Import.{entry, Reading, inHead, inRecord, behind, fresh, fourAt, says, recordBy, reads, ends, imported}
+use Rattle.captures.specs.Import.{entry, entryLimit, Reading, inHead, inRecord, behind, fresh, fourAt, says, recordBy, reads, ends, imported}
 use Rattle.captures.specs.Order.{headOf, Next, ended, in-head, unequal, in-bytes, whole}
-use Rattle.captures.proofs.Entry.{packet-not, same-packet, entry-ways, entry-only}
+use Rattle.captures.proofs.Entry.{packet-not, same-packet, entry-ways, entry-only, entry-long}
 use Rattle.captures.proofs.Export.{say, reads-then, head-part, head-read, part-read, past-8, past-12, headed-as, record-read, some-end}
 use Rattle.captures.proofs.Faults.{quiet, Begun, right, wrong, short, first}
 
@@ -121,6 +121,13 @@ bytes-next times n bs e l m =
 pub whole-next : (times bs rest : List ℕ) → length times ≡ 8 → length bs < 4294967296
     → reads (inHead []) (timed times bs ++ rest) ≡ andThen (say (says (entry bs))) (λ t. reads t rest)
 whole-next times bs rest e l = reads-then (inHead []) (timed times bs) rest (record-read times e bs l)
+
+-- longer than any packet's
+pub long-next : (times bs rest : List ℕ) → length times ≡ 8 → length bs < 4294967296 → entryLimit < length bs
+    → reads (inHead []) (timed times bs ++ rest) ≡ (refusal 62 ∷ [], behind 62)
+long-next times bs rest e l m =
+    whole-next times bs rest e l ∙ ap (λ (t : Told). andThen (say (says t)) (λ u. reads u rest)) (entry-long bs m)
+    ∙ ap (λ (r : List Told × Reading). andThen (refusal 62 ∷ [], behind 62) (λ t. r)) (quiet 62 rest)
 
 -- ---- nothing else is imported whole
 -- packets alone, and the file ends well

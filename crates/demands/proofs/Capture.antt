@@ -1,39 +1,45 @@
 -- Request W11, sentence by sentence. What the calls promise stands in Promises.
--- begins-with, record-holds, fetched, entered    "Export delivered packets as a classic little-endian pcap file .."
+-- begins-with, record-holds, ..fetched, entered  "Export delivered packets as a classic little-endian pcap file .."
 -- times-aside                                    "Import ignores the records' times"
 -- same-packets, stands                           ".. and gives the same packets back"
 -- nothing-else                                   .. and of nothing but a capture of them
 -- begin-refusals, enter-refusals, ..             the calls' own refusals, row by row, and what a refused call leaves
 -- sixty, sixty-one-.., sixty-two, in-order       60 to 62
-use Prim.Native.Nat.{ℕ, _+_, _≤_, _<_}
+use Prim.Native.Nat.{ℕ, _+_, _<_}
 use mathlib.Core.Path.{_≡_, refl, ap, _∙_}
 use mathlib.Core.Logic.{_↔_}
 use mathlib.Core.List.{List, [], _∷_, _++_, map}
 use mathlib.Core.Option.{some}
 use lib.ListN.{length, take}
 use Rattle.base.specs.Bytes.{Each, Bytes}
-use Rattle.base.specs.Calls.{andThen, With}
+use Rattle.base.specs.Calls.{joined, andThen, With, Yields}
 use Rattle.base.specs.Written.{write, Keeps}
 use Rattle.base.proofs.Calls.{yields-so}
 use Rattle.base.proofs.Writing.{write-keeps, refused-keeps}
 use Rattle.frames.specs.Contents.{Packet, packed}
-use Rattle.frames.specs.Frame.{Told, packet, refusal, broken, delivery, closed}
+use Rattle.frames.specs.Frame.{Told, packet, refusal, broken, closed}
 use Rattle.frames.specs.Sender.{Accepted}
+use Rattle.stream.specs.Called as plain
+use Rattle.stream.specs.Called.{Held as FrameHeld}
+use Rattle.channel.specs.Called.{Board, hearCall}
+use Rattle.tape.specs.Deck.{Deck}
+use Rattle.tape.specs.Called.{tapeCall}
 use Rattle.captures.specs.File.{four, header, timed, recordOf, captured, CaptureOf}
 use Rattle.captures.specs.Import.{entry, entryLimit, Reading, inHead, inRecord, behind, fresh, fourAt, says, reads, ends, imported}
 use Rattle.captures.specs.Order.{headOf, Next}
 use Rattle.captures.proofs.Entry.{entry-packed, none-exactly}
 use Rattle.captures.proofs.Export.{say, seen, import-any, captured-is, times-ignored}
 use Rattle.captures.proofs.Faults.{faultOf, first-fault, sixty-exactly}
-use Rattle.captures.proofs.Order.{next, head-next, unequal-next, bytes-next, whole-next, import-only}
-use Rattle.capture.specs.Export.{packedPart, enteringBy, entering}
-use Rattle.capture.specs.Called.{Held, readCall, finishing, endedAs, EveryCut, Stands}
+use Rattle.captures.proofs.Order.{next, head-next, unequal-next, bytes-next, whole-next, long-next, import-only}
+use Rattle.capture.specs.Export.{Fetched, enteringBy, entering}
+use Rattle.capture.specs.Called.{Held, Fine, readAll, readCall, finishing, endedAs, EveryCut, Stands}
 use Rattle.capture.specs.declared.reader.Capture.{Capture}
-use Rattle.capture.proofs.Cutting.{every-cut}
+use Rattle.capture.proofs.Cutting.{read-yields, every-cut}
 use Rattle.capture.proofs.There.{export-there, read-there}
 use Rattle.demands.specs.Table.{Exact}
 use Rattle.demands.specs.Refusals.{ByCall}
-use Rattle.demands.specs.Captures.{CaptureBeyond, NoPacket, HeaderMissed, RecordCut, FaultBefore, ByImport, ByEnd}
+use Rattle.demands.specs.Captures.{CaptureBeyond, NoPacket, HeaderMissed, RecordCut, FaultBefore, ByImport, ByEnd, FetchedHeld, FetchedBoard, FetchedDeck}
+use Rattle.demands.proofs.Fetching.{plain-fetched, board-fetched, deck-fetched}
 use Rattle.demands.proofs.Rows.{wrote}
 use Rattle.demands.proofs.Capturing.{enter-exact, import-exact, import-same, end-exact}
 
@@ -46,9 +52,18 @@ pub record-holds : (i : ℕ) (p : Packet) → let n = length (packed p) in recor
 record-holds i p = refl
 
 -- "delivered packets": behind a frame of m raw bytes that is judged to be a packet, what is fetched is format byte to last payload byte ..
-pub fetched : (recv : List ℕ) (m : ℕ) → m ≤ length recv → Bytes recv → (p : Packet) → closed recv m .told ≡ packet p
-    → packedPart (delivery p) (closed recv m .recv) ≡ packed p
+pub fetched : (recv : List ℕ) (m : ℕ) → Fetched (closed recv m .told) (closed recv m .recv)
 fetched = export-there
+
+-- .. so it is behind every call of a receiver that delivers one: of the plain stream, of the channel, of a recording ..
+pub read-fetched : (h : FrameHeld) (bs : List ℕ) → With FetchedHeld (plain.readCall h bs .0) (plain.readCall h bs .2)
+read-fetched = plain-fetched
+
+pub hear-fetched : (c : Board) (bs : List ℕ) → With FetchedBoard (hearCall c bs .0) (hearCall c bs .2)
+hear-fetched = board-fetched
+
+pub next-fetched : (m : Deck) (bs : List ℕ) → With FetchedDeck (tapeCall m bs .0) (tapeCall m bs .2)
+next-fetched = deck-fetched
 
 -- .. and of a packet that the sender accepts its record is written: 23 is then the only refusal
 pub entered : (i : ℕ) (p : Packet) → Accepted p → (out : List ℕ) → entering i (packed p) out ≡ write (recordOf i (packed p)) out
@@ -80,6 +95,10 @@ stands = read-there
 pub nothing-else : (ps : List Packet) (bs : List ℕ) → Bytes bs → imported bs ≡ (map packet ps, 0) → CaptureOf ps bs × Each Accepted ps
 nothing-else = import-only
 
+-- ---- every input is accepted, and reading comes to an end: the pieces of every byte string, from every state and store that pass 10 and 11
+pub import-ends : (h : Held) → Fine h → (pieces : List (List ℕ)) → Yields readCall h pieces λ ts g. (ts, g) ≡ readAll h (joined pieces)
+import-ends = read-yields
+
 -- ---- "Refusals": the answers of every file, cut in every way, are what is imported of it, and so is the number that its end says
 pub every-file : (bs : List ℕ) → EveryCut bs λ ts g. (ts, endedAs (finishing (g .st))) ≡ imported bs
 every-file = every-cut
@@ -108,6 +127,11 @@ sixty-two = none-exactly
 pub whole-record : (times bs rest : List ℕ) → length times ≡ 8 → length bs < 4294967296
     → reads (inHead []) (timed times bs ++ rest) ≡ andThen (say (says (entry bs))) (λ t. reads t rest)
 whole-record = whole-next
+
+-- .. longer than any packet's, 8,231 bytes, it is none
+pub sixty-two-long : (times bs rest : List ℕ) → length times ≡ 8 → length bs < 4294967296 → 8231 < length bs
+    → reads (inHead []) (timed times bs ++ rest) ≡ (refusal 62 ∷ [], behind 62)
+sixty-two-long = long-next
 
 -- "first found in file order": the bytes behind the header, or behind a record, go on in one of these ways, no other; packets, and behind them at most one
 -- fault, which is the last answer

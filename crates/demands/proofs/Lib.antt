@@ -5,6 +5,7 @@ pub mod Desk
 pub mod Taken
 pub mod Showing
 pub mod Capturing
+pub mod Fetching
 pub mod Trips
 pub mod Promises
 pub mod Calling

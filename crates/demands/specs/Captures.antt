@@ -3,6 +3,7 @@
 -- NoPacket                         62: no packet that the sender would accept
 -- HeaderMissed, RecordCut, FaultBefore   60 to 62 at the end of a file
 -- ByImport, ByEnd                  that an answer refuses by a number
+-- Fetched..                        that what is fetched behind an answer is the packet's own bytes
 use Prim.Native.Nat.{ℕ, _≤_, _<_}
 use mathlib.Core.Path.{_≡_}
 use mathlib.Core.Logic.{_⊎_}
@@ -11,6 +12,11 @@ use mathlib.Core.Option.{Option, some}
 use Rattle.frames.specs.Contents.{Packet, packed}
 use Rattle.frames.specs.Frame.{Told, refusal}
 use Rattle.frames.specs.Sender.{Accepted}
+use Rattle.stream.specs.Called.{Held as FrameHeld}
+use Rattle.blocks.specs.Channel.{Event, said, block, lost}
+use Rattle.channel.specs.Called.{Board}
+use Rattle.tape.specs.Deck.{Deck}
+use Rattle.capture.specs.Export.{Fetched}
 use Rattle.capture.specs.Called.{Held}
 use Rattle.capture.specs.declared.reader.Capture.{Capture}
 use Rattle.capture.specs.declared.reader.Capture.the-variants.{Header, Head, Record, Behind}
@@ -57,3 +63,21 @@ ByImport r n = OfCall n × (r .0 ≡ some (refusal n))
 -- the end of a capture is
 abbrev pub ByEnd : Ended → ℕ → Type 0
 ByEnd e n = e ≡ Refused n
+
+-- what is fetched behind an answer of a receiver is the packet's own bytes
+abbrev pub FetchedEvent : Event → List ℕ → Type 0
+FetchedEvent (said t) recv = Fetched t recv
+FetchedEvent (block c) recv = Unit {0}
+FetchedEvent lost recv = Unit {0}
+
+-- .. of the frame reader
+abbrev pub FetchedHeld : Told → FrameHeld → Type 0
+FetchedHeld t h = Fetched t (h .recv)
+
+-- .. of the channel's receiver
+abbrev pub FetchedBoard : Event → Board → Type 0
+FetchedBoard e c = FetchedEvent e (c .recv)
+
+-- .. and of a recording's
+abbrev pub FetchedDeck : Event → Deck → Type 0
+FetchedDeck e m = FetchedEvent e (m .ear .board .recv)

@@ -1,0 +1,117 @@
+-- What is fetched behind a delivery is the packet's own bytes, whichever receiver delivers it.
+-- plain-fetched, board-fetched, deck-fetched   behind a call: of the plain stream, of the channel, of a recording
+use Prim.Native.Nat.{ℕ, suc}
+use mathlib.Core.Path.{_≡_, refl, sym, subst}
+use mathlib.Core.Bool.{Bool, true, false}
+use mathlib.Core.List.{List}
+use mathlib.Core.Option.{Option, some, none}
+use lib.Dec.{eqb, ltb, leb}
+use lib.ListN.{length, getD, set}
+use Rattle.base.specs.Calls.{With, owesNone, handsNone}
+use Rattle.base.proofs.Calls.{none-owed, with-hear}
+use Rattle.frames.specs.Contents.{rawLimit}
+use Rattle.frames.specs.Escape.{flag}
+use Rattle.frames.specs.Frame.{Told}
+use Rattle.stream.specs.Called.{Held, shut, takeBy, takeByte, sound as soundFrame, readBy, readCall}
+use Rattle.blocks.specs.declared.Hunting.{Hunting}
+use Rattle.blocks.specs.Sender.{wordBytes}
+use Rattle.blocks.specs.Channel.{Event, isMarker, shift}
+use Rattle.channel.specs.Called.{Board, heldIn, wordOn, compareOn, markOn, eatBy, eatByte, owed, asEvent, handOn, sound, roomy, hearBy, hearCall}
+use Rattle.channel.proofs.Cutting.{hand-one}
+use Rattle.listed.specs.Apart.{inStream}
+use Rattle.tape.specs.Deck.{withHeld, eatBy as eatEar, earHand, earEat, Deck, deckOwes, deckHand, byteBy, deckEat}
+use Rattle.tape.specs.Called.{nearSpot, tapeBy, tapeCall}
+use Rattle.tape.proofs.Ears.{deck-hand-one}
+use Rattle.capture.specs.Export.{Fetched}
+use Rattle.capture.proofs.There.{export-there}
+use Rattle.demands.specs.Captures.{FetchedHeld, FetchedBoard, FetchedDeck}
+
+-- ---- the plain stream
+shut-fetched : (z : Bool) (h : Held) → With FetchedHeld (shut z h .0) (shut z h .1)
+shut-fetched true h = tt
+shut-fetched false h = export-there (h .recv) (h .st .raw)
+
+by-fetched : (t o : Bool) (h : Held) (b : ℕ) → With FetchedHeld (takeBy t o h b .0) (takeBy t o h b .1)
+by-fetched false false h b = tt
+by-fetched true false h b = tt
+by-fetched false true h b = tt
+by-fetched true true h b = shut-fetched (eqb (h .st .raw) 0) h
+
+byte-fetched : (h : Held) (b : ℕ) → With FetchedHeld (takeByte h b .0) (takeByte h b .1)
+byte-fetched h b = by-fetched (eqb b flag) (h .st .opened) h b
+
+pub plain-fetched : (h : Held) (bs : List ℕ) → With FetchedHeld (readCall h bs .0) (readCall h bs .2)
+plain-fetched h bs = go (soundFrame (h .st)) (leb rawLimit (length (h .recv)))
+  where
+    go : (s r : Bool) → With FetchedHeld (readBy s r h bs .0) (readBy s r h bs .2)
+    go false r = tt
+    go true false = tt
+    go true true = with-hear owesNone handsNone takeByte none-owed FetchedHeld (λ g. tt) byte-fetched h bs
+
+-- ---- the channel: the frame reader's answers are passed on with the buffer
+word-fetched : (t : Bool) (c : Board) (k : List ℕ) → With FetchedBoard (wordOn t c k .0) (wordOn t c k .1)
+word-fetched true c k = tt
+word-fetched false c k = tt
+
+compare-fetched : (t : Bool) (f : Hunting) (c : Board) → With FetchedBoard (compareOn t f c .0) (compareOn t f c .1)
+compare-fetched true f c = tt
+compare-fetched false f c = tt
+
+mark-fetched : (t : Bool) (f : Hunting) (c : Board) → With FetchedBoard (markOn t f c .0) (markOn t f c .1)
+mark-fetched true f c = tt
+mark-fetched false f c = compare-fetched (isMarker f) f c
+
+eat-by : (l t : Bool) (c : Board) (b : ℕ) → With FetchedBoard (eatBy l t c b .0) (eatBy l t c b .1)
+eat-by false t c b = tt
+eat-by true true c b = word-fetched (ltb (suc (c .st .lock .word)) wordBytes) c (set (c .word) (c .st .lock .word) b)
+eat-by true false c b = mark-fetched (ltb (suc (c .st .lock .marker)) 4) (shift (c .st .hunting) b) c
+
+eat-fetched : (c : Board) (b : ℕ) → With FetchedBoard (eatByte c b .0) (eatByte c b .1)
+eat-fetched c b = eat-by (c .st .locked) (ltb (c .st .lock .word) wordBytes) c b
+
+passed-on : (o : Option Told) (h : Held) (d : Board) → With FetchedHeld o h → d .recv ≡ h .recv → With FetchedBoard (asEvent o) d
+passed-on none h d w e = tt
+passed-on (some a) h d w e = subst (Fetched a) (sym e) w
+
+hand-fetched : (c : Board) → With FetchedBoard (handOn c .0) (handOn c .1)
+hand-fetched c =
+    let b = getD (c .word) (c .st .lock .handed) 0 in
+    passed-on (takeByte (heldIn c) b .0) (takeByte (heldIn c) b .1) (handOn c .1) (byte-fetched (heldIn c) b) refl
+
+pub board-fetched : (c : Board) (bs : List ℕ) → With FetchedBoard (hearCall c bs .0) (hearCall c bs .2)
+board-fetched c bs = go (sound (c .st)) (roomy (c .recv) (c .word))
+  where
+    go : (s r : Bool) → With FetchedBoard (hearBy s r c bs .0) (hearBy s r c bs .2)
+    go false r = tt
+    go true false = tt
+    go true true = with-hear owed handOn eatByte hand-one FetchedBoard hand-fetched eat-fetched c bs
+
+-- ---- a recording: either of the two
+in-deck : (o : Option Event) (c : Board) (m : Deck) → m .ear .board ≡ c → With FetchedBoard o c → With FetchedDeck o m
+in-deck none c m e w = tt
+in-deck (some a) c m e w = subst (λ (x : Board). FetchedBoard a x) (sym e) w
+
+byte-by : (t : Bool) (m : Deck) (b : ℕ) → With FetchedBoard (eatEar t (m .ear .board) b .0) (eatEar t (m .ear .board) b .1 .board)
+byte-by true m b = eat-fetched (m .ear .board) b
+byte-by false m b =
+    let h = heldIn (m .ear .board) in
+    passed-on (takeByte h b .0) (takeByte h b .1) (withHeld (m .ear .board) (takeByte h b .1)) (byte-fetched h b) refl
+
+deck-byte : (t : Bool) (m : Deck) (b : ℕ) → With FetchedDeck (byteBy t m b .0) (byteBy t m b .1)
+unfolding earEat
+deck-byte true m b = in-deck (eatEar (m .ear .channel) (m .ear .board) b .0) (eatEar (m .ear .channel) (m .ear .board) b .1 .board) (byteBy true m b .1) refl (byte-by (m .ear .channel) m b)
+deck-byte false m b = tt
+
+deck-hand : (m : Deck) → With FetchedDeck (deckHand m .0) (deckHand m .1)
+unfolding earHand
+deck-hand m = in-deck (handOn (m .ear .board) .0) (handOn (m .ear .board) .1) (deckHand m .1) refl (hand-fetched (m .ear .board))
+
+pub deck-fetched : (m : Deck) (bs : List ℕ) → With FetchedDeck (tapeCall m bs .0) (tapeCall m bs .2)
+deck-fetched m bs = go (sound (m .ear .board .st)) (nearSpot (m .spot) (length bs)) (roomy (m .ear .board .recv) (m .ear .board .word))
+  where
+    go : (s n r : Bool) → With FetchedDeck (tapeBy s n r m bs .0) (tapeBy s n r m bs .2)
+    go false n r = tt
+    go true false r = tt
+    go true true false = tt
+    go true true true =
+        with-hear deckOwes deckHand deckEat deck-hand-one FetchedDeck deck-hand (λ d b. deck-byte (inStream (d .spot .place) (d .spot .count)) d b) m bs
