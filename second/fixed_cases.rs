@@ -408,11 +408,12 @@ pub fn write_streams(dir: &str, seed: u64) {
     }
 }
 
-/// So many MiB of a sub-channel's bytes as received without a fault, for bench/fixed: the words of some packets, over and over.
-pub fn steady(r: u64, depth: u64, mib: usize) -> Vec<u8> {
+/// So many MiB of a sub-channel's bytes as received without a fault, for bench/fixed: the words of packets with payloads of this length, over and
+/// over.
+pub fn steady(r: u64, depth: u64, payload: usize, mib: usize) -> Vec<u8> {
     let mut stream = vec![FLAG];
-    for sequence in 0..300 {
-        stream.extend(Packet::new(0x5100, sequence, &[0x41; 90]).escaped(usize::MAX).unwrap());
+    for sequence in 0..200 {
+        stream.extend(Packet::new(0x5100, sequence, &vec![0x41; payload]).escaped(usize::MAX).unwrap());
     }
     let words = fixed::words(r, 0, &stream);
     let many: Vec<Vec<u8>> = words.iter().cycle().take((mib << 20) / 1024 * FOUR).cloned().collect();
