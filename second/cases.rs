@@ -1,8 +1,8 @@
 //! Cases for the comparison: how they are written, which are asked, and what the second program answers.
 //! crates/answers/src/main.rt has the form of a case and of an answer, crates/pieces/src, crates/channels/src, crates/listings/src,
-//! crates/rooms/src and crates/imports/src that of an answer in pieces; crates/turns/src/main.rt what is asked of the interleaver and
-//! crates/schedules/src/main.rt of fixed sub-channels, whose states are carried over from case to case; crates/mixes/src/main.rt what is asked of
-//! Layer 2 units.
+//! crates/rooms/src and crates/imports/src that of an answer in pieces; crates/turns/src/main.rt what is asked of the interleaver and of a fixed
+//! sub-channel's sender, crates/schedules/src/main.rt of its receiver, whose states are carried over from case to case; crates/mixes/src/main.rt what
+//! is asked of Layer 2 units.
 
 use crate::interleaver::{Sender, Sides, CELLS};
 use crate::packet::{Delivery, Fault, Frame, Packet, FLAG, RAW_LIMIT};
@@ -41,7 +41,8 @@ impl Case {
     }
 
     /// Which program answers it: `pieces` a stream, `channels` a channel, `listings` a recording, `rooms` a board, `imports` a capture, `mixes` a Layer 2
-    /// unit, `turns` the interleaver, `schedules` fixed sub-channels, `calls` each other single call. A letter belongs to one of them.
+    /// unit, `turns` the interleaver and a fixed sub-channel's sender, `schedules` a receiver of those, `calls` each other single call. A letter belongs
+    /// to one of them.
     pub fn kind(&self) -> &'static str {
         match self.asked {
             b'S' => "pieces",
@@ -50,8 +51,8 @@ impl Case {
             b'b' => "rooms",
             b'U' | b'u' => "mixes",
             b'r' | b'e' | b'f' | b'd' => "imports",
-            b'I' | b'J' | b'Z' | b'N' | b'X' | b'V' => "turns",
-            b'n' | b'c' | b'h' | b'x' | b'v' | b's' | b'g' | b'p' | b'w' | b'q' => "schedules",
+            b'I' | b'J' | b'Z' | b'N' | b'X' | b'V' | b's' | b'g' | b'q' => "turns",
+            b'n' | b'c' | b'h' | b'x' | b'v' => "schedules",
             _ => "calls",
         }
     }
@@ -66,6 +67,7 @@ impl Case {
             b'b' => board_cases::read_by_calls(self.number, &self.bytes, &mut out),
             b'r' => capture_calls::capture_in_pieces(self.number, &self.bytes, &mut out),
             b'Q' => self.closed_frame(&mut out),
+            b's' | b'g' | b'q' => fixed_cases::sender_reply(self, &mut carried.sides.sender, &mut out),
             _ if self.kind() == "turns" => self.turn(&mut carried.sides, &mut out).to_le_bytes().to_vec(),
             _ if self.kind() == "schedules" => carried.fixed.reply(self, &mut out),
             _ => self.number_of_call(&mut out).to_le_bytes().to_vec(),

@@ -1,5 +1,5 @@
-//! Cases for fixed sub-channels, and the second program's own held to the request. crates/schedules/src/main.rt has what is asked: a receiver of
-//! four with its buffers and a sender are carried over from case to case.
+//! Cases for fixed sub-channels, and the second program's own held to the request. crates/schedules/src/main.rt has what is asked of a receiver
+//! of four, which is carried over from case to case with its buffers; crates/turns/src/main.rt what is asked of a sender.
 
 use crate::cases::{self, Case, Random};
 use crate::channel::{Answer, MARKER};
@@ -13,7 +13,6 @@ use crate::stream::Reader;
 /// What a file of cases carries over.
 pub struct Carried {
     receiver: Receiver,
-    sender: Sender,
     /// Each sub-channel's two buffers.
     buffers: [Vec<u8>; 4],
     words: [Vec<u8>; 4],
@@ -22,7 +21,7 @@ pub struct Carried {
 impl Carried {
     pub fn new() -> Self {
         let lent = |n: usize| [(); 4].map(|_| vec![0xA5; n]);
-        Carried { receiver: Receiver::new(), sender: Sender::new(), buffers: lent(RAW_LIMIT), words: lent(WORD) }
+        Carried { receiver: Receiver::new(), buffers: lent(RAW_LIMIT), words: lent(WORD) }
     }
 
     /// What the second program answers to a case, the output aside.
@@ -35,17 +34,7 @@ impl Carried {
             b'h' => self.hear(a as usize, b as usize, c as usize, &case.bytes, &mut told),
             b'x' => self.receiver.subs[a as usize] = sub_in(&self.receiver.subs[a as usize], &case.bytes),
             b'v' => self.view(a as usize, out, &mut told),
-            b's' => cases::push_all(&mut told, &[cases::answer_in(fixed::in_groups(a, b, &case.bytes, out.len()), out)]),
-            b'g' => self.next_group(a, b, &case.bytes, out, &mut told),
-            b'p' => self.sender.place = case.number,
-            b'w' => {
-                cases::lay(&self.sender.cells, out);
-                cases::push_all(&mut told, &[self.sender.place]);
-            }
-            _ => {
-                let length = u64::from_le_bytes(case.bytes[..8].try_into().unwrap());
-                cases::push_all(&mut told, &[fixed::group_count(a, b, length).unwrap_or_else(cases::refusal)]);
-            }
+            _ => {}
         }
         told
     }
@@ -80,13 +69,26 @@ impl Carried {
         told.extend(&self.words[number]);
         cases::lay(&s.back.cells, out);
     }
+}
 
-    /// Two numbers: the bytes taken, and the group's length or a refusal.
-    fn next_group(&mut self, r: u64, depth: u64, stream: &[u8], out: &mut [u8], told: &mut Vec<u8>) {
-        let result = fixed::next_group(&mut self.sender, r, depth, stream, out.len());
-        let taken = result.as_ref().map_or(0, |(taken, _)| *taken as u64);
-        cases::push_all(told, &[taken, cases::answer_in(result.map(|(_, group)| group), out)]);
+/// What a sender answers, with the interleaver as it stands: the bytes taken of a stream for the next group, and its length; the length of a
+/// stream as sent; how many groups one has.
+pub fn sender_reply(case: &Case, sender: &mut Sender, out: &mut [u8]) -> Vec<u8> {
+    let [r, depth] = [0, 16].map(|shift| case.number >> shift & 0xFFFF);
+    let mut told = Vec::new();
+    match case.asked {
+        b's' => cases::push_all(&mut told, &[cases::answer_in(fixed::in_groups(r, depth, &case.bytes, out.len()), out)]),
+        b'g' => {
+            let result = fixed::next_group(sender, r, depth, &case.bytes, out.len());
+            cases::push_all(&mut told, &[result.as_ref().map_or(0, |(taken, _)| *taken as u64)]);
+            cases::push_all(&mut told, &[cases::answer_in(result.map(|(_, group)| group), out)]);
+        }
+        _ => {
+            let length = u64::from_le_bytes(case.bytes[..8].try_into().unwrap());
+            cases::push_all(&mut told, &[fixed::group_count(r, depth, length).unwrap_or_else(cases::refusal)]);
+        }
     }
+    told
 }
 
 /// A sub-channel with the numbers that a case tells; its cells stay.
@@ -157,10 +159,10 @@ pub fn all(random: &mut Random, cases: &mut Vec<Case>) {
             }
         }
     }
-    for _ in 0..60 {
+    for _ in 0..30 {
         mixed(random, cases);
     }
-    for _ in 0..400 {
+    for _ in 0..300 {
         states(random, cases);
     }
     refused(random, cases);
@@ -192,7 +194,7 @@ fn senders(random: &mut Random, cases: &mut Vec<Case>) {
 fn groups(random: &mut Random, cases: &mut Vec<Case>) {
     for depth in DEPTHS {
         let r = PARITIES[random.below(7)] as usize;
-        cases.push(anew());
+        cases.push(asked(b'N', [0; 3], 0, vec![]));
         let n = random.below(6000);
         let stream = channel_cases::packets(random, n + 1);
         let four = FOUR * (WORD - r);
@@ -203,19 +205,19 @@ fn groups(random: &mut Random, cases: &mut Vec<Case>) {
             }
             cases.push(asked(b'g', [r, depth as usize, 0], 1024 + random.below(3), rest[..rest.len().min(four + random.below(9))].to_vec()));
         }
-        cases.push(asked(b'w', [0; 3], CELLS + 1, vec![]));
+        cases.push(asked(b'V', [0; 3], CELLS + 1, vec![]));
     }
     for i in 0..120 {
         let depth: usize = [0, 1, 2, 3, 63, 64, 65, 66, 65535][random.below(9)];
         let place = [0, 255 * depth.min(70), (255 * depth.min(70)).saturating_sub(1), random.below(17000), CELLS, 1 << 40][random.below(6)];
-        cases.push(Case { asked: b'p', number: place as u64, space: 0, bytes: vec![] });
+        cases.push(Case { asked: b'X', number: place as u64, space: 0, bytes: vec![0] });
         let (n, r) = (random.below(1200), [0, 32, 64, 65, 65535][random.below(5)]);
         cases.push(asked(b'g', [r, depth, 0], 1022 + random.below(4), random.bytes(n)));
         if i % 20 == 0 {
-            cases.push(asked(b'w', [0; 3], CELLS + 1, vec![]));
+            cases.push(asked(b'V', [0; 3], CELLS + 1, vec![]));
         }
     }
-    cases.push(asked(b'w', [0; 3], CELLS + 1, vec![]));
+    cases.push(asked(b'V', [0; 3], CELLS + 1, vec![]));
 }
 
 /// Words altered, before they are interleaved, within half of R and beyond it.
@@ -224,11 +226,10 @@ fn sent(random: &mut Random, r: u64, depth: u64, n: usize, kind: usize) -> Vec<u
     let mut words = fixed::words(r, depth, &stream);
     let half = r as usize / 2;
     for word in words.iter_mut() {
-        let within = random.below(half + 1);
-        match kind {
-            1 => alter(random, word, within),
-            2 if random.below(3) == 0 => alter(random, word, half + 1),
-            2 => alter(random, word, half),
+        let within = [half, random.below(half + 1)][random.below(2)];
+        match (kind, random.below(4)) {
+            (1, 0) => alter(random, word, within),
+            (2, 0) => alter(random, word, half + 1),
             _ => {}
         }
     }
@@ -238,7 +239,7 @@ fn sent(random: &mut Random, r: u64, depth: u64, n: usize, kind: usize) -> Vec<u
 /// What one sub-channel may receive: as sent, damaged within and beyond repair, with bytes altered behind the interleaver, with stray bytes in
 /// front, with a marker wrong, cut short, with bytes too many.
 fn received(random: &mut Random, r: u64, depth: u64, kind: usize) -> Vec<u8> {
-    let n = 1 + random.below(if depth == 64 { 1500 } else { 2600 });
+    let n = 1 + random.below(1400);
     let mut bytes = sent(random, r, depth, n, kind);
     let (some, at) = (random.below(60), random.below(bytes.len().max(1)));
     let last = bytes.len().saturating_sub(1024);
@@ -407,11 +408,12 @@ pub fn write_streams(dir: &str, seed: u64) {
     }
 }
 
-/// So many MiB of a sub-channel's bytes as received without a fault, for bench/fixed: the words of some packets, over and over.
-pub fn steady(r: u64, depth: u64, mib: usize) -> Vec<u8> {
+/// So many MiB of a sub-channel's bytes as received without a fault, for bench/fixed: the words of packets with payloads of this length, over and
+/// over.
+pub fn steady(r: u64, depth: u64, payload: usize, mib: usize) -> Vec<u8> {
     let mut stream = vec![FLAG];
-    for sequence in 0..300 {
-        stream.extend(Packet::new(0x5100, sequence, &[0x41; 90]).escaped(usize::MAX).unwrap());
+    for sequence in 0..200 {
+        stream.extend(Packet::new(0x5100, sequence, &vec![0x41; payload]).escaped(usize::MAX).unwrap());
     }
     let words = fixed::words(r, 0, &stream);
     let many: Vec<Vec<u8>> = words.iter().cycle().take((mib << 20) / 1024 * FOUR).cloned().collect();

@@ -19,7 +19,7 @@
 //!   second test [SEED]       holds the second program itself to the paper (selftest.rs)
 //!   second fixed send|list R DEPTH
 //!                            standard input sent on a fixed sub-channel, or what one makes of it, as a listing (fixed.rs)
-//!   second fixed steady R DEPTH MIB
+//!   second fixed steady R DEPTH PAYLOAD MIB
 //!                            received bytes of a sub-channel, clean, to be timed, to standard output
 //!   second fixed streams DIR [SEED]
 //!                            streams for fixed sub-channels, plain, sent and damaged, into a folder (fixed_cases.rs)
@@ -89,7 +89,9 @@ fn main() {
         ["test", seed] => number(seed).map(selftest::run),
         ["interleave", side @ ("push" | "pull"), depth] => number(depth).filter(|d| *d <= 64).map(|d| interleave(side == "push", d)),
         ["fixed", "send", r, depth] => sub_channel(r, depth).map(|(r, depth)| fixed::send_input(r, depth)),
-        ["fixed", "steady", r, depth, mib] => sub_channel(r, depth).zip(number(mib)).map(|((r, depth), mib)| write_sub_channel(r, depth, mib)),
+        ["fixed", "steady", r, depth, payload, mib] => {
+            sub_channel(r, depth).zip(number(payload).zip(number(mib))).map(|(sub, (payload, mib))| write_sub_channel(sub, payload, mib))
+        }
         ["fixed", "streams", dir] => Some(fixed_cases::write_streams(dir, 1)),
         ["fixed", "streams", dir, seed] => number(seed).map(|seed| fixed_cases::write_streams(dir, seed)),
         ["fixed", "list", r, depth] => sub_channel(r, depth).map(|(r, depth)| fixed::list_input(r, depth)),
@@ -124,7 +126,7 @@ fn main() {
     };
     if done.is_none() {
         eprintln!("usage: second fcs HEX | parity R HEX | word R HEX | repair R HEX | interleave push|pull DEPTH | list | missed | kinds FILE..");
-        eprintln!("  | fixed send|list R DEPTH | fixed steady R DEPTH MIB | fixed streams DIR [SEED] | board [--recording|--stream] [--blocks] | boards DIR [SEED] | feed FIFO TEXT STREAM");
+        eprintln!("  | fixed send|list R DEPTH | fixed steady R DEPTH PAYLOAD MIB | fixed streams DIR [SEED] | board [--recording|--stream] [--blocks] | boards DIR [SEED] | feed FIFO TEXT STREAM");
         eprintln!("  | capture | replay | captures DIR [SEED] | viewed");
         eprintln!("  | recordings DIR [SEED] | steady plain|marked MIB | samples DIR | cases calls|turns|pieces|channels|listings|rooms|schedules|mixes|imports [SEED]");
         eprintln!("  | compare CASES ANSWERS .. | test [SEED] | words R PLACES N | time N M | numbered FILE [SEED] | tables CASES ANSWERS [SEED] | unit WORDS..");
@@ -141,8 +143,8 @@ fn sub_channel(r: &str, depth: &str) -> Option<(u64, u64)> {
     number(r).filter(|r| *r <= 64).zip(number(depth).filter(|depth| *depth <= 64))
 }
 
-fn write_sub_channel(r: u64, depth: u64, mib: u64) {
-    std::io::stdout().write_all(&fixed_cases::steady(r, depth, mib as usize)).expect("standard output");
+fn write_sub_channel((r, depth): (u64, u64), payload: u64, mib: u64) {
+    std::io::stdout().write_all(&fixed_cases::steady(r, depth, payload as usize, mib as usize)).expect("standard output");
 }
 
 fn unhex(text: &str) -> Option<Vec<u8>> {

@@ -1,29 +1,42 @@
-//! For timing only: received bytes in pieces through one sub-channel, and through the first of four. Each says how many answers there were.
-ghost use Prim.Native.Nat.{_≤_};
+//! For timing only: received bytes in pieces through one sub-channel, and through the first of four. Each says how many calls there were.
 use channel::Answer;
 use subchannel::Sub;
 use subchannels::Receiver;
 
+// The piece that is handed in is bytes[at..to].
+struct Place {
+    done: bool,
+    at: usize,
+    to: usize,
+    calls: usize,
+}
+
 struct One {
-    again: bool,
-    taken: usize,
-    answers: usize,
+    place: Place,
     sub: Sub,
 }
 
 struct Four {
-    again: bool,
-    taken: usize,
-    answers: usize,
+    place: Place,
     receiver: Receiver,
 }
 
-// The place n further on, or the end.
-fn onward(at: usize, n: usize, end: usize) -> usize
-    requires { ⌜ at ≤ end ⌝ }
-    ensures { λ r. ⌜ (at ≤ r) × (r ≤ end) ⌝ }
-{
-    at + base::least(n, end - at)
+fn first() -> Place {
+    Place {
+        done: false,
+        at: 0,
+        to: 0,
+        calls: 0,
+    }
+}
+
+fn last(p: Place) -> Place {
+    Place {
+        done: true,
+        at: p.at,
+        to: p.to,
+        calls: p.calls,
+    }
 }
 
 fn is_more(answer: Answer) -> bool {
@@ -35,121 +48,127 @@ fn is_more(answer: Answer) -> bool {
     }
 }
 
-fn call_one(start: Sub, answers: usize, recv: &mut [u8], word: &mut [u8], piece: &[u8]) -> One {
-    let heard = start.hear(recv, word, piece);
-    let answer = heard.answer;
-    let sub = heard.sub;
-    One {
-        again: !is_more(answer),
-        taken: heard.taken,
-        answers: std::num::wrapping_add_usize(answers, 1),
-        sub,
+// Behind a call, of n bytes in all: the rest of the piece, or the next one.
+fn behind(p: Place, answer: Answer, taken: usize, length: usize, n: usize) -> Place {
+    let calls = std::num::wrapping_add_usize(p.calls, 1);
+    let to = base::least(p.to, n);
+    if is_more(answer) {
+        return Place {
+            done: to == n,
+            at: to,
+            to: to + base::least(length, n - to),
+            calls,
+        };
+    }
+    Place {
+        done: false,
+        at: std::num::wrapping_add_usize(p.at, taken),
+        to,
+        calls,
     }
 }
 
-// A piece, until more is wanted.
-fn piece_one(start: Sub, answers: usize, recv: &mut [u8], word: &mut [u8], piece: &[u8]) -> One {
-    let mut turn = One {
-        again: true,
-        taken: 0,
-        answers,
-        sub: start,
-    };
-    let mut i: usize = 0;
+fn call_one(turn: One, length: usize, recv: &mut [u8], word: &mut [u8], bytes: &[u8]) -> One {
+    let place = turn.place;
+    let sub = turn.sub;
+    let at = place.at;
+    let to = place.to;
+    if bytes.len() < to {
+        return One {
+            place: last(place),
+            sub,
+        };
+    }
+    if to < at {
+        return One {
+            place: last(place),
+            sub,
+        };
+    }
+    let heard = sub.hear(recv, word, &bytes[at..to]);
+    let answer = heard.answer;
+    let next = heard.sub;
+    One {
+        place: behind(place, answer, heard.taken, length, bytes.len()),
+        sub: next,
+    }
+}
+
+fn all_one(start: One, length: usize, bytes: &[u8]) -> usize {
+    let mut recv = [0u8; Sub::RAW];
+    let mut word = [0u8; Sub::WORD];
+    let mut turn = start;
     let mut calls = u64::MAX;
     while calls > 0 {
-        turn = call_one(turn.sub, turn.answers, recv, word, &piece[i..]);
-        i = onward(i, turn.taken, piece.len());
-        if !turn.again {
-            return turn;
+        turn = call_one(turn, length, &mut recv, &mut word, bytes);
+        let place = turn.place;
+        if place.done {
+            return place.calls;
         }
         calls -= 1;
     }
-    turn
-}
-
-fn all_one(first: Sub, length: usize, bytes: &[u8]) -> usize {
-    let mut recv = [0u8; Sub::RAW];
-    let mut word = [0u8; Sub::WORD];
-    let mut sub = first;
-    let mut answers: usize = 0;
-    let mut at: usize = 0;
-    let mut pieces = u64::MAX;
-    while pieces > 0 {
-        let end = onward(at, length, bytes.len());
-        let turn = piece_one(sub, answers, &mut recv, &mut word, &bytes[at..end]);
-        sub = turn.sub;
-        answers = turn.answers;
-        at = end;
-        if at == bytes.len() {
-            return answers;
-        }
-        pieces -= 1;
-    }
-    answers
+    0
 }
 
 #[no_mangle]
 pub extern "C" fn timed_one(parity: usize, depth: usize, length: usize, bytes: &[u8]) -> usize {
-    all_one(Sub::told(parity, depth), length, bytes)
+    let start = One {
+        place: first(),
+        sub: Sub::told(parity, depth),
+    };
+    all_one(start, length, bytes)
 }
 
-fn call_four(start: Receiver, answers: usize, recv: &mut [u8], word: &mut [u8], piece: &[u8]) -> Four {
-    let heard = start.hear(0, recv, word, piece);
+fn call_four(turn: Four, length: usize, recv: &mut [u8], word: &mut [u8], bytes: &[u8]) -> Four {
+    let place = turn.place;
+    let receiver = turn.receiver;
+    let at = place.at;
+    let to = place.to;
+    if bytes.len() < to {
+        return Four {
+            place: last(place),
+            receiver,
+        };
+    }
+    if to < at {
+        return Four {
+            place: last(place),
+            receiver,
+        };
+    }
+    let heard = receiver.hear(0, recv, word, &bytes[at..to]);
     let answer = heard.answer;
-    let receiver = heard.receiver;
+    let next = heard.receiver;
     Four {
-        again: !is_more(answer),
-        taken: heard.taken,
-        answers: std::num::wrapping_add_usize(answers, 1),
-        receiver,
+        place: behind(place, answer, heard.taken, length, bytes.len()),
+        receiver: next,
     }
 }
 
-// A piece, until more is wanted.
-fn piece_four(start: Receiver, answers: usize, recv: &mut [u8], word: &mut [u8], piece: &[u8]) -> Four {
-    let mut turn = Four {
-        again: true,
-        taken: 0,
-        answers,
-        receiver: start,
-    };
-    let mut i: usize = 0;
+fn all_four(start: Four, length: usize, bytes: &[u8]) -> usize {
+    let mut recv = [0u8; Sub::RAW];
+    let mut word = [0u8; Sub::WORD];
+    let mut turn = start;
     let mut calls = u64::MAX;
     while calls > 0 {
-        turn = call_four(turn.receiver, turn.answers, recv, word, &piece[i..]);
-        i = onward(i, turn.taken, piece.len());
-        if !turn.again {
-            return turn;
+        turn = call_four(turn, length, &mut recv, &mut word, bytes);
+        let place = turn.place;
+        if place.done {
+            return place.calls;
         }
         calls -= 1;
     }
-    turn
-}
-
-fn all_four(first: Receiver, length: usize, bytes: &[u8]) -> usize {
-    let mut recv = [0u8; Sub::RAW];
-    let mut word = [0u8; Sub::WORD];
-    let mut receiver = first;
-    let mut answers: usize = 0;
-    let mut at: usize = 0;
-    let mut pieces = u64::MAX;
-    while pieces > 0 {
-        let end = onward(at, length, bytes.len());
-        let turn = piece_four(receiver, answers, &mut recv, &mut word, &bytes[at..end]);
-        receiver = turn.receiver;
-        answers = turn.answers;
-        at = end;
-        if at == bytes.len() {
-            return answers;
-        }
-        pieces -= 1;
-    }
-    answers
+    0
 }
 
 #[no_mangle]
 pub extern "C" fn timed_four(parity: usize, depth: usize, length: usize, bytes: &[u8]) -> usize {
-    let told = Receiver::fresh().configure(0, parity, depth);
-    all_four(told.receiver, length, bytes)
+    let fresh = Receiver::fresh();
+    let told = fresh.configure(0, parity, depth);
+    let receiver = told.receiver;
+    let start = Four {
+        place: first(),
+        receiver,
+    };
+    all_four(start, length, bytes)
 }

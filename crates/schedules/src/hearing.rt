@@ -267,7 +267,13 @@ pub fn view(receiver: Receiver, number: u64, recv: &[u8], word: &[u8], out: &mut
     crate::print(matrix.place as u64);
     print_part(Sub::RAW * k, Sub::RAW, recv);
     print_part(Sub::WORD * k, Sub::WORD, word);
-    crate::copy_cells(matrix, out);
+    copy_cells(matrix, out);
+}
+
+// Cells, as many as there is room for.
+fn copy_cells(matrix: Matrix, out: &mut [u8]) {
+    let cells = matrix.cells;
+    base::copy(&cells, out);
 }
 
 // So many bytes from a place on.

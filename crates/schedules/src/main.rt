@@ -1,29 +1,19 @@
-//! Answers cases of fixed sub-channels from standard input, one after the other, so that tests/compare can hold the code to the second program.
-//! The receiver of four, its buffers and a sender's cells are carried over from case to case.
+//! Answers cases of fixed sub-channels, received, from standard input, one after the other, so that tests/compare can hold the code to the second
+//! program. The receiver of four and its buffers are carried over from case to case.
 //!
-//! A case, a number and a refusal stand as crates/answers/src/main.rt has them; the number of a case holds up to four of 16 bits, the first one
-//! lowest. An answer: what is told, and all bytes of the output, which is lent filled with 0xA5. Asked for, of the receiver (hearing.rt): n
-//! all anew, buffers filled with 0xA5; c a sub-channel configured (its number, R, depth); h a piece handed in until more is wanted (its
-//! number, how much of its receive buffer and of its word buffer is lent); x its numbers set; v its numbers, its two buffers, and its cells
-//! in the output. Of the sender (sending.rt): s a whole stream (R, depth); g the next group of one; q how many groups one of so many bytes
-//! has; p the place set; w the place, with the cells in the output.
+//! A case, a number and a refusal stand as crates/answers/src/main.rt has them; the number of a case holds three of 16 bits, the first one lowest.
+//! An answer: what is told, and all bytes of the output, which is lent filled with 0xA5. Asked for (hearing.rt): n all anew, buffers filled
+//! with 0xA5; c a sub-channel configured (its number, R, depth); h a piece handed in until more is wanted (its number, how much of its
+//! receive buffer and of its word buffer is lent); x its numbers set; v its numbers, its two buffers, and its cells in the output.
 mod hearing;
-mod sending;
 
-use interleaver::Matrix;
 use subchannel::Sub;
 use subchannels::Receiver;
 
-// What a file of cases carries over.
-struct Carried {
-    receiver: Receiver,
-    matrix: Matrix,
-}
-
-// Whether there was a case, and what is carried on.
+// Whether there was a case, and the receiver behind it.
 struct Turn {
     go: bool,
-    carried: Carried,
+    receiver: Receiver,
 }
 
 const HEAD: usize = 13;
@@ -38,11 +28,11 @@ fn main() {
     let mut out = io::large_buffer();
     let mut recv = [0xA5u8; RAWS];
     let mut word = [0xA5u8; WORDS];
-    let mut carried = fresh();
+    let mut receiver = Receiver::fresh();
     let mut cases = u64::MAX;
     while cases > 0 {
-        let turn = answer(carried, &mut recv, &mut word, &mut bytes, &mut out);
-        carried = turn.carried;
+        let turn = answer(receiver, &mut recv, &mut word, &mut bytes, &mut out);
+        receiver = turn.receiver;
         if !turn.go {
             return;
         }
@@ -50,16 +40,9 @@ fn main() {
     }
 }
 
-fn fresh() -> Carried {
-    Carried {
-        receiver: Receiver::fresh(),
-        matrix: Matrix::fresh(),
-    }
-}
-
 // Reads one case and writes its answer.
 fn answer(
-    carried: Carried,
+    receiver: Receiver,
     recv: &mut [u8],
     word: &mut [u8],
     bytes: &mut [u8],
@@ -67,16 +50,22 @@ fn answer(
 ) -> Turn {
     let mut head = [0u8; 13];
     if io::read_full(0, &mut head) != HEAD {
-        return Turn { go: false, carried };
+        return Turn {
+            go: false,
+            receiver,
+        };
     }
     let room = pair(head[9], head[10]);
     let n = pair(head[11], head[12]);
     if bytes.len() < n || out.len() < room {
-        return Turn { go: false, carried };
+        return Turn {
+            go: false,
+            receiver,
+        };
     }
     follow(
         head,
-        carried,
+        receiver,
         recv,
         word,
         &mut bytes[0..n],
@@ -87,7 +76,7 @@ fn answer(
 // Reads the bytes that follow a head, and writes the answer.
 fn follow(
     head: [u8; 13],
-    carried: Carried,
+    receiver: Receiver,
     recv: &mut [u8],
     word: &mut [u8],
     bytes: &mut [u8],
@@ -95,65 +84,54 @@ fn follow(
 ) -> Turn {
     let n = bytes.len();
     if io::read_full(0, bytes) != n {
-        return Turn { go: false, carried };
+        return Turn {
+            go: false,
+            receiver,
+        };
     }
-    respond(head, carried, recv, word, bytes, out)
+    respond(head, receiver, recv, word, bytes, out)
 }
 
 // Writes the answer to one case.
 fn respond(
     head: [u8; 13],
-    carried: Carried,
+    receiver: Receiver,
     recv: &mut [u8],
     word: &mut [u8],
     bytes: &[u8],
     out: &mut [u8],
 ) -> Turn {
     fill(out);
-    let next = tell(head[0], number(head), carried, recv, word, bytes, out);
+    let next = tell(head[0], number(head), receiver, recv, word, bytes, out);
     Turn {
         go: io::write_all(1, out),
-        carried: next,
+        receiver: next,
     }
 }
 
 fn tell(
     asked: u8,
     number: u64,
-    carried: Carried,
+    receiver: Receiver,
     recv: &mut [u8],
     word: &mut [u8],
     bytes: &[u8],
     out: &mut [u8],
-) -> Carried {
-    let receiver = carried.receiver;
-    let matrix = carried.matrix;
+) -> Receiver {
     match asked {
         b'n' => {
             fill(recv);
             fill(word);
-            fresh()
+            Receiver::fresh()
         }
-        b'c' => Carried {
-            receiver: hearing::configure(receiver, number),
-            matrix,
-        },
-        b'h' => Carried {
-            receiver: hearing::hear(receiver, number, recv, word, bytes),
-            matrix,
-        },
-        b'x' => Carried {
-            receiver: hearing::set(receiver, number, bytes),
-            matrix,
-        },
+        b'c' => hearing::configure(receiver, number),
+        b'h' => hearing::hear(receiver, number, recv, word, bytes),
+        b'x' => hearing::set(receiver, number, bytes),
         b'v' => {
             hearing::view(receiver, number, recv, word, out);
-            carried
+            receiver
         }
-        _ => Carried {
-            receiver,
-            matrix: sending::tell(asked, number, matrix, bytes, out),
-        },
+        _ => receiver,
     }
 }
 
@@ -193,12 +171,6 @@ fn fill(out: &mut [u8]) {
         out[i] = 0xA5;
         i += 1;
     }
-}
-
-// Cells, as many as there is room for.
-fn copy_cells(matrix: Matrix, out: &mut [u8]) {
-    let cells = matrix.cells;
-    base::copy(&cells, out);
 }
 
 // Writes a number, its low byte first.

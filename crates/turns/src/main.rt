@@ -1,15 +1,17 @@
-//! Answers cases of the interleaver from standard input, one after the other, so that tests/compare can hold the code to the second program.
+//! Answers cases of the interleaver, and of a fixed sub-channel's sender, from standard input, one after the other, so that tests/compare can hold the code to the second program.
 //! The sender's and the receiving side's states are carried over from case to case.
 //!
 //! A case and an answer have the form that crates/answers has. Asked for: N fresh states; I bytes pushed at the depth that the number says; Z the
 //! closing push; J received bytes taken in; X both places set to the number, and whether the first pass is over to the byte that follows;
-//! V the place of the sender (number 0) or of the receiving side (1), with the cells in the output and, of the latter, whether its
+//! s a whole stream sent, g the next group of one, with the sender's state, and q how many groups one of so many bytes has, R and depth in the
+//! number's low two 16 bits; V the place of the sender (number 0) or of the receiving side (1), with the cells in the output and, of the latter, whether its
 //! first pass is over behind them.
 use base::Written;
 use interleaver::Back;
 use interleaver::Matrix;
 use interleaver::Pulled;
 use interleaver::Pushed;
+use subsender::Counted;
 
 // Both sides.
 struct Sides {
@@ -118,6 +120,19 @@ fn tell(asked: u8, number: u64, sides: Sides, bytes: &[u8], out: &mut [u8]) -> T
             number: shown(sides, number, out),
             sides,
         },
+        b's' => Told {
+            number: written(subsender::send(low_pair(number), high_pair(number), bytes, out)),
+            sides,
+        },
+        b'g' => grouped(number, matrix, back, bytes, out),
+        b'q' => Told {
+            number: counted(subsender::count(
+                low_pair(number),
+                high_pair(number),
+                length_in(bytes),
+            )),
+            sides,
+        },
         _ => Told { number: 0, sides },
     }
 }
@@ -137,6 +152,40 @@ fn pulled(matrix: Matrix, p: Pulled) -> Told {
     Told {
         number: written(answer),
         sides: Sides { matrix, back },
+    }
+}
+
+// The next group; the bytes taken are told before it.
+fn grouped(number: u64, matrix: Matrix, back: Back, bytes: &[u8], out: &mut [u8]) -> Told {
+    let sent = subsender::send_group(low_pair(number), high_pair(number), matrix, bytes, out);
+    let answer = sent.written;
+    let next = sent.matrix;
+    print(sent.taken as u64);
+    Told {
+        number: written(answer),
+        sides: Sides { matrix: next, back },
+    }
+}
+
+fn low_pair(number: u64) -> usize {
+    (number % 65536) as usize
+}
+
+fn high_pair(number: u64) -> usize {
+    low_pair(number / 65536)
+}
+
+// The number in eight bytes.
+fn length_in(bytes: &[u8]) -> usize {
+    let mut head = [0u8; 13];
+    base::copy(bytes, &mut head[1..]);
+    number(head) as usize
+}
+
+fn counted(c: Counted) -> u64 {
+    match c {
+        Counted::Groups(n) => n as u64,
+        Counted::Refused(n) => 65536 + n as u64,
     }
 }
 
