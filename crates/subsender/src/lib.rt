@@ -214,7 +214,8 @@ pub fn send_group(
     stream: &[u8],
     out: &mut [u8],
 ) -> Sent
-    ensures { λ r. ⌜ (outcome (r .written) (now (out .exit)), r .taken, r .matrix) ≡ groupSending parity depth matrix (now (stream .entry)) (now (out .entry)) ⌝ }
+    ensures { λ r. ⌜ (outcome (r .written) (now (out .exit)), r .taken, r .matrix) ≡
+        groupSending parity depth matrix (now (stream .entry)) (now (out .entry)) ⌝ }
 {
     if is_beyond(depth, matrix.place) {
         return unsent(matrix, Refusal::STATE);

@@ -1,4 +1,5 @@
-//! Answers cases of the interleaver, and of a fixed sub-channel's sender, from standard input, one after the other, so that tests/compare can hold the code to the second program.
+//! Answers cases of the interleaver, and of a fixed sub-channel's sender, from standard input, one after the other, so that tests/compare can
+//! hold the code to the second program.
 //! The sender's and the receiving side's states are carried over from case to case.
 //!
 //! A case and an answer have the form that crates/answers has. Asked for: N fresh states; I bytes pushed at the depth that the number says; Z the

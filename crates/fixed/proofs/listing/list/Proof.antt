@@ -1,10 +1,10 @@
--- `fixed::list` is safe and ends: the calls that may come grow fewer.
+-- `fixed::listing::list` is safe and ends: the calls that may come grow fewer.
 use Prim.Native.Nat.{_≤_}
 use mathlib.Core.Path.{_≡_}
 use lib.ListN.{length}
 use borrow.Author.Needs.{needs}
-use Rattle.fixed.proofs.list.Statement.{statement}
-use Rattle.fixed.proofs.list.Tie as tie
+use Rattle.fixed.proofs.listing.list.Statement.{statement}
+use Rattle.fixed.proofs.listing.list.Tie as tie
 
 abbrev Inv-loop : tie.InvT-loop
 Inv-loop recv₀ word₀ piece turn₀ i₀ calls₀ recv word turn i calls = (i ≤ length piece) × (length recv ≡ length recv₀) × (length word ≡ length word₀)

@@ -1,10 +1,10 @@
--- `fixed::send_last` is safe and ends: the groups that are left grow fewer.
+-- `fixed::sending::send_last` is safe and ends: the groups that are left grow fewer.
 use Prim.Native.Nat.{_-_, _≤_}
 use mathlib.Core.Path.{_≡_}
 use lib.ListN.{length}
 use borrow.Author.Needs.{needs}
-use Rattle.fixed.proofs.send_last.Statement.{statement}
-use Rattle.fixed.proofs.send_last.Tie as tie
+use Rattle.fixed.proofs.sending.send_last.Statement.{statement}
+use Rattle.fixed.proofs.sending.send_last.Tie as tie
 
 abbrev Inv-loop : tie.InvT-loop
 Inv-loop parity depth groups rest out₀ matrix₀ at₀ i₀ out matrix at i = (at ≤ length rest) × (i ≤ groups) × (length out ≡ length out₀)

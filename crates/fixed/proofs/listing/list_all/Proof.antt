@@ -1,11 +1,11 @@
--- `fixed::list_all` is safe and ends: the buffers keep their lengths, and the reads that may come grow fewer.
+-- `fixed::listing::list_all` is safe and ends: the buffers keep their lengths, and the reads that may come grow fewer.
 use mathlib.Core.Path.{_≡_}
 use lib.ListN.{length}
 use Rattle.frames.specs.Contents.{rawLimit}
 use Rattle.blocks.specs.Sender.{wordBytes}
 use borrow.Author.Needs.{needs}
-use Rattle.fixed.proofs.list_all.Statement.{statement}
-use Rattle.fixed.proofs.list_all.Tie as tie
+use Rattle.fixed.proofs.listing.list_all.Statement.{statement}
+use Rattle.fixed.proofs.listing.list_all.Tie as tie
 
 abbrev Inv-loop : tie.InvT-loop
 Inv-loop parity depth recv₀ word₀ piece₀ sub₀ totals₀ reads₀ recv word piece sub totals reads =
