@@ -94,8 +94,8 @@ heard-after port t [] s =
 heard-after port t (r ∷ ss) s =
     let n : Noted = ruled (lastFrom r ss) s in
     let e : plus (sum (told (r ∷ ss))) (one n) ≡ sum (told ((r ∷ ss) ++ (s ∷ []))) =
-        ap (plus (sum (told (r ∷ ss)))) (sym (sum-one n)) ∙ sym (sum-append (told (r ∷ ss)) (n ∷ []))
-        ∙ ap (λ (ns : List Noted). sum (First ∷ ns)) (sym (from-snoc ss r s)) in
+    ap (plus (sum (told (r ∷ ss)))) (sym (sum-one n)) ∙ sym (sum-append (told (r ∷ ss)) (n ∷ []))
+    ∙ ap (λ (ns : List Noted). sum (First ∷ ns)) (sym (from-snoc ss r s)) in
     (λ i. row port ((plus-assoc t (sum (told (r ∷ ss))) (one n) ∙ ap (plus t) e) i) true (sym (last-snoc ss r s) i))
 
 pub none-after : (port : ℕ) (t : Tally) → after port t [] ≡ row port t false 0
