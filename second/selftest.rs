@@ -11,7 +11,7 @@ use crate::key_cases::{self, checked, told_length, with_check, with_key};
 use crate::packet::{self, Fault, Packet, ESCAPE, FLAG, FORMAT, RAW_LIMIT, RESTRICTED};
 use crate::parity::{self, WORD};
 use crate::stream::{self, Reader};
-use crate::{board, fcs, listing, ports, repair};
+use crate::{board, fcs, listing, ports, repair, sheet};
 
 pub fn run(seed: u64) {
     let mut random = Random::new(seed);
@@ -24,6 +24,7 @@ pub fn run(seed: u64) {
     println!("the paper's numbers, its case, edges and slips: held");
     ports::test();
     println!("request W1's distances and tables: held");
+    println!("request W13's sheet: {} cases held", sheet::test());
     println!("the board's lines: held, and of {} recordings line by line by their listings", board::test(&mut Random::new(seed)));
     checks(&mut random);
     elements();

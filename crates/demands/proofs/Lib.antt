@@ -18,3 +18,4 @@ pub mod Manager
 pub mod There
 pub mod Numbers
 pub mod Missed
+pub mod Sheet

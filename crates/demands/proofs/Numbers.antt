@@ -14,6 +14,7 @@ use Rattle.listed.specs.Apart.{nextAt, inStream, apart}
 use Rattle.listed.specs.Lines.{decimal, decimalBy, told, lines, count, endLine, wrongLine}
 use Rattle.listed.specs.Listing.{heard, lastLine, listed, listing}
 use Rattle.lines.specs.Noted.{notedLine}
+use Rattle.lines.specs.Row.{rowLine}
 use Rattle.ports.specs.Ports.{placeOf, freePlace, twice, noting, forgetting}
 use Rattle.demands.specs.Numbers.{table, wrong}
 use Rattle.demands.specs.Printed.{printed}
@@ -23,5 +24,5 @@ unfolding fcs register entered contents withCheck judge closed closedBy judgeCon
 numbers = refl
 
 pub as-printed : wrong printed ≡ []
-unfolding fcs register entered contents withCheck escape escapeByte judge closed closedBy judgeContents judgeBody scan last wrongFrom right plain class told lines count endLine wrongLine decimal decimalBy heard lastLine listed listing apart inStream nextAt notedLine noting forgetting placeOf freePlace twice
+unfolding fcs register entered contents withCheck escape escapeByte judge closed closedBy judgeContents judgeBody scan last wrongFrom right plain class told lines count endLine wrongLine decimal decimalBy heard lastLine listed listing apart inStream nextAt notedLine rowLine noting forgetting placeOf freePlace twice
 as-printed = refl

@@ -7,3 +7,4 @@ pub mod Way
 pub mod Numbers
 pub mod Printed
 pub mod Missed
+pub mod Sheet

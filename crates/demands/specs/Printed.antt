@@ -4,7 +4,7 @@
 -- printed    the rows
 use Prim.Native.Nat.{ℕ, zero, suc, _-_}
 use mathlib.Core.Path.{_≡_, refl}
-use mathlib.Core.Bool.{false}
+use mathlib.Core.Bool.{true, false}
 use mathlib.Core.List.{List, [], _∷_, _++_, map}
 use lib.ListN.{length, replicate}
 use Rattle.base.specs.Calls.{joined}
@@ -39,6 +39,9 @@ use Rattle.listed.specs.declared.Place.the-variants.{Mark}
 use Rattle.recording.specs.declared.recording.Recording.{Recording}
 use Rattle.recording.specs.Printed.{lastOf}
 use Rattle.lines.specs.Noted.{notedLine}
+use Rattle.lines.specs.Row.{rowLine, rowLongest}
+use Rattle.sheets.specs.Tally.{far as sheetFar}
+use Rattle.sheets.specs.Month.{portLimit as sheetPorts, Counting, counts, wrong as wrongly, refuses, ruling}
 use Rattle.ports.specs.Distance.{around, half, ruled, lastBehind}
 use Rattle.ports.specs.Ports.{placeLimit as mostPorts, freed, entry, noting, forgetting}
 use Rattle.ports.specs.declared.Entry.{Entry}
@@ -129,6 +132,12 @@ abbrev tableOf : ℕ → List Entry
 tableOf zero = []
 tableOf (suc n) = entry n 7 ∷ tableOf n
 
+-- what becomes of a recording on the monthly sheet: `X`, or the number of a refusal
+abbrev becomes : Counting → List ℕ
+becomes counts = []
+becomes wrongly = 88 ∷ []
+becomes (refuses n) = n ∷ []
+
 -- the number of a row, what the definitions give, what the paper prints
 abbrev pub printed : List Line
 printed =
@@ -180,4 +189,7 @@ printed =
     (46, notedLine 20736 411 First, 50 ∷ 48 ∷ 55 ∷ 51 ∷ 54 ∷ 32 ∷ 52 ∷ 49 ∷ 49 ∷ 32 ∷ 102 ∷ 105 ∷ 114 ∷ 115 ∷ 116 ∷ 10 ∷ []) ∷  -- `PORT SEQUENCE first`: 20736 411 first
     (47, joined (map (notedLine 1 2) (InOrder ∷ Repeated ∷ Late ∷ [])), 49 ∷ 32 ∷ 50 ∷ 32 ∷ 105 ∷ 110 ∷ 32 ∷ 111 ∷ 114 ∷ 100 ∷ 101 ∷ 114 ∷ 10 ∷ 49 ∷ 32 ∷ 50 ∷ 32 ∷ 114 ∷ 101 ∷ 112 ∷ 101 ∷ 97 ∷ 116 ∷ 101 ∷ 100 ∷ 10 ∷ 49 ∷ 32 ∷ 50 ∷ 32 ∷ 108 ∷ 97 ∷ 116 ∷ 101 ∷ 10 ∷ []) ∷  -- `in order`, `repeated`, `late`
     (48, joined (map (notedLine 1 2) (Missing 32766 ∷ NotNoted 40 ∷ [])), 49 ∷ 32 ∷ 50 ∷ 32 ∷ 109 ∷ 105 ∷ 115 ∷ 115 ∷ 105 ∷ 110 ∷ 103 ∷ 32 ∷ 51 ∷ 50 ∷ 55 ∷ 54 ∷ 54 ∷ 10 ∷ 49 ∷ 32 ∷ 50 ∷ 32 ∷ 114 ∷ 101 ∷ 102 ∷ 117 ∷ 115 ∷ 101 ∷ 100 ∷ 32 ∷ 52 ∷ 48 ∷ 10 ∷ []) ∷  -- `missing N`, `refused 40`
+    (49, sheetPorts ∷ sheetFar ∷ rowLongest ∷ [], 16 ∷ 18446744073709551615 ∷ 147 ∷ []) ∷  -- a sheet of 16 ports, so 40 for "the sheet's seventeenth"; 64 bits; and our own limit of a line
+    (50, rowLine 20736 6 1 2 3 8, 50 ∷ 48 ∷ 55 ∷ 51 ∷ 54 ∷ 32 ∷ 54 ∷ 32 ∷ 49 ∷ 32 ∷ 50 ∷ 32 ∷ 51 ∷ 32 ∷ 51 ∷ 32 ∷ 56 ∷ 10 ∷ []) ∷  -- `PORT DELIVERED REPEATED LATE MISSING MISSING TOTAL`: 20736 6 1 2 3 3 8
+    (51, joined (map becomes (ruling false true true ∷ ruling true true true ∷ ruling true true false ∷ ruling true false true ∷ ruling true false false ∷ [])), 88 ∷ 40 ∷ 40 ∷ 44 ∷ []) ∷  -- "40 .., then 44"; `X` before them
     []

@@ -2,9 +2,10 @@
 -- rowsOf, sheetOf, freshSheet     a sheet's rows, and the sheet of rows
 -- beginning, noting, closing      a recording begins, delivers a packet, ends
 -- printing                        a row's line
+-- recorded                        a whole recording
 use Prim.Native.Nat.{ℕ}
 use mathlib.Core.Bool.{Bool, true, false, _||_}
-use mathlib.Core.List.{List, [], map}
+use mathlib.Core.List.{List, [], _∷_, map}
 use lib.Dec.{ltb}
 use lib.ListN.{length, take, getD}
 use Rattle.base.specs.Choice.{pick}
@@ -93,3 +94,13 @@ unfoldable pub printing : Sheet → ℕ → List ℕ → Outcome
 printing s i out =
     pick (ltb portLimit (s .ports)) (refused 10 out)
     (pick (ltb i (s .ports)) (write (lineOf (getD (rowsOf s) i (blank 0))) out) (write [] out))
+
+-- ---- a whole recording
+-- packets one after the other
+unfoldable pub notings : Draft → List Mark → Draft
+notings d [] = d
+notings d (m ∷ ms) = notings (noting d (m .0) (m .1)) ms
+
+-- a recording's packets, from a sheet on, and its end
+abbrev pub recorded : Sheet → Bool → List Mark → Closed
+recorded s well ms = closing (notings (beginning s) ms) well
