@@ -28,7 +28,7 @@ prove_under() {
         case " $needed $1 " in *" $crate "*) ;; *) continue ;; esac
         # shellcheck disable=SC2086
         if stale "$crate" $under; then
-            echo "bin/$1: proving $crate" >&2
+            echo "bin/${0##*/}: proving $crate" >&2
         elif [ "$crate" != "$1" ]; then
             continue
         fi
