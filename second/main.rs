@@ -29,6 +29,8 @@
 //!   second missed            which bids were missed in the recording on standard input (ports.rs)
 //!   second numbered FILE [SEED]
 //!                            a recording with distances of every kind between sequence numbers
+//!   second sheet FILE..      the monthly reception sheet of recordings (sheet.rs)
+//!   second months DIR [SEED] groups of recordings to be counted, into a folder
 //!   second tables CASES ANSWERS [SEED]
 //!                            calls on tables of ports, and what they answer, into two files
 //!   second kinds FILE..      how often each kind of line occurs in the listings of recordings; fails where one never does
@@ -69,6 +71,7 @@ mod ports;
 mod repair;
 mod samples;
 mod selftest;
+mod sheet;
 mod stream;
 mod time;
 mod unit_cases;
@@ -110,6 +113,9 @@ fn main() {
         ["missed"] => std::process::exit(ports::show_missed()),
         ["numbered", file] => Some(ports::write_numbered(file, 1)),
         ["numbered", file, seed] => number(seed).map(|seed| ports::write_numbered(file, seed)),
+        ["sheet", _, ..] => std::process::exit(sheet::show(&words[1..])),
+        ["months", dir] => Some(sheet::write_months(dir, 1)),
+        ["months", dir, seed] => number(seed).map(|seed| sheet::write_months(dir, seed)),
         ["tables", asked, told] => Some(ports::write_cases(asked, told, 1)),
         ["tables", asked, told, seed] => number(seed).map(|seed| ports::write_cases(asked, told, seed)),
         ["kinds", ref files @ ..] => std::process::exit(kinds::show(files)),
@@ -130,6 +136,7 @@ fn main() {
         eprintln!("  | capture | replay | captures DIR [SEED] | viewed");
         eprintln!("  | recordings DIR [SEED] | steady plain|marked MIB | samples DIR | cases calls|turns|pieces|channels|listings|rooms|schedules|mixes|imports [SEED]");
         eprintln!("  | compare CASES ANSWERS .. | test [SEED] | words R PLACES N | time N M | numbered FILE [SEED] | tables CASES ANSWERS [SEED] | unit WORDS..");
+        eprintln!("  | sheet FILE.. | months DIR [SEED]");
         std::process::exit(2);
     }
 }

@@ -11,7 +11,7 @@ use crate::key_cases::{self, checked, told_length, with_check, with_key};
 use crate::packet::{self, Fault, Packet, ESCAPE, FLAG, FORMAT, RAW_LIMIT, RESTRICTED};
 use crate::parity::{self, WORD};
 use crate::stream::{self, Reader};
-use crate::{board, capture, fcs, fixed_cases, listing, ports, repair, unit_cases, units};
+use crate::{board, capture, fcs, fixed_cases, listing, ports, repair, sheet, unit_cases, units};
 
 pub fn run(seed: u64) {
     let mut random = Random::new(seed);
@@ -24,6 +24,7 @@ pub fn run(seed: u64) {
     println!("the paper's numbers, its case, edges and slips: held");
     ports::test();
     println!("request W1's distances and tables: held");
+    println!("request W13's sheet: {} cases held", sheet::test());
     println!("source document 003's tables: held, and {} units there and back", units::test(&mut Random::new(seed)));
     let [written, read] = unit_cases::answers(seed);
     assert!([0, 50, 51, 53, 54, 23].iter().all(|number| written[*number] >= 10), "{written:?}");

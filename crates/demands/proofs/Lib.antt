@@ -26,3 +26,4 @@ pub mod Missed
 pub mod Grouped
 pub mod UnitRows
 pub mod Units
+pub mod Sheet

@@ -17,6 +17,7 @@ use Rattle.listed.specs.Apart.{nextAt, inStream, apart}
 use Rattle.listed.specs.Lines.{decimal, decimalBy, told, lines, count, endLine, wrongLine}
 use Rattle.listed.specs.Listing.{heard, lastLine, listed, listing}
 use Rattle.lines.specs.Noted.{notedLine}
+use Rattle.lines.specs.Row.{rowLine}
 use Rattle.ports.specs.Ports.{placeOf, freePlace, twice, noting, forgetting}
 use Rattle.units.specs.Bits.{digits, number}
 use Rattle.units.specs.Tables.{heads, start, step, unfit}
@@ -34,5 +35,5 @@ unfolding fcs register entered contents withCheck escape escapeByte judge closed
 as-printed = refl
 
 pub as-requested : wrong requested ≡ []
-unfolding digits number isHeader named heads start step unfit records read entry judgeBody plain
+unfolding digits number isHeader named heads start step unfit records read entry judgeBody plain rowLine decimal decimalBy
 as-requested = refl

@@ -70,6 +70,8 @@ use Rattle.ports.specs.declared.Noted.{Noted}
 use Rattle.ports.specs.declared.Forgot.{Forgot}
 use Rattle.ports.specs.Distance.{ruled}
 use Rattle.ports.specs.Ports.{unfit, noting, forgetting}
+use Rattle.lines.specs.Row.{rowLine}
+use Rattle.sheet.specs.Called.{freshSheet, beginning, noting as counted, closing as settling, printing}
 use Rattle.demands.specs.Means.{Means, MeansByHand}
 use Rattle.packet.proofs.write_as as packet-write-as
 use Rattle.packet.proofs.write as packet-write
@@ -137,6 +139,7 @@ use Rattle.lines.proofs.print as lines-print
 use Rattle.lines.proofs.print_end as lines-print-end
 use Rattle.lines.proofs.print_wrong as lines-print-wrong
 use Rattle.lines.proofs.print_noted as lines-print-noted
+use Rattle.lines.proofs.print_row as lines-print-row
 use Rattle.lines.proofs.piece.Piece.line_feed as lines-line-feed
 use Rattle.lines.proofs.piece.Piece.shown_byte as lines-shown-byte
 use Rattle.lines.proofs.piece.Piece.lead as lines-lead
@@ -150,6 +153,11 @@ use Rattle.ports.proofs.by_value.Ports.note as ports-ports-note
 use Rattle.ports.proofs.by_value.Ports.forget as ports-ports-forget
 use Rattle.ports.proofs.note as ports-note
 use Rattle.ports.proofs.forget as ports-forget
+use Rattle.sheet.proofs.Sheet.fresh as sheet-fresh
+use Rattle.sheet.proofs.Sheet.begin as sheet-begin
+use Rattle.sheet.proofs.Sheet.print as sheet-print
+use Rattle.sheet.proofs.Draft.note as sheet-note
+use Rattle.sheet.proofs.Draft.close as sheet-close
 use Rattle.office.proofs.Office.start as office-start
 use Rattle.office.proofs.Office.hear as office-hear
 use Rattle.office.proofs.Office.close as office-close
@@ -557,6 +565,10 @@ pub lines-print-noted-means : Means lines-print-noted.Statement.statement lines-
     λ κs port sequence noted out w. outcome w (now (out .exit)) ≡ write (notedLine port sequence noted) (now (out .entry))
 lines-print-noted-means = (λ M. lines-print-noted.Met.met, λ κs a. tt, λ κs a z ws. (λ p. p, λ p. p))
 
+pub lines-print-row-means : Means lines-print-row.Statement.statement lines-print-row.Kinds.ps lines-print-row.Kinds.r lines-print-row.Reads.Asked lines-print-row.Reads.Learnt
+    λ κs port delivered repeated late missing total out w. outcome w (now (out .exit)) ≡ write (rowLine port delivered repeated late missing total) (now (out .entry))
+lines-print-row-means = (λ M. lines-print-row.Met.met, λ κs a. tt, λ κs a z ws. (λ p. p, λ p. p))
+
 -- ---- the board's lines, in pieces: a text at the start, zeros behind it up to 128 bytes, and the text's length
 pub lines-line-feed-means : Means lines-line-feed.Statement.statement lines-line-feed.Kinds.ps lines-line-feed.Kinds.r lines-line-feed.Reads.Asked lines-line-feed.Reads.Learnt
     λ κs r. r ≡ pieceOf (10 ∷ [])
@@ -581,6 +593,27 @@ lines-wrong-at-means = (λ M. lines-wrong-at.Met.met, λ κs a. tt, λ κs a z w
 pub lines-none-means : Means lines-none.Statement.statement lines-none.Kinds.ps lines-none.Kinds.r lines-none.Reads.Asked lines-none.Reads.Learnt
     λ κs r. r ≡ pieceOf []
 lines-none-means = (λ M. lines-none.Met.met, λ κs a. tt, λ κs a z ws. (λ p. p, λ p. p))
+
+-- ---- the monthly sheet
+pub sheet-fresh-means : Means sheet-fresh.Statement.statement sheet-fresh.Kinds.ps sheet-fresh.Kinds.r sheet-fresh.Reads.Asked sheet-fresh.Reads.Learnt
+    λ κs r. r ≡ freshSheet
+sheet-fresh-means = (λ M. sheet-fresh.Met.met, λ κs a. tt, λ κs a z ws. (λ p. p, λ p. p))
+
+pub sheet-begin-means : Means sheet-begin.Statement.statement sheet-begin.Kinds.ps sheet-begin.Kinds.r sheet-begin.Reads.Asked sheet-begin.Reads.Learnt
+    λ κs self r. r ≡ beginning self
+sheet-begin-means = (λ M. sheet-begin.Met.met, λ κs a. tt, λ κs a z ws. (λ p. p, λ p. p))
+
+pub sheet-print-means : Means sheet-print.Statement.statement sheet-print.Kinds.ps sheet-print.Kinds.r sheet-print.Reads.Asked sheet-print.Reads.Learnt
+    λ κs self i out w. outcome w (now (out .exit)) ≡ printing self i (now (out .entry))
+sheet-print-means = (λ M. sheet-print.Met.met, λ κs a. tt, λ κs a z ws. (λ p. p, λ p. p))
+
+pub sheet-note-means : Means sheet-note.Statement.statement sheet-note.Kinds.ps sheet-note.Kinds.r sheet-note.Reads.Asked sheet-note.Reads.Learnt
+    λ κs self port sequence r. r ≡ counted self port sequence
+sheet-note-means = (λ M. sheet-note.Met.met, λ κs a. tt, λ κs a z ws. (λ p. p, λ p. p))
+
+pub sheet-close-means : Means sheet-close.Statement.statement sheet-close.Kinds.ps sheet-close.Kinds.r sheet-close.Reads.Asked sheet-close.Reads.Learnt
+    λ κs self well r. r ≡ settling self well
+sheet-close-means = (λ M. sheet-close.Met.met, λ κs a. tt, λ κs a z ws. (λ p. p, λ p. p))
 
 -- ---- a table of ports: by value ..
 pub ports-rule-means : Means ports-rule.Statement.statement ports-rule.Kinds.ps ports-rule.Kinds.r ports-rule.Reads.Asked ports-rule.Reads.Learnt

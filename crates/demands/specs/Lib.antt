@@ -11,3 +11,4 @@ pub mod Requested
 pub mod Missed
 pub mod Units
 pub mod Captures
+pub mod Sheet

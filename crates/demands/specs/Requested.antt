@@ -1,5 +1,5 @@
--- What paper 02 prints of fixed sub-channels (W7), Layer 2 units (W10) and captures (W11), its numbers said a second time as specs/Printed does it
--- of paper 01. What a law says for all numbers stands in proofs/SubChannels, proofs/Units and proofs/Capture.
+-- What paper 02 prints of fixed sub-channels (W7), Layer 2 units (W10), captures (W11) and the monthly sheet (W13), its numbers said a second time as
+-- specs/Printed does it of paper 01. What a law says for all numbers stands in proofs/SubChannels, proofs/Units, proofs/Capture and proofs/Sheet.
 -- requested    the rows
 use Prim.Native.Nat.{ℕ, _-_}
 use mathlib.Core.Bool.{true, false}
@@ -24,6 +24,9 @@ use Rattle.units.specs.Tables as units
 use Rattle.units.specs.Reading.{named}
 use Rattle.captures.specs.File.{header, records}
 use Rattle.captures.specs.Import.{entryLimit, imported}
+use Rattle.lines.specs.Row.{rowLine, rowLongest}
+use Rattle.sheets.specs.Tally.{far}
+use Rattle.sheets.specs.Month.{portLimit, Counting, counts, wrong, refuses, ruling}
 use Rattle.demands.specs.Numbers.{Line}
 use Rattle.demands.specs.Printed.{toldNumber, numberOf}
 
@@ -86,6 +89,13 @@ importNumber bs = imported bs .1
 abbrev recorded : ℕ → ℕ → List ℕ
 recorded i b = i ∷ 0 ∷ 0 ∷ 0 ∷ 0 ∷ 0 ∷ 0 ∷ 0 ∷ 6 ∷ 0 ∷ 0 ∷ 0 ∷ 6 ∷ 0 ∷ 0 ∷ 0 ∷ 0x21 ∷ 0x00 ∷ 0x51 ∷ 0x00 ∷ 0x00 ∷ b ∷ []
 
+-- ---- W13
+-- what becomes of a recording on the monthly sheet: `X`, or the number of a refusal
+abbrev becomes : Counting → List ℕ
+becomes counts = []
+becomes wrong = 88 ∷ []
+becomes (refuses n) = n ∷ []
+
 -- the number of a row, what the definitions give, what the paper prints
 abbrev pub requested : List Line
 requested =
@@ -120,7 +130,7 @@ requested =
       120 ∷ 2993 ∷ 24 ∷ 120 ∷ 3119 ∷ 23 ∷ 120 ∷ 3263 ∷ 22 ∷ 42000 ∷ 1247 ∷ 24 ∷ 42001 ∷ 1303 ∷ 23 ∷ 42001 ∷ 1359 ∷ 22 ∷ [],
     ) ∷
     -- 50: a header spacing below zero, a length above the limit
-    (12, map unfitOf (143 ∷ 144 ∷ 145 ∷ 288 ∷ 289 ∷ 295 ∷ 303 ∷ 146176 ∷ 146177 ∷ []), 1 ∷ 0 ∷ 1 ∷ 0 ∷ 0 ∷ 1 ∷ 0 ∷ 0 ∷ 1 ∷ []) ∷
+    (12, map unfitOf (143 ∷ 144 ∷ 145 ∷ 286 ∷ 288 ∷ 289 ∷ 295 ∷ 303 ∷ 146176 ∷ 146177 ∷ []), 1 ∷ 0 ∷ 1 ∷ 1 ∷ 0 ∷ 0 ∷ 1 ∷ 0 ∷ 0 ∷ 1 ∷ []) ∷
     -- W11: a classic little-endian pcap file, version 2.4, zone and accuracy 0, snapshot length 65,535, link type 147
     (13, header, 0xD4 ∷ 0xC3 ∷ 0xB2 ∷ 0xA1 ∷ 2 ∷ 0 ∷ 4 ∷ 0 ∷ 0 ∷ 0 ∷ 0 ∷ 0 ∷ 0 ∷ 0 ∷ 0 ∷ 0 ∷ 0xFF ∷ 0xFF ∷ 0 ∷ 0 ∷ 147 ∷ 0 ∷ 0 ∷ 0 ∷ []) ∷
     -- "format byte to last payload byte, seconds being the packet's number from 0"; not escaped, without the check
@@ -134,4 +144,14 @@ requested =
     ) ∷
     -- 11 where the store of an import is under 8,231 bytes
     (16, entryLimit ∷ [], 8231 ∷ []) ∷
+    -- W13: 16 ports, so 40 for "the sheet's seventeenth port"; 64 bits; and our own limit of a line
+    (17, portLimit ∷ far ∷ rowLongest ∷ [], 16 ∷ 18446744073709551615 ∷ 147 ∷ []) ∷
+    -- `PORT DELIVERED REPEATED LATE MISSING MISSING TOTAL`: 20736 6 1 2 3 3 8
+    (18, rowLine 20736 6 1 2 3 8, 50 ∷ 48 ∷ 55 ∷ 51 ∷ 54 ∷ 32 ∷ 54 ∷ 32 ∷ 49 ∷ 32 ∷ 50 ∷ 32 ∷ 51 ∷ 32 ∷ 51 ∷ 32 ∷ 56 ∷ 10 ∷ []) ∷
+    -- "40 .., then 44"; `X` before them
+    (
+      19,
+      joined (map becomes (ruling false true true ∷ ruling true true true ∷ ruling true true false ∷ ruling true false true ∷ ruling true false false ∷ [])),
+      88 ∷ 40 ∷ 40 ∷ 44 ∷ [],
+    ) ∷
     []

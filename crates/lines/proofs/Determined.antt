@@ -8,6 +8,8 @@ use Rattle.lines.proofs.print_end.Kinds as print-end-kinds
 use Rattle.lines.proofs.print_end.Reads as print-end-reads
 use Rattle.lines.proofs.noted.print_noted.Kinds as print-noted-kinds
 use Rattle.lines.proofs.noted.print_noted.Reads as print-noted-reads
+use Rattle.lines.proofs.row.print_row.Kinds as print-row-kinds
+use Rattle.lines.proofs.row.print_row.Reads as print-row-reads
 use Rattle.lines.proofs.print_wrong.Kinds as print-wrong-kinds
 use Rattle.lines.proofs.print_wrong.Reads as print-wrong-reads
 use Rattle.lines.proofs.piece.Piece.line_feed.Kinds as line-feed-kinds
@@ -35,6 +37,10 @@ print-wrong-determined κs a z z′ ws ws′ pre p q = (same-answer p q, skip (b
 
 pub print-noted-determined : Determined print-noted-kinds.ps print-noted-kinds.r print-noted-reads.Asked print-noted-reads.Learnt
 print-noted-determined κs a z z′ ws ws′ pre p q = (same-answer p q, skip (skip (skip (buffer (same-output p q) refl))))
+
+pub print-row-determined : Determined print-row-kinds.ps print-row-kinds.r print-row-reads.Asked print-row-reads.Learnt
+print-row-determined κs a z z′ ws ws′ pre p q =
+    (same-answer p q, skip (skip (skip (skip (skip (skip (buffer (same-output p q) refl)))))))
 
 pub line-feed-determined : Determined line-feed-kinds.ps line-feed-kinds.r line-feed-reads.Asked line-feed-reads.Learnt
 line-feed-determined κs a z z′ ws ws′ pre p q = (same p q, refl)

@@ -1,4 +1,4 @@
-//! The lines of a listing, and of packets noted in a table of ports, written.
+//! The lines of a listing, of packets noted in a table of ports, and of the monthly sheet, written.
 ghost use mathlib.Core.Path.{_≡_};
 ghost use Prim.Native.Nat.{_+_, _≤_};
 ghost use mathlib.Core.List.{[], _∷_, _++_};
@@ -18,9 +18,11 @@ use packet::Judged;
 
 mod noted;
 mod piece;
+mod row;
 
 pub use noted::print_noted;
 pub use piece::Piece;
+pub use row::print_row;
 
 /// Lines.
 pub struct Line;
@@ -28,6 +30,8 @@ pub struct Line;
 impl Line {
     /// No line is longer.
     pub const LONGEST: usize = 128;
+    /// Nor is a line of the monthly sheet longer.
+    pub const ROW: usize = 147;
 }
 
 // A number's digits.

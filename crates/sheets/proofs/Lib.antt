@@ -3,3 +3,5 @@ pub mod Ports
 pub mod Running
 pub mod Kept
 pub mod Counted
+pub mod Places
+pub mod Numbers

@@ -78,9 +78,9 @@ step-is month ms m =
     let q : ℕ = m .0 in
     let s : ℕ = m .1 in
     let own : heardRow (runningRow month ms q) s ≡ runningRow month (ms ++ (m ∷ [])) q =
-        heard-after q (numbers q month) (numbersOf q ms) s ∙ ap (after q (numbers q month)) (sym (numbers-own ms m)) in
+    heard-after q (numbers q month) (numbersOf q ms) s ∙ ap (after q (numbers q month)) (sym (numbers-own ms m)) in
     let first : (In q (addedAll (portsOf month) ms) → ⊥) → heardRow (blank q) s ≡ runningRow month (ms ++ (m ∷ [])) q =
-        λ out. ap (λ (r : Row). heardRow r s) (sym (none-after q nothing) ∙ (λ i. after q (sym (absent-before month ms q out) i) (sym (absent-now month ms q out) i))) ∙ own in
+    λ out. ap (λ (r : Row). heardRow r s) (sym (none-after q nothing) ∙ (λ i. after q (sym (absent-before month ms q out) i) (sym (absent-now month ms q out) i))) ∙ own in
     note-map q s _ _ _ _ _ _ (λ p n. ap (after p (numbers p month)) (numbers-other ms m p n)) own (addedAll (portsOf month) ms) (all-rises ms (portsOf month) (ports-rise month)) first
     ∙ ap (map (runningRow month (ms ++ (m ∷ [])))) (sym (all-snoc ms m (portsOf month)))
 

@@ -2,7 +2,7 @@
 -- plus-assoc, plus-none      numbers together
 -- after                      a port's row behind some of a recording's packets, and heard-after: behind one more
 -- numbers-with               its numbers in a month with one recording more
--- loss                       the loss's second number is the missing and the packets in order, first or after a gap
+-- loss, month-loss           the loss's second number is the missing and the packets in order, first or after a gap
 -- delivered-all              each packet is delivered, and is one of these, repeated or late
 use Prim.Native.Nat.{ℕ, zero, suc, _+_, _-_}
 use native.Mathlib.Omega.{arith}
@@ -17,8 +17,8 @@ use Rattle.ports.specs.declared.Noted.{Noted}
 use Rattle.ports.specs.declared.Noted.the-variants.{First, InOrder, Repeated, Missing, Late, Refused}
 use Rattle.sheets.specs.declared.Tally.{Tally}
 use Rattle.sheets.specs.declared.Row.{Row}
-use Rattle.sheets.specs.Tally.{toldFrom, told, tallied, nothing, plus, before, timely, again, behind, one, sum, tally}
-use Rattle.sheets.specs.Month.{Mark, Month, numbersOf, numbers, with}
+use Rattle.sheets.specs.Tally.{toldFrom, told, tallied, nothing, plus, before, timely, again, behind, one, sum, tally, timelyIn}
+use Rattle.sheets.specs.Month.{Mark, Month, numbersOf, numbers, timelyOf, with}
 use Rattle.sheets.specs.Rows.{row, blank, heardRow}
 
 -- ---- numbers together
@@ -94,8 +94,8 @@ heard-after port t [] s =
 heard-after port t (r ∷ ss) s =
     let n : Noted = ruled (lastFrom r ss) s in
     let e : plus (sum (told (r ∷ ss))) (one n) ≡ sum (told ((r ∷ ss) ++ (s ∷ []))) =
-        ap (plus (sum (told (r ∷ ss)))) (sym (sum-one n)) ∙ sym (sum-append (told (r ∷ ss)) (n ∷ []))
-        ∙ ap (λ (ns : List Noted). sum (First ∷ ns)) (sym (from-snoc ss r s)) in
+    ap (plus (sum (told (r ∷ ss)))) (sym (sum-one n)) ∙ sym (sum-append (told (r ∷ ss)) (n ∷ []))
+    ∙ ap (λ (ns : List Noted). sum (First ∷ ns)) (sym (from-snoc ss r s)) in
     (λ i. row port ((plus-assoc t (sum (told (r ∷ ss))) (one n) ∙ ap (plus t) e) i) true (sym (last-snoc ss r s) i))
 
 pub none-after : (port : ℕ) (t : Tally) → after port t [] ≡ row port t false 0
@@ -111,16 +111,16 @@ numbers-with (ns ∷ month) port ms =
     ∙ sym (plus-assoc (tally (numbersOf port ns)) (numbers port month) (tally (numbersOf port ms)))
 
 -- ---- the loss
--- how many packets are in order, first or after a gap
-unfoldable pub timelyIn : List Noted → ℕ
-timelyIn [] = 0
-timelyIn (n ∷ ns) = timely n + timelyIn ns
-
 -- missing, over missing plus these
 pub loss : (ns : List Noted) → sum ns .total ≡ sum ns .missing + timelyIn ns
 unfolding sum timelyIn
 loss [] = refl
 loss (n ∷ ns) = omega (arith, loss ns)
+
+pub month-loss : (month : Month) (port : ℕ) → numbers port month .total ≡ numbers port month .missing + timelyOf port month
+unfolding numbers timelyOf
+month-loss [] port = refl
+month-loss (ms ∷ month) port = omega (arith, loss (told (numbersOf port ms)), month-loss month port)
 
 -- each packet is one
 unfoldable pub Told : List Noted → Type 0

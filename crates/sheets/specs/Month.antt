@@ -1,10 +1,10 @@
 -- The monthly reception sheet (request W13): from the delivered packets of the recordings that count, to the lines.
 -- Mark, numbersOf        a delivered packet's port and sequence number; one port's sequence numbers
--- Month, numbers         the recordings that count, each its delivered packets; a port's numbers in them
+-- Month, numbers         the recordings that count, each its delivered packets; a port's numbers in them; timelyOf: its packets in order, first or after a gap
 -- portsOf, lines         the ports in rising order, and a line of each
 -- Counting, counting     what becomes of a recording: it counts whole, or the month stays as it was
 -- monthOf                .. of one after the other
-use Prim.Native.Nat.{ℕ}
+use Prim.Native.Nat.{ℕ, _+_}
 use mathlib.Core.Bool.{Bool, true, false, _||_}
 use mathlib.Core.List.{List, [], _∷_, _++_, map}
 use lib.Dec.{eqb, ltb}
@@ -13,7 +13,7 @@ use Rattle.base.specs.Choice.{pick}
 use Rattle.base.specs.Calls.{joined}
 use Rattle.sheets.specs.declared.Tally.{Tally}
 use Rattle.sheets.specs.declared.Row.{Row}
-use Rattle.sheets.specs.Tally.{nothing, plus, tally, wide}
+use Rattle.sheets.specs.Tally.{told, nothing, plus, tally, timelyIn, wide}
 
 -- a delivered packet: its port and its sequence number
 abbrev pub Mark : Type 0
@@ -32,6 +32,11 @@ Month = List (List Mark)
 unfoldable pub numbers : ℕ → Month → Tally
 numbers port [] = nothing
 numbers port (ms ∷ month) = plus (tally (numbersOf port ms)) (numbers port month)
+
+-- its packets in order, first or after a gap
+unfoldable pub timelyOf : ℕ → Month → ℕ
+timelyOf port [] = 0
+timelyOf port (ms ∷ month) = timelyIn (told (numbersOf port ms)) + timelyOf port month
 
 -- a port among others in rising order
 unfoldable pub added : ℕ → List ℕ → List ℕ

@@ -1,6 +1,7 @@
 -- A port's numbers on the monthly sheet (request W13), from the sequence numbers that one recording delivered of it.
 -- told         what each packet is to its port, by request W1's rule, from the first on
 -- one, tally   the numbers of one packet; of all packets of a recording
+-- timelyIn     how many of them are in order, first or after a gap
 -- plus         .. of two recordings together
 -- far, wide    44: one of them passes 64 bits
 use Prim.Native.Nat.{ℕ, _+_}
@@ -83,6 +84,11 @@ sum (n ∷ ns) = plus (one n) (sum ns)
 -- a port's numbers in one recording
 abbrev pub tally : List ℕ → Tally
 tally ss = sum (told ss)
+
+-- how many packets are in order, first or after a gap
+unfoldable pub timelyIn : List Noted → ℕ
+timelyIn [] = 0
+timelyIn (n ∷ ns) = timely n + timelyIn ns
 
 -- numbers are below 2^64
 abbrev pub far : ℕ

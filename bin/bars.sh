@@ -1,0 +1,28 @@
+#!/bin/sh
+# bin/bars.sh: the lines of bin/sheet on standard input as a picture (SVG) on standard output: the loss of each port as a bar. bin/sheet --plot
+# calls it.
+set -eu
+exec awk '
+    { port[NR] = $1; missing[NR] = $6; total[NR] = $7; share[NR] = $7 > 0 ? $6 / $7 : 0; if (share[NR] > most) most = share[NR] }
+    END {
+        step = 24; left = 70; wide = 420; top = 56; height = top + step * NR + 40
+        # the scale ends at the next of 1, 2, 5, 10, 20, 50, 100 percent
+        n = split("0.01 0.02 0.05 0.1 0.2 0.5 1", ends, " ")
+        for (i = 1; i <= n; i++) if (!scale && most <= ends[i]) scale = ends[i]
+        if (!scale) scale = 1
+        printf "<svg xmlns=\"http://www.w3.org/2000/svg\" width=\"900\" height=\"%d\" font-family=\"sans-serif\" font-size=\"13\">\n", height
+        printf "<rect width=\"900\" height=\"%d\" fill=\"white\"/>\n", height
+        print "<text x=\"16\" y=\"24\" font-size=\"16\">Loss by port: missing of all that were to come</text>"
+        printf "<text x=\"%d\" y=\"46\" text-anchor=\"end\" fill=\"#555\">port</text>\n", left - 10
+        for (i = 1; i <= NR; i++) {
+            y = top + step * (i - 1)
+            printf "<text x=\"%d\" y=\"%d\" text-anchor=\"end\">%s</text>\n", left - 10, y + 14, port[i]
+            printf "<rect x=\"%d\" y=\"%d\" width=\"%.1f\" height=\"16\" fill=\"#2b6ca3\"/>\n", left, y + 2, wide * share[i] / scale
+            printf "<text x=\"%.1f\" y=\"%d\" fill=\"#333\">%.2f %% (%s of %s)</text>\n", left + wide * share[i] / scale + 6, y + 14, 100 * share[i], missing[i], total[i]
+        }
+        y = top + step * NR + 6
+        printf "<line x1=\"%d\" y1=\"%d\" x2=\"%d\" y2=\"%d\" stroke=\"#555\"/>\n", left, y, left + wide, y
+        for (i = 0; i <= 4; i++)
+            printf "<text x=\"%.1f\" y=\"%d\" text-anchor=\"middle\" fill=\"#555\">%g %%</text>\n", left + wide * i / 4, y + 18, 100 * scale * i / 4
+        print "</svg>"
+    }'

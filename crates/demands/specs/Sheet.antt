@@ -1,0 +1,44 @@
+-- Rows of the refusals of request W13, on the monthly sheet.
+-- ByClosed, closeRows     a recording's end, by the draft as it is ..
+-- monthRows               .. and by the month and the recording's packets
+-- printRows               a row's line
+use Prim.Native.Nat.{ℕ, _<_}
+use mathlib.Core.Path.{_≡_}
+use mathlib.Core.Bool.{Bool, true}
+use mathlib.Core.Logic.{_⊎_}
+use mathlib.Core.List.{List, [], _∷_}
+use lib.ListN.{length, getD}
+use Rattle.sheets.specs.Month.{Mark, Month, lines, anyWide, with}
+use Rattle.sheets.specs.Rows.{blank}
+use Rattle.sheet.specs.declared.Sheet.{Sheet}
+use Rattle.sheet.specs.declared.Draft.{Draft}
+use Rattle.sheet.specs.declared.Closed.{Closed}
+use Rattle.sheet.specs.declared.Counted.the-variants.{Refused}
+use Rattle.sheet.specs.Called.{rowsOf, lineOf}
+use Rattle.demands.specs.Table.{Row}
+
+-- a recording is refused
+abbrev pub ByClosed : Closed → ℕ → Type 0
+ByClosed x n = x .counted ≡ Refused n
+
+-- its end, of a recording that does not end in `X`
+abbrev pub closeRows : Draft → Bool → List Row
+closeRows d well =
+    (10, (16 < d .before .ports) ⊎ (16 < d .after .ports)) ∷  -- a count of rows above 16
+    (40, (well ≡ true) × (d .full ≡ true)) ∷  -- the sheet's seventeenth port
+    (44, (well ≡ true) × (d .wide ≡ true)) ∷  -- a number would pass 64 bits
+    []
+
+-- the same, from the delivered packets
+abbrev pub monthRows : Month → Bool → List Mark → List Row
+monthRows month well ms =
+    (40, (well ≡ true) × (16 < length (lines (with month ms)))) ∷  -- the sheet would have a seventeenth port
+    (44, (well ≡ true) × (anyWide (lines (with month ms)) ≡ true)) ∷  -- a number of it would pass 64 bits
+    []
+
+-- row i's line
+abbrev pub printRows : Sheet → ℕ → List ℕ → List Row
+printRows s i out =
+    (10, 16 < s .ports) ∷  -- a count of rows above 16
+    (23, (i < s .ports) × (length out < length (lineOf (getD (rowsOf s) i (blank 0))))) ∷  -- the output is shorter than the line
+    []
