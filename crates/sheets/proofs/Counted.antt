@@ -37,7 +37,8 @@ counting-fit well month ms f = go well (ltb portLimit (length (lines (with month
     go : (w a : Bool) → ltb portLimit (length (lines (with month ms))) ≡ a → (b : Bool) → anyWide (lines (with month ms)) ≡ b
         → Fit (kept (ruling w a b) (with month ms) month)
     go false a e b g = f
-    go true true e b g = f
+    go true true e true g = f
+    go true true e false g = f
     go true false e true g = f
     go true false e false g = record { few = ltb-false portLimit (length (lines (with month ms))) e; small = g }
 
