@@ -7,25 +7,23 @@ use mathlib.Core.Path.{_≡_, refl, sym, ap, subst, _∙_}
 use mathlib.Core.Bool.{Bool, true, false, _||_, true≢false, false≢true}
 use mathlib.Core.Logic.{_↔_, _≢_, _⊎_, ⊎-elim}
 use mathlib.Core.Logic._⊎_.{inl, inr}
-use mathlib.Core.List.{List, [], _∷_, _++_, map}
+use mathlib.Core.List.{List, [], _∷_, map}
 use lib.Dec.{ltb}
 use lib.ListN.{length, getD}
-use borrow.Author.Tests.{ltb-true, ltb-false, lt-ltb}
+use borrow.Author.Tests.{ltb-true, lt-ltb}
 use Rattle.base.specs.Calls.{joined}
 use Rattle.base.specs.Choice.{pick}
-use Rattle.base.specs.Written.{Outcome, write, refused, Keeps}
+use Rattle.base.specs.Written.{write, refused, Keeps}
 use Rattle.base.proofs.Calls.{yields-so}
 use Rattle.base.proofs.Writing.{write-keeps}
 use Rattle.lines.specs.Row.{rowLine, rowLongest}
 use Rattle.lines.proofs.Rows.{row-short}
-use Rattle.listed.specs.Apart.{freshSpot, apart, well, onChannel}
-use Rattle.listed.specs.Listing.{heard}
+use Rattle.listed.specs.Apart.{well}
 use Rattle.tape.specs.Called.{far, EveryCut}
 use Rattle.tape.proofs.Demands.{taken-apart}
-use Rattle.sheets.specs.declared.Tally.{Tally}
 use Rattle.sheets.specs.declared.Row.{Row}
 use Rattle.sheets.specs.Tally.{told, nothing, plus, sum, tally, timelyIn}
-use Rattle.sheets.specs.Month.{Mark, Month, numbersOf, numbers, timelyOf, addedAll, portsOf, line, lines, anyWide, portLimit, Counting, counts, wrong, refuses, ruling, kept, with, counting, monthOf}
+use Rattle.sheets.specs.Month.{Mark, Month, numbersOf, numbers, timelyOf, addedAll, portsOf, line, lines, anyWide, portLimit, counts, wrong, ruling, with, counting, monthOf}
 use Rattle.sheets.specs.Rows.{blank}
 use Rattle.sheets.specs.Recording.{marks, brings}
 use Rattle.sheets.proofs.Tallies as tallies
@@ -36,7 +34,7 @@ use Rattle.sheet.specs.declared.Draft.{Draft}
 use Rattle.sheet.specs.declared.Closed.{Closed}
 use Rattle.sheet.specs.declared.Counted.{Counted}
 use Rattle.sheet.specs.declared.Counted.the-variants.{Counts, Wrong, Refused}
-use Rattle.sheet.specs.Called.{rowsOf, sheetOf, freshSheet, closed, answerOf, beyond, runOf, tidied, closing, recorded, lineOf, printing}
+use Rattle.sheet.specs.Called.{rowsOf, sheetOf, freshSheet, closed, answerOf, beyond, closing, recorded, lineOf, printing}
 use Rattle.sheet.proofs.Month.{rows-sheet, recorded-is, refused-keeps}
 use Rattle.demands.specs.Table.{Exact}
 use Rattle.demands.specs.Refusals.{ByCall}

@@ -5,25 +5,23 @@
 use Prim.Native.Nat.{ℕ, _≤_}
 use native.Mathlib.Omega.{arith}
 use mathlib.Core.Path.{_≡_, refl, sym, ap, subst, _∙_}
-use mathlib.Core.Bool.{Bool, true, false, _||_}
+use mathlib.Core.Bool.{Bool, true, false}
 use mathlib.Core.Logic.{_≢_}
 use mathlib.Core.List.{List, [], _∷_, map}
-use borrow.Author.Tests.{ltb-true, ltb-false, lt-ltb, le-ltb}
+use borrow.Author.Tests.{ltb-false, le-ltb}
 use lib.Dec.{ltb}
-use lib.ListN.{length, take}
+use lib.ListN.{length}
 use Rattle.base.specs.Choice.{pick}
-use Rattle.base.proofs.Tests.{by-le, by-test}
 use Rattle.sheets.specs.declared.Row.{Row}
 use Rattle.sheets.specs.Tally.{wide}
 use Rattle.sheets.specs.Month.{Mark, Month, line, lines, portsOf, portLimit, Counting, counts, wrong, refuses, kept, counting}
-use Rattle.sheets.specs.Rows.{heardRow, noteIn, rowFor, cleared, padded, Run, run, step, steps, settled}
+use Rattle.sheets.specs.Rows.{heardRow, noteIn, rowFor, cleared, Run, run, step, steps, settled}
 use Rattle.sheets.proofs.Places.{padded-rows}
 use Rattle.sheets.proofs.Counted.{Fit, counted-is}
 use Rattle.sheet.specs.declared.Sheet.{Sheet}
 use Rattle.sheet.specs.declared.Draft.{Draft}
 use Rattle.sheet.specs.declared.Closed.{Closed}
-use Rattle.sheet.specs.declared.Counted.{Counted}
-use Rattle.sheet.specs.declared.Counted.the-variants.{Counts, Wrong, Refused}
+use Rattle.sheet.specs.declared.Counted.the-variants.{Counts, Refused}
 use Rattle.sheet.specs.Called.{rowsOf, sheetOf, tidied, beginning, drafted, noting, notings, runOf, answerOf, closed, beyond, closing, recorded}
 
 -- ---- a month's sheet

@@ -4,29 +4,26 @@
 -- note-.., close-.., print-..   the three calls
 use Prim.Native.Nat.{ℕ, _+_, _≤_, _<_, min}
 use native.Mathlib.Omega.{arith}
-use mathlib.Core.Path.{_≡_, refl, sym, ap, subst, _∙_}
-use mathlib.Core.Bool.{Bool, true, false, not, _||_, _&&_, false≢true, true≢false}
+use mathlib.Core.Path.{_≡_, refl, sym, ap, _∙_}
+use mathlib.Core.Bool.{Bool, true, false, not, _&&_, false≢true, true≢false}
 use mathlib.Core.Logic.{_≢_}
-use mathlib.Core.List.{List, [], _∷_, map}
+use mathlib.Core.List.{List, map}
 use borrow.Author.Tests.{eq-eqb, ne-eqb, lt-ltb, le-ltb}
-use lib.Dec.{eqb, ltb}
-use lib.ListN.{length, take, drop, getD, replicate, length-take, length-map}
-use Rattle.base.specs.Choice.{pick}
-use Rattle.base.specs.Written.{Outcome, outcome, refused, write}
+use lib.Dec.{ltb}
+use lib.ListN.{length, getD, replicate, length-take, length-map}
+use Rattle.base.specs.Written.{Outcome, outcome, write}
 use Rattle.base.specs.declared.Written.the-variants.{Wrote, Refused as Unwritten}
-use Rattle.lines.specs.Row.{rowLine}
 use Rattle.sheets.specs.declared.Row.{Row}
 use Rattle.sheets.specs.Tally.{wide}
-use Rattle.sheets.specs.Month.{portLimit, ruling, kept}
+use Rattle.sheets.specs.Month.{portLimit}
 use Rattle.sheets.specs.Rows.{blank, heardRow, noteIn, rowFor, cleared, padded, paddedTo}
 use Rattle.sheets.specs.Places.{placeFor, isOld, putAt, tab}
 use Rattle.sheets.proofs.Places.{row-is, length-is, old-is, put-all-is, clear-all-is}
 use Rattle.sheet.specs.declared.Sheet.{Sheet}
 use Rattle.sheet.specs.declared.Draft.{Draft}
-use Rattle.sheet.specs.declared.Closed.{Closed}
 use Rattle.sheet.specs.declared.Counted.the-variants.{Counts, Wrong, Refused}
 use Rattle.sheet.specs.declared.rows.Found.{Found}
-use Rattle.sheet.specs.Called.{rowsOf, sheetOf, freshSheet, tidied, beginning, drafted, noting, closed, closing, lineOf, printing}
+use Rattle.sheet.specs.Called.{rowsOf, freshSheet, tidied, beginning, drafted, noting, closed, closing, lineOf, printing}
 use Rattle.sheet.specs.Private.{foundIn}
 
 -- ---- what a packet finds

@@ -3,17 +3,15 @@
 -- counted-is                       the packets of a recording, noted one after the other, and its end
 -- refused-stays                    a recording that does not count leaves the month as it was
 -- counts-with                      and one that counts is in it whole
-use Prim.Native.Nat.{ℕ, zero, suc, _+_, _<_, _≤_}
+use Prim.Native.Nat.{suc, _≤_}
 use native.Mathlib.Omega.{arith}
 use mathlib.Core.Path.{_≡_, refl, sym, ap, subst, _∙_}
 use mathlib.Core.Bool.{Bool, true, false, _||_, true≢false, false≢true}
 use mathlib.Core.Logic.{_≢_}
-use mathlib.Core.List.{List, [], _∷_, _++_, map}
-use borrow.Author.Tests.{ltb-true, ltb-false, lt-ltb, le-ltb}
-use lib.Dec.{eqb, ltb}
+use mathlib.Core.List.{List, [], _∷_, map}
+use borrow.Author.Tests.{ltb-false}
+use lib.Dec.{ltb}
 use lib.ListN.{length}
-use Rattle.base.specs.Choice.{pick}
-use Rattle.base.proofs.Tests.{by-test}
 use Rattle.sheets.specs.declared.Row.{Row}
 use Rattle.sheets.specs.Tally.{wide}
 use Rattle.sheets.specs.Month.{Mark, Month, addedAll, lines, anyWide, portLimit, Counting, counts, wrong, refuses, ruling, kept, with, rulingOf, counting, monthOf}

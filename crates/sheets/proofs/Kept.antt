@@ -2,16 +2,15 @@
 -- ports-note           the ports behind a packet
 -- wide-note, wide-on   a number passes 64 bits by the packet's row, and once one does, one does further on
 -- Same, steps-same     the two, side by side
-use Prim.Native.Nat.{ℕ, zero, suc, _+_, _<_, _≤_}
+use Prim.Native.Nat.{ℕ, suc, _+_, _≤_}
 use native.Mathlib.Omega.{arith}
-use mathlib.Core.Path.{_≡_, refl, sym, ap, subst, _∙_}
+use mathlib.Core.Path.{_≡_, refl, sym, ap, _∙_}
 use mathlib.Core.Bool.{Bool, true, false, _||_, true≢false, false≢true}
-use mathlib.Core.List.{List, [], _∷_, _++_, map}
-use borrow.Author.Tests.{eq-eqb, ne-eqb, eqb-true, eqb-false, ltb-true, ltb-false, lt-ltb, le-ltb}
+use mathlib.Core.List.{List, [], _∷_, map}
+use borrow.Author.Tests.{ltb-true, lt-ltb, le-ltb}
 use lib.Dec.{eqb, ltb}
 use lib.ListN.{length}
 use Rattle.base.specs.Choice.{pick}
-use Rattle.base.proofs.Tests.{by-test}
 use Rattle.sheets.specs.declared.Tally.{Tally}
 use Rattle.sheets.specs.declared.Row.{Row}
 use Rattle.sheets.specs.Tally.{plus, one, wide, far}

@@ -4,15 +4,14 @@
 -- stays            a recording that ends in `X` changes nothing
 -- seventeen        nor one with the sheet's seventeenth port, in the month or in the recording alone
 -- too-wide         nor one with a number above 64 bits; forty-first: 40 before 44
-use Prim.Native.Nat.{ℕ, zero, suc, _+_}
+use Prim.Native.Nat.{ℕ, zero, suc}
 use mathlib.Core.Path.{_≡_, refl}
 use mathlib.Core.Bool.{Bool, true, false}
-use mathlib.Core.List.{List, [], _∷_, _++_, map}
-use Rattle.sheets.specs.declared.Tally.{Tally}
+use mathlib.Core.List.{List, [], _∷_, map}
 use Rattle.sheets.specs.declared.Row.{Row}
-use Rattle.sheets.specs.Tally.{toldFrom, told, tallied, nothing, plus, sum, wide, far}
-use Rattle.sheets.specs.Month.{Mark, Month, numbersOf, numbers, added, addedAll, lines, anyWide, Counting, counts, wrong, refuses, ruling, counting, monthOf}
-use Rattle.sheets.specs.Rows.{row, blank, heardRow, noteIn, rowFor, run, step, steps, settled}
+use Rattle.sheets.specs.Tally.{toldFrom, told, tallied, sum}
+use Rattle.sheets.specs.Month.{Mark, numbersOf, numbers, added, addedAll, lines, anyWide, Counting, counts, wrong, refuses, counting, monthOf}
+use Rattle.sheets.specs.Rows.{row, heardRow, noteIn, rowFor, run, step, steps, settled}
 
 -- a line in numbers: port, delivered, repeated, late, missing, total
 abbrev inNumbers : Row → List ℕ

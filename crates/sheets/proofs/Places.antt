@@ -12,17 +12,16 @@ use mathlib.Core.Path.{_≡_, refl, sym, ap, subst, _∙_}
 use mathlib.Core.Bool.{Bool, true, false, not, _&&_}
 use mathlib.Core.Logic.{_≢_}
 use mathlib.Core.List.{List, [], _∷_, map}
-use borrow.Author.Tests.{eq-eqb, ne-eqb, ltb-true, ltb-false, lt-ltb, le-ltb}
+use borrow.Author.Tests.{eq-eqb, ne-eqb, lt-ltb, le-ltb}
 use lib.Dec.{eqb, ltb}
-use lib.ListN.{length, take, drop, getD, set, length-take, length-set, drop-of-length-le, List·getD-eq-default, List·getD-map}
-use lib.Seq.{slice-cons, length-take-le, getD-take}
+use lib.ListN.{length, take, drop, getD, set, length-take, drop-of-length-le, List·getD-eq-default, List·getD-map}
+use lib.Seq.{slice-cons, getD-take}
 use Rattle.base.specs.Choice.{pick}
 use Rattle.base.proofs.Tests.{by-eq, by-le}
 use Rattle.ports.specs.Distance.{half, gap, ruled, lastBehind}
-use Rattle.ports.specs.declared.Noted.{Noted}
-use Rattle.ports.specs.declared.Noted.the-variants.{First, InOrder, Repeated, Missing, Late}
+use Rattle.ports.specs.declared.Noted.the-variants.{First}
 use Rattle.sheets.specs.declared.Row.{Row}
-use Rattle.sheets.specs.Rows.{row, blank, verdict, heardRow, noteIn, rowFor, cleared, paddedTo}
+use Rattle.sheets.specs.Rows.{blank, verdict, heardRow, noteIn, rowFor, cleared, paddedTo}
 use Rattle.sheets.specs.Places.{lastBy, placeFor, isOld, putAt, tab}
 
 -- ---- the last number

@@ -5,21 +5,19 @@
 -- Among, ports-are       the ports of a month are those of its packets; ports-rise: and rise
 -- ports-with             those of a month with one recording more
 -- absent-before, absent-now  a port that is not among them has no numbers
-use Prim.Native.Nat.{ℕ, zero, suc, _+_, _<_, _≤_}
+use Prim.Native.Nat.{ℕ, _+_, _<_, _≤_}
 use native.Mathlib.Omega.{arith}
 use mathlib.Core.Path.{_≡_, refl, sym, ap, subst, _∙_}
 use mathlib.Core.Bool.{Bool, true, false}
 use mathlib.Core.Logic.{_⊎_, inl, inr, ⊎-elim, _↔_, _≢_}
 use mathlib.Core.List.{List, [], _∷_, _++_, append-nil, append-assoc}
-use borrow.Author.Tests.{eq-eqb, ne-eqb, eqb-true, eqb-false, ltb-true, ltb-false, lt-ltb, le-ltb}
+use borrow.Author.Tests.{ne-eqb, eqb-true, eqb-false, ltb-true, ltb-false}
 use lib.Dec.{eqb, ltb}
 use Rattle.base.specs.Choice.{pick}
 use Rattle.base.specs.Calls.{joined}
-use Rattle.base.proofs.Tests.{by-eq, by-le, by-test}
-use Rattle.sheets.specs.declared.Tally.{Tally}
-use Rattle.sheets.specs.Tally.{nothing, plus, told, sum, tally}
+use Rattle.base.proofs.Tests.{by-le}
+use Rattle.sheets.specs.Tally.{nothing, plus, told, sum}
 use Rattle.sheets.specs.Month.{Mark, Month, numbersOf, numbers, added, addedAll, portsOf, with}
-use Rattle.sheets.proofs.Tallies.{plus-none}
 
 -- all are above a number
 unfoldable pub Above : ℕ → List ℕ → Type 0

@@ -2,22 +2,21 @@
 -- notedAll        rows behind packets, without limits
 -- running         what they are by the definition: run-is
 -- run-starts, run-ends   they start as the month's lines, and end as those of the month with the recording
-use Prim.Native.Nat.{ℕ, zero, suc, _+_, _<_, _≤_}
-use native.Mathlib.Omega.{arith}
+use Prim.Native.Nat.{ℕ, _+_}
 use mathlib.Core.Path.{_≡_, refl, sym, ap, subst, _∙_}
 use mathlib.Core.Bool.{Bool, true, false}
 use mathlib.Core.Logic.{_⊎_, inl, inr, ⊎-elim, _≢_}
 use mathlib.Core.List.{List, [], _∷_, _++_, map, append-nil, append-assoc}
-use borrow.Author.Tests.{eq-eqb, ne-eqb, eqb-true, eqb-false, ltb-true, ltb-false, lt-ltb, le-ltb}
-use lib.Dec.{eqb, ltb}
+use borrow.Author.Tests.{eq-eqb, ne-eqb, lt-ltb, le-ltb}
+use lib.Dec.{eqb}
 use Rattle.base.specs.Choice.{pick}
-use Rattle.base.proofs.Tests.{by-eq, by-le, by-test}
+use Rattle.base.proofs.Tests.{by-eq, by-le}
 use Rattle.sheets.specs.declared.Tally.{Tally}
 use Rattle.sheets.specs.declared.Row.{Row}
-use Rattle.sheets.specs.Tally.{plus, tally, nothing}
+use Rattle.sheets.specs.Tally.{nothing}
 use Rattle.sheets.specs.Month.{Mark, Month, numbersOf, numbers, added, addedAll, portsOf, line, lines, with}
 use Rattle.sheets.specs.Rows.{row, blank, heardRow, noteIn, cleared}
-use Rattle.sheets.proofs.Tallies.{none-plus, after, heard-after, none-after, numbers-with}
+use Rattle.sheets.proofs.Tallies.{after, heard-after, none-after, numbers-with}
 use Rattle.sheets.proofs.Ports.{Above, Rising, In, above-out, rising-out, all-rises, all-snoc, ports-rise, ports-with, absent-before, absent-now}
 
 -- ---- a packet among rows that are a function of their port

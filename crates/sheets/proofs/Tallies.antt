@@ -4,7 +4,7 @@
 -- numbers-with               its numbers in a month with one recording more
 -- loss, month-loss           the loss's second number is the missing and the packets in order, first or after a gap
 -- delivered-all              each packet is delivered, and is one of these, repeated or late
-use Prim.Native.Nat.{ℕ, zero, suc, _+_, _-_}
+use Prim.Native.Nat.{ℕ, suc, _+_, _-_}
 use native.Mathlib.Omega.{arith}
 use mathlib.Core.Path.{_≡_, refl, sym, ap, _∙_}
 use mathlib.Core.Bool.{Bool, true, false}
@@ -14,12 +14,12 @@ use lib.ListN.{length}
 use Rattle.base.specs.Choice.{pick}
 use Rattle.ports.specs.Distance.{half, gap, ruled, lastBehind}
 use Rattle.ports.specs.declared.Noted.{Noted}
-use Rattle.ports.specs.declared.Noted.the-variants.{First, InOrder, Repeated, Missing, Late, Refused}
+use Rattle.ports.specs.declared.Noted.the-variants.{First, InOrder, Repeated, Missing, Late}
 use Rattle.sheets.specs.declared.Tally.{Tally}
 use Rattle.sheets.specs.declared.Row.{Row}
-use Rattle.sheets.specs.Tally.{toldFrom, told, tallied, nothing, plus, before, timely, again, behind, one, sum, tally, timelyIn}
+use Rattle.sheets.specs.Tally.{toldFrom, told, tallied, nothing, plus, timely, again, behind, one, sum, tally, timelyIn}
 use Rattle.sheets.specs.Month.{Mark, Month, numbersOf, numbers, timelyOf, with}
-use Rattle.sheets.specs.Rows.{row, blank, heardRow}
+use Rattle.sheets.specs.Rows.{row, heardRow}
 
 -- ---- numbers together
 pub plus-assoc : (a b c : Tally) → plus (plus a b) c ≡ plus a (plus b c)

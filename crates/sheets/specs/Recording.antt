@@ -4,7 +4,7 @@
 use Prim.Native.Nat.{ℕ}
 use mathlib.Core.Bool.{Bool}
 use mathlib.Core.List.{List, [], _∷_}
-use Rattle.frames.specs.Frame.{Told, packet, refusal, broken}
+use Rattle.frames.specs.Frame.{packet, refusal, broken}
 use Rattle.blocks.specs.Channel.{Event, said, block, lost}
 use Rattle.listed.specs.Apart.{freshSpot, apart, well, onChannel}
 use Rattle.listed.specs.Listing.{heard}

@@ -1,6 +1,5 @@
 -- `sheet::Sheet::begin` meets its contract.
 use borrow.Author.Needs.{needs}
-use mathlib.Core.Path.{ap}
 use Rattle.sheet.proofs.Ways.{begin-is}
 use Rattle.sheet.proofs.Sheet.begin.Statement.{statement}
 use Rattle.sheet.proofs.Sheet.begin.Tie as tie

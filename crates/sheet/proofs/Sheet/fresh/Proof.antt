@@ -1,9 +1,5 @@
 -- `sheet::Sheet::fresh` meets its contract.
 use borrow.Author.Needs.{needs}
-use mathlib.Core.Path.{ap}
-use mathlib.Core.List.{List}
-use Rattle.sheets.specs.declared.Row.{Row}
-use Rattle.sheet.specs.declared.Sheet.{Sheet}
 use Rattle.sheet.proofs.Ways.{fresh-is}
 use Rattle.sheet.proofs.Sheet.fresh.Statement.{statement}
 use Rattle.sheet.proofs.Sheet.fresh.Tie as tie

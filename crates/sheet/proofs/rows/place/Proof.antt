@@ -2,7 +2,7 @@
 use borrow.Author.Needs.{needs}
 use native.Mathlib.Omega.{arith}
 use Prim.Native.Nat.{_+_, _-_, _≤_}
-use mathlib.Core.Path.{_≡_, refl, sym, _∙_}
+use mathlib.Core.Path.{_≡_, refl}
 use lib.ListN.{length, take, drop}
 use Rattle.sheets.specs.Places.{placeFor}
 use Rattle.sheets.proofs.Places.{place-here, place-on, place-end}

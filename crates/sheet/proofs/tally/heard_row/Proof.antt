@@ -1,7 +1,6 @@
 -- `sheet::tally::heard_row` meets its contract.
 use borrow.Author.Needs.{needs}
 use mathlib.Core.Path.{ap, _∙_}
-use Rattle.sheets.specs.declared.Tally.{Tally}
 use Rattle.sheets.specs.Tally.{wide}
 use Rattle.sheet.proofs.Sums.{tally-is, heard-is}
 use Rattle.sheet.proofs.tally.heard_row.Statement.{statement}

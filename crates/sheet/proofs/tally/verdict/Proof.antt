@@ -1,6 +1,5 @@
 -- `sheet::tally::verdict` meets its contract.
 use borrow.Author.Needs.{needs}
-use mathlib.Core.Path.{_∙_, sym}
 use Rattle.sheet.proofs.Sums.{verdict-heard}
 use Rattle.sheet.proofs.tally.verdict.Statement.{statement}
 use Rattle.sheet.proofs.tally.verdict.Tie as tie
