@@ -12,7 +12,8 @@
 -- whole-messages, closing-push, complete, flags-alone, marked-last   what is sent
 -- told-anew, told-hears, row-zero                      the receiver is told, also again
 -- lock-lost, lost-silent                               lock lost
--- call-apart, stands-alone, others-kept, schedules-end one sub-channel and another's
+-- call-apart, call-alone                               one sub-channel and another's, call by call
+-- stands-alone, others-kept, schedules-end             .. and by pieces
 -- every-cut, same-cut, every-payload, whole-stream     demand 3's cutting and its delivery
 -- earlier-blocks, behind-flag, other-blocks            .. and its recovery
 -- repaired-as-sent, -there, -where, -flat              request W12, of a fixed sub-channel: h bytes of each word altered
@@ -22,7 +23,7 @@ use native.Mathlib.Omega.{arith}
 use mathlib.Core.Path.{_≡_, refl, sym, _∙_, ap, subst}
 use mathlib.Core.Logic.{_≢_}
 use mathlib.Core.List.{List, [], _∷_, _++_, map}
-use mathlib.Core.Option.{some}
+use mathlib.Core.Option.{Option, some}
 use lib.Dec.{ltb}
 use lib.ListN.{length, take, getD, replicate}
 use lib.Seq.{take-all}
@@ -63,9 +64,9 @@ use Rattle.subchannel.proofs.Demands as one
 use Rattle.subchannel.proofs.Delivery.{payload-there}
 use Rattle.subchannels.specs.declared.Configured.the-variants.{Told, Refused}
 use Rattle.subchannels.specs.declared.Receiver.{Receiver}
-use Rattle.subchannels.specs.Four.{Boards, boardAt, callOn, Scheduled, ofOne, get, configuring, hearFour}
+use Rattle.subchannels.specs.Four.{Boards, boardAt, exchanged, callOn, Scheduled, ofOne, get, configuring, hearFour}
 use Rattle.subchannels.proofs.Ending.{Ready, schedule-ends}
-use Rattle.subchannels.proofs.Apart.{Live, call-other, alone, configure-own, configure-others, told-means}
+use Rattle.subchannels.proofs.Apart.{Live, board-own, call-other, call-own, live-own, alone, configure-own, configure-others, told-means}
 use Rattle.subsender.specs.Sending.{sending}
 use Rattle.subsender.proofs.Determined.{sending-keeps}
 use Rattle.subsenders.specs.declared.Sender.{Sender}
@@ -152,6 +153,16 @@ module _ (r d : ℕ) (hr : r ≤ 64) (hd : d ≤ 64) where
 pub call-apart : (k n : ℕ) (s : Boards) (bs : List ℕ) → n ≢ k → Live k s
     → (boardAt (callOn n s bs .2) k ≡ boardAt s k) × Live k (callOn n s bs .2)
 call-apart = call-other
+
+-- .. a call on that one gives and leaves what it does to it alone ..
+pub call-alone : (k : ℕ) (s : Boards) (bs : List ℕ) → Live k s
+    → ((callOn k s bs .0, callOn k s bs .1, boardAt (callOn k s bs .2) k) ≡ hearCall (boardAt s k) bs) × Live k (callOn k s bs .2)
+call-alone k s bs l =
+    let x : Option Event × ℕ × Board = hearCall (boardAt s k) bs in
+    let e : callOn k s bs ≡ (x .0, x .1, exchanged s k (x .2)) = call-own k s bs l x refl in (
+      ap (λ (y : Option Event × ℕ × Boards). (y .0, y .1, boardAt (y .2) k)) e ∙ (λ i. (x .0, x .1, board-own s k (x .2) i)),
+      subst (λ (y : Option Event × ℕ × Boards). Live k (y .2)) (sym e) (live-own k s bs l),
+    )
 
 -- .. so, whatever pieces are scheduled over the four, its answers, final state and buffers are those of its own pieces handed to it alone;
 -- told-hears has what these mean
