@@ -1,45 +1,53 @@
 -- Request W11, sentence by sentence. What the calls promise stands in Promises.
--- begins-with, record-holds, ..fetched, entered  "Export delivered packets as a classic little-endian pcap file .."
+-- begins-with, record-holds, ..fetched           "Export delivered packets as a classic little-endian pcap file .."
+-- entered, delivered-entered, file-by-calls      .. record by record, by calls
 -- times-aside                                    "Import ignores the records' times"
 -- same-packets, stands                           ".. and gives the same packets back"
 -- nothing-else                                   .. and of nothing but a capture of them
 -- begin-refusals, enter-refusals, ..             the calls' own refusals, row by row, and what a refused call leaves
 -- sixty, sixty-one-.., sixty-two, in-order       60 to 62
-use Prim.Native.Nat.{ℕ, _+_, _<_}
-use mathlib.Core.Path.{_≡_, refl, ap, _∙_}
+use Prim.Native.Nat.{ℕ, suc, _+_, _≤_, _<_}
+use native.Mathlib.Omega.{arith}
+use mathlib.Core.Path.{_≡_, refl, ap, subst, _∙_}
 use mathlib.Core.Logic.{_↔_}
 use mathlib.Core.List.{List, [], _∷_, _++_, map}
 use mathlib.Core.Option.{some}
-use lib.ListN.{length, take}
+use lib.ListN.{length, take, drop}
+use lib.Seq.{take-append-seam}
+use borrow.Author.Tests.{le-ltb}
 use Rattle.base.specs.Bytes.{Each, Bytes}
 use Rattle.base.specs.Calls.{joined, andThen, With, Yields}
-use Rattle.base.specs.Written.{write, Keeps}
+use Rattle.base.specs.Choice.{pick}
+use Rattle.base.specs.Written.{outcome, refused, write, Keeps}
+use Rattle.base.specs.declared.Written.the-variants.{Wrote}
 use Rattle.base.proofs.Calls.{yields-so}
 use Rattle.base.proofs.Writing.{write-keeps, refused-keeps}
 use Rattle.frames.specs.Contents.{Packet, packed}
-use Rattle.frames.specs.Frame.{Told, packet, refusal, broken, closed}
+use Rattle.frames.specs.Frame.{Told, packet, refusal, broken, delivery, closed}
 use Rattle.frames.specs.Sender.{Accepted}
 use Rattle.stream.specs.Called as plain
 use Rattle.stream.specs.Called.{Held as FrameHeld}
 use Rattle.channel.specs.Called.{Board, hearCall}
+use Rattle.subchannel.specs.Called as fixed
 use Rattle.tape.specs.Deck.{Deck}
 use Rattle.tape.specs.Called.{tapeCall}
-use Rattle.captures.specs.File.{four, header, timed, recordOf, captured, CaptureOf}
+use Rattle.captures.specs.File.{four, header, timed, recordOf, records, captured, CaptureOf}
 use Rattle.captures.specs.Import.{entry, entryLimit, Reading, inHead, inRecord, behind, fresh, fourAt, says, reads, ends, imported}
 use Rattle.captures.specs.Order.{headOf, Next}
 use Rattle.captures.proofs.Entry.{entry-packed, none-exactly}
 use Rattle.captures.proofs.Export.{say, seen, import-any, captured-is, times-ignored}
 use Rattle.captures.proofs.Faults.{faultOf, first-fault, sixty-exactly}
 use Rattle.captures.proofs.Order.{next, head-next, unequal-next, bytes-next, whole-next, long-next, import-only}
-use Rattle.capture.specs.Export.{Fetched, enteringBy, entering}
+use Rattle.capture.specs.Export.{packedPart, Fetched, enteringBy, entering}
 use Rattle.capture.specs.Called.{Held, Fine, readAll, readCall, finishing, endedAs, EveryCut, Stands}
 use Rattle.capture.specs.declared.reader.Capture.{Capture}
 use Rattle.capture.proofs.Cutting.{read-yields, every-cut}
 use Rattle.capture.proofs.There.{export-there, read-there}
 use Rattle.demands.specs.Table.{Exact}
 use Rattle.demands.specs.Refusals.{ByCall}
-use Rattle.demands.specs.Captures.{CaptureBeyond, NoPacket, HeaderMissed, RecordCut, FaultBefore, ByImport, ByEnd, FetchedHeld, FetchedBoard, FetchedDeck}
-use Rattle.demands.proofs.Fetching.{plain-fetched, board-fetched, deck-fetched}
+use Rattle.demands.specs.Captures.{CaptureBeyond, NoPacket, HeaderMissed, RecordCut, FaultBefore, ByImport, ByEnd, FetchedHeld, FetchedBoard, FetchedSub, FetchedDeck}
+use Rattle.demands.specs.Captures.{put, entriesBy}
+use Rattle.demands.proofs.Fetching.{Enters, packet-there, plain-fetched, board-fetched, sub-fetched, deck-fetched}
 use Rattle.demands.proofs.Rows.{wrote}
 use Rattle.demands.proofs.Capturing.{enter-exact, import-exact, import-same, end-exact}
 
@@ -55,12 +63,15 @@ record-holds i p = refl
 pub fetched : (recv : List ℕ) (m : ℕ) → Fetched (closed recv m .told) (closed recv m .recv)
 fetched = export-there
 
--- .. so it is behind every call of a receiver that delivers one: of the plain stream, of the channel, of a recording ..
+-- .. so it is behind every call of a receiver that delivers one: of the plain stream, of the channel, of a fixed sub-channel, of a recording ..
 pub read-fetched : (h : FrameHeld) (bs : List ℕ) → With FetchedHeld (plain.readCall h bs .0) (plain.readCall h bs .2)
 read-fetched = plain-fetched
 
 pub hear-fetched : (c : Board) (bs : List ℕ) → With FetchedBoard (hearCall c bs .0) (hearCall c bs .2)
 hear-fetched = board-fetched
+
+pub fixed-fetched : (c : fixed.Board) (bs : List ℕ) → With FetchedSub (fixed.hearCall c bs .0) (fixed.hearCall c bs .2)
+fixed-fetched = sub-fetched
 
 pub next-fetched : (m : Deck) (bs : List ℕ) → With FetchedDeck (tapeCall m bs .0) (tapeCall m bs .2)
 next-fetched = deck-fetched
@@ -68,6 +79,37 @@ next-fetched = deck-fetched
 -- .. and of a packet that the sender accepts its record is written: 23 is then the only refusal
 pub entered : (i : ℕ) (p : Packet) → Accepted p → (out : List ℕ) → entering i (packed p) out ≡ write (recordOf i (packed p)) out
 entered i p a out = ap (λ (t : Told). enteringBy t i (packed p) out) (entry-packed p a)
+
+-- .. so is that of a delivered one: what is fetched behind the delivery is never refused with 62
+pub delivered-entered : (recv : List ℕ) (m : ℕ) (p : Packet) → Bytes recv → closed recv m .told ≡ packet p → (i : ℕ) (out : List ℕ)
+    → entering i (packedPart (delivery p) (closed recv m .recv)) out ≡ write (recordOf i (packed p)) out
+delivered-entered recv m p b e i out =
+    let t : Enters (packet p) (closed recv m .recv) = subst (λ (x : Told). Enters x (closed recv m .recv)) e (packet-there recv m b) in
+    ap (λ (bs : List ℕ). entering i bs out) (t .0) ∙ entered i p (t .1) out
+
+-- what is written with room is the result
+put-fits : (bs out : List ℕ) → length bs ≤ length out → put (write bs out) ≡ bs
+put-fits bs out h =
+    ap (λ t. put (pick t (refused 23 out) (outcome (Wrote (length bs)) (bs ++ drop (length bs) out)))) (le-ltb (length out) (length bs) h)
+    ∙ take-append-seam bs (drop (length bs) out)
+
+-- a packet that the sender accepts, and an output with room for its record
+abbrev Roomy : Packet × List ℕ → Type 0
+Roomy x = Accepted (x .0) × (length (packed (x .0)) + 16 ≤ length (x .1))
+
+entries : (i : ℕ) (xs : List (Packet × List ℕ)) → Each Roomy xs → entriesBy i xs ≡ records i (map (λ x. x .0) xs)
+unfolding records
+entries i [] h = refl
+entries i (x ∷ xs) h =
+    let p : Packet = x .0 in
+    let r : put (entering i (packed p) (x .1)) ≡ recordOf i (packed p) =
+    ap put (entered i p (h .0 .0) (x .1)) ∙ put-fits (recordOf i (packed p)) (x .1) (omega (arith, h .0 .1)) in
+    λ j. r j ++ entries (suc i) xs (h .1) j
+
+-- .. and the bytes that `begin` and then `enter` write, for each packet by its number from 0 into an output with room, are the file
+pub file-by-calls : (out : List ℕ) → 24 ≤ length out → (xs : List (Packet × List ℕ)) → Each Roomy xs
+    → put (write header out) ++ entriesBy 0 xs ≡ captured (map (λ x. x .0) xs)
+file-by-calls out h xs k = λ j. put-fits header out h j ++ entries 0 xs k j
 
 -- ---- "Import ignores the records' times": eight bytes before the lengths, whatever stands behind them
 pub times-aside : (times others : List ℕ) → length times ≡ 8 → length others ≡ 8 → (rest : List ℕ)

@@ -1,30 +1,86 @@
 -- What is fetched behind a delivery is the packet's own bytes, whichever receiver delivers it.
+-- packet-there                                 behind a frame in the receive buffer, and then the sender accepts the packet
 -- plain-fetched, board-fetched, deck-fetched   behind a call: of the plain stream, of the channel, of a recording
-use Prim.Native.Nat.{ℕ, suc}
-use mathlib.Core.Path.{_≡_, refl, sym, subst}
+-- sub-fetched                                  .. of a fixed sub-channel
+use Prim.Native.Nat.{ℕ, suc, _≤_}
+use native.Mathlib.Omega.{arith}
+use mathlib.Core.Path.{_≡_, refl, sym, ap, _∙_, subst}
 use mathlib.Core.Bool.{Bool, true, false}
-use mathlib.Core.List.{List}
+use mathlib.Core.List.{List, _++_, append-assoc}
 use mathlib.Core.Option.{Option, some, none}
 use lib.Dec.{eqb, ltb, leb}
-use lib.ListN.{length, getD, set}
+use lib.ListN.{length, take, drop, getD, set, length-take}
+use lib.Seq.{take-all}
+use borrow.Author.Tests.{ltb-false}
+use Rattle.base.specs.Bytes.{IsByte, Bytes}
 use Rattle.base.specs.Calls.{With, owesNone, handsNone}
+use Rattle.base.specs.Choice.{pick}
+use Rattle.base.proofs.Bytes.{each-take}
 use Rattle.base.proofs.Calls.{none-owed, with-hear}
-use Rattle.frames.specs.Contents.{rawLimit}
-use Rattle.frames.specs.Escape.{flag}
-use Rattle.frames.specs.Frame.{Told}
+use Rattle.fcs.specs.Fcs.{fcs}
+use Rattle.frames.specs.Contents.{rawLimit, two, packed, withCheck, contents}
+use Rattle.frames.specs.Escape.{flag, plain, scan}
+use Rattle.frames.specs.Frame.{Told, packet, refusal, broken, Closed, delivery, kept, judgeContents, closedBy, closed, judge}
+use Rattle.frames.specs.Sender.{Accepted}
+use Rattle.frames.specs.declared.Escapes.{Escapes}
+use Rattle.frames.specs.declared.Escapes.the-variants.{Right, Unfinished, Wrong}
+use Rattle.frames.proofs.Judging.{closed-as}
+use Rattle.frames.proofs.Only.{judge-only}
 use Rattle.stream.specs.Called.{Held, shut, takeBy, takeByte, sound as soundFrame, readBy, readCall}
 use Rattle.blocks.specs.declared.Hunting.{Hunting}
 use Rattle.blocks.specs.Sender.{wordBytes}
 use Rattle.blocks.specs.Channel.{Event, isMarker, shift}
 use Rattle.channel.specs.Called.{Board, heldIn, wordOn, compareOn, markOn, eatBy, eatByte, owed, asEvent, handOn, sound, roomy, hearBy, hearCall}
 use Rattle.channel.proofs.Cutting.{hand-one}
+use Rattle.interleaver.specs.Running.{pull}
+use Rattle.interleaver.specs.declared.Back.{Back}
+use Rattle.groups.specs.Sender.{groupBytes}
+use Rattle.subchannel.specs.declared.lane.Lane.{Lane}
+use Rattle.subchannel.specs.Called as fixed
+use Rattle.subchannel.proofs.Cutting as cutting
 use Rattle.listed.specs.Apart.{inStream}
 use Rattle.tape.specs.Deck.{withHeld, eatBy as eatEar, earHand, earEat, Deck, deckOwes, deckHand, byteBy, deckEat}
 use Rattle.tape.specs.Called.{nearSpot, tapeBy, tapeCall}
 use Rattle.tape.proofs.Ears.{deck-hand-one}
-use Rattle.capture.specs.Export.{Fetched}
-use Rattle.capture.proofs.There.{export-there}
-use Rattle.demands.specs.Captures.{FetchedHeld, FetchedBoard, FetchedDeck}
+use Rattle.capture.specs.Export.{packedPart, Fetched}
+use Rattle.capture.proofs.There.{packed-there, export-there}
+use Rattle.demands.specs.Captures.{FetchedHeld, FetchedBoard, FetchedSub, FetchedDeck}
+
+-- ---- a frame of m raw bytes
+abbrev pub Enters : Told → List ℕ → Type 0
+Enters (packet p) recv = (packedPart (delivery p) recv ≡ packed p) × Accepted p
+Enters (refusal n) recv = Unit {0}
+Enters (broken n) recv = Unit {0}
+
+judge-right : (raw : List ℕ) → length raw ≤ rawLimit → scan raw ≡ Right → judge raw ≡ judgeContents (plain raw)
+unfolding judge closedBy
+judge-right raw h e =
+    let all : take (length raw) raw ≡ raw = take-all (length raw) raw (omega arith) in
+    ap (λ (c : Closed). c .told) (closed-as raw (length raw) h Right (ap scan all ∙ e)) ∙ ap (λ (l : List ℕ). judgeContents (plain l)) all
+
+pub packet-there : (recv : List ℕ) (m : ℕ) → Bytes recv → Enters (closed recv m .told) (closed recv m .recv)
+unfolding closed closedBy contents withCheck
+packet-there recv m b = go (ltb rawLimit m) refl (scan raw) refl
+  where
+    raw : List ℕ
+    raw = take m recv
+
+    told : m ≤ rawLimit → scan raw ≡ Right → (j : Told) → judgeContents (plain raw) ≡ j → Enters j (plain raw ++ drop (length (plain raw)) recv)
+    told h f (refusal n) q = tt
+    told h f (broken n) q = tt
+    told h f (packet p) q =
+        let o = judge-only raw (each-take IsByte m recv b) p (judge-right raw (omega (arith, length-take m recv, h)) f ∙ q) in
+        let r : List ℕ = drop (length (plain raw)) recv in
+        let s : plain raw ++ r ≡ packed p ++ (two (fcs (packed p)) ++ r) =
+        ap (λ (x : List ℕ). x ++ r) (sym (o .0)) ∙ append-assoc (packed p) (two (fcs (packed p))) r in
+        (ap (packedPart (delivery p)) s ∙ packed-there p (o .1) (two (fcs (packed p)) ++ r) .1, o .1)
+
+    go : (t : Bool) → ltb rawLimit m ≡ t → (s : Escapes) → scan raw ≡ s
+        → Enters (pick t (kept 1 recv) (closedBy s raw recv) .told) (pick t (kept 1 recv) (closedBy s raw recv) .recv)
+    go true e s f = tt
+    go false e Unfinished f = tt
+    go false e (Wrong n) f = tt
+    go false e Right f = told (ltb-false _ _ e) f (judgeContents (plain raw)) refl
 
 -- ---- the plain stream
 shut-fetched : (z : Bool) (h : Held) → With FetchedHeld (shut z h .0) (shut z h .1)
@@ -86,7 +142,54 @@ board-fetched c bs = go (sound (c .st)) (roomy (c .recv) (c .word))
     go true false = tt
     go true true = with-hear owed handOn eatByte hand-one FetchedBoard hand-fetched eat-fetched c bs
 
--- ---- a recording: either of the two
+-- ---- a fixed sub-channel: a new byte delivers nothing, and the frame reader's answers are passed on
+module _ (c : fixed.Board) where
+  sub-word : (t : Bool) (s : Lane) (w : ℕ) (l : List ℕ) → With FetchedSub (fixed.wordOn t s w l .0) c
+  sub-word true s w l = tt
+  sub-word false s w l = tt
+
+  sub-group : (o : Option ℕ) (s : Lane) (l : List ℕ) → With FetchedSub (fixed.groupOn o s l .0) c
+  sub-group none s l = tt
+  sub-group (some y) s l = let w : ℕ = fixed.wordAt (s .counts .word) in sub-word (ltb (suc w) wordBytes) s w (set l w y)
+
+  sub-compare : (t : Bool) (f : Hunting) (s : Lane) → With FetchedSub (fixed.compareOn t f s .0) c
+  sub-compare true f s = tt
+  sub-compare false f s = tt
+
+  sub-mark : (t : Bool) (f : Hunting) (s : Lane) → With FetchedSub (fixed.markOn t f s .0) c
+  sub-mark true f s = tt
+  sub-mark false f s = sub-compare (isMarker f) f s
+
+  sub-eat : (o l t : Bool) (s : Lane) (k : Back) (w : List ℕ) (b : ℕ) → With FetchedSub (fixed.eatBy o l t s k w b .0) c
+  sub-eat true l t s k w b = tt
+  sub-eat false false t s k w b = tt
+  sub-eat false true true s k w b = sub-group (pull (s .settings .depth) k b .0) s w
+  sub-eat false true false s k w b = sub-mark (ltb (suc (s .counts .marker)) 4) (shift (s .hunting) b) s
+
+sub-passed : (o : Option Told) (h : Held) (d : fixed.Board) → With FetchedHeld o h → d .recv ≡ h .recv → With FetchedSub (asEvent o) d
+sub-passed none h d w e = tt
+sub-passed (some a) h d w e = subst (Fetched a) (sym e) w
+
+sub-hand : (c : fixed.Board) → With FetchedSub (fixed.handOn c .0) (fixed.handOn c .1)
+sub-hand c =
+    let h : Held = fixed.heldIn c in
+    let b : ℕ = getD (c .word) (c .st .lane .counts .handed) 0 in
+    sub-passed (takeByte h b .0) (takeByte h b .1) (fixed.handOn c .1) (byte-fetched h b) refl
+
+sub-byte : (c : fixed.Board) (b : ℕ) → With FetchedSub (fixed.eatByte c b .0) (fixed.eatByte c b .1)
+sub-byte c b =
+    let s : Lane = c .st .lane in
+    sub-eat (fixed.eatByte c b .1) (s .lost) (s .locked) (ltb (s .counts .group) groupBytes) s (c .st .back) (c .word) b
+
+pub sub-fetched : (c : fixed.Board) (bs : List ℕ) → With FetchedSub (fixed.hearCall c bs .0) (fixed.hearCall c bs .2)
+sub-fetched c bs = go (fixed.sound (c .st)) (roomy (c .recv) (c .word))
+  where
+    go : (s r : Bool) → With FetchedSub (fixed.hearBy s r c bs .0) (fixed.hearBy s r c bs .2)
+    go false r = tt
+    go true false = tt
+    go true true = with-hear fixed.owed fixed.handOn fixed.eatByte cutting.hand-one FetchedSub sub-hand sub-byte c bs
+
+-- ---- a recording: the plain stream or the channel
 in-deck : (o : Option Event) (c : Board) (m : Deck) → m .ear .board ≡ c → With FetchedBoard o c → With FetchedDeck o m
 in-deck none c m e w = tt
 in-deck (some a) c m e w = subst (λ (x : Board). FetchedBoard a x) (sym e) w

@@ -12,7 +12,8 @@
 -- whole-messages, closing-push, complete, flags-alone, marked-last   what is sent
 -- told-anew, told-hears, row-zero                      the receiver is told, also again
 -- lock-lost, lost-silent                               lock lost
--- stands-alone, others-kept, schedules-end             one sub-channel and another's
+-- call-apart, call-alone                               one sub-channel and another's, call by call
+-- stands-alone, others-kept, schedules-end             .. and by pieces
 -- every-cut, same-cut, every-payload, whole-stream     demand 3's cutting and its delivery
 -- earlier-blocks, behind-flag, other-blocks            .. and its recovery
 -- repaired-as-sent, -there, -where, -flat              request W12, of a fixed sub-channel: h bytes of each word altered
@@ -22,7 +23,7 @@ use native.Mathlib.Omega.{arith}
 use mathlib.Core.Path.{_≡_, refl, sym, _∙_, ap, subst}
 use mathlib.Core.Logic.{_≢_}
 use mathlib.Core.List.{List, [], _∷_, _++_, map}
-use mathlib.Core.Option.{some}
+use mathlib.Core.Option.{Option, some}
 use lib.Dec.{ltb}
 use lib.ListN.{length, take, getD, replicate}
 use lib.Seq.{take-all}
@@ -63,9 +64,9 @@ use Rattle.subchannel.proofs.Demands as one
 use Rattle.subchannel.proofs.Delivery.{payload-there}
 use Rattle.subchannels.specs.declared.Configured.the-variants.{Told, Refused}
 use Rattle.subchannels.specs.declared.Receiver.{Receiver}
-use Rattle.subchannels.specs.Four.{Boards, boardAt, Scheduled, ofOne, get, configuring, hearFour}
+use Rattle.subchannels.specs.Four.{Boards, boardAt, exchanged, callOn, Scheduled, ofOne, get, configuring, hearFour}
 use Rattle.subchannels.proofs.Ending.{Ready, schedule-ends}
-use Rattle.subchannels.proofs.Apart.{Live, alone, configure-own, configure-others, told-means}
+use Rattle.subchannels.proofs.Apart.{Live, board-own, call-other, call-own, live-own, alone, configure-own, configure-others, told-means}
 use Rattle.subsender.specs.Sending.{sending}
 use Rattle.subsender.proofs.Determined.{sending-keeps}
 use Rattle.subsenders.specs.declared.Sender.{Sender}
@@ -146,9 +147,25 @@ module _ (r d : ℕ) (hr : r ≤ 64) (hd : d ≤ 64) where
   pub lost-silent : (bs cs : List ℕ) (f : Hunting) (k : Back) → hears r d start bs .1 ≡ silent f k → EveryCut r d (bs ++ cs) λ es c. es ≡ answers r d bs
   lost-silent = one.stays-silent r d hr hd
 
--- ---- "Bytes of one sub-channel never affect another's answers": whatever is scheduled over the four, a configured sub-channel's answers, final
--- state and buffers are those of its own pieces handed to it alone; told-hears has what these mean. A call of a schedule is the one that the code
--- makes, `hearFour` with that sub-channel's buffers (`call-is` (crates/subchannels/proofs/Calling.antt))
+-- ---- "Bytes of one sub-channel never affect another's answers": a call on another one leaves a configured sub-channel's state and buffers, call by
+-- call, answered or refused, in the middle of a piece too, and leaves it configured. Such a call is the one that the code makes, `hearFour` with
+-- that sub-channel's buffers (`call-is` (crates/subchannels/proofs/Calling.antt))
+pub call-apart : (k n : ℕ) (s : Boards) (bs : List ℕ) → n ≢ k → Live k s
+    → (boardAt (callOn n s bs .2) k ≡ boardAt s k) × Live k (callOn n s bs .2)
+call-apart = call-other
+
+-- .. a call on that one gives and leaves what it does to it alone ..
+pub call-alone : (k : ℕ) (s : Boards) (bs : List ℕ) → Live k s
+    → ((callOn k s bs .0, callOn k s bs .1, boardAt (callOn k s bs .2) k) ≡ hearCall (boardAt s k) bs) × Live k (callOn k s bs .2)
+call-alone k s bs l =
+    let x : Option Event × ℕ × Board = hearCall (boardAt s k) bs in
+    let e : callOn k s bs ≡ (x .0, x .1, exchanged s k (x .2)) = call-own k s bs l x refl in (
+      ap (λ (y : Option Event × ℕ × Boards). (y .0, y .1, boardAt (y .2) k)) e ∙ (λ i. (x .0, x .1, board-own s k (x .2) i)),
+      subst (λ (y : Option Event × ℕ × Boards). Live k (y .2)) (sym e) (live-own k s bs l),
+    )
+
+-- .. so, whatever pieces are scheduled over the four, its answers, final state and buffers are those of its own pieces handed to it alone;
+-- told-hears has what these mean
 pub stands-alone : (k : ℕ) {s t : Boards} {ps : List (ℕ × List ℕ)} {es : List (ℕ × Event)} → Live k s → Scheduled s ps es t
     → ReadsAll hearCall (boardAt s k) (ofOne k ps) (ofOne k es) (boardAt t k)
 stands-alone = alone
@@ -189,14 +206,14 @@ every-payload = payload-there
 module _ (r d : ℕ) (hr : r ≤ 64) (flat : d < 2) (stray : List ℕ) (ps : List Packet) (accepted : Each Accepted ps)
     (first : FirstMarker stray (sent r d (stream ps))) (earlier us vs later : List (List ℕ)) (some-words : wordsOf r d (stream ps) ≡ earlier ++ (us ++ later))
     (any : Each IsWord vs) (many : length vs ≡ length us) where
-  -- "the answers of the earlier blocks stay the same" (paper 01): fs to the stream as sent, es to the altered one
+  -- "the answers of the earlier blocks stay the same" (the owner's demand 3): fs to the stream as sent, es to the altered one
   pub earlier-blocks : EveryCut r d (stray ++ sent r d (stream ps))
       λ fs _. EveryCut r d (stray ++ marked d (earlier ++ (vs ++ later)))
       λ es _. (xs ys : List Event) × (fs ≡ wordsGive r earlier waiting .0 ++ xs) × (es ≡ wordsGive r earlier waiting .0 ++ ys)
   earlier-blocks = one.earlier-answers r d hr flat stray ps accepted first earlier us vs later some-words any many
 
   -- "and behind the first opening flag in a later block, the frame answers are exactly the sent packets opened from that flag on, once each and
-  -- in order" (paper 01): behind the first, and behind every other
+  -- in order" (the owner's demand 3): behind the first, and behind every other
   pub behind-flag : (pre post : List ℕ) → carried r later ≡ pre ++ flag ∷ post
       → EveryCut r d (stray ++ marked d (earlier ++ (vs ++ later)))
       λ es _. frames es ≡ reads waiting ((carried r (earlier ++ vs) ++ pre) ++ flag ∷ []) .0

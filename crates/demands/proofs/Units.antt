@@ -7,7 +7,7 @@
 -- excess-zero, excess-ignored              excess bits
 -- round-trip                               there and back
 -- write-refusals, read-refusals            the tables, each number exactly when its row applies and none above it
--- early-short                              54 on writing, shortly
+-- reserved, early-short                    52 of reserved sequences; 54 on writing, shortly
 -- write-accepts, read-accepts              a call that no row refuses writes
 -- write-keeps-out, read-keeps-out          a refused call changes nothing
 use Prim.Native.Nat.{ℕ, suc, _+_, _-_, _*_, _/_, _%_, _^_, _≤_, _<_}
@@ -15,20 +15,21 @@ use native.Mathlib.Omega.{arith}
 use mathlib.Core.Path.{_≡_, refl, sym, ap, _∙_}
 use mathlib.Core.Bool.{true, false}
 use mathlib.Core.Logic.{_↔_}
-use mathlib.Core.List.{List, [], _∷_, _++_}
+use mathlib.Core.List.{List, [], _∷_, _++_, map}
 use lib.Dec.{eqb, eqb·suc-zero}
 use lib.ListN.{length, take, drop, getD, replicate}
 use borrow.Author.Tests.{ne-eqb, lt-ltb, le-ltb}
 use Rattle.base.specs.Bytes.{Bytes}
 use Rattle.base.specs.Written.{write, Keeps}
 use Rattle.base.specs.declared.Written.the-variants.{Wrote}
-use Rattle.units.specs.Bits.{digits, bits}
+use Rattle.units.specs.Bits.{digits, number, bits}
 use Rattle.units.specs.Tables.{sequence, heads, start, step, payload, lent, unfit}
 use Rattle.units.specs.Unit.{begins, opened, laidOut, unit, written}
 use Rattle.units.specs.Reading.{heard, unwoven, headerOf, payloadOf, named, middle, readUnit}
 use Rattle.units.specs.Refusing.{Early, EarlyShort, carried}
 use Rattle.units.proofs.Digits.{digit-at, bits-at}
-use Rattle.units.proofs.Rows.{accepted, least, spaced}
+use Rattle.units.proofs.Rows.{by-row, accepted, least, spaced}
+use Rattle.units.proofs.Sequences as bySequence
 use Rattle.units.proofs.Carrying.{unwoven-unit}
 use Rattle.units.proofs.Placing.{header-at}
 use Rattle.units.proofs.Finding.{opened-is}
@@ -41,12 +42,32 @@ use Rattle.demands.specs.Refusals.{ByCall}
 use Rattle.demands.specs.Units.{writeRows, readRows}
 use Rattle.demands.proofs.UnitRows.{unit-write-exact, unit-read-exact, accepts, unit-written, unit-read}
 
--- ---- "build and read Layer 2 units of up to 146,176 bits": all lengths to there that have a header spacing, from 144, 303 or 289 bits on
-pub lengths : (l : ℕ) → unfit l ≡ false ↔ (l ≤ 146176) × (least (heads l) ≤ l)
+-- neither 0 nor 7
+abbrev Other : ℕ → Type 0
+Other l = (l % 8 ≡ 0 → ⊥) × (l % 8 ≡ 7 → ⊥)
+
+-- from how many bits on a length has a header spacing
+abbrev Long : ℕ → Type 0
+Long l = (l % 8 ≡ 0 → 144 ≤ l) × (l % 8 ≡ 7 → 303 ≤ l) × (Other l → 289 ≤ l)
+
+long-least : (l : ℕ) → least (heads l) ≤ l ↔ Long l
+long-least l = by-row (λ h _ _. least h ≤ l ↔ Long l) l (λ _ e. zero e) (λ _ e. seven e) (λ _ e f. rest e f) (λ _ e. zero e) (λ _ e. seven e) (λ _ e f. rest e f)
+  where
+    zero : l % 8 ≡ 0 → 144 ≤ l ↔ Long l
+    zero e = (λ h. (λ _. h, λ f. absurd (omega (arith, e, f)), λ o. absurd (o .0 e)), λ h. h .0 e)
+
+    seven : l % 8 ≡ 7 → 303 ≤ l ↔ Long l
+    seven e = (λ h. (λ f. absurd (omega (arith, e, f)), λ _. h, λ o. absurd (o .1 e)), λ h. h .1 e)
+
+    rest : (l % 8 ≡ 0 → ⊥) → (l % 8 ≡ 7 → ⊥) → 289 ≤ l ↔ Long l
+    rest e f = (λ h. (λ g. absurd (e g), λ g. absurd (f g), λ _. h), λ h. h .2 (e, f))
+
+-- ---- "build and read Layer 2 units of up to 146,176 bits": all lengths to there that have a header spacing, by their bits in the last byte
+pub lengths : (l : ℕ) → unfit l ≡ false ↔ (l ≤ 146176) × (l % 8 ≡ 0 → 144 ≤ l) × (l % 8 ≡ 7 → 303 ≤ l) × (Other l → 289 ≤ l)
 unfolding unfit
 lengths l = (
-  λ e. (accepted l e .0, spaced l .0 (accepted l e .1)),
-  λ h. simp (le-ltb 146176 l (h .0), ne-eqb (step l) 0 (λ z. let k : 0 < step l = spaced l .1 (h .1) in omega arith)),
+  λ e. let g : Long l = long-least l .0 (spaced l .0 (accepted l e .1)) in (accepted l e .0, g .0, g .1, g .2),
+  λ h. simp (le-ltb 146176 l (h .0), ne-eqb (step l) 0 (λ z. let k : 0 < step l = spaced l .1 (long-least l .1 (h .1, h .2, h .3)) in omega arith)),
 )
 
 -- "bit 0 being the high bit of the first byte"
@@ -71,10 +92,6 @@ sequences a f o =
 -- N start, one more than N offset, header length
 abbrev Spread : ℕ → ℕ → ℕ → ℕ → Type 0
 Spread l s n h = (start l ≡ s) × (step l ≡ n) × (heads l ≡ h)
-
--- neither 0 nor 7
-abbrev Other : ℕ → Type 0
-Other l = (l % 8 ≡ 0 → ⊥) × (l % 8 ≡ 7 → ⊥)
 
 -- "spread by table 5-4": its six rows. A spacing is below zero where `step` is 0
 pub table-5-4 : (l : ℕ)
@@ -173,6 +190,11 @@ write-refusals = unit-write-exact
 
 pub read-refusals : (l : ℕ) (d : List ℕ) (a f : ℕ) (u out : List ℕ) → Exact ByCall (readUnit l d a f u out) (readRows l d a f u (length out))
 read-refusals = unit-read-exact
+
+-- 52: the reserved sequences, CW5 to CW7, are named by none of their first 24, 23 or 22 bits
+pub reserved : map (λ (cw : ℕ). map (λ (n : ℕ). named n (number 0 (take n (digits 24 cw)))) (24 ∷ 23 ∷ 22 ∷ [])) (0x8D338D ∷ 0xD8D338 ∷ 0x634CE3 ∷ [])
+    ≡ replicate 3 (replicate 3 0)
+reserved = bySequence.reserved
 
 -- 54 on writing: exactly where the delimiter is five zeros and a gap stands before it
 pub early-short : (d : List ℕ) (gap : ℕ) (opp : List ℕ) → length d ≡ 5 → Early d gap opp ↔ EarlyShort d gap opp

@@ -4,19 +4,25 @@
 -- HeaderMissed, RecordCut, FaultBefore   60 to 62 at the end of a file
 -- ByImport, ByEnd                  that an answer refuses by a number
 -- Fetched..                        that what is fetched behind an answer is the packet's own bytes
-use Prim.Native.Nat.{ℕ, _≤_, _<_}
+-- put, entriesBy                   what calls write, one behind the other
+use Prim.Native.Nat.{ℕ, suc, _≤_, _<_}
 use mathlib.Core.Path.{_≡_}
 use mathlib.Core.Logic.{_⊎_}
-use mathlib.Core.List.{List}
+use mathlib.Core.List.{List, [], _∷_, _++_}
 use mathlib.Core.Option.{Option, some}
+use lib.ListN.{take}
+use Rattle.base.specs.Written.{Outcome}
+use Rattle.base.specs.declared.Written.{Written}
+use Rattle.base.specs.declared.Written.the-variants.{Wrote, Refused as NotWritten}
 use Rattle.frames.specs.Contents.{Packet, packed}
 use Rattle.frames.specs.Frame.{Told, refusal}
 use Rattle.frames.specs.Sender.{Accepted}
 use Rattle.stream.specs.Called.{Held as FrameHeld}
 use Rattle.blocks.specs.Channel.{Event, said, block, lost}
 use Rattle.channel.specs.Called.{Board}
+use Rattle.subchannel.specs.Called.{Board as SubBoard}
 use Rattle.tape.specs.Deck.{Deck}
-use Rattle.capture.specs.Export.{Fetched}
+use Rattle.capture.specs.Export.{Fetched, entering}
 use Rattle.capture.specs.Called.{Held}
 use Rattle.capture.specs.declared.reader.Capture.{Capture}
 use Rattle.capture.specs.declared.reader.Capture.the-variants.{Header, Head, Record, Behind}
@@ -78,6 +84,23 @@ FetchedHeld t h = Fetched t (h .recv)
 abbrev pub FetchedBoard : Event → Board → Type 0
 FetchedBoard e c = FetchedEvent e (c .recv)
 
+-- .. of a fixed sub-channel's
+abbrev pub FetchedSub : Event → SubBoard → Type 0
+FetchedSub e c = FetchedEvent e (c .recv)
+
 -- .. and of a recording's
 abbrev pub FetchedDeck : Event → Deck → Type 0
 FetchedDeck e m = FetchedEvent e (m .ear .board .recv)
+
+-- the bytes that a call wrote, by its answer: a refused one none
+abbrev pub putBy : Written → List ℕ → List ℕ
+putBy (Wrote n) out = take n out
+putBy (NotWritten n) out = []
+
+abbrev pub put : Outcome → List ℕ
+put o = putBy (o .answer) (o .output)
+
+-- packets, each with an output of its own, entered as number i, i + 1, ..: what the calls write, one behind the other
+abbrev pub entriesBy : ℕ → List (Packet × List ℕ) → List ℕ
+entriesBy i [] = []
+entriesBy i (x ∷ xs) = put (entering i (packed (x .0)) (x .1)) ++ entriesBy (suc i) xs

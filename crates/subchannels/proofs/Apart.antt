@@ -158,7 +158,7 @@ module _ (k : ℕ) where
   within s n e = let p = and-parts (leb n 3) _ e in (leb-true _ _ (p .0), p .1)
 
   -- a call on another one
-  call-other : (n : ℕ) (s : Boards) (bs : List ℕ) → n ≢ k → Live s → (boardAt (callOn n s bs .2) k ≡ boardAt s k) × Live (callOn n s bs .2)
+  pub call-other : (n : ℕ) (s : Boards) (bs : List ℕ) → n ≢ k → Live s → (boardAt (callOn n s bs .2) k ≡ boardAt s k) × Live (callOn n s bs .2)
   call-other n s bs e l = go (known (s .st) n) refl
     where
       go : (t : Bool) → known (s .st) n ≡ t → (boardAt (callOn n s bs .2) k ≡ boardAt s k) × Live (callOn n s bs .2)
