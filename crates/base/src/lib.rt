@@ -65,13 +65,13 @@ impl Refusal {
     pub const TABLE: u8 = 43;
     /// A number of the sheet would pass 64 bits.
     pub const WIDE: u8 = 44;
-    /// A unit is too long, or too few bytes of it are lent.
+    /// A unit is too long, has no room for its header, or too few bytes of it are lent.
     pub const UNIT: u8 = 50;
     /// A mix of content has no header sequence.
     pub const MIX: u8 = 51;
     /// The header matches no sequence.
     pub const SEQUENCE: u8 = 52;
-    /// The parts do not fit the unit.
+    /// The parts do not fit the unit, or told lengths disagree with its header.
     pub const PARTS: u8 = 53;
     /// The delimiter would be found elsewhere, or is not found.
     pub const DELIMITER: u8 = 54;

@@ -10,7 +10,7 @@ use mathlib.Core.List.{List, [], _∷_, _++_}
 use lib.ListN.{length}
 use Rattle.frames.specs.Contents.{Packet, packed, two}
 
--- a number as four bytes, low first
+-- a number below 2^32 as four bytes, low first
 abbrev pub four : ℕ → List ℕ
 four n = n % 256 ∷ n / 256 % 256 ∷ n / 65536 % 256 ∷ n / 16777216 ∷ []
 

@@ -25,7 +25,7 @@ struct Doublings {
     eight: Lanes,
 }
 
-// The generator's roots, and so the bytes that are left.
+/// The generator's roots, and so the bytes that are left.
 pub const ROOTS: usize = 32;
 
 // The low seven bits of each of eight bytes.
@@ -321,14 +321,14 @@ fn residue(bytes: &[u8]) -> Lanes
     divided(low, high, low2, high2, bytes)
 }
 
-// Whether a word is clean: nothing is left of it.
+/// Whether a word is clean: nothing is left of it.
 pub fn is_clean(word: &[u8]) -> bool
     ensures { λ b. ⌜ b ≡ clean laneRoots (now (word .entry)) ⌝ }
 {
     residue(word).is_zero()
 }
 
-// What is left, byte by byte.
+/// What is left, byte by byte.
 pub fn left(bytes: &[u8]) -> [u8; ROOTS]
     ensures { λ l. ⌜ l ≡ residue laneRoots (now (bytes .entry)) ⌝ }
 {
