@@ -119,8 +119,7 @@ impl Sub {
             let full = fill::filled(state, n);
             let last = i + n;
             let e = full.eat(again, there, &mut cells, word, piece[last]);
-            let next = e.lane;
-            state = next;
+            state = e.lane;
             again = e.again;
             place = e.place;
             i = last + 1;
@@ -130,7 +129,7 @@ impl Sub {
                     answer,
                     taken: i,
                     sub: Sub {
-                        lane: next,
+                        lane: state,
                         back: Back {
                             again,
                             matrix: Matrix { place, cells },
@@ -139,15 +138,13 @@ impl Sub {
                 };
             }
         }
+        let matrix = Matrix { place, cells };
         Hearing {
             answer: Answer::More,
             taken: i,
             sub: Sub {
                 lane: state,
-                back: Back {
-                    again,
-                    matrix: Matrix { place, cells },
-                },
+                back: Back { again, matrix },
             },
         }
     }
