@@ -44,7 +44,7 @@ use Rattle.subchannel.specs.declared.sub.Hearing.{Hearing}
 use Rattle.subchannel.specs.Called.{Board, board, sub, Given, huntOn, wordAt, wordOn, groupOn, compareOn, markOn, eatBy, eat, onBoard, eatByte}
 use Rattle.subchannel.specs.Called.{owedBy, owes, owed, handing, handed, handOn, soundLane, sound}
 use Rattle.subchannel.specs.Called.{hearBy, hearOn, hearCall, hearingOf, HearingIs, Fine}
-use Rattle.subchannel.specs.Private.{isSome, Able, EatenIs, HandedBy, HandedIs, spare, BytesIs}
+use Rattle.subchannel.specs.Private.{isSome, Able, EatenIs, HandedBy, HandedIs, spare, BytesIs, Going}
 use Rattle.subchannel.proofs.Fine.{fine-lane, fine-eat, zero-placed}
 use Rattle.subchannel.proofs.Cutting.{hand-one}
 
@@ -287,13 +287,6 @@ module _ (s : Lane) (z : owes s ≡ 0) where
 none-so : (o : Option Event) → isSome o ≡ false → o ≡ none
 none-so none e = refl
 none-so (some a) e = absurd (false≢true (sym e))
-
--- from byte i on: the state s and the word buffer w there; the call began with s₀ and w₀
-pub record Going (s₀ : Sub) (w₀ bs : List ℕ) (i : ℕ) (s : Sub) (w : List ℕ) : Type 0 where
-  pub within : i ≤ length bs
-  pub fine : Fine (board s spare w)
-  pub owed : owes (s .lane) ≡ 0
-  pub left : (l : List ℕ) → hearOn (board s₀ l w₀) bs ≡ after i (hearOn (board s l w) (drop i bs))
 
 pub going-first : (s : Sub) (w bs : List ℕ) → Fine (board s spare w) → owes (s .lane) ≡ 0 → Going s w bs 0 s w
 going-first s w bs i z = record { within = omega arith; fine = i; owed = z; left = λ l. after-none (hearOn (board s l w) bs) }

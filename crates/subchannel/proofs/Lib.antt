@@ -5,5 +5,6 @@ pub mod Delivery
 pub mod Demands
 pub mod Steps
 pub mod Hearing
+pub mod Filling
 pub mod Numbers
 pub mod Determined

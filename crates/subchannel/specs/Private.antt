@@ -5,15 +5,19 @@
 -- EatenIs             one new byte
 -- HandedIs            the rest of a stored word
 -- spare, BytesIs      the bytes of a piece, whatever the receive buffer holds
-use Prim.Native.Nat.{ℕ, _≤_}
+-- Going, GoesOn       on the way through them: no answer yet
+-- Fills, filled       bytes that only fill a word, and the lane behind them
+-- FillAsks, FilledIs  .. and such bytes of a piece
+use Prim.Native.Nat.{ℕ, _+_, _≤_, _<_}
 use mathlib.Core.Path.{_≡_}
 use mathlib.Core.Bool.{Bool, true, false}
 use mathlib.Core.List.{List}
 use mathlib.Core.Option.{Option, some, none}
-use lib.ListN.{length, replicate}
+use lib.ListN.{length, drop, replicate}
+use Rattle.base.specs.Calls.{after}
 use Rattle.frames.specs.Contents.{rawLimit}
 use Rattle.parity.specs.Calls.{rootLimit}
-use Rattle.interleaver.specs.Running.{depthLimit, beyond}
+use Rattle.interleaver.specs.Running.{depthLimit, matrix, back, beyond}
 use Rattle.interleaver.specs.declared.Back.{Back}
 use Rattle.blocks.specs.Sender.{wordBytes}
 use Rattle.blocks.specs.Channel.{Event}
@@ -25,7 +29,7 @@ use Rattle.subchannel.specs.declared.lane.Eaten.{Eaten}
 use Rattle.subchannel.specs.declared.cells.Turned.{Turned}
 use Rattle.subchannel.specs.declared.sub.Sub.{Sub}
 use Rattle.subchannel.specs.declared.sub.Hearing.{Hearing}
-use Rattle.subchannel.specs.Called.{board, sub, Given, owes, hearOn, Fine, HearingIs}
+use Rattle.subchannel.specs.Called.{board, sub, counts, counted, Given, owes, hearOn, Fine, HearingIs}
 
 -- there is one
 abbrev pub isSome : {A : Type 0} → Option A → Bool
@@ -83,3 +87,34 @@ spare = replicate rawLimit 0
 -- the bytes of a piece: whatever the receive buffer holds, it stays
 abbrev pub BytesIs : Sub → List ℕ → List ℕ → Hearing → List ℕ → Type 0
 BytesIs s word bs r word′ = (l : List ℕ) → HearingIs (hearOn (board s l word) bs) r l word′
+
+-- from byte i on: the state s and the word buffer w there; the call began with s₀ and w₀
+pub record Going (s₀ : Sub) (w₀ bs : List ℕ) (i : ℕ) (s : Sub) (w : List ℕ) : Type 0 where
+  pub within : i ≤ length bs
+  pub fine : Fine (board s spare w)
+  pub owed : owes (s .lane) ≡ 0
+  pub left : (l : List ℕ) → hearOn (board s₀ l w₀) bs ≡ after i (hearOn (board s l w) (drop i bs))
+
+-- from byte i to byte j, whatever the call began with
+abbrev pub GoesOn : List ℕ → ℕ → Sub → List ℕ → ℕ → Sub → List ℕ → Type 0
+GoesOn bs i s w j s′ w′ = (s₀ : Sub) (w₀ : List ℕ) → Going s₀ w₀ bs i s w → Going s₀ w₀ bs j s′ w′
+
+-- n more bytes only fill the word: the group and the word have room for them, the word for one more, and each brings a byte
+pub record Fills (s : Lane) (a : Bool) (n : ℕ) : Type 0 where
+  pub group : s .counts .group + n ≤ groupBytes
+  pub word : s .counts .word + n ≤ wordBytes
+  pub filling : 0 < n
+      → (s .lost ≡ false) × (s .locked ≡ true) × (s .counts .handed ≡ 0) × (s .counts .word + n < wordBytes) × (2 ≤ s .settings .depth → a ≡ true)
+
+-- the lane behind them
+abbrev pub filled : Lane → ℕ → Lane
+filled s n = counted s (counts (s .counts .group + n) (s .counts .marker) (s .counts .word + n) (s .counts .handed))
+
+-- the n bytes from byte i of a piece on only fill the word
+abbrev pub FillAsks : Lane → Bool → ℕ → List ℕ → List ℕ → ℕ → ℕ → Type 0
+FillAsks s a p w bs i n =
+    Fills s a n × (s .settings .depth ≤ depthLimit) × (beyond (s .settings .depth) p ≡ false) × (wordBytes ≤ length w) × (i + n ≤ length bs)
+
+-- .. and are taken: the cells' place, the cells and the word buffer behind them
+abbrev pub FilledIs : Lane → Bool → ℕ → List ℕ → List ℕ → List ℕ → ℕ → ℕ → ℕ → List ℕ → List ℕ → Type 0
+FilledIs s a p cs w bs i n p′ cs′ w′ = GoesOn bs i (sub s (back a (matrix p cs))) w (i + n) (sub (filled s n) (back a (matrix p′ cs′))) w′

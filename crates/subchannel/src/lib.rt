@@ -1,5 +1,6 @@
 //! Fixed sub-channels: each with its parity, its depth and its own bytes, at most one answer a call.
 mod cells;
+mod fill;
 mod lane;
 mod settings;
 mod sub;

@@ -6,6 +6,7 @@ ghost use Rattle.interleaver.specs.Running.{matrix, back};
 ghost use Rattle.subchannel.specs.Called.{Fine, board, sub, toldSub, owes, sound, hearOn, hearCall, HearingIs};
 ghost use Rattle.subchannel.specs.Private.{spare, BytesIs};
 use crate::cells;
+use crate::fill;
 use crate::lane::Lane;
 use crate::settings::Counts;
 use crate::settings::Settings;
@@ -95,7 +96,7 @@ impl Sub {
         false
     }
 
-    // The bytes of a piece, one by one, up to the first answer.
+    // The bytes of a piece up to the first answer: those that only fill a word in one go, and then the next by itself.
     fn hear_bytes(
         lane: Lane,
         passed: bool,
@@ -113,19 +114,22 @@ impl Sub {
         let mut place = first;
         let mut i: usize = 0;
         while i < piece.len() {
-            let e = state.eat(again, place, &mut cells, word, piece[i]);
-            let next = e.lane;
-            state = next;
+            let n = fill::plain(state, again, piece.len() - i - 1);
+            let there = fill::fill(state, again, place, &mut cells, word, piece, i, n);
+            let full = fill::filled(state, n);
+            let last = i + n;
+            let e = full.eat(again, there, &mut cells, word, piece[last]);
+            state = e.lane;
             again = e.again;
             place = e.place;
-            i += 1;
+            i = last + 1;
             if e.done {
                 let answer = e.answer;
                 return Hearing {
                     answer,
                     taken: i,
                     sub: Sub {
-                        lane: next,
+                        lane: state,
                         back: Back {
                             again,
                             matrix: Matrix { place, cells },
@@ -134,15 +138,13 @@ impl Sub {
                 };
             }
         }
+        let matrix = Matrix { place, cells };
         Hearing {
             answer: Answer::More,
             taken: i,
             sub: Sub {
                 lane: state,
-                back: Back {
-                    again,
-                    matrix: Matrix { place, cells },
-                },
+                back: Back { again, matrix },
             },
         }
     }

@@ -3,10 +3,11 @@ use Prim.Native.Nat.{ℕ, _+_, _-_, _<_, _^_}
 use mathlib.Core.Path.{_≡_, refl, _∙_}
 use native.Mathlib.Omega.{arith}
 use lib.ListN.{length}
-use borrow.Author.Needs.{needs}
 use Rattle.interleaver.specs.Running.{matrix, back}
 use Rattle.subchannel.specs.Called.{sub}
-use Rattle.subchannel.proofs.Hearing.{able-of, Going, going-first, going-next, going-end, going-done}
+use Rattle.subchannel.specs.Private.{Going}
+use Rattle.subchannel.proofs.Hearing.{able-of, going-first, going-next, going-end, going-done}
+use Rattle.subchannel.proofs.Filling.{goes-all}
 use Rattle.subchannel.proofs.sub.Sub.hear_bytes.Statement.{statement}
 use Rattle.subchannel.proofs.sub.Sub.hear_bytes.Tie as tie
 
@@ -23,27 +24,41 @@ hear-bytes-spec =
     tie.close
     (tie.spec Inv-loop μ-loop
     (λ c. let s = c .before .before in (going-first _ _ _ (s .pre .0) (s .pre .1), refl, omega arith))
-    (λ c. c .before .before .before .loop-test .taken)
-    (λ c κs. let g = c .before .before .before .before .loop .inv .0 in (able-of (g .fine), g .fine .place))
-    (λ c. let l = c .before .before .before .before .before .before .before .before .loop in omega (arith, l .inv .0 .within, l .inv .2))
+    (λ c. omega (arith, c .loop-test .taken))
+    (λ c. omega (arith, c .loop-test .taken))
+    (λ c κs. let g = c .before .loop .inv .0 in (g .fine .group, g .fine .word))
+    (λ c κs.
+    let p = c .before .before .plain .ensures in
+    let g = c .before .before .before .before .loop .inv .0 in
+    (p .1, g .fine .depth, g .fine .place, g .fine .room, omega (arith, p .0, c .before .before .before .loop-test .taken)))
+    (λ c κs. let p = c .before .before .before .before .before .plain .ensures in (p .1 .group, p .1 .word))
+    (λ c. omega (arith, c .before .before .before .before .before .before .plain .ensures .0, c .before .before .before .before .before .before .before .loop-test .taken, c .before .before .before .before .before .before .before .before .loop .inv .2))
+    (λ c. omega (arith, c .before .before .before .before .before .before .before .before .before .plain .ensures .0, c .before .before .before .before .before .before .before .before .before .before .loop-test .taken))
+    (λ c κs.
+    let f = c .before .before .before in
+    let g = goes-all _ (f .before .before .before .before .before .before .before .before .loop .inv .0) (f .before .before .before .fill .ensures) (f .filled .ensures) in
+    (able-of (g .fine), g .fine .place))
+    (λ c. omega (arith, c .before .before .before .before .before .before .before .before .before .before .before .before .before .plain .ensures .0, c .before .before .before .before .before .before .before .before .before .before .before .before .before .before .loop-test .taken, c .before .before .before .before .before .before .before .before .before .before .before .before .before .before .before .loop .inv .2))
     (λ c.
     let t = c .before .before .before .before in
-    let l = t .before .before .before .before .before .loop in
-    t .eat .kept .1 .1 .1 .1 .0 ∙ l .inv .1)
+    t .eat .kept .1 .1 .1 .1 .0 ∙ t .before .before .before .before .before .before .before .fill .kept .1 .1 .1 .1 .0 ∙ t .before .before .before .before .before .before .before .before .before .before .before .before .loop .inv .1)
     (λ c.
     let t = c .before .before .before .before in
-    let l = t .before .before .before .before .before .loop in
-    going-end (l .inv .0) (t .before .before .before .before .loop-test .taken) (t .eat .ensures) (c .if1 .taken))
+    let f = t .before .before .before .before in
+    let l = f .before .before .before .before .before .before .before .before in
+    going-end (goes-all _ (l .loop .inv .0) (f .before .before .before .fill .ensures) (f .filled .ensures))
+    (omega (arith, f .before .before .before .before .before .before .plain .ensures .0, f .before .before .before .before .before .before .before .loop-test .taken)) (t .eat .ensures) (c .if1 .taken))
+    (λ c.
+    let f = c .before .before .before .before .before .before .before .before in
+    omega (arith, f .before .before .before .before .before .before .plain .ensures .0, f .before .before .before .before .before .before .before .loop-test .taken))
     (λ c.
     let t = c .before .before .before .before in
-    omega (arith, t .before .before .before .before .loop-test .taken))
-    (λ c.
-    let t = c .before .before .before .before in
-    let l = t .before .before .before .before .before .loop in (
-      going-next (l .inv .0) (t .before .before .before .before .loop-test .taken) (t .eat .ensures)
-          (c .if1 .left),
-      t .eat .kept .1 .1 .1 .1 .0 ∙ l .inv .1,
-      l .inv .2,
+    let f = t .before .before .before .before in
+    let l = f .before .before .before .before .before .before .before .before in (
+      going-next (goes-all _ (l .loop .inv .0) (f .before .before .before .fill .ensures) (f .filled .ensures))
+          (omega (arith, f .before .before .before .before .before .before .plain .ensures .0, f .before .before .before .before .before .before .before .loop-test .taken)) (t .eat .ensures) (c .if1 .left),
+      t .eat .kept .1 .1 .1 .1 .0 ∙ f .before .before .before .fill .kept .1 .1 .1 .1 .0 ∙ l .loop .inv .1,
+      l .loop .inv .2,
     ))
     (λ c. c .before .loop .inv .1)
     (λ c. going-done (c .before .loop .inv .0) (c .loop-test .left)))
