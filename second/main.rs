@@ -31,6 +31,8 @@
 //!                            a recording with distances of every kind between sequence numbers
 //!   second sheet FILE..      the monthly reception sheet of recordings (sheet.rs)
 //!   second months DIR [SEED] groups of recordings to be counted, into a folder
+//!   second tallies CASES ANSWERS [SEED]
+//!                            recordings counted from rows of any numbers, and what becomes of them, into two files
 //!   second tables CASES ANSWERS [SEED]
 //!                            calls on tables of ports, and what they answer, into two files
 //!   second kinds FILE..      how often each kind of line occurs in the listings of recordings; fails where one never does
@@ -116,6 +118,8 @@ fn main() {
         ["sheet", _, ..] => std::process::exit(sheet::show(&words[1..])),
         ["months", dir] => Some(sheet::write_months(dir, 1)),
         ["months", dir, seed] => number(seed).map(|seed| sheet::write_months(dir, seed)),
+        ["tallies", asked, told] => Some(sheet::write_calls(asked, told, 1)),
+        ["tallies", asked, told, seed] => number(seed).map(|seed| sheet::write_calls(asked, told, seed)),
         ["tables", asked, told] => Some(ports::write_cases(asked, told, 1)),
         ["tables", asked, told, seed] => number(seed).map(|seed| ports::write_cases(asked, told, seed)),
         ["kinds", ref files @ ..] => std::process::exit(kinds::show(files)),
@@ -136,7 +140,7 @@ fn main() {
         eprintln!("  | capture | replay | captures DIR [SEED] | viewed");
         eprintln!("  | recordings DIR [SEED] | steady plain|marked MIB | samples DIR | cases calls|turns|pieces|channels|listings|rooms|schedules|mixes|imports [SEED]");
         eprintln!("  | compare CASES ANSWERS .. | test [SEED] | words R PLACES N | time N M | numbered FILE [SEED] | tables CASES ANSWERS [SEED] | unit WORDS..");
-        eprintln!("  | sheet FILE.. | months DIR [SEED]");
+        eprintln!("  | sheet FILE.. | months DIR [SEED] | tallies CASES ANSWERS [SEED]");
         std::process::exit(2);
     }
 }

@@ -1,0 +1,23 @@
+-- `tallies::main` is safe and ends.
+use native.Mathlib.Omega.{arith}
+use borrow.Author.Needs.{needs}
+use Rattle.tallies.proofs.main.Statement.{statement}
+use Rattle.tallies.proofs.main.Tie as tie
+
+abbrev Inv-loop : tie.InvT-loop
+Inv-loop cases₀ cases = Unit {0}
+
+abbrev μ-loop : tie.MeasureT-loop
+μ-loop cases₀ cases = cases
+
+pub main-spec : {M : Type 1} → statement M
+main-spec =
+    tie.close
+    (tie.spec Inv-loop μ-loop
+    (λ c. tt)
+    (λ c κs. search needs)
+    (search needs)
+    (search needs)
+    (omega arith)
+    (λ c. tt)
+    (search needs))
