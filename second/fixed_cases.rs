@@ -159,10 +159,10 @@ pub fn all(random: &mut Random, cases: &mut Vec<Case>) {
             }
         }
     }
-    for _ in 0..30 {
+    for _ in 0..20 {
         mixed(random, cases);
     }
-    for _ in 0..300 {
+    for _ in 0..200 {
         states(random, cases);
     }
     refused(random, cases);
