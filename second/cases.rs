@@ -51,7 +51,7 @@ impl Case {
             b'b' => "rooms",
             b'U' | b'u' => "mixes",
             b'r' | b'e' | b'f' | b'd' => "imports",
-            b'I' | b'J' | b'Z' | b'N' | b'X' | b'V' | b's' | b'g' | b'q' => "turns",
+            b'I' | b'J' | b'Z' | b'N' | b'X' | b'V' | b's' | b'g' | b'q' | b'p' | b'w' => "turns",
             b'n' | b'c' | b'h' | b'x' | b'v' => "schedules",
             _ => "calls",
         }
@@ -68,6 +68,7 @@ impl Case {
             b'r' => capture_calls::capture_in_pieces(self.number, &self.bytes, &mut out),
             b'Q' => self.closed_frame(&mut out),
             b's' | b'g' | b'q' => fixed_cases::sender_reply(self, &mut carried.sides.sender, &mut out),
+            b'p' | b'w' => fixed_cases::four_reply(self, &mut out),
             _ if self.kind() == "turns" => self.turn(&mut carried.sides, &mut out).to_le_bytes().to_vec(),
             _ if self.kind() == "schedules" => carried.fixed.reply(self, &mut out),
             _ => self.number_of_call(&mut out).to_le_bytes().to_vec(),

@@ -221,6 +221,39 @@ impl SubChannel {
     }
 }
 
+/// The sender of one to four: what each is told, R and depth; nothing before it is configured. A file of cases may set any.
+#[derive(Clone, Default)]
+pub struct Senders {
+    pub told: [bool; 4],
+    pub settings: [(u64, u64); 4],
+}
+
+impl Senders {
+    fn within_limits(&self) -> bool {
+        self.settings.iter().all(|(r, depth)| settings(*r, *depth).is_ok())
+    }
+
+    pub fn configure(&mut self, number: usize, r: u64, depth: u64) -> Result<(), u8> {
+        if !self.within_limits() {
+            return Err(10);
+        }
+        let place = self.settings.get_mut(number).ok_or(42)?;
+        settings(r, depth)?;
+        (*place, self.told[number]) = ((r, depth), true);
+        Ok(())
+    }
+
+    pub fn send(&self, number: usize, stream: &[u8], space: usize) -> Result<Vec<u8>, u8> {
+        if !self.within_limits() {
+            return Err(10);
+        }
+        match self.told.get(number) {
+            Some(true) => in_groups(self.settings[number].0, self.settings[number].1, stream, space),
+            _ => Err(42),
+        }
+    }
+}
+
 /// The receiver of one to four.
 pub struct Receiver {
     pub subs: [SubChannel; 4],

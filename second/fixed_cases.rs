@@ -4,7 +4,7 @@
 use crate::cases::{self, Case, Random};
 use crate::channel::{Answer, MARKER};
 use crate::channel_cases::{self, alter};
-use crate::fixed::{self, Receiver, SubChannel, FOUR, GROUP};
+use crate::fixed::{self, Receiver, Senders, SubChannel, FOUR, GROUP};
 use crate::interleaver::{Sender, CELLS};
 use crate::packet::{Packet, FLAG, RAW_LIMIT};
 use crate::parity::WORD;
@@ -91,6 +91,33 @@ pub fn sender_reply(case: &Case, sender: &mut Sender, out: &mut [u8]) -> Vec<u8>
     told
 }
 
+/// What the sender of four answers: its settings behind configuring, and the answer; or the length of a stream as sent.
+pub fn four_reply(case: &Case, out: &mut [u8]) -> Vec<u8> {
+    let [number, r, depth] = [0, 16, 32].map(|shift| case.number >> shift & 0xFFFF);
+    let (mut told, mut senders) = (Vec::new(), senders_in(&case.bytes));
+    if case.asked == b'w' {
+        cases::push_all(&mut told, &[cases::answer_in(senders.send(number as usize, &case.bytes[24..], out.len()), out)]);
+        return told;
+    }
+    let result = senders.configure(number as usize, r, depth);
+    for (told_one, (r, depth)) in senders.told.into_iter().zip(senders.settings) {
+        cases::push_all(&mut told, &[told_one as u64, r, depth]);
+    }
+    cases::push_all(&mut told, &[result.map_or_else(cases::refusal, |_| 0)]);
+    told
+}
+
+/// The sender of four whose settings a case has before its other bytes, and the same the other way round.
+fn senders_in(bytes: &[u8]) -> Senders {
+    let pair = |i: usize| u16::from_le_bytes([bytes[2 * i], bytes[2 * i + 1]]) as u64;
+    Senders { told: [0, 3, 6, 9].map(|i| pair(i) == 1), settings: [0, 3, 6, 9].map(|i| (pair(i + 1), pair(i + 2))) }
+}
+
+fn senders_bytes(senders: &Senders) -> Vec<u8> {
+    let numbers = (0..4).flat_map(|i| [senders.told[i] as u64, senders.settings[i].0, senders.settings[i].1]);
+    numbers.flat_map(|n| (n as u16).to_le_bytes()).collect()
+}
+
 /// A sub-channel with the numbers that a case tells; its cells stay.
 fn sub_in(old: &SubChannel, bytes: &[u8]) -> SubChannel {
     let pair = |i: usize| u16::from_le_bytes([bytes[2 * i], bytes[2 * i + 1]]) as usize;
@@ -150,6 +177,9 @@ fn anew() -> Case {
 pub fn all(random: &mut Random, cases: &mut Vec<Case>) {
     senders(random, cases);
     groups(random, cases);
+    for _ in 0..12 {
+        four(random, cases);
+    }
     for r in PARITIES {
         for depth in DEPTHS {
             let times = if depth == 64 { 1 } else { 6 };
@@ -159,10 +189,10 @@ pub fn all(random: &mut Random, cases: &mut Vec<Case>) {
             }
         }
     }
-    for _ in 0..30 {
+    for _ in 0..20 {
         mixed(random, cases);
     }
-    for _ in 0..300 {
+    for _ in 0..200 {
         states(random, cases);
     }
     refused(random, cases);
@@ -218,6 +248,30 @@ fn groups(random: &mut Random, cases: &mut Vec<Case>) {
         }
     }
     cases.push(asked(b'V', [0; 3], CELLS + 1, vec![]));
+}
+
+/// The sender of four from the start: configured, also again and wrongly, and streams sent on each in between, with outputs as they should be and
+/// one off; then with settings that 10 refuses.
+fn four(random: &mut Random, cases: &mut Vec<Case>) {
+    let mut senders = Senders::default();
+    for turn in 0..16 {
+        if turn == 13 {
+            let far = [(65, 0), (0, 65), (65535, 64), (64, 65535)][random.below(4)];
+            (senders.told[random.below(4)], senders.settings[random.below(4)]) = (random.below(2) == 0, far);
+        }
+        let number = [turn % 4, 4, 65535][[0, 0, 0, 1, 2][random.below(5)]];
+        let r = [PARITIES[random.below(7)], PARITIES[random.below(7)], 65, 65535][random.below(4)];
+        let depth = [DEPTHS[random.below(5)], DEPTHS[random.below(6)], 65, 65535][random.below(4)];
+        cases.push(asked(b'p', [number, r as usize, depth as usize], 0, senders_bytes(&senders)));
+        let _ = senders.configure(number, r, depth);
+        for number in [0, 1, 2, 3, 4 + random.below(2) * 65531] {
+            let n = random.below(1200);
+            let stream = channel_cases::packets(random, n + 1);
+            let right = senders.send(number, &stream, usize::MAX).map_or(9, |bytes| bytes.len());
+            let space = [right, right.saturating_sub(1), right + 5][random.below(3)];
+            cases.push(asked(b'w', [number, 0, 0], space, [senders_bytes(&senders), stream].concat()));
+        }
+    }
 }
 
 /// Words altered, before they are interleaved, within half of R and beyond it.
@@ -496,6 +550,11 @@ fn order() {
     receiver.subs[1].group_bytes = GROUP + 1;
     assert_eq!(receiver.call(9, &mut [], &mut word, &[]).err(), Some(10));
     assert_eq!(told(receiver.configure(9, 65, 65)), Some(10));
+    let mut senders = Senders::default();
+    assert_eq!([(4, 65, 65), (3, 65, 65), (3, 64, 65), (3, 64, 64)].map(|(k, r, d)| told(senders.configure(k, r, d))), [Some(42), Some(30), Some(32), None]);
+    assert_eq!([4, 2, 3].map(|k| senders.send(k, &[], 0).err()), [Some(42), Some(42), Some(23)]);
+    senders.settings[1].1 = 65;
+    assert_eq!((senders.send(9, &[], 0).err(), told(senders.configure(9, 65, 65))), (Some(10), Some(10)));
     assert_eq!(fixed::in_groups(65, 65, &[], 0).err(), Some(30));
     assert_eq!(fixed::in_groups(64, 65, &[], 0).err(), Some(32));
     assert_eq!(fixed::in_groups(64, 64, &[], 0).err(), Some(23));

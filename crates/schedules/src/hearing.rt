@@ -2,6 +2,7 @@
 //! repaired in n places), a packet's format and key, and its payload, behind it. The numbers of a sub-channel, as x sets them in 16 bits each and
 //! v tells them: told, R, depth, locked, lost; the four hunted bytes (of x two to a number); bytes of the group, of the marker, of the word,
 //! message bytes handed on; a frame's opened, raw count, stored bytes, remembered place; whether the first pass is over, the cells' place.
+use crate::Case;
 use base::Refusal;
 use channel::Answer;
 use channel::Condition;
@@ -18,19 +19,8 @@ use subchannel::Sub;
 use subchannels::Configured;
 use subchannels::Receiver;
 
-// The receiver behind a call, and what of the piece was taken.
-struct Step {
-    receiver: Receiver,
-    at: usize,
-    go: bool,
-}
-
-pub fn configure(receiver: Receiver, number: u64) -> Receiver {
-    let done = receiver.configure(
-        crate::first(number),
-        crate::second(number),
-        crate::third(number),
-    );
+pub fn configure(case: Case, receiver: Receiver) -> Receiver {
+    let done = receiver.configure(case.a, case.b, case.c);
     let answer = done.answer;
     crate::print(configured(answer));
     done.receiver
@@ -45,71 +35,55 @@ fn configured(answer: Configured) -> u64 {
 
 // Lends the two buffers of a sub-channel, as much of them as the case says; beyond the four those of the last.
 pub fn hear(
+    case: Case,
     receiver: Receiver,
-    number: u64,
     recv: &mut [u8],
     word: &mut [u8],
-    piece: &[u8],
+    bytes: &[u8],
 ) -> Receiver {
-    let k = base::least(crate::first(number), 3);
+    let k = base::least(case.a, 3);
     let from = Sub::RAW * k;
     let at = Sub::WORD * k;
-    let to = from + base::least(crate::second(number), Sub::RAW);
-    let end = at + base::least(crate::third(number), Sub::WORD);
-    if recv.len() < to {
+    let to = from + base::least(case.b, Sub::RAW);
+    let end = at + base::least(case.c, Sub::WORD);
+    let length = case.length;
+    if recv.len() < to || word.len() < end || bytes.len() < length {
         return receiver;
     }
-    if word.len() < end {
-        return receiver;
-    }
-    let first = Step {
-        receiver,
-        at: 0,
-        go: true,
-    };
     hear_all(
-        first,
-        crate::first(number),
+        receiver,
+        case.a,
         &mut recv[from..to],
         &mut word[at..end],
-        piece,
+        &bytes[0..length],
     )
 }
 
 // A piece, until more is wanted or a call is refused.
-fn hear_all(first: Step, n: usize, recv: &mut [u8], word: &mut [u8], piece: &[u8]) -> Receiver {
-    let mut step = first;
+fn hear_all(
+    receiver: Receiver,
+    n: usize,
+    recv: &mut [u8],
+    word: &mut [u8],
+    piece: &[u8],
+) -> Receiver {
+    let mut next = receiver;
+    let mut at: usize = 0;
     let mut calls = u64::MAX;
     while calls > 0 {
-        if !step.go {
-            return step.receiver;
+        if piece.len() < at {
+            return next;
         }
-        step = call(step, n, recv, word, piece);
+        let h = next.hear(n, recv, word, &piece[at..]);
+        let answer = h.answer;
+        next = h.receiver;
+        at = std::num::wrapping_add_usize(at, h.taken);
+        if !goes_on(h.taken, answer, recv) {
+            return next;
+        }
         calls -= 1;
     }
-    step.receiver
-}
-
-fn call(step: Step, n: usize, recv: &mut [u8], word: &mut [u8], piece: &[u8]) -> Step {
-    let at = step.at;
-    let receiver = step.receiver;
-    if piece.len() < at {
-        return Step {
-            receiver,
-            at,
-            go: false,
-        };
-    }
-    let h = receiver.hear(n, recv, word, &piece[at..]);
-    let answer = h.answer;
-    let next = h.receiver;
-    crate::print(h.taken as u64);
-    crate::print(code(answer));
-    Step {
-        receiver: next,
-        at: std::num::wrapping_add_usize(at, h.taken),
-        go: goes_on(answer, recv),
-    }
+    next
 }
 
 fn code(answer: Answer) -> u64 {
@@ -141,8 +115,10 @@ fn judged(j: Judged) -> u64 {
     }
 }
 
-// Whether the piece is handed in again; what else is told of a packet is written.
-fn goes_on(answer: Answer, recv: &[u8]) -> bool {
+// Tells a call: whether the piece is handed in again.
+fn goes_on(taken: usize, answer: Answer, recv: &[u8]) -> bool {
+    crate::print(taken as u64);
+    crate::print(code(answer));
     match answer {
         Answer::More => false,
         Answer::Said(j) => deliver(j, recv),
@@ -186,94 +162,110 @@ fn put(r: Receiver, k: usize, sub: Sub) -> Receiver {
     let b = r.b;
     let c = r.c;
     let d = r.d;
-    if k == 0 {
-        return Receiver { a: sub, b, c, d };
+    match k {
+        0 => Receiver { a: sub, b, c, d },
+        1 => Receiver { a, b: sub, c, d },
+        2 => Receiver { a, b, c: sub, d },
+        _ => Receiver { a, b, c, d: sub },
     }
-    if k == 1 {
-        return Receiver { a, b: sub, c, d };
-    }
-    if k == 2 {
-        return Receiver { a, b, c: sub, d };
-    }
-    Receiver { a, b, c, d: sub }
 }
 
-pub fn set(receiver: Receiver, number: u64, bytes: &[u8]) -> Receiver {
-    let k = crate::first(number);
-    let mut numbers = [0u8; 34];
-    base::copy(bytes, &mut numbers);
-    let old = get(receiver, k);
+pub fn set(case: Case, receiver: Receiver, x: &[u8]) -> Receiver {
+    let old = get(receiver, case.a);
     put(
         receiver,
-        k,
+        case.a,
         Sub {
-            lane: lane(numbers),
-            back: back(old.back, numbers),
+            lane: lane(x),
+            back: back(old.back, x),
         },
     )
 }
 
-fn lane(x: [u8; 34]) -> Lane {
+fn lane(x: &[u8]) -> Lane {
     Lane {
         settings: Settings {
-            told: x[0] == 1,
-            parity: crate::pair(x[2], x[3]),
-            depth: crate::pair(x[4], x[5]),
+            told: is_set(x, 0),
+            parity: crate::pair(x, 2),
+            depth: crate::pair(x, 4),
         },
-        locked: x[6] == 1,
-        lost: x[8] == 1,
-        hunting: Hunting {
-            a: x[10],
-            b: x[11],
-            c: x[12],
-            d: x[13],
-        },
-        counts: Counts {
-            group: crate::pair(x[14], x[15]),
-            marker: crate::pair(x[16], x[17]),
-            word: crate::pair(x[18], x[19]),
-            handed: crate::pair(x[20], x[21]),
-        },
-        frame: Frame {
-            opened: x[22] == 1,
-            raw: crate::pair(x[24], x[25]),
-            stored: crate::pair(x[26], x[27]),
-            place: crate::pair(x[28], x[29]),
-        },
+        locked: is_set(x, 6),
+        lost: is_set(x, 8),
+        hunting: hunting(x),
+        counts: counts(x),
+        frame: frame(x),
+    }
+}
+
+fn is_set(x: &[u8], at: usize) -> bool {
+    crate::pair(x, at) == 1
+}
+
+fn hunting(x: &[u8]) -> Hunting {
+    if x.len() < 14 {
+        return Hunting {
+            a: 0,
+            b: 0,
+            c: 0,
+            d: 0,
+        };
+    }
+    Hunting {
+        a: x[10],
+        b: x[11],
+        c: x[12],
+        d: x[13],
+    }
+}
+
+fn counts(x: &[u8]) -> Counts {
+    Counts {
+        group: crate::pair(x, 14),
+        marker: crate::pair(x, 16),
+        word: crate::pair(x, 18),
+        handed: crate::pair(x, 20),
+    }
+}
+
+fn frame(x: &[u8]) -> Frame {
+    Frame {
+        opened: is_set(x, 22),
+        raw: crate::pair(x, 24),
+        stored: crate::pair(x, 26),
+        place: crate::pair(x, 28),
     }
 }
 
 // The same cells, at another place.
-fn back(old: Back, x: [u8; 34]) -> Back {
+fn back(old: Back, x: &[u8]) -> Back {
     let matrix = old.matrix;
     let cells = matrix.cells;
     Back {
-        again: x[30] == 1,
+        again: is_set(x, 30),
         matrix: Matrix {
-            place: crate::pair(x[32], x[33]),
+            place: crate::pair(x, 32),
             cells,
         },
     }
 }
 
-pub fn view(receiver: Receiver, number: u64, recv: &[u8], word: &[u8], out: &mut [u8]) {
-    let k = base::least(crate::first(number), 3);
+pub fn view(case: Case, receiver: Receiver, recv: &[u8], word: &[u8]) {
+    let k = base::least(case.a, 3);
     let sub = get(receiver, k);
-    let lane = sub.lane;
     let back = sub.back;
     let matrix = back.matrix;
+    let lane = sub.lane;
     print_lane(lane);
     crate::print(back.again as u64);
     crate::print(matrix.place as u64);
     print_part(Sub::RAW * k, Sub::RAW, recv);
     print_part(Sub::WORD * k, Sub::WORD, word);
-    copy_cells(matrix, out);
+    print_cells(matrix, case.room);
 }
 
-// Cells, as many as there is room for.
-fn copy_cells(matrix: Matrix, out: &mut [u8]) {
+fn print_cells(matrix: Matrix, n: usize) {
     let cells = matrix.cells;
-    base::copy(&cells, out);
+    print_part(0, n, &cells);
 }
 
 // So many bytes from a place on.

@@ -2,18 +2,23 @@
 //! program. The receiver of four and its buffers are carried over from case to case.
 //!
 //! A case, a number and a refusal stand as crates/answers/src/main.rt has them; the number of a case holds three of 16 bits, the first one lowest.
-//! An answer: what is told, and all bytes of the output, which is lent filled with 0xA5. Asked for (hearing.rt): n all anew, buffers filled
-//! with 0xA5; c a sub-channel configured (its number, R, depth); h a piece handed in until more is wanted (its number, how much of its
-//! receive buffer and of its word buffer is lent); x its numbers set; v its numbers, its two buffers, and its cells in the output.
+//! Asked for (hearing.rt): n all anew, buffers filled with 0xA5; c a sub-channel configured (its number, R, depth); h a piece handed in until
+//! more is wanted (its number, how much of its receive buffer and of its word buffer is lent); x its numbers set; v its numbers, its two
+//! buffers, and its cells, as many as there is room for.
 mod hearing;
 
 use subchannel::Sub;
 use subchannels::Receiver;
 
-// Whether there was a case, and the receiver behind it.
-struct Turn {
+// A case: whether there is one, what is asked for, its three numbers, its room, and how many bytes follow.
+struct Case {
     go: bool,
-    receiver: Receiver,
+    asked: u8,
+    a: usize,
+    b: usize,
+    c: usize,
+    room: usize,
+    length: usize,
 }
 
 const HEAD: usize = 13;
@@ -25,144 +30,88 @@ const WORDS: usize = 4 * Sub::WORD;
 
 fn main() {
     let mut bytes = io::large_buffer();
-    let mut out = io::large_buffer();
     let mut recv = [0xA5u8; RAWS];
     let mut word = [0xA5u8; WORDS];
     let mut receiver = Receiver::fresh();
     let mut cases = u64::MAX;
     while cases > 0 {
-        let turn = answer(receiver, &mut recv, &mut word, &mut bytes, &mut out);
-        receiver = turn.receiver;
-        if !turn.go {
+        let case = read(&mut bytes);
+        if !case.go {
             return;
         }
+        receiver = answer(case, receiver, &mut recv, &mut word, &bytes);
         cases -= 1;
     }
 }
 
-// Reads one case and writes its answer.
-fn answer(
-    receiver: Receiver,
-    recv: &mut [u8],
-    word: &mut [u8],
-    bytes: &mut [u8],
-    out: &mut [u8],
-) -> Turn {
+// Reads one case, and the bytes that follow its head.
+fn read(bytes: &mut [u8]) -> Case {
     let mut head = [0u8; 13];
     if io::read_full(0, &mut head) != HEAD {
-        return Turn {
-            go: false,
-            receiver,
-        };
+        return headed(false, head);
     }
-    let room = pair(head[9], head[10]);
-    let n = pair(head[11], head[12]);
-    if bytes.len() < n || out.len() < room {
-        return Turn {
-            go: false,
-            receiver,
-        };
-    }
-    follow(
-        head,
-        receiver,
-        recv,
-        word,
-        &mut bytes[0..n],
-        &mut out[0..room],
-    )
+    let go = follow(join(head[11], head[12]), bytes);
+    headed(go, head)
 }
 
-// Reads the bytes that follow a head, and writes the answer.
-fn follow(
-    head: [u8; 13],
-    receiver: Receiver,
-    recv: &mut [u8],
-    word: &mut [u8],
-    bytes: &mut [u8],
-    out: &mut [u8],
-) -> Turn {
-    let n = bytes.len();
-    if io::read_full(0, bytes) != n {
-        return Turn {
-            go: false,
-            receiver,
-        };
+fn headed(go: bool, head: [u8; 13]) -> Case {
+    Case {
+        go,
+        asked: head[0],
+        a: join(head[1], head[2]),
+        b: join(head[3], head[4]),
+        c: join(head[5], head[6]),
+        room: join(head[9], head[10]),
+        length: join(head[11], head[12]),
     }
-    respond(head, receiver, recv, word, bytes, out)
 }
 
-// Writes the answer to one case.
-fn respond(
-    head: [u8; 13],
+fn follow(n: usize, bytes: &mut [u8]) -> bool {
+    if bytes.len() < n {
+        return false;
+    }
+    io::read_full(0, &mut bytes[0..n]) == n
+}
+
+// Writes the answer to one case: the receiver behind it.
+fn answer(
+    case: Case,
     receiver: Receiver,
     recv: &mut [u8],
     word: &mut [u8],
     bytes: &[u8],
-    out: &mut [u8],
-) -> Turn {
-    fill(out);
-    let next = tell(head[0], number(head), receiver, recv, word, bytes, out);
-    Turn {
-        go: io::write_all(1, out),
-        receiver: next,
-    }
-}
-
-fn tell(
-    asked: u8,
-    number: u64,
-    receiver: Receiver,
-    recv: &mut [u8],
-    word: &mut [u8],
-    bytes: &[u8],
-    out: &mut [u8],
 ) -> Receiver {
+    let asked = case.asked;
     match asked {
         b'n' => {
             fill(recv);
             fill(word);
             Receiver::fresh()
         }
-        b'c' => hearing::configure(receiver, number),
-        b'h' => hearing::hear(receiver, number, recv, word, bytes),
-        b'x' => hearing::set(receiver, number, bytes),
+        b'c' => hearing::configure(case, receiver),
+        b'h' => hearing::hear(case, receiver, recv, word, bytes),
+        b'x' => hearing::set(case, receiver, bytes),
         b'v' => {
-            hearing::view(receiver, number, recv, word, out);
+            hearing::view(case, receiver, recv, word);
             receiver
         }
         _ => receiver,
     }
 }
 
-fn pair(low: u8, high: u8) -> usize {
+// The number in two bytes from a place on, the low one first.
+fn pair(bytes: &[u8], at: usize) -> usize {
+    if bytes.len() < 2 {
+        return 0;
+    }
+    if bytes.len() - 2 < at {
+        return 0;
+    }
+    join(bytes[at], bytes[at + 1])
+}
+
+fn join(low: u8, high: u8) -> usize {
     low as usize | (high as usize) << 8
-}
-
-// The number of a case.
-fn number(head: [u8; 13]) -> u64 {
-    let low = head[1] as u64
-        | (head[2] as u64) << 8
-        | (head[3] as u64) << 16
-        | (head[4] as u64) << 24;
-    let high = head[5] as u64
-        | (head[6] as u64) << 8
-        | (head[7] as u64) << 16
-        | (head[8] as u64) << 24;
-    low | high << 32
-}
-
-// The first three of the numbers in a number.
-fn first(number: u64) -> usize {
-    (number % 65536) as usize
-}
-
-fn second(number: u64) -> usize {
-    first(number / 65536)
-}
-
-fn third(number: u64) -> usize {
-    first(number / 0x100000000)
 }
 
 fn fill(out: &mut [u8]) {

@@ -5,8 +5,11 @@
 //! A case and an answer have the form that crates/answers has. Asked for: N fresh states; I bytes pushed at the depth that the number says; Z the
 //! closing push; J received bytes taken in; X both places set to the number, and whether the first pass is over to the byte that follows;
 //! s a whole stream sent, g the next group of one, with the sender's state, and q how many groups one of so many bytes has, R and depth in the
-//! number's low two 16 bits; V the place of the sender (number 0) or of the receiving side (1), with the cells in the output and, of the latter, whether its
-//! first pass is over behind them.
+//! number's low two 16 bits; p a sub-channel of four configured (its number, R, depth in the number's low three), w a whole stream sent on the one that
+//! the number says (four.rt); V the place of the sender (number 0) or of the receiving side (1), with the cells in the output and, of the latter,
+//! whether its first pass is over behind them.
+mod four;
+
 use base::Written;
 use interleaver::Back;
 use interleaver::Matrix;
@@ -126,6 +129,14 @@ fn tell(asked: u8, number: u64, sides: Sides, bytes: &[u8], out: &mut [u8]) -> T
             sides,
         },
         b'g' => grouped(number, matrix, back, bytes, out),
+        b'p' => Told {
+            number: four::configure(number, bytes),
+            sides,
+        },
+        b'w' => Told {
+            number: written(four::send(number, bytes, out)),
+            sides,
+        },
         b'q' => Told {
             number: counted(subsender::count(
                 low_pair(number),
