@@ -206,7 +206,12 @@ fn finish(tape: Tape) {
 fn put(written: Written, out: &[u8]) -> bool {
     match written {
         Written::Wrote(n) => print(&out[0..base::least(n, out.len())]),
-        Written::Refused(_) => false,
+        Written::Refused(number) => {
+            fail(b"capture: refused ");
+            io::print_decimal(STDERR_FILENO, number as u64);
+            fail(b"\n");
+            false
+        }
     }
 }
 

@@ -144,19 +144,18 @@ fn pass(heard: Heard, sent: Sent, store: &[u8], out: &mut [u8]) -> Passed {
 fn judge(judged: Judged, sent: Sent, store: &[u8], out: &mut [u8]) -> Passed {
     match judged {
         Judged::Packet(delivery) => send(delivery, sent, store, out),
-        Judged::Refused(n) => {
-            say_refused(n, sent.packets);
-            Passed {
-                again: false,
-                go: false,
-                sent,
-            }
-        }
-        Judged::Broken(_) => Passed {
-            again: false,
-            go: false,
-            sent,
-        },
+        Judged::Refused(n) => refuse(n, sent),
+        Judged::Broken(_) => refuse(Refusal::ESCAPE, sent),
+    }
+}
+
+// A refusal, and no more is read.
+fn refuse(number: u8, sent: Sent) -> Passed {
+    say_refused(number, sent.packets);
+    Passed {
+        again: false,
+        go: false,
+        sent,
     }
 }
 
@@ -231,7 +230,12 @@ fn say_refused(number: u8, record: u64) {
 fn put(written: Written, out: &[u8]) -> bool {
     match written {
         Written::Wrote(n) => record(&out[0..base::least(n, out.len())]),
-        Written::Refused(_) => false,
+        Written::Refused(number) => {
+            fail(b"replay: refused ");
+            io::print_decimal(STDERR_FILENO, number as u64);
+            fail(b"\n");
+            false
+        }
     }
 }
 

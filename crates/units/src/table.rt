@@ -107,7 +107,7 @@ pub fn payload(size: usize) -> usize
 }
 
 /// The bytes that a unit takes.
-pub fn lent(size: usize) -> usize
+pub(crate) fn lent(size: usize) -> usize
     requires { ⌜ size ≤ most ⌝ }
     ensures { λ r. ⌜ (r ≡ lent size) × (r ≤ mostBytes) ⌝ }
 {
