@@ -2,6 +2,7 @@
 # bin/bars.sh: the lines of bin/sheet on standard input as a picture (SVG) on standard output: the loss of each port as a bar. bin/sheet --plot
 # calls it.
 set -eu
+export LC_ALL=C # figures with a point
 exec awk '
     { port[NR] = $1; missing[NR] = $6; total[NR] = $7; share[NR] = $7 > 0 ? $6 / $7 : 0; if (share[NR] > most) most = share[NR] }
     END {

@@ -365,5 +365,5 @@ pub fn test() -> usize {
     let many: Vec<(u16, u16)> = (0..17).map(|i| (i, 1)).collect();
     assert_eq!(counted(&sheet(near(LARGEST, 0, 0)), &many), Err(40));
     assert!(counted(&Sheet::new(), &many[..16]).is_ok());
-    8
+    7
 }

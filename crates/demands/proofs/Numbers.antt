@@ -22,6 +22,7 @@ use Rattle.ports.specs.Ports.{placeOf, freePlace, twice, noting, forgetting}
 use Rattle.units.specs.Bits.{digits, number}
 use Rattle.units.specs.Tables.{heads, start, step, unfit}
 use Rattle.units.specs.Reading.{isHeader, named}
+use Rattle.sheets.specs.Recording.{marks}
 use Rattle.demands.specs.Numbers.{table, wrong}
 use Rattle.demands.specs.Printed.{printed}
 use Rattle.demands.specs.Requested.{requested}
@@ -35,5 +36,5 @@ unfolding fcs register entered contents withCheck escape escapeByte judge closed
 as-printed = refl
 
 pub as-requested : wrong requested ≡ []
-unfolding digits number isHeader named heads start step unfit records read entry judgeBody plain rowLine decimal decimalBy
+unfolding digits number isHeader named heads start step unfit records read entry judgeBody plain rowLine decimal decimalBy marks
 as-requested = refl

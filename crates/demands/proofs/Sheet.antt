@@ -1,6 +1,11 @@
 -- Request W13, "Monthly reception sheet", each sentence over its theorem. A month is the list of the recordings that count, each the list of its
 -- delivered packets' ports and sequence numbers; `lines` are the sheet's lines, `counting` is what a recording makes of the month, `recorded` the
 -- calls on its packets (proofs/Promises), `sheetOf` the sheet as it is kept.
+-- rising-order, line-each          the lines
+-- line-numbers, afresh, each-packet, delivered, loss, line-is     their numbers
+-- sheet-by-calls, sheet-begins, sheet-goes-on, sheet-of-many, sheet-rows, line-printed     by calls, for every cutting of each recording
+-- close-refusals, month-refusals, sheet-stays, month-stays, x-is-wrong, counted-whole      what does not count
+-- print-refusals, print-row-refusals, ..-keeps-out     a line written
 use Prim.Native.Nat.{ℕ, _+_, _≤_, _<_}
 use native.Mathlib.Omega.{arith}
 use mathlib.Core.Path.{_≡_, refl, sym, ap, subst, _∙_}
@@ -10,7 +15,7 @@ use mathlib.Core.Logic._⊎_.{inl, inr}
 use mathlib.Core.List.{List, [], _∷_, map}
 use lib.Dec.{ltb}
 use lib.ListN.{length, getD}
-use borrow.Author.Tests.{ltb-true, lt-ltb}
+use borrow.Author.Tests.{ltb-true, lt-ltb, le-ltb}
 use Rattle.base.specs.Calls.{joined}
 use Rattle.base.specs.Choice.{pick}
 use Rattle.base.specs.Written.{write, refused, Keeps}
@@ -22,7 +27,8 @@ use Rattle.listed.specs.Apart.{well}
 use Rattle.tape.specs.Called.{far, EveryCut}
 use Rattle.tape.proofs.Demands.{taken-apart}
 use Rattle.sheets.specs.declared.Row.{Row}
-use Rattle.sheets.specs.Tally.{told, nothing, plus, sum, tally, timelyIn}
+use Rattle.ports.specs.declared.Noted.the-variants.{First, InOrder, Repeated, Missing, Late}
+use Rattle.sheets.specs.Tally.{told, tallied, nothing, plus, one, sum, tally, timelyIn}
 use Rattle.sheets.specs.Month.{Mark, Month, numbersOf, numbers, timelyOf, addedAll, portsOf, line, lines, anyWide, portLimit, counts, wrong, ruling, with, counting, monthOf}
 use Rattle.sheets.specs.Rows.{blank}
 use Rattle.sheets.specs.Recording.{marks, brings}
@@ -38,7 +44,7 @@ use Rattle.sheet.specs.Called.{rowsOf, sheetOf, freshSheet, closed, answerOf, b
 use Rattle.sheet.proofs.Month.{rows-sheet, recorded-is, refused-keeps}
 use Rattle.demands.specs.Table.{Exact}
 use Rattle.demands.specs.Refusals.{ByCall}
-use Rattle.demands.specs.Sheet.{ByClosed, closeRows, monthRows, printRows}
+use Rattle.demands.specs.Sheet.{ByClosed, closeRows, monthRows, printRows, recordedAll}
 use Rattle.demands.proofs.Rows.{applies, over, row, passed, refuses as refuses-call, not-less, wrote}
 
 -- "From many recordings, print a line for each port, in rising order:": the ports rise, a line each, and are those that a recording that counts
@@ -65,6 +71,12 @@ pub afresh : (month : Month) (ms : List Mark) (port : ℕ)
     → (numbers port [] ≡ nothing) × (numbers port (with month ms) ≡ plus (numbers port month) (sum (told (numbersOf port ms))))
 unfolding numbers
 afresh month ms port = (refl, tallies.numbers-with month port ms)
+
+-- .. what each packet counts: delivered, repeated, late, missing, and missing plus packets in order, first or after a gap
+pub each-packet : (n : ℕ)
+    → (one First ≡ tallied 1 0 0 0 1) × (one InOrder ≡ tallied 1 0 0 0 1) × (one (Missing n) ≡ tallied 1 0 0 n (n + 1))
+    × (one Repeated ≡ tallied 1 1 0 0 0) × (one Late ≡ tallied 1 0 1 0 0)
+each-packet n = (refl, refl, refl, refl, refl)
 
 -- each packet is delivered, and is in order, first or after a gap, or repeated, or late
 pub delivered : (ss : List ℕ) → (tally ss .delivered ≡ length ss) × (tally ss .delivered ≡ timelyIn (told ss) + tally ss .repeated + tally ss .late)
@@ -97,9 +109,33 @@ sheet-begins = (refl, fresh-fit)
 pub sheet-goes-on : (rs : List (Bool × List Mark)) → Fit (monthOf [] rs)
 sheet-goes-on rs = month-fit rs [] fresh-fit
 
--- the rows of the sheet that is kept are the lines
+-- .. so of many recordings, one after the other, the calls leave the sheet of the month
+many-from : (rs : List (Bool × List Mark)) (month : Month) → Fit month → recordedAll (sheetOf (lines month)) rs ≡ sheetOf (lines (monthOf month rs))
+unfolding monthOf
+many-from [] month f = refl
+many-from (r ∷ rs) month f =
+    ap (λ (x : Closed). recordedAll (x .sheet) rs) (recorded-is month (r .1) (r .0) f)
+    ∙ many-from rs (counting (r .0) month (r .1) .1) (month-fit (r ∷ []) month f)
+
+pub sheet-of-many : (rs : List (Bool × List Mark)) → recordedAll freshSheet rs ≡ sheetOf (lines (monthOf [] rs))
+sheet-of-many rs = ap (λ (s : Sheet). recordedAll s rs) (sheet-begins .0) ∙ many-from rs [] fresh-fit
+
+-- the rows of the sheet that is kept are the lines ..
 pub sheet-rows : (month : Month) → Fit month → rowsOf (sheetOf (lines month)) ≡ lines month
 sheet-rows month f = rows-sheet (lines month) (f .few)
+
+-- .. each is printed, and nothing behind the last
+pub line-printed : (month : Month) → Fit month → (i : ℕ) (out : List ℕ)
+    → (i < length (lines month) → printing (sheetOf (lines month)) i out ≡ write (lineOf (getD (lines month) i (blank 0))) out)
+    × (length (lines month) ≤ i → printing (sheetOf (lines month)) i out ≡ write [] out)
+unfolding printing
+line-printed month f i out = (λ h. way true (lt-ltb i _ h), λ h. way false (le-ltb i _ h))
+  where
+    way : (b : Bool) → ltb i (length (lines month)) ≡ b
+        → printing (sheetOf (lines month)) i out ≡ pick b (write (lineOf (getD (lines month) i (blank 0))) out) (write [] out)
+    way b e k =
+        pick (le-ltb portLimit _ (f .few) k) (refused 10 out)
+        (pick (e k) (write (lineOf (getD (sheet-rows month f k) i (blank 0))) out) (write [] out))
 
 -- "Refusals: 40 for the sheet's seventeenth port, then 44 if a number would pass 64 bits;": of a recording that does not end in `X`
 refuses-closed : (m : ℕ) (s : Sheet) (n : ℕ) → ByClosed (closed (Refused m) s) n ↔ n ≡ m
@@ -184,3 +220,12 @@ print-keeps-out s i out = go (ltb portLimit (s .ports)) (ltb i (s .ports))
     go true b = λ n e. refl
     go false true = write-keeps (lineOf (getD (rowsOf s) i (blank 0))) out
     go false false = write-keeps [] out
+
+-- .. and a line by its numbers
+pub print-row-refusals : (port delivered repeated late missing total : ℕ) (out : List ℕ)
+    → Exact ByCall (write (rowLine port delivered repeated late missing total) out) ((23, length out < length (rowLine port delivered repeated late missing total)) ∷ [])
+print-row-refusals port delivered repeated late missing total out = wrote (rowLine port delivered repeated late missing total) out _ refl
+
+pub print-row-keeps-out : (port delivered repeated late missing total : ℕ) (out : List ℕ)
+    → Keeps out (write (rowLine port delivered repeated late missing total) out)
+print-row-keeps-out port delivered repeated late missing total out = write-keeps (rowLine port delivered repeated late missing total) out

@@ -9,7 +9,9 @@ use lib.ListN.{length, replicate}
 use Rattle.base.specs.Calls.{joined}
 use Rattle.base.specs.Choice.{pick}
 use Rattle.frames.specs.Contents.{plainPacket}
+use Rattle.frames.specs.Frame.{packet, refusal, broken}
 use Rattle.stream.specs.Called.{fresh}
+use Rattle.blocks.specs.declared.Condition.the-variants.{Clean}
 use Rattle.blocks.specs.Channel.{Event, said, block, lost, zeros}
 use Rattle.interleaver.specs.Running.{freshBack}
 use Rattle.groups.specs.Sender.{groupWords, groupBytes, closingWords, completing, grouped}
@@ -26,6 +28,7 @@ use Rattle.captures.specs.File.{header, records}
 use Rattle.captures.specs.Import.{entryLimit, imported}
 use Rattle.lines.specs.Row.{rowLine, rowLongest}
 use Rattle.sheets.specs.Tally.{far}
+use Rattle.sheets.specs.Recording.{marks}
 use Rattle.sheets.specs.Month.{portLimit, Counting, counts, wrong, refuses, ruling}
 use Rattle.demands.specs.Numbers.{Line}
 use Rattle.demands.specs.Printed.{toldNumber, numberOf}
@@ -96,6 +99,11 @@ becomes counts = []
 becomes wrong = 88 ∷ []
 becomes (refuses n) = n ∷ []
 
+-- two packets, and every other kind of answer between them
+abbrev answers : List Event
+answers =
+    said (packet (plainPacket 5121 88 (0x41 ∷ []))) ∷ said (refusal 5) ∷ said (broken 3) ∷ block Clean ∷ lost ∷ said (packet (plainPacket 5122 7 (0x42 ∷ []))) ∷ []
+
 -- the number of a row, what the definitions give, what the paper prints
 abbrev pub requested : List Line
 requested =
@@ -146,12 +154,14 @@ requested =
     (16, entryLimit ∷ [], 8231 ∷ []) ∷
     -- W13: 16 ports, so 40 for "the sheet's seventeenth port"; 64 bits; and our own limit of a line
     (17, portLimit ∷ far ∷ rowLongest ∷ [], 16 ∷ 18446744073709551615 ∷ 147 ∷ []) ∷
-    -- `PORT DELIVERED REPEATED LATE MISSING MISSING TOTAL`: 20736 6 1 2 3 3 8
-    (18, rowLine 20736 6 1 2 3 8, 50 ∷ 48 ∷ 55 ∷ 51 ∷ 54 ∷ 32 ∷ 54 ∷ 32 ∷ 49 ∷ 32 ∷ 50 ∷ 32 ∷ 51 ∷ 32 ∷ 51 ∷ 32 ∷ 56 ∷ 10 ∷ []) ∷
+    -- `PORT DELIVERED REPEATED LATE MISSING MISSING TOTAL`: 20736 7 1 2 4 4 8
+    (18, rowLine 20736 7 1 2 4 8, 50 ∷ 48 ∷ 55 ∷ 51 ∷ 54 ∷ 32 ∷ 55 ∷ 32 ∷ 49 ∷ 32 ∷ 50 ∷ 32 ∷ 52 ∷ 32 ∷ 52 ∷ 32 ∷ 56 ∷ 10 ∷ []) ∷
     -- "40 .., then 44"; `X` before them
     (
       19,
       joined (map becomes (ruling false true true ∷ ruling true true true ∷ ruling true true false ∷ ruling true false true ∷ ruling true false false ∷ [])),
       88 ∷ 40 ∷ 40 ∷ 44 ∷ [],
     ) ∷
+    -- "Each number is defined from the delivered packets": port and sequence number of each, in order, and of no other answer
+    (20, joined (map (λ m. m .0 ∷ m .1 ∷ []) (marks answers)), 5121 ∷ 88 ∷ 5122 ∷ 7 ∷ []) ∷
     []

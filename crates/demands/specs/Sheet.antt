@@ -2,6 +2,7 @@
 -- ByClosed, closeRows     a recording's end, by the draft as it is ..
 -- monthRows               .. and by the month and the recording's packets
 -- printRows               a row's line
+-- recordedAll             recordings one after the other, by calls
 use Prim.Native.Nat.{ℕ, _<_}
 use mathlib.Core.Path.{_≡_}
 use mathlib.Core.Bool.{Bool, true}
@@ -14,7 +15,7 @@ use Rattle.sheet.specs.declared.Sheet.{Sheet}
 use Rattle.sheet.specs.declared.Draft.{Draft}
 use Rattle.sheet.specs.declared.Closed.{Closed}
 use Rattle.sheet.specs.declared.Counted.the-variants.{Refused}
-use Rattle.sheet.specs.Called.{rowsOf, lineOf}
+use Rattle.sheet.specs.Called.{rowsOf, lineOf, recorded}
 use Rattle.demands.specs.Table.{Row}
 
 -- a recording is refused
@@ -42,3 +43,8 @@ printRows s i out =
     (10, 16 < s .ports) ∷  -- a count of rows above 16
     (23, (i < s .ports) × (length out < length (lineOf (getD (rowsOf s) i (blank 0))))) ∷  -- the output is shorter than the line
     []
+
+-- recordings one after the other: whether each ends as one, and its packets
+abbrev pub recordedAll : Sheet → List (Bool × List Mark) → Sheet
+recordedAll s [] = s
+recordedAll s (r ∷ rs) = recordedAll (recorded s (r .0) (r .1) .sheet) rs

@@ -17,8 +17,8 @@ use Rattle.sheets.specs.Rows.{row, heardRow, noteIn, rowFor, run, step, 
 abbrev inNumbers : Row → List ℕ
 inNumbers r = r .port ∷ r .tally .delivered ∷ r .tally .repeated ∷ r .tally .late ∷ r .tally .missing ∷ r .tally .total ∷ []
 
--- 7 first, 8 in order, 8 repeated, 12 after three missing, 10 late, 13 in order: of six packets one repeated, one late, three missing; 3 over 7
-pub one-recording : map inNumbers (lines (((5, 7) ∷ (5, 8) ∷ (5, 8) ∷ (5, 12) ∷ (5, 10) ∷ (5, 13) ∷ []) ∷ [])) ≡ (5 ∷ 6 ∷ 1 ∷ 1 ∷ 3 ∷ 7 ∷ []) ∷ []
+-- 7 first, 8 in order, 8 repeated, 13 after four missing, 10 and 11 late, 14 in order: of seven packets one repeated, two late, four missing; 4 over 8
+pub one-recording : map inNumbers (lines (((5, 7) ∷ (5, 8) ∷ (5, 8) ∷ (5, 13) ∷ (5, 10) ∷ (5, 11) ∷ (5, 14) ∷ []) ∷ [])) ≡ (5 ∷ 7 ∷ 1 ∷ 2 ∷ 4 ∷ 8 ∷ []) ∷ []
 unfolding told toldFrom sum numbersOf numbers added addedAll
 one-recording = refl
 
