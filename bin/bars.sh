@@ -1,9 +1,13 @@
 #!/bin/sh
-# bin/bars.sh: the lines of bin/sheet on standard input as a picture (SVG) on standard output: the loss of each port as a bar. bin/sheet --plot
-# calls it.
+# bin/bars.sh <LINES >PICTURE: the lines of bin/sheet on standard input as a picture (SVG) on standard output: the loss of each port as a bar. bin/sheet
+# --plot calls it.
+# Status: 0 drawn; 1 the picture could not be written; 2 wrong words.
+# Example: bin/sheet samples/morning.rec | bin/bars.sh >target/sheet.svg
 set -eu
+. "$(dirname "$0")/help.sh"
+[ $# -eq 0 ] || usage "it reads standard input"
 export LC_ALL=C # figures with a point
-exec awk '
+awk '
     { port[NR] = $1; missing[NR] = $6; total[NR] = $7; share[NR] = $7 > 0 ? $6 / $7 : 0; if (share[NR] > most) most = share[NR] }
     END {
         step = 24; left = 70; wide = 420; top = 56; height = top + step * NR + 40
@@ -26,4 +30,4 @@ exec awk '
         for (i = 0; i <= 4; i++)
             printf "<text x=\"%.1f\" y=\"%d\" text-anchor=\"middle\" fill=\"#555\">%g %%</text>\n", left + wide * i / 4, y + 18, 100 * scale * i / 4
         print "</svg>"
-    }'
+    }' || exit 1

@@ -1,60 +1,127 @@
-# Read by the scripts that prove before they run, with the repository in $top.
+# Read by the scripts that prove before they run, behind bin/help.sh and with the repository in $top.
 mkdir -p "$top/target"
 
-# prove NAME LOG: proves NAME, and shows the log where it is refused. One at a time: the programs of a pipe start together, and two checks
-# in one place disturb each other.
-prove() (
-    cd "$top"
-    { ! command -v flock || flock 9; rt check "$1"; } >"$2" 2>&1 9>target/lock </dev/null || {
-        cat "$2" >&2
-        exit 1
-    }
-)
+# prove PROGRAM: proves it and what it stands on, and shows the log where that is refused. On standard error it says how far it is, a line
+# for each crate that was still to be proved; rt proves those that do not need each other beside each other. One check at a time: the programs
+# of a pipe start together, and two checks in one place disturb each other. With PROVED=1 the caller has just had it proved.
+prove() {
+    [ -n "${PROVED:-}" ] || (
+        cd "$top"
+        log=target/$1.log
+        all=$(for crate in $(sed -n "s/^$1://p" crates.txt); do [ ! -d "crates/$crate" ] || echo; done | wc -l)
+        {
+            ! command -v flock >/dev/null || flock 9
+            rm -f "$log.failed"
+            { rt check "$1" 2>&1 || : >"$log.failed"; } </dev/null | far $((all + 1)) >"$log"
+            [ ! -e "$log.failed" ] || {
+                cat "$log" >&2
+                exit 1
+            }
+        } 9>target/lock
+    )
+}
 
-# stale NAME DEPENDENCIES..: NAME was not proved since it or one of these changed (its must-fail edits aside). It is for the line alone:
-# the last check, that of the program, has rt look at every crate.
-stale() (
-    cd "$top"
-    [ -f "target/stamp/$1" ] || exit 0
-    stamps=$(shift && for crate; do [ ! -f "target/stamp/$crate" ] || echo "target/stamp/$crate"; done)
-    # shellcheck disable=SC2086
-    [ -n "$(find "crates/$1" $stamps -path '*/must-fail' -prune -o -type f -newer "target/stamp/$1" -print)" ]
-)
+# far CRATES: hands rt's lines on, and tells of each crate that is proved anew; which of how many it is.
+far() {
+    at=0
+    while IFS= read -r line; do
+        printf '%s\n' "$line"
+        case $line in
+        "rt: "*" proved ("*)
+            at=$((at + 1))
+            crate=${line#rt: }
+            case $line in *"(unchanged"*) ;; *) echo "bin/${0##*/}: crate $at of $1: $crate" >&2 ;; esac
+            ;;
+        esac
+    done
+}
 
-# prove_under PROGRAM: proves it and what it stands on, and says on standard error which crate it is at.
-prove_under() {
-    needed=$(sed -n "s/^$1://p" "$top/crates.txt")
-    grep '^[a-z]' "$top/crates.txt" | while IFS=: read -r crate under; do
-        case " $needed $1 " in *" $crate "*) ;; *) continue ;; esac
-        # shellcheck disable=SC2086
-        if stale "$crate" $under; then
-            echo "bin/${0##*/}: proving $crate" >&2
-        elif [ "$crate" != "$1" ]; then
-            continue
+# start FILE WORDS..: a program compiled for x86-64 takes this shell's place, by the toolchain's C library; on another processor its emulator runs
+# it. With STACK_KIB=n on a stack of n KiB.
+start() {
+    rt=$(command -v rt)
+    kit=${RATTLE_HOME:-$(cd "$(dirname "$(readlink -f "$rt")")/.." && pwd -P)}
+    tools=$kit/on/$(uname -m)/toolchain
+    emulator=$tools/bin/qemu-x86_64
+    [ -x "$emulator" ] || emulator=
+    [ -z "${STACK_KIB:-}" ] || ulimit -s "$STACK_KIB"
+    exec ${emulator:+"$emulator"} "$tools/lib/ld-linux-x86-64.so.2" --library-path "$tools/lib" "$@"
+}
+
+# files_only FILE..: none of them is an option; a file may begin with - where it is there.
+files_only() {
+    for file; do
+        case $file in -*) [ -e "$file" ] || usage "options stand first, each once: $file" ;; esac
+    done
+}
+
+# can_read FILE..: whether each is a file that can be read; else it says which is not, before anything is proved.
+can_read() {
+    files_only "$@"
+    for file; do
+        why=
+        if [ -d "$file" ]; then
+            why='is a directory'
+        elif [ ! -r "$file" ]; then
+            why='no such file, or not to be read'
         fi
-        prove "$crate" "$top/target/$1.log" || exit 1
+        [ -z "$why" ] || {
+            echo "bin/${0##*/}: $file: $why" >&2
+            return 1
+        }
     done
 }
 
 # from_file [FILE]: standard input is the file from here on.
 from_file() {
-    if [ $# -gt 1 ]; then
-        echo "usage: bin/${0##*/} [FILE]" >&2
-        exit 2
-    fi
+    [ $# -le 1 ] || usage "one file at most"
     [ $# -eq 1 ] || return 0
-    if [ ! -r "$1" ]; then
-        echo "bin/${0##*/}: no such file: $1" >&2
-        exit 2
-    fi
+    can_read "$1" || exit 1
     exec <"$1"
 }
 
-# heed PROGRAM WORDS..: runs it, proved. A proved program cannot set its exit status: where it says something on standard error, it has failed.
+# heed PROGRAM WORDS..: runs it, proved. A proved program cannot set its exit status: where it says something on standard error, the status
+# is 1. What it says is passed on as it comes.
 heed() {
-    status=0
-    { said=$(PROVED=1 "$top/bin/run" "$@" 2>&1 >&3 3>&-) || status=$?; } 3>&1
-    [ -z "$said" ] || printf '%s\n' "$said" >&2
-    [ "$status" -ne 0 ] || [ -z "$said" ] || status=1
-    return "$status"
+    {
+        ended=$({ {
+            code=0
+            PROVED=1 "$top/bin/run" "$@" 2>&1 >&4 3>&- 4>&- || code=$?
+            echo "$code" >&3
+        } | pass_on 3>&- 4>&-; } 3>&1)
+    } 4>&1
+    case $ended in
+    0) return 0 ;;
+    *said*) return 1 ;;
+    *) return "$ended" ;;
+    esac
+}
+
+# pass_on: lines to standard error; says so where there was one.
+pass_on() {
+    said=
+    while IFS= read -r line || [ -n "$line" ]; do
+        printf '%s\n' "$line" >&2
+        said=said
+    done
+    echo "$said"
+}
+
+# heed_each PROGRAM WORDS.. -- FILE..: the same of each file, or of standard input where none is named; the status is 1 where one of them failed.
+heed_each() {
+    worst=0 words=''
+    while [ "$1" != -- ]; do
+        words="$words $1"
+        shift
+    done
+    shift
+    # shellcheck disable=SC2086
+    if [ $# -eq 0 ]; then
+        heed $words || worst=$?
+    else
+        for file; do
+            heed $words <"$file" || worst=$?
+        done
+    fi
+    return "$worst"
 }

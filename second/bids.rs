@@ -14,7 +14,6 @@ use crate::cases::Random;
 use crate::channel::{self, BLOCK, MARKER, MESSAGE};
 use crate::fcs;
 use crate::packet::{self, FLAG};
-use crate::parity::WORD;
 use std::io::{Read, Write};
 
 pub fn run(words: &[&str]) -> i32 {
@@ -54,16 +53,16 @@ fn number(word: &[u8]) -> Option<u16> {
     std::str::from_utf8(word).ok()?.parse().ok()
 }
 
-// A line: port, sequence and text, or none where it is no bid.
-fn bid(line: &[u8]) -> Option<(u16, u16, &[u8])> {
+/// A line: port, sequence and text, or none where it is no bid.
+pub fn bid(line: &[u8]) -> Option<(u16, u16, &[u8])> {
     let mut parts = line.splitn(3, |b| *b == b' ');
     let port = number(parts.next()?)?;
     let sequence = number(parts.next()?)?;
     Some((port, sequence, parts.next().unwrap_or(&[])))
 }
 
-// The lines of an input; what stands behind the last line feed is a line too, where it is not empty.
-fn lines(input: &[u8]) -> Vec<&[u8]> {
+/// The lines of an input; what stands behind the last line feed is a line too, where it is not empty.
+pub fn lines(input: &[u8]) -> Vec<&[u8]> {
     let mut lines: Vec<&[u8]> = input.split(|b| *b == b'\n').collect();
     if lines.last().is_some_and(|l| l.is_empty()) {
         lines.pop();
@@ -220,36 +219,40 @@ fn spoil_marker(mut stream: Vec<u8>, n: usize) -> Vec<u8> {
     stream
 }
 
-// A bid as the board shows it.
-fn line_of(port: u16, sequence: u16, text: &[u8]) -> String {
+/// A bid as the board shows it.
+pub fn line_of(port: u16, sequence: u16, text: &[u8]) -> String {
     format!("{port} {sequence} {}", board::shown(text))
 }
 
-// The bids among the board's lines.
-fn bid_lines(text: &[u8]) -> Vec<String> {
+/// The bids among the board's lines.
+pub fn bid_lines(text: &[u8]) -> Vec<String> {
     String::from_utf8_lossy(text).lines().filter(|line| !line.starts_with('!')).map(str::to_string).collect()
+}
+
+/// Where the words stand that a board hears, run by run: each lasts as long as lock does.
+pub fn locked(stream: &[u8]) -> Vec<Vec<usize>> {
+    let is_block = |at: usize| at + BLOCK <= stream.len() && stream[at..at + 4] == MARKER;
+    let (mut runs, mut at) = (Vec::new(), 0);
+    while at + BLOCK <= stream.len() {
+        let words: Vec<usize> = (at..).step_by(BLOCK).take_while(|at| is_block(*at)).map(|at| at + MARKER.len()).collect();
+        at += if words.is_empty() { 1 } else { words.len() * BLOCK };
+        runs.extend(Some(words).filter(|words| !words.is_empty()));
+    }
+    runs
+}
+
+/// The message bytes of words, as they came.
+pub fn message_bytes(stream: &[u8], words: &[usize]) -> Vec<u8> {
+    words.iter().flat_map(|at| &stream[*at..at + MESSAGE]).copied().collect()
 }
 
 // What a framed board shows: it locks as ours does, and 7D hides whatever byte follows it, a flag too.
 fn framed(stream: &[u8]) -> Vec<String> {
-    let mut shown = Vec::new();
-    let mut at = 0;
-    while at + BLOCK <= stream.len() {
-        if stream[at..at + 4] != MARKER {
-            at += 1;
-            continue;
-        }
-        let mut messages = Vec::new();
-        while at + BLOCK <= stream.len() && stream[at..at + 4] == MARKER {
-            messages.extend(&stream[at + 4..at + 4 + WORD][..MESSAGE]);
-            at += BLOCK;
-        }
-        shown.extend(unframed(&messages));
-    }
-    shown
+    locked(stream).iter().flat_map(|run| unframed(&message_bytes(stream, run), true)).collect()
 }
 
-fn unframed(bytes: &[u8]) -> Vec<String> {
+/// What such a board shows of message bytes; one that does not look at the check shows all that came between two flags.
+pub fn unframed(bytes: &[u8], checks: bool) -> Vec<String> {
     let mut shown = Vec::new();
     let mut frame: Option<Vec<u8>> = None;
     let mut hidden = false;
@@ -259,7 +262,7 @@ fn unframed(bytes: &[u8]) -> Vec<String> {
             frame.iter_mut().for_each(|f| f.push(byte ^ 0x20));
         } else if *byte == FLAG {
             let contents = frame.replace(Vec::new()).unwrap_or_default();
-            if contents.len() > 7 && fcs::check(&contents[..contents.len() - 2]).to_le_bytes() == contents[contents.len() - 2..] {
+            if contents.len() > 7 && (!checks || fcs::check(&contents[..contents.len() - 2]).to_le_bytes() == contents[contents.len() - 2..]) {
                 let number = |i: usize| u16::from_le_bytes([contents[i], contents[i + 1]]);
                 shown.push(line_of(number(1), number(3), &contents[5..contents.len() - 2]));
             }

@@ -59,6 +59,11 @@ impl Board {
         }
     }
 
+    /// A plain stream breaks off here: what is open is dropped, and the ports' numbers stay.
+    pub fn drop_frame(&mut self) {
+        self.ear = Ear::Plain(Reader::new());
+    }
+
     /// The lines of the next answer, and how many bytes it took; none: all of them are taken, and there is none.
     pub fn next(&mut self, piece: &[u8]) -> Option<usize> {
         let heard = match &mut self.ear {

@@ -2,7 +2,7 @@
 
 static TABLE: [u16; 256] = table();
 
-const fn table() -> [u16; 256] {
+pub const fn table() -> [u16; 256] {
     let mut t = [0u16; 256];
     let mut b = 0;
     while b < 256 {

@@ -27,6 +27,7 @@
 //!                            standard input through the interleaver, with the closing push, or back
 //!   second list              the listing of the recording on standard input
 //!   second missed            which bids were missed in the recording on standard input (ports.rs)
+//!   second noise WORDS..     a day of bids, altered on its way, and what boards show of it; a soak (noise.rs, soak.rs)
 //!   second numbered FILE [SEED]
 //!                            a recording with distances of every kind between sequence numbers
 //!   second sheet FILE..      the monthly reception sheet of recordings (sheet.rs)
@@ -35,6 +36,8 @@
 //!                            recordings counted from rows of any numbers, and what becomes of them, into two files
 //!   second tables CASES ANSWERS [SEED]
 //!                            calls on tables of ports, and what they answer, into two files
+//!   second rack CASES ANSWERS [SEED]
+//!                            calls of the rack's functions, and what they answer and leave, into two files (rack.rs)
 //!   second kinds FILE..      how often each kind of line occurs in the listings of recordings; fails where one never does
 //!   second recordings DIR [SEED]
 //!                            recordings to be listed, into a folder
@@ -47,6 +50,7 @@
 //!                            recordings, boards with any room for their text, fixed sub-channels, Layer 2 units, or captures
 //!   second words R PLACES N  N cases for repair: words altered in so many places
 //!   second time N M          times of N words made and checked, and of M words of each kind repaired (time.rs)
+//!   second time-rack MIB     times of the rack's three jobs, so many MiB each: words made, words checked, plain streams read (time.rs, readers.rs)
 //!   second compare CASES ANSWERS ..
 //!                            holds its own answers to those of the proved code, of one file or more
 
@@ -67,13 +71,17 @@ mod key_cases;
 mod kinds;
 mod listing;
 mod listing_cases;
+mod noise;
 mod packet;
 mod parity;
 mod ports;
+mod rack;
+mod readers;
 mod repair;
 mod samples;
 mod selftest;
 mod sheet;
+mod soak;
 mod stream;
 mod time;
 mod unit_cases;
@@ -113,6 +121,8 @@ fn main() {
         ["unit", ref rest @ ..] => std::process::exit(units::run(rest)),
         ["list"] => Some(listing::list_input().expect("standard input and output")),
         ["missed"] => std::process::exit(ports::show_missed()),
+        ["noise", "soak", minutes, seed, ref command @ ..] => number(minutes).zip(number(seed)).map(|(minutes, seed)| std::process::exit(soak::run(minutes, seed, command))),
+        ["noise", ref rest @ ..] => std::process::exit(noise::run(rest)),
         ["numbered", file] => Some(ports::write_numbered(file, 1)),
         ["numbered", file, seed] => number(seed).map(|seed| ports::write_numbered(file, seed)),
         ["sheet", _, ..] => std::process::exit(sheet::show(&words[1..])),
@@ -122,6 +132,8 @@ fn main() {
         ["tallies", asked, told, seed] => number(seed).map(|seed| sheet::write_calls(asked, told, seed)),
         ["tables", asked, told] => Some(ports::write_cases(asked, told, 1)),
         ["tables", asked, told, seed] => number(seed).map(|seed| ports::write_cases(asked, told, seed)),
+        ["rack", asked, told] => Some(rack::write(asked, told, 1)),
+        ["rack", asked, told, seed] => number(seed).map(|seed| rack::write(asked, told, seed)),
         ["kinds", ref files @ ..] => std::process::exit(kinds::show(files)),
         ["recordings", dir] => Some(write_recordings(dir, 1)),
         ["recordings", dir, seed] => number(seed).map(|seed| write_recordings(dir, seed)),
@@ -131,6 +143,7 @@ fn main() {
         ["cases", kind, seed] if KINDS.contains(&kind) => number(seed).map(|seed| write_cases(kind, seed)),
         ["words", r, places, n] => three(r, places, n).map(|(r, places, n)| write(cases::altered_words(r, places, n))),
         ["time", n, m] => number(n).zip(number(m)).map(|(n, m)| time::run(n as usize, m as usize)),
+        ["time-rack", mib] => number(mib).map(|mib| time::rack(mib as usize)),
         ["compare", _, _, ref more @ ..] if more.len() % 2 == 0 => std::process::exit(compare(&words[1..])),
         _ => None,
     };
@@ -139,8 +152,8 @@ fn main() {
         eprintln!("  | fixed send|list R DEPTH | fixed steady R DEPTH PAYLOAD MIB | fixed streams DIR [SEED] | board [--recording|--stream] [--blocks] | boards DIR [SEED] | feed FIFO TEXT STREAM");
         eprintln!("  | capture | replay | captures DIR [SEED] | viewed");
         eprintln!("  | recordings DIR [SEED] | steady plain|marked MIB | samples DIR | cases calls|turns|pieces|channels|listings|rooms|schedules|mixes|imports [SEED]");
-        eprintln!("  | compare CASES ANSWERS .. | test [SEED] | words R PLACES N | time N M | numbered FILE [SEED] | tables CASES ANSWERS [SEED] | unit WORDS..");
-        eprintln!("  | sheet FILE.. | months DIR [SEED] | tallies CASES ANSWERS [SEED]");
+        eprintln!("  | compare CASES ANSWERS .. | test [SEED] | words R PLACES N | time N M | noise WORDS.. | numbered FILE [SEED] | tables CASES ANSWERS [SEED] | unit WORDS..");
+        eprintln!("  | sheet FILE.. | months DIR [SEED] | tallies CASES ANSWERS [SEED] | rack CASES ANSWERS [SEED] | time-rack MIB");
         std::process::exit(2);
     }
 }

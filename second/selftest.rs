@@ -11,7 +11,7 @@ use crate::key_cases::{self, checked, told_length, with_check, with_key};
 use crate::packet::{self, Fault, Packet, ESCAPE, FLAG, FORMAT, RAW_LIMIT, RESTRICTED};
 use crate::parity::{self, WORD};
 use crate::stream::{self, Reader};
-use crate::{board, capture, fcs, fixed_cases, listing, ports, repair, sheet, unit_cases, units};
+use crate::{board, capture, fcs, fixed_cases, listing, noise, ports, repair, sheet, unit_cases, units};
 
 pub fn run(seed: u64) {
     let mut random = Random::new(seed);
@@ -30,6 +30,7 @@ pub fn run(seed: u64) {
     assert!([0, 50, 51, 53, 54, 23].iter().all(|number| written[*number] >= 10), "{written:?}");
     assert!([0, 50, 52, 53, 54, 23].iter().all(|number| read[*number] >= 10), "{read:?}");
     println!("the board's lines: held, and of {} recordings line by line by their listings", board::test(&mut Random::new(seed)));
+    println!("noise on the way, and what is counted of it: held, with {} settings", noise::test(seed));
     let [recordings, captures] = capture::test(seed);
     println!("request W11's captures: held, of {recordings} recordings and {captures} captures");
     checks(&mut random);

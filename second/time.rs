@@ -1,8 +1,13 @@
 //! Times of words with 32 parity bytes: made, checked and repaired. bench/words builds the second program once more with the proved code
-//! (--cfg proved) and libfec (--cfg fec) linked to it; all then take the same words in turns, and have to answer alike.
+//! (--cfg proved) and libfec (--cfg fec) linked to it; all then take the same words in turns, and have to answer alike. bench/rack does so with the
+//! rack's archive (--cfg rack): words made and checked, and plain streams read beside two other readers (readers.rs).
 #![allow(unexpected_cfgs)]
 
 use crate::cases::Random;
+#[cfg(rack)]
+use crate::packet::Delivery;
+use crate::packet::{Frame, Packet, FLAG};
+use crate::readers::{Plain, Reader, Tuned};
 use crate::{parity, repair};
 
 const R: usize = 32;
@@ -93,21 +98,25 @@ mod rows {
     pub const WAY: Way = Way { name: "rows", make: made, check: |word| clean(word), repair: SECOND.repair };
 }
 
-#[cfg(proved)]
+#[cfg(any(proved, rack))]
 mod proved {
     use super::{Mended, Way, Word, R, WORD};
 
     // A slice is a pointer and a length.
     extern "C" {
+        #[cfg_attr(rack, link_name = "aas_parity_make")]
         fn timed_make(r: usize, message: *const u8, length: usize, out: *mut u8, room: usize) -> usize;
+        #[cfg_attr(rack, link_name = "aas_word_check")]
         fn timed_check(r: usize, word: *const u8, length: usize) -> usize;
+        #[cfg_attr(rack, link_name = "aas_word_repair")]
         fn timed_repair(r: usize, word: *mut u8, length: usize) -> usize;
     }
 
     fn mended(word: &Word) -> Mended {
         let mut left = *word;
         let n = unsafe { timed_repair(R, left.as_mut_ptr(), WORD) };
-        ((n < 100).then_some(n), left)
+        let places = if cfg!(rack) { if n == 0 { Some(0) } else { n.checked_sub(256) } } else { (n < 100).then_some(n) };
+        (places, left)
     }
 
     pub const WAY: Way = Way {
@@ -161,9 +170,10 @@ mod fec {
 
 fn ways() -> Vec<Way> {
     vec![
-        #[cfg(proved)]
+        #[cfg(any(proved, rack))]
         proved::WAY,
         rows::WAY,
+        #[cfg(not(rack))]
         SECOND,
         #[cfg(fec)]
         fec::WAY,
@@ -217,5 +227,126 @@ pub fn run(many: usize, each: usize) {
     race("checking", &clean, |way, word| (way.check)(word));
     for places in [0, 1, 2, 8, 16, 17, 60] {
         race(&format!("repair, {places} places altered"), &words(each, places), |way, word| (way.repair)(word));
+    }
+}
+
+/// What a reader tells: how many packets, and a sum of their numbers and of what stands at both ends of their payloads; how many refusals.
+#[derive(Default, Debug, PartialEq)]
+struct Heard {
+    packets: usize,
+    sum: u64,
+    refused: usize,
+}
+
+impl Heard {
+    fn tell(&mut self, frame: Frame, buffer: &[u8]) {
+        match frame {
+            Ok(packet) => {
+                let payload = packet.payload(buffer);
+                let ends = payload[0] as u64 + 256 * payload[payload.len() - 1] as u64;
+                self.packets += 1;
+                self.sum = self.sum.wrapping_mul(31) + packet.port as u64 + ((packet.sequence as u64) << 16) + (payload.len() as u64) * ends;
+            }
+            Err(_) => self.refused += 1,
+        }
+    }
+}
+
+/// The proved reader, called from outside as C would call it.
+#[cfg(rack)]
+struct Called {
+    state: [u64; 12],
+    recv: Vec<u8>,
+}
+
+#[cfg(rack)]
+impl Called {
+    fn read(&mut self, piece: &[u8], mut told: impl FnMut(Frame, &[u8])) {
+        extern "C" {
+            fn aas_stream_read(state: *mut [u64; 12], recv: *mut u8, room: usize, piece: *const u8, length: usize) -> usize;
+        }
+        let mut at = 0;
+        loop {
+            let left = &piece[at..];
+            let n = unsafe { aas_stream_read(&mut self.state, self.recv.as_mut_ptr(), self.recv.len(), left.as_ptr(), left.len()) };
+            at += self.state[0] as usize;
+            match n {
+                0 => return,
+                256 => told(Ok(delivered(&self.state)), &self.recv),
+                _ => told(Err((n as u8).into()), &self.recv),
+            }
+        }
+    }
+}
+
+#[cfg(rack)]
+fn delivered(state: &[u64; 12]) -> Delivery {
+    let [_, format, key_number, key_length, port, sequence, payload_length, ..] = *state;
+    Delivery {
+        format: format as u8,
+        key_number: key_number as u8,
+        key_length: key_length as usize,
+        port: port as u16,
+        sequence: sequence as u16,
+        payload_length: payload_length as usize,
+    }
+}
+
+/// A plain stream of so many bytes at least, of random packets with payloads of these lengths.
+fn plain_stream(bytes: usize, from: usize, to: usize) -> Vec<u8> {
+    let mut random = Random::new(from as u64);
+    let mut stream = vec![FLAG];
+    let mut sequence = 0u16;
+    while stream.len() < bytes {
+        let n = from + random.below(to - from + 1);
+        let payload = random.bytes(n);
+        stream.extend(Packet::new(0x1401 + sequence % 16, sequence, &payload).raw());
+        stream.push(FLAG);
+        sequence = sequence.wrapping_add(1);
+    }
+    stream
+}
+
+/// A stream read in pieces of one length, by each reader in turns of 1 MiB.
+fn race_readers(name: &str, stream: &[u8], cut: usize) {
+    #[cfg(rack)]
+    let mut called = Called { state: [0; 12], recv: vec![0; crate::packet::RAW_LIMIT] };
+    let (mut plain, mut tuned) = (Reader::<Plain>::new(), Reader::<Tuned>::new());
+    let mut heard: [Heard; 3] = Default::default();
+    let mut took = [0.0; 3];
+    for turn in stream.chunks(1 << 20) {
+        for who in 0..3 {
+            let heard = &mut heard[who];
+            let began = clock();
+            for piece in turn.chunks(cut) {
+                match who {
+                    0 => plain.read(piece, |frame, buffer| heard.tell(frame, buffer)),
+                    1 => tuned.read(piece, |frame, buffer| heard.tell(frame, buffer)),
+                    #[cfg(rack)]
+                    _ => called.read(piece, |frame, buffer| heard.tell(frame, buffer)),
+                    #[cfg(not(rack))]
+                    _ => {}
+                }
+            }
+            took[who] += clock() - began;
+        }
+    }
+    assert!(heard[0].packets > 0 && heard[0].refused == 0 && heard[0] == heard[1], "{name}: the Rust readers answer otherwise");
+    assert!(!cfg!(rack) || heard[0] == heard[2], "{name}: the proved reader answers otherwise");
+    println!("reading, {name}, pieces of {cut}, {} packets in {} bytes, seconds: proved {:.3}, plain {:.3}, tuned {:.3}", heard[0].packets, stream.len(), took[2], took[0], took[1]);
+    println!("    proved: {:.2} times plain, {:.2} times tuned", took[2] / took[0], took[2] / took[1]);
+}
+
+/// The rack's three jobs, of so many MiB each.
+pub fn rack(mib: usize) {
+    let bytes = mib << 20;
+    let clean = words(bytes / WORD, 0);
+    race("making", &clean, |way, word| (way.make)(&word[..WORD - R]));
+    race("checking", &clean, |way, word| (way.check)(word));
+    for (name, from, to) in [("payloads of 20 to 400 bytes", 20, 400), ("payloads of 4,000 to 8,000 bytes", 4000, 8000)] {
+        let stream = plain_stream(bytes, from, to);
+        for cut in [WORD, 4096] {
+            race_readers(name, &stream, cut);
+        }
     }
 }

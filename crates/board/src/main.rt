@@ -1,6 +1,7 @@
 //! The board as a program, `board stream|recording [blocks]`: on standard output what the manager reads of standard input, the bytes of an
 //! opportunistic channel as they are, or a recording; with `blocks` clean and repaired blocks are told too. Bytes are read as they come, and what
-//! they show is out before the next are read. Where something fails it says so on standard error and stops.
+//! they show is out before the next are read. Where something fails it says so on standard error and stops; where the input is no whole recording,
+//! it says so behind the last line.
 ghost use Prim.Native.Nat.{_≤_};
 ghost use lib.ListN.{length};
 use channel::Receiver;
@@ -171,9 +172,11 @@ fn finish(readout: Readout) {
     put(last.length, &text);
 }
 
-// The first so many bytes of a text.
+// .. the first so many bytes of a text: a line where the input is no whole recording, and else none.
 fn put(n: usize, text: &[u8]) {
-    print(&text[0..base::least(n, text.len())]);
+    if n > 0 && print(&text[0..base::least(n, text.len())]) {
+        say(b"board: no whole recording\n");
+    }
 }
 
 // Text to standard output; whether all went there.

@@ -25,10 +25,10 @@ use Rattle.parity.proofs.Refusing.{made-keeps}
 use Rattle.repair.specs.declared.Mended.{Mended}
 use Rattle.repair.specs.declared.Mended.the-variants.{Refused as RepairRefused}
 use Rattle.repair.specs.Promise.{Promised}
-use Rattle.interleaver.specs.Running.{push, pull, pushing, zeros, closing, pulling}
-use Rattle.interleaver.specs.declared.Matrix.{Matrix}
-use Rattle.interleaver.specs.declared.Back.{Back}
-use Rattle.interleaver.proofs.Pushing.{pushed-length}
+use Rattle.matrices.specs.Running.{push, pull, pushing, zeros, closing, pulling}
+use Rattle.matrices.specs.declared.Matrix.{Matrix}
+use Rattle.matrices.specs.declared.Back.{Back}
+use Rattle.matrices.proofs.Pushing.{pushed-length}
 use Rattle.frames.specs.Contents.{Packet, payloadLimit, rawLimit}
 use Rattle.frames.specs.Escape.{flag, escape, plain}
 use Rattle.frames.specs.Port.{barred}

@@ -32,8 +32,8 @@ use Rattle.blocks.specs.Sender.{wordBytes}
 use Rattle.blocks.specs.Channel.{Event, isMarker, shift}
 use Rattle.channel.specs.Called.{Board, heldIn, wordOn, compareOn, markOn, eatBy, eatByte, owed, asEvent, handOn, sound, roomy, hearBy, hearCall}
 use Rattle.channel.proofs.Cutting.{hand-one}
-use Rattle.interleaver.specs.Running.{pull}
-use Rattle.interleaver.specs.declared.Back.{Back}
+use Rattle.matrices.specs.Running.{pull}
+use Rattle.matrices.specs.declared.Back.{Back}
 use Rattle.groups.specs.Sender.{groupBytes}
 use Rattle.subchannel.specs.declared.lane.Lane.{Lane}
 use Rattle.subchannel.specs.Called as fixed

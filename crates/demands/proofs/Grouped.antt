@@ -18,8 +18,8 @@ use Rattle.base.specs.Choice.{pick}
 use Rattle.base.specs.Written.{Outcome, outcome, refused, copied}
 use Rattle.base.specs.declared.Written.the-variants.{Wrote, Refused}
 use Rattle.base.proofs.Tests.{by-le, by-test}
-use Rattle.interleaver.specs.Running.{fresh, beyond}
-use Rattle.interleaver.specs.declared.Matrix.{Matrix}
+use Rattle.matrices.specs.Running.{fresh, beyond}
+use Rattle.matrices.specs.declared.Matrix.{Matrix}
 use Rattle.groups.specs.Sender.{sent}
 use Rattle.subsender.specs.Sending.{groupStream, groupNext, groupSending, groupWritten, groupCount, counting, groupsBy}
 use Rattle.subsender.specs.declared.Counted.the-variants.{Groups, Refused as CountRefused}

@@ -18,17 +18,17 @@ use Rattle.base.specs.Calls.{joined, run}
 use Rattle.base.specs.Choice.{pick}
 use Rattle.base.specs.Written.{outcome}
 use Rattle.base.specs.declared.Written.the-variants.{Wrote}
-use Rattle.interleaver.specs.Places.{cell}
-use Rattle.interleaver.specs.Running.{fresh, sent, push, freshBack, gave, pull, beyond, pushing, closingBytes, zeros, closing, pulling}
-use Rattle.interleaver.specs.Pieces.{Goes}
-use Rattle.interleaver.specs.declared.Matrix.{Matrix}
-use Rattle.interleaver.specs.declared.Back.{Back}
-use Rattle.interleaver.proofs.Places.{cell-mod}
-use Rattle.interleaver.proofs.Calling.{passes, deeper}
-use Rattle.interleaver.proofs.Pushing.{sent-place}
-use Rattle.interleaver.proofs.Numbers.{first-outputs}
-use Rattle.interleaver.proofs.Round.{output-told, returned-told, returned-length, delayed, there-and-back as round}
-use Rattle.interleaver.proofs.Cutting as cutting
+use Rattle.matrices.specs.Places.{cell}
+use Rattle.matrices.specs.Running.{fresh, sent, push, freshBack, gave, pull, beyond, pushing, closingBytes, zeros, closing, pulling}
+use Rattle.matrices.specs.Pieces.{Goes}
+use Rattle.matrices.specs.declared.Matrix.{Matrix}
+use Rattle.matrices.specs.declared.Back.{Back}
+use Rattle.matrices.proofs.Places.{cell-mod}
+use Rattle.matrices.proofs.Calling.{passes, deeper}
+use Rattle.matrices.proofs.Pushing.{sent-place}
+use Rattle.matrices.proofs.Numbers.{first-outputs}
+use Rattle.matrices.proofs.Round.{output-told, returned-told, returned-length, delayed, there-and-back as round}
+use Rattle.matrices.proofs.Cutting as cutting
 
 -- ---- the equations: "column 53i mod 255 and row (i - 254·INT(i/255)) mod D", cells numbered row by row ..
 pub cell-is : (d i : ℕ) → cell d i ≡ (i - 254 * (i / 255)) % d * 255 + 53 * i % 255

@@ -27,3 +27,4 @@ pub mod Grouped
 pub mod UnitRows
 pub mod Units
 pub mod Sheet
+pub mod Rack

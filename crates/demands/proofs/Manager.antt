@@ -32,7 +32,7 @@ use Rattle.bid.specs.Input.{linesOf, packetsOf, complaints}
 use Rattle.office.specs.Desk.{sentFor}
 use Rattle.office.proofs.Cutting.{bids-sent}
 use Rattle.office.proofs.Board.{packets-accepted}
-use Rattle.ports.specs.Ports.{placeLimit}
+use Rattle.sequences.specs.Ports.{placeLimit}
 use Rattle.shown.specs.Board.{boardLines, writtenAll, freshTable, boardText}
 use Rattle.shown.specs.Typed.{acceptedLines, typed, asShown, Plainly, bidsAmong, packetsAmong, asBid, currentFrom, numbersOf, ByOne, Among}
 use Rattle.shown.proofs.Marks.{bids-current}

@@ -14,18 +14,20 @@ use Rattle.base.specs.Choice.{pick}
 use Rattle.base.specs.Written.{write, Keeps}
 use Rattle.base.proofs.Writing.{write-keeps}
 use Rattle.lines.specs.Noted.{notedLine}
-use Rattle.ports.specs.declared.Entry.{Entry}
-use Rattle.ports.specs.declared.Noted.{Noted}
-use Rattle.ports.specs.declared.Noted.the-variants.{First, Missing, Refused}
-use Rattle.ports.specs.declared.Forgot.{Forgot}
-use Rattle.ports.specs.declared.Forgot.the-variants.{Forgotten, Refused as Unforgotten}
-use Rattle.ports.specs.Distance.{around, ruled, lastBehind, Distance, Leads, meaning, follows}
-use Rattle.ports.specs.Ports.{freed, entry, unheld, placeOf, freePlace, lastOf, unfit, lastAt, noting, forgetting, freshPorts}
-use Rattle.ports.specs.Refusing.{Held, Full, Call, keeps}
-use Rattle.ports.proofs.Signed.{distance-is, distance-only, rule-means, missing-between}
-use Rattle.ports.proofs.Laws.{first-free, free-is, others-noted, others-forgotten, entries-noted, noted-last, noted-first, first-last, only-full, forgotten-none, forgotten-at, forgotten-else}
-use Rattle.ports.proofs.Refusing.{unfit-is, fit-not, held-is, away-not, full-is, free-not, rule-given, noting-keeps, forgetting-keeps}
-use Rattle.ports.proofs.Keeping.{fresh-fit, fresh-none, never-43}
+use Rattle.sequences.specs.declared.Entry.{Entry}
+use Rattle.sequences.specs.declared.Noted.{Noted}
+use Rattle.sequences.specs.declared.Noted.the-variants.{First, Missing, Refused}
+use Rattle.sequences.specs.declared.Forgot.{Forgot}
+use Rattle.sequences.specs.declared.Forgot.the-variants.{Forgotten, Refused as Unforgotten}
+use Rattle.sequences.specs.Distance.{around, ruled, lastBehind, Distance, Leads, meaning, follows}
+use Rattle.sequences.specs.Ports.{freed, entry, unheld, placeOf, freePlace, lastOf, unfit, lastAt, noting, forgetting}
+use Rattle.ports.specs.ByValue.{freshPorts}
+use Rattle.sequences.specs.Refusing.{Held, Full, Call, keeps}
+use Rattle.sequences.proofs.Signed.{distance-is, distance-only, rule-means, missing-between}
+use Rattle.sequences.proofs.Laws.{first-free, free-is, others-noted, others-forgotten, entries-noted, noted-last, noted-first, first-last, only-full, forgotten-none, forgotten-at, forgotten-else}
+use Rattle.sequences.proofs.Refusing.{unfit-is, fit-not, held-is, away-not, full-is, free-not, rule-given, noting-keeps, forgetting-keeps}
+use Rattle.sequences.proofs.Keeping.{never-43}
+use Rattle.ports.proofs.Fresh.{fresh-fit, fresh-none}
 use Rattle.demands.specs.Table.{Exact}
 use Rattle.demands.specs.Refusals.{ByCall}
 use Rattle.demands.specs.Missed.{ByNoted, ByForgot, noteRows, forgetRows}

@@ -18,10 +18,10 @@ use Rattle.listed.specs.Lines.{decimal, decimalBy, told, lines, count, endLine,
 use Rattle.listed.specs.Listing.{heard, lastLine, listed, listing}
 use Rattle.lines.specs.Noted.{notedLine}
 use Rattle.lines.specs.Row.{rowLine}
-use Rattle.ports.specs.Ports.{placeOf, freePlace, twice, noting, forgetting}
-use Rattle.units.specs.Bits.{digits, number}
-use Rattle.units.specs.Tables.{heads, start, step, unfit}
-use Rattle.units.specs.Reading.{isHeader, named}
+use Rattle.sequences.specs.Ports.{placeOf, freePlace, twice, noting, forgetting}
+use Rattle.multiplex.specs.Bits.{digits, number}
+use Rattle.multiplex.specs.Tables.{heads, start, step, unfit}
+use Rattle.multiplex.specs.Reading.{isHeader, named}
 use Rattle.sheets.specs.Recording.{marks}
 use Rattle.demands.specs.Numbers.{table, wrong}
 use Rattle.demands.specs.Printed.{printed}

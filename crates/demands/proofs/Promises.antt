@@ -1,7 +1,7 @@
 -- What each public function promises: it accepts every input, it ends, and its promise is exactly this, in the words of its `ensures`, where
 -- `now x` is what x refers to, and a lent buffer has its .entry and its .exit. Demand1 to Demand3 speak of the definitions that stand here;
 -- with these laws they speak of the code.
--- CRATE-FUNCTION-means   of each public function of each library crate
+-- CRATE-FUNCTION-means   of each public function of each library crate; `cases` and `deliveries`, parts of the comparison programs, promise nothing
 -- judged-is, ..          what the code's answers are, case by case
 use Prim.Native.Nat.{ℕ, _+_, _-_, _≤_, min}
 use mathlib.Core.Path.{_≡_, refl}
@@ -18,9 +18,9 @@ use Rattle.fcs.specs.Fcs as check
 use Rattle.field.specs.Field.{add, mul, pow, alpha, inverse}
 use Rattle.words.specs.Word.{clean, onto, scale}
 use Rattle.words.specs.Residue.{residue}
-use Rattle.parity.specs.Calls.{atRoots, made, checked}
+use Rattle.parity.specs.Calls.{atPowers, atRoots, made, checked}
 use Rattle.repair.specs.Promise.{Promised}
-use Rattle.interleaver.specs.Running.{pushing, closing, pulling}
+use Rattle.matrices.specs.Running.{pushing, closing, pulling}
 use Rattle.frames.specs.Escape.{flag, wrongBehind}
 use Rattle.frames.specs.Frame.{Told, packet, refusal, broken, judged, judging, part}
 use Rattle.frames.specs.Contents.{Packet, packetOf, plainPacket, payloadAt}
@@ -50,8 +50,8 @@ use Rattle.captures.specs.File as capture-file
 use Rattle.capture.specs.Export.{entering}
 use Rattle.capture.specs.Called as capture
 use Rattle.capture.specs.declared.reader.Capture.the-variants.{Header}
-use Rattle.units.specs.Unit as units
-use Rattle.units.specs.Reading as unit-reading
+use Rattle.multiplex.specs.Unit as units
+use Rattle.multiplex.specs.Reading as unit-reading
 use Rattle.readout.specs.Called as readout
 use Rattle.recording.specs.Printed as recording
 use Rattle.bid.specs.Line.{reading}
@@ -65,13 +65,15 @@ use Rattle.lines.specs.Piece.{pieceOf}
 use Rattle.shown.specs.Text.{shownByte}
 use Rattle.shown.specs.Board.{wrongAt, written, writtenAll}
 use Rattle.shown.specs.Parts.{lead, remark}
-use Rattle.ports.specs.declared.Entry.{Entry}
-use Rattle.ports.specs.declared.Noted.{Noted}
-use Rattle.ports.specs.declared.Forgot.{Forgot}
-use Rattle.ports.specs.Distance.{ruled}
-use Rattle.ports.specs.Ports.{unfit, noting, forgetting}
+use Rattle.sequences.specs.declared.Entry.{Entry}
+use Rattle.sequences.specs.declared.Noted.{Noted}
+use Rattle.sequences.specs.declared.Forgot.{Forgot}
+use Rattle.sequences.specs.Distance.{ruled}
+use Rattle.sequences.specs.Ports.{unfit, noting, forgetting}
 use Rattle.lines.specs.Row.{rowLine}
 use Rattle.sheet.specs.Called.{freshSheet, beginning, noting as counted, closing as settling, printing}
+use Rattle.rack.specs.Words.{making, checking, mending}
+use Rattle.rack.specs.Calls as rack
 use Rattle.demands.specs.Means.{Means, MeansByHand}
 use Rattle.packet.proofs.write_as as packet-write-as
 use Rattle.packet.proofs.write as packet-write
@@ -114,15 +116,16 @@ use Rattle.capture.proofs.reader.Capture.read as capture-read
 use Rattle.capture.proofs.reader.Capture.finish as capture-finish
 use Rattle.packet.proofs.judge as packet-judge
 use Rattle.packet.proofs.wrong_behind as packet-wrong-behind
+use Rattle.packet.proofs.up_to as packet-up-to
 use Rattle.packet.proofs.class_of as packet-class-of
 use Rattle.parity.proofs.make as parity-make
 use Rattle.parity.proofs.check as parity-check
 use Rattle.repair.proofs.repair as repair-repair
-use Rattle.interleaver.proofs.Matrix.fresh as interleaver-matrix-fresh
-use Rattle.interleaver.proofs.Matrix.push as interleaver-push
-use Rattle.interleaver.proofs.Matrix.close as interleaver-close
-use Rattle.interleaver.proofs.Back.fresh as interleaver-back-fresh
-use Rattle.interleaver.proofs.Back.pull as interleaver-pull
+use Rattle.interleaver.proofs.fresh as interleaver-fresh
+use Rattle.interleaver.proofs.push as interleaver-push
+use Rattle.interleaver.proofs.close as interleaver-close
+use Rattle.interleaver.proofs.fresh_back as interleaver-fresh-back
+use Rattle.interleaver.proofs.pull as interleaver-pull
 use Rattle.tape.proofs.tape.Tape.fresh as tape-fresh
 use Rattle.tape.proofs.tape.Tape.next as tape-next
 use Rattle.tape.proofs.tape.Tape.may_end as tape-may-end
@@ -158,6 +161,11 @@ use Rattle.sheet.proofs.Sheet.begin as sheet-begin
 use Rattle.sheet.proofs.Sheet.print as sheet-print
 use Rattle.sheet.proofs.Draft.note as sheet-note
 use Rattle.sheet.proofs.Draft.close as sheet-close
+use Rattle.rack.proofs.aas_parity_make as rack-aas-parity-make
+use Rattle.rack.proofs.aas_word_check as rack-aas-word-check
+use Rattle.rack.proofs.aas_word_repair as rack-aas-word-repair
+use Rattle.rack.proofs.aas_stream_read as rack-aas-stream-read
+use Rattle.rack.proofs.aas_channel_read as rack-aas-channel-read
 use Rattle.office.proofs.Office.start as office-start
 use Rattle.office.proofs.Office.hear as office-hear
 use Rattle.office.proofs.Office.close as office-close
@@ -173,6 +181,7 @@ use Rattle.field.proofs.power as field-power
 use Rattle.field.proofs.inverse as field-inverse
 use Rattle.lanes.proofs.is_clean as lanes-is-clean
 use Rattle.lanes.proofs.left as lanes-left
+use Rattle.parity.proofs.at_powers as parity-at-powers
 use Rattle.parity.proofs.at_roots as parity-at-roots
 use Rattle.parity.proofs.subtract as parity-subtract
 use Rattle.base.proofs.least as base-least
@@ -373,6 +382,10 @@ pub packet-wrong-behind-means : Means packet-wrong-behind.Statement.statement pa
     λ κs raw from r. r ≡ wrongBehind from (now raw)
 packet-wrong-behind-means = (λ M. packet-wrong-behind.Met.met, λ κs a. tt, λ κs a z ws. (λ p. p, λ p. p))
 
+pub packet-up-to-means : Means packet-up-to.Statement.statement packet-up-to.Kinds.ps packet-up-to.Kinds.r packet-up-to.Reads.Asked packet-up-to.Reads.Learnt
+    λ κs bytes c r. (r ≡ length (upTo c (now bytes))) × (r ≤ length (now bytes))
+packet-up-to-means = (λ M. packet-up-to.Met.met, λ κs a. tt, λ κs a z ws. (λ p. p, λ p. p))
+
 pub packet-class-of-means : Means packet-class-of.Statement.statement packet-class-of.Kinds.ps packet-class-of.Kinds.r packet-class-of.Reads.Asked packet-class-of.Reads.Learnt
     λ κs port r. r ≡ class port
 packet-class-of-means = (λ M. packet-class-of.Met.met, λ κs a. tt, λ κs a z ws. (λ p. p, λ p. p))
@@ -391,24 +404,24 @@ pub repair-repair-means : Means repair-repair.Statement.statement repair-repair.
 repair-repair-means = (λ M. repair-repair.Met.met, λ κs a. tt, λ κs a z ws. (λ p. p, λ p. p))
 
 -- ---- the interleaver. "Cells begin at zero"; on the receiving side nothing has come
-pub interleaver-matrix-fresh-means : Means interleaver-matrix-fresh.Statement.statement interleaver-matrix-fresh.Kinds.ps interleaver-matrix-fresh.Kinds.r interleaver-matrix-fresh.Reads.Asked interleaver-matrix-fresh.Reads.Learnt
+pub interleaver-fresh-means : Means interleaver-fresh.Statement.statement interleaver-fresh.Kinds.ps interleaver-fresh.Kinds.r interleaver-fresh.Reads.Asked interleaver-fresh.Reads.Learnt
     λ κs r. r ≡ record { place = 0; cells = replicate 16320 0 }
-interleaver-matrix-fresh-means = (λ M. interleaver-matrix-fresh.Met.met, λ κs a. tt, λ κs a z ws. (λ p. p, λ p. p))
+interleaver-fresh-means = (λ M. interleaver-fresh.Met.met, λ κs a. tt, λ κs a z ws. (λ p. p, λ p. p))
 
 pub interleaver-push-means : Means interleaver-push.Statement.statement interleaver-push.Kinds.ps interleaver-push.Kinds.r interleaver-push.Reads.Asked interleaver-push.Reads.Learnt
-    λ κs self depth bytes out r. (outcome (r .written) (now (out .exit)), r .matrix) ≡ pushing depth self (now bytes) (now (out .entry))
+    λ κs matrix depth bytes out r. (outcome (r .written) (now (out .exit)), r .matrix) ≡ pushing depth matrix (now bytes) (now (out .entry))
 interleaver-push-means = (λ M. interleaver-push.Met.met, λ κs a. tt, λ κs a z ws. (λ p. p, λ p. p))
 
 pub interleaver-close-means : Means interleaver-close.Statement.statement interleaver-close.Kinds.ps interleaver-close.Kinds.r interleaver-close.Reads.Asked interleaver-close.Reads.Learnt
-    λ κs self depth out r. (outcome (r .written) (now (out .exit)), r .matrix) ≡ closing depth self (now (out .entry))
+    λ κs matrix depth out r. (outcome (r .written) (now (out .exit)), r .matrix) ≡ closing depth matrix (now (out .entry))
 interleaver-close-means = (λ M. interleaver-close.Met.met, λ κs a. tt, λ κs a z ws. (λ p. p, λ p. p))
 
-pub interleaver-back-fresh-means : Means interleaver-back-fresh.Statement.statement interleaver-back-fresh.Kinds.ps interleaver-back-fresh.Kinds.r interleaver-back-fresh.Reads.Asked interleaver-back-fresh.Reads.Learnt
+pub interleaver-fresh-back-means : Means interleaver-fresh-back.Statement.statement interleaver-fresh-back.Kinds.ps interleaver-fresh-back.Kinds.r interleaver-fresh-back.Reads.Asked interleaver-fresh-back.Reads.Learnt
     λ κs r. r ≡ record { again = false; matrix = record { place = 0; cells = replicate 16320 0 } }
-interleaver-back-fresh-means = (λ M. interleaver-back-fresh.Met.met, λ κs a. tt, λ κs a z ws. (λ p. p, λ p. p))
+interleaver-fresh-back-means = (λ M. interleaver-fresh-back.Met.met, λ κs a. tt, λ κs a z ws. (λ p. p, λ p. p))
 
 pub interleaver-pull-means : Means interleaver-pull.Statement.statement interleaver-pull.Kinds.ps interleaver-pull.Kinds.r interleaver-pull.Reads.Asked interleaver-pull.Reads.Learnt
-    λ κs self depth bytes out r. (outcome (r .written) (now (out .exit)), r .back) ≡ pulling depth self (now bytes) (now (out .entry))
+    λ κs back depth bytes out r. (outcome (r .written) (now (out .exit)), r .back) ≡ pulling depth back (now bytes) (now (out .entry))
 interleaver-pull-means = (λ M. interleaver-pull.Met.met, λ κs a. tt, λ κs a z ws. (λ p. p, λ p. p))
 
 -- ---- a capture, written: what stands before the first record, one record; and what is fetched for it behind a delivery
@@ -647,6 +660,28 @@ pub ports-forget-means : MeansByHand ports-forget.Statement.statement ports-forg
     λ κs a r e. _≡_ {A = Forgot × List Entry} (r, now (e .0)) (forgetting (now (a .0)) (a .1 .0))
 ports-forget-means = (λ M. ports-forget.Met.met, λ M 𝓤 H A mem run κs a. refl)
 
+-- ---- for C, with numbers and byte slices: the number answered, and what the lent memory then holds
+pub rack-aas-parity-make-means : Means rack-aas-parity-make.Statement.statement rack-aas-parity-make.Kinds.ps rack-aas-parity-make.Kinds.r rack-aas-parity-make.Reads.Asked rack-aas-parity-make.Reads.Learnt
+    λ κs r message out n. (n, now (out .exit)) ≡ making r (now message) (now (out .entry))
+rack-aas-parity-make-means = (λ M. rack-aas-parity-make.Met.met, λ κs a. tt, λ κs a z ws. (λ p. p, λ p. p))
+
+pub rack-aas-word-check-means : Means rack-aas-word-check.Statement.statement rack-aas-word-check.Kinds.ps rack-aas-word-check.Kinds.r rack-aas-word-check.Reads.Asked rack-aas-word-check.Reads.Learnt
+    λ κs r word n. n ≡ checking r (now word)
+rack-aas-word-check-means = (λ M. rack-aas-word-check.Met.met, λ κs a. tt, λ κs a z ws. (λ p. p, λ p. p))
+
+pub rack-aas-word-repair-means : Means rack-aas-word-repair.Statement.statement rack-aas-word-repair.Kinds.ps rack-aas-word-repair.Kinds.r rack-aas-word-repair.Reads.Asked rack-aas-word-repair.Reads.Learnt
+    λ κs r word n. (n, now (word .exit)) ≡ mending r (now (word .entry))
+rack-aas-word-repair-means = (λ M. rack-aas-word-repair.Met.met, λ κs a. tt, λ κs a z ws. (λ p. p, λ p. p))
+
+pub rack-aas-stream-read-means : Means rack-aas-stream-read.Statement.statement rack-aas-stream-read.Kinds.ps rack-aas-stream-read.Kinds.r rack-aas-stream-read.Reads.Asked rack-aas-stream-read.Reads.Learnt
+    λ κs state recv piece n. (n, now (state .exit), now (recv .exit)) ≡ rack.reading (now (state .entry)) (now (recv .entry)) (now piece)
+rack-aas-stream-read-means = (λ M. rack-aas-stream-read.Met.met, λ κs a. tt, λ κs a z ws. (λ p. p, λ p. p))
+
+pub rack-aas-channel-read-means : Means rack-aas-channel-read.Statement.statement rack-aas-channel-read.Kinds.ps rack-aas-channel-read.Kinds.r rack-aas-channel-read.Reads.Asked rack-aas-channel-read.Reads.Learnt
+    λ κs state recv word piece n.
+    (n, now (state .exit), now (recv .exit), now (word .exit)) ≡ rack.hearing (now (state .entry)) (now (recv .entry)) (now (word .entry)) (now piece)
+rack-aas-channel-read-means = (λ M. rack-aas-channel-read.Met.met, λ κs a. tt, λ κs a z ws. (λ p. p, λ p. p))
+
 -- ---- the office. Before the first line one flag is held, in a buffer of 8,428 bytes or more
 pub office-start-means : Means office-start.Statement.statement office-start.Kinds.ps office-start.Kinds.r office-start.Reads.Asked office-start.Reads.Learnt
     λ κs hold r.
@@ -728,6 +763,10 @@ lanes-is-clean-means = (λ M. lanes-is-clean.Met.met, λ κs a. tt, λ κs a z w
 pub lanes-left-means : Means lanes-left.Statement.statement lanes-left.Kinds.ps lanes-left.Kinds.r lanes-left.Reads.Asked lanes-left.Reads.Learnt
     λ κs bytes l. l ≡ residue 32 (now bytes)
 lanes-left-means = (λ M. lanes-left.Met.met, λ κs a. tt, λ κs a z ws. (λ p. p, λ p. p))
+
+pub parity-at-powers-means : Means parity-at-powers.Statement.statement parity-at-powers.Kinds.ps parity-at-powers.Kinds.r parity-at-powers.Reads.Asked parity-at-powers.Reads.Learnt
+    λ κs j word v. v ≡ atPowers j (now word)
+parity-at-powers-means = (λ M. parity-at-powers.Met.met, λ κs a. tt, λ κs a z ws. (λ p. p, λ p. p))
 
 pub parity-at-roots-means : Means parity-at-roots.Statement.statement parity-at-roots.Kinds.ps parity-at-roots.Kinds.r parity-at-roots.Reads.Asked parity-at-roots.Reads.Learnt
     λ κs r word v. v ≡ atRoots r (now word)

@@ -27,7 +27,7 @@ use Rattle.listed.specs.Apart.{well}
 use Rattle.tape.specs.Called.{far, EveryCut}
 use Rattle.tape.proofs.Demands.{taken-apart}
 use Rattle.sheets.specs.declared.Row.{Row}
-use Rattle.ports.specs.declared.Noted.the-variants.{First, InOrder, Repeated, Missing, Late}
+use Rattle.sequences.specs.declared.Noted.the-variants.{First, InOrder, Repeated, Missing, Late}
 use Rattle.sheets.specs.Tally.{told, tallied, nothing, plus, one, sum, tally, timelyIn}
 use Rattle.sheets.specs.Month.{Mark, Month, numbersOf, numbers, timelyOf, addedAll, portsOf, line, lines, anyWide, portLimit, counts, wrong, ruling, with, counting, monthOf}
 use Rattle.sheets.specs.Rows.{blank}

@@ -18,8 +18,9 @@ use Rattle.blocks.specs.Channel.{Event}
 use Rattle.channel.specs.Called.{sound, roomy}
 use Rattle.listed.specs.declared.Spot.{Spot}
 use Rattle.listed.specs.Lines.{longest}
-use Rattle.ports.specs.Ports.{unfit, soundPorts}
-use Rattle.ports.proofs.Refusing.{unfit-is, fit-not}
+use Rattle.sequences.specs.Ports.{unfit}
+use Rattle.ports.specs.ByValue.{soundPorts}
+use Rattle.sequences.proofs.Refusing.{unfit-is, fit-not}
 use Rattle.tape.specs.Called.{far}
 use Rattle.readout.specs.declared.readout.Readout.{Readout}
 use Rattle.readout.specs.declared.readout.Wants.{Wants}

@@ -18,10 +18,11 @@
 -- earlier-blocks, behind-flag, other-blocks            .. and its recovery
 -- repaired-as-sent, -there, -where, -flat              request W12, of a fixed sub-channel: h bytes of each word altered
 -- ..-refusals, ..-keeps-..                             the refusals, row by row, and what a refused call leaves
+-- ..-hear-numbers                                      the numbers that are given: 9 is not among them
 use Prim.Native.Nat.{ℕ, suc, _+_, _-_, _*_, _/_, _%_, _≤_, _<_}
 use native.Mathlib.Omega.{arith}
 use mathlib.Core.Path.{_≡_, refl, sym, _∙_, ap, subst}
-use mathlib.Core.Logic.{_≢_}
+use mathlib.Core.Logic.{_≢_, _⊎_}
 use mathlib.Core.List.{List, [], _∷_, _++_, map}
 use mathlib.Core.Option.{Option, some}
 use lib.Dec.{ltb}
@@ -34,15 +35,15 @@ use Rattle.base.specs.Choice.{pick}
 use Rattle.base.specs.Written.{write, Keeps}
 use Rattle.frames.specs.Contents.{Packet, rawLimit}
 use Rattle.frames.specs.Escape.{flag}
-use Rattle.frames.specs.Frame.{refusal}
+use Rattle.frames.specs.Frame.{Told as FrameTold, refusal}
 use Rattle.frames.specs.Sender.{Accepted}
 use Rattle.stream.specs.Reader.{waiting, reads}
 use Rattle.stream.specs.Sender.{stream, delivered, openedFrom}
 use Rattle.stream.proofs.Streaming.{stream-read}
-use Rattle.interleaver.specs.Places.{cell}
-use Rattle.interleaver.specs.Running.{fresh, freshBack, sent as turned, push}
-use Rattle.interleaver.specs.declared.Back.{Back}
-use Rattle.interleaver.proofs.Calling.{passes}
+use Rattle.matrices.specs.Places.{cell}
+use Rattle.matrices.specs.Running.{fresh, freshBack, sent as turned, push}
+use Rattle.matrices.specs.declared.Back.{Back}
+use Rattle.matrices.proofs.Calling.{passes}
 use Rattle.repair.specs.Promise.{CleanWord}
 use Rattle.blocks.specs.Sender.{marker, wordBytes}
 use Rattle.blocks.specs.Channel.{Event, said, lost, frames, blocks, losses, IsWord, FirstMarker}
@@ -74,8 +75,8 @@ use Rattle.subsenders.specs.Four as senders
 use Rattle.subsenders.proofs.Apart as apart
 use Rattle.demands.specs.Table.{Exact}
 use Rattle.demands.specs.Guarantee.{Received, received}
-use Rattle.demands.specs.Refusals.{Short, ByCall, ByHear}
-use Rattle.demands.specs.SubChannels.{SubBeyond, ReceiverBeyond, SenderBeyond, Unknown, ByConfigure, ByNumber}
+use Rattle.demands.specs.Refusals.{Short, OfFrame, OfCall, ByFrame, ByCall, ByHear}
+use Rattle.demands.specs.SubChannels.{SubBeyond, ReceiverBeyond, SenderBeyond, Unknown, OfNumbered, ByConfigure, ByNumber}
 use Rattle.demands.proofs.Rows.{row, not-less, refuses, wrote}
 use Rattle.demands.proofs.Altered.{unaltered, sent-clean-words, carried-received, answers-received, words-received, many-received}
 use Rattle.demands.proofs.Subs as rows
@@ -303,6 +304,10 @@ pub sub-hear-refusals : (c : Board) (bs : List ℕ) → Exact ByHear (hearCall c
     [])
 sub-hear-refusals = rows.sub-exact
 
+-- the numbers that it gives are 1 to 8 and 12 of a frame, 10 and 11 of the call: 9 is not used (request W9)
+pub sub-hear-numbers : (c : Board) (bs : List ℕ) (t : FrameTold) (n : ℕ) → hearCall c bs .0 ≡ some (said t) → ByFrame t n → OfFrame n ⊎ OfCall n
+sub-hear-numbers = rows.sub-given
+
 -- .. and its sender's: "30 and 32", 23 behind them
 pub sub-send-refusals : (r d : ℕ) (bs out : List ℕ) → Exact ByCall (sending r d bs out)
     ((30, 64 < r) ∷  -- R above 64
@@ -320,6 +325,11 @@ pub number-hear-refusals : (s : Receiver) (n : ℕ) (recv word bs : List ℕ) �
     (11, Short recv word) ∷  -- its receive buffer under 8,272 bytes, its word buffer under 255
     [])
 number-hear-refusals = rows.number-exact
+
+-- .. 42 besides
+pub number-hear-numbers : (s : Receiver) (n : ℕ) (recv word bs : List ℕ) (t : FrameTold) (m : ℕ)
+    → hearFour s n recv word bs .0 ≡ some (said t) → ByFrame t m → OfFrame m ⊎ OfNumbered m
+number-hear-numbers = rows.four-given
 
 pub number-send-refusals : (s : Sender) (n : ℕ) (bs out : List ℕ) → Exact ByCall (senders.sendFour s n bs out)
     ((10, SenderBeyond s) ∷  -- settings that no configuring takes, of any of the four

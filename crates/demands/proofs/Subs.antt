@@ -1,13 +1,13 @@
 -- The refusals of fixed sub-channels, row by row: of one, and of four by number; and that a refused call changes nothing.
 -- Fails, fails-and, fails-most   a test that fails exactly where a row applies
 -- sub-fails, receiver-fails, sender-fails   10
--- sub-exact, sub-same            one sub-channel's call
+-- sub-exact, sub-same, sub-given   one sub-channel's call, and the numbers that it gives
 -- configure-exact, -same         configuring, of the receiver and of the sender alike
--- number-exact, -same            a receiving call by number
+-- number-exact, -same, four-given   a receiving call by number
 -- send-exact                     a sending call by number
 use Prim.Native.Nat.{ℕ, zero, suc, _<_}
 use native.Mathlib.Omega.{arith}
-use mathlib.Core.Path.{_≡_, refl, sym, _∙_, subst}
+use mathlib.Core.Path.{_≡_, refl, sym, ap, _∙_, subst}
 use mathlib.Core.Bool.{Bool, true, false, _&&_, not}
 use mathlib.Core.Logic.{_⊎_, _↔_, ⊎-elim}
 use mathlib.Core.Logic._⊎_.{inl, inr}
@@ -23,8 +23,8 @@ use Rattle.base.proofs.Tests.{and-parts}
 use Rattle.frames.specs.Frame.{Told, refusal}
 use Rattle.stream.specs.Called.{takeByte, sound as soundFrame}
 use Rattle.parity.specs.Calls.{rootLimit}
-use Rattle.interleaver.specs.Running.{depthLimit, pull, beyond}
-use Rattle.interleaver.specs.declared.Back.{Back}
+use Rattle.matrices.specs.Running.{depthLimit, pull, beyond}
+use Rattle.matrices.specs.declared.Back.{Back}
 use Rattle.blocks.specs.declared.Hunting.{Hunting}
 use Rattle.blocks.specs.Sender.{wordBytes}
 use Rattle.blocks.specs.Channel.{Event, said, isMarker, shift}
@@ -45,11 +45,11 @@ use Rattle.subchannels.proofs.Apart.{sound-at}
 use Rattle.subsenders.specs.declared.Sender.{Sender}
 use Rattle.subsenders.specs.Four as sender
 use Rattle.demands.specs.Table.{Exact}
-use Rattle.demands.specs.Refusals.{PlaceBeyond, Short, OfFrame, ByCall, ByHear}
+use Rattle.demands.specs.Refusals.{PlaceBeyond, Short, OfFrame, OfCall, ByFrame, ByCall, ByHear}
 use Rattle.demands.specs.SubChannels.{SettingsBeyond, CountsBeyond, SubBeyond, ReceiverBeyond, SenderBeyond, Unknown, OfNumbered, ByConfigure, ByNumber}
 use Rattle.demands.proofs.Rows.{applies, over, row, row-not, passed, not-both, not-less, refuses, wrote, place-beyond, place-within}
 use Rattle.demands.proofs.Frames.{frame-or-call}
-use Rattle.demands.proofs.Called.{not-most, frame-beyond, frame-within, short, long, small-byte, SmallEvent, small-as, event-only, is-hear}
+use Rattle.demands.proofs.Called.{not-most, frame-beyond, frame-within, short, long, small-byte, SmallEvent, small-as, event-only, is-hear, Given, number-given}
 
 -- ---- a test that fails exactly where a row applies
 abbrev Fails : Bool → Type 0 → Type 0
@@ -155,6 +155,17 @@ sub-same c bs n = go (sound (c .st)) (roomy (c .recv) (c .word))
     go false r b = λ i. (b .1 i, 0, c)
     go true false b = λ i. (b .1 i, 0, c)
     go true true b = absurd (event-only (hearOn c bs .0) (hearOn c bs .2) n (small-hear c bs) (b .0) (b .1))
+
+sub-refused : (c : Board) (bs : List ℕ) (n : ℕ) → hearCall c bs .0 ≡ some (said (refusal n)) → Given n
+sub-refused c bs n = go (sound (c .st)) (roomy (c .recv) (c .word))
+  where
+    go : (s r : Bool) → hearBy s r c bs .0 ≡ some (said (refusal n)) → Given n
+    go false r e = let z : 10 ≡ n = cc in inr (inl (sym z))
+    go true false e = let z : 11 ≡ n = cc in inr (inr (sym z))
+    go true true e = inl (subst (λ (o : Option Event). With SmallEvent o (hearOn c bs .2)) e (small-hear c bs))
+
+pub sub-given : (c : Board) (bs : List ℕ) (t : Told) (n : ℕ) → hearCall c bs .0 ≡ some (said t) → ByFrame t n → OfFrame n ⊎ OfCall n
+sub-given c bs t n e k = number-given t n k (λ m z. sub-refused c bs m (e ∙ ap (λ (t : Told). some (said t)) z))
 
 -- ---- configuring: s as it was, and t told
 module _ {S : Type 0} (s t : S) (passes : Bool) {C : Type 0} (f : Fails passes C) (n r d : ℕ) where
@@ -265,6 +276,18 @@ module _ (s : Receiver) (n : ℕ) (recv word bs : List ℕ) where
       go false b q = λ i. (q .1 i, 0, s, recv, word)
       go true false q = λ i. (q .1 i, 0, s, recv, word)
       go true true q = left (sound (receiver.get s n)) (roomy recv word) q
+
+  -- a call by number that 10 and 42 let pass is one of its sub-channel
+  pub four-given : (t : Told) (m : ℕ) → receiver.hearFour s n recv word bs .0 ≡ some (said t) → ByFrame t m → OfFrame m ⊎ OfNumbered m
+  four-given t m = go (receiver.soundFour s) (receiver.known s n)
+    where
+      told : (k : ℕ) → some (said (refusal k)) ≡ some (said t) → ByFrame t m → k ≡ m
+      told k e b = let q : some (said (refusal k)) ≡ some (said t) = e in let z : refusal k ≡ t = cc in let w : ByFrame (refusal k) m = subst (λ (u : Told). ByFrame u m) (sym z) b in cc
+
+      go : (a b : Bool) → receiver.heardBy a b s n recv word bs .0 ≡ some (said t) → ByFrame t m → OfFrame m ⊎ OfNumbered m
+      go false b e k = inr (inl (inl (sym (told 10 e k))))
+      go true false e k = inr (inr (sym (told 42 e k)))
+      go true true e k = ⊎-elim (λ f. inl f) (λ f. inr (inl f)) (sub-given c bs t m e k)
 
 -- ---- a sending call by number
 pub send-exact : (s : Sender) (n : ℕ) (bs out : List ℕ) → Exact ByCall (sender.sendFour s n bs out)

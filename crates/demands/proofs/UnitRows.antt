@@ -17,15 +17,15 @@ use Rattle.base.specs.Written.{Outcome, refused, write}
 use Rattle.base.specs.declared.Written.{Written}
 use Rattle.base.specs.declared.Written.the-variants.{Wrote, Refused}
 use Rattle.base.proofs.Tests.{by-test}
-use Rattle.units.specs.Tables.{sequence, announced, heads, payload, lent, unfit}
-use Rattle.units.specs.Unit.{opened, filled, laidOut, unit, hidden, written}
-use Rattle.units.specs.Reading.{headerOf, payloadOf, named, middle, readParts, readUnit}
-use Rattle.units.specs.Refusing.{Disagree, Unmarked, carried}
-use Rattle.units.proofs.Carrying.{length-unit}
+use Rattle.multiplex.specs.Tables.{sequence, announced, heads, payload, lent, unfit}
+use Rattle.multiplex.specs.Unit.{opened, filled, laidOut, unit, hidden, written}
+use Rattle.multiplex.specs.Reading.{headerOf, payloadOf, named, middle, readParts, readUnit}
+use Rattle.multiplex.specs.Refusing.{Disagree, Unmarked, carried}
+use Rattle.multiplex.proofs.Carrying.{length-unit}
 use Rattle.units.proofs.Finding.{length-payload}
-use Rattle.units.proofs.Refusing.{unfit-is, fit-not, mix-none, mix-some, early-is, early-not, unnamed-is, named-not, differ, alike, unmarked-is, marked-not}
-use Rattle.units.proofs.Refusing.{length-parts, length-plain}
-use Rattle.units.proofs.Ways.{writes, written-is}
+use Rattle.multiplex.proofs.Refusing.{unfit-is, fit-not, mix-none, mix-some, early-is, early-not, unnamed-is, named-not, differ, alike, unmarked-is, marked-not}
+use Rattle.multiplex.proofs.Refusing.{length-parts, length-plain}
+use Rattle.multiplex.proofs.Ways.{writes, written-is}
 use Rattle.demands.specs.Table.{Row, First, Exact}
 use Rattle.demands.specs.Refusals.{ByCall}
 use Rattle.demands.specs.Units.{writeRows, partRows, readRows}

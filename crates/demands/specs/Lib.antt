@@ -12,3 +12,4 @@ pub mod Missed
 pub mod Units
 pub mod Captures
 pub mod Sheet
+pub mod Rack

@@ -4,12 +4,12 @@
 use Prim.Native.Nat.{ℕ}
 use mathlib.Core.Path.{_≡_}
 use mathlib.Core.List.{List, [], _∷_}
-use Rattle.ports.specs.declared.Entry.{Entry}
-use Rattle.ports.specs.declared.Noted.{Noted}
-use Rattle.ports.specs.declared.Noted.the-variants.{Refused}
-use Rattle.ports.specs.declared.Forgot.{Forgot}
-use Rattle.ports.specs.declared.Forgot.the-variants.{Refused as Unforgotten}
-use Rattle.ports.specs.Refusing.{Unfit, Held, Full}
+use Rattle.sequences.specs.declared.Entry.{Entry}
+use Rattle.sequences.specs.declared.Noted.{Noted}
+use Rattle.sequences.specs.declared.Noted.the-variants.{Refused}
+use Rattle.sequences.specs.declared.Forgot.{Forgot}
+use Rattle.sequences.specs.declared.Forgot.the-variants.{Refused as Unforgotten}
+use Rattle.sequences.specs.Refusing.{Unfit, Held, Full}
 use Rattle.demands.specs.Table.{Row}
 
 -- a packet to be noted is refused

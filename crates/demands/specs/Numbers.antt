@@ -13,7 +13,7 @@ use Rattle.base.specs.Choice.{pick}
 use Rattle.fcs.specs.Fcs.{fcs, register, entered}
 use Rattle.field.specs.Field.{add, double, shiftAdd, mul, pow}
 use Rattle.words.specs.Word.{scale, onto, timesRoot, generator, divide, remainder}
-use Rattle.interleaver.specs.Places.{cell}
+use Rattle.matrices.specs.Places.{cell}
 use Rattle.frames.specs.Contents.{plainPacket, withCheck, contents}
 use Rattle.frames.specs.Escape.{escape, escapeByte, plain, wrongFrom, right, last, scan}
 use Rattle.frames.specs.Frame.{Told, packet, refusal, broken, judgeContents, closedBy, closed, judge, judgeBody}

@@ -14,8 +14,8 @@ use Rattle.base.specs.declared.Written.the-variants.{Wrote, Refused}
 use Rattle.fcs.specs.Fcs as check
 use Rattle.field.specs.Field as field
 use Rattle.parity.specs.Calls as parity
-use Rattle.interleaver.specs.Places.{width}
-use Rattle.interleaver.specs.Running as interleaver
+use Rattle.matrices.specs.Places.{width}
+use Rattle.matrices.specs.Running as interleaver
 use Rattle.frames.specs.Contents.{Packet, packetOf, plainPacket, keyPacket, plainFormat, keyFormat, keyLeast, keyMost, payloadLimit, plainLimit, rawLimit, withCheck, contents}
 use Rattle.frames.specs.Escape.{flag, escape, escapeByte, plain, wrongFrom, right, last, scan}
 use Rattle.frames.specs.Frame.{Told, packet, refusal, broken, judgeContents, judgeBody, closedBy, closed, judge}
@@ -39,13 +39,13 @@ use Rattle.listed.specs.declared.Place.the-variants.{Mark}
 use Rattle.recording.specs.declared.recording.Recording.{Recording}
 use Rattle.recording.specs.Printed.{lastOf}
 use Rattle.lines.specs.Noted.{notedLine}
-use Rattle.ports.specs.Distance.{around, half, ruled, lastBehind}
-use Rattle.ports.specs.Ports.{placeLimit as mostPorts, freed, entry, noting, forgetting}
-use Rattle.ports.specs.declared.Entry.{Entry}
-use Rattle.ports.specs.declared.Noted.{Noted}
-use Rattle.ports.specs.declared.Noted.the-variants.{First, InOrder, Repeated, Missing, Late, Refused as NotNoted}
-use Rattle.ports.specs.declared.Forgot.{Forgot}
-use Rattle.ports.specs.declared.Forgot.the-variants.{Forgotten, Refused as Unforgotten}
+use Rattle.sequences.specs.Distance.{around, half, ruled, lastBehind}
+use Rattle.sequences.specs.Ports.{placeLimit as mostPorts, freed, entry, noting, forgetting}
+use Rattle.sequences.specs.declared.Entry.{Entry}
+use Rattle.sequences.specs.declared.Noted.{Noted}
+use Rattle.sequences.specs.declared.Noted.the-variants.{First, InOrder, Repeated, Missing, Late, Refused as NotNoted}
+use Rattle.sequences.specs.declared.Forgot.{Forgot}
+use Rattle.sequences.specs.declared.Forgot.the-variants.{Forgotten, Refused as Unforgotten}
 use Rattle.demands.specs.Numbers.{Line, inNumbers, heard}
 
 -- the number by which a frame is refused; 0 where it is a packet

@@ -24,7 +24,7 @@ use Rattle.fcs.specs.Fcs.{fcs}
 use Rattle.frames.specs.Contents.{Packet, plainFormat, keyFormat, keyLeast, keyMost, keyAt, keyLength, payloadLimit, rawLimit, wordAt}
 use Rattle.frames.specs.Escape.{escape, plain, last, Followed}
 use Rattle.frames.specs.Frame.{Told, refusal, number}
-use Rattle.interleaver.specs.declared.Matrix.{Matrix}
+use Rattle.matrices.specs.declared.Matrix.{Matrix}
 use Rattle.subsender.specs.declared.Counted.{Counted}
 use Rattle.subsender.specs.declared.Counted.the-variants.{Refused as CountRefused}
 use Rattle.parity.specs.declared.Checked.{Checked}
@@ -38,7 +38,7 @@ use Rattle.blocks.specs.Sender.{messageBytes, wordBytes}
 use Rattle.channel.specs.declared.receiver.Receiver.{Receiver}
 use Rattle.listed.specs.declared.Spot.{Spot}
 use Rattle.listed.specs.Lines.{longest}
-use Rattle.ports.specs.Refusing.{Unfit as UnfitTable}
+use Rattle.sequences.specs.Refusing.{Unfit as UnfitTable}
 use Rattle.tape.specs.Deck.{Deck}
 use Rattle.tape.specs.Called.{far}
 use Rattle.recording.specs.Printed.{Printed}

@@ -13,7 +13,7 @@ use Rattle.frames.specs.Frame.{packet, refusal, broken}
 use Rattle.stream.specs.Called.{fresh}
 use Rattle.blocks.specs.declared.Condition.the-variants.{Clean}
 use Rattle.blocks.specs.Channel.{Event, said, block, lost, zeros}
-use Rattle.interleaver.specs.Running.{freshBack}
+use Rattle.matrices.specs.Running.{freshBack}
 use Rattle.groups.specs.Sender.{groupWords, groupBytes, closingWords, completing, grouped}
 use Rattle.subchannel.specs.Called as sub
 use Rattle.subchannels.specs.declared.Configured.{Configured}
@@ -21,9 +21,9 @@ use Rattle.subchannels.specs.declared.Configured.the-variants.{Told, Refused}
 use Rattle.subchannels.specs.declared.Receiver.{Receiver}
 use Rattle.subchannels.specs.Four as receiver
 use Rattle.subsenders.specs.Four as sender
-use Rattle.units.specs.Bits.{digits, number}
-use Rattle.units.specs.Tables as units
-use Rattle.units.specs.Reading.{named}
+use Rattle.multiplex.specs.Bits.{digits, number}
+use Rattle.multiplex.specs.Tables as units
+use Rattle.multiplex.specs.Reading.{named}
 use Rattle.captures.specs.File.{header, records}
 use Rattle.captures.specs.Import.{entryLimit, imported}
 use Rattle.lines.specs.Row.{rowLine, rowLongest}

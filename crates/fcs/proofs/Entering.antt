@@ -32,7 +32,7 @@ shifted-sum r b =
     Same p d = pick (eqb (differ p d) 0) (bitXor h k) (bitXor (bitXor h k) polynomial) ≡ bitXor (pick (eqb p d) h (bitXor h polynomial)) k
 
 -- n bits: the same
-entered-sum : (n r b : ℕ) → entered n (bitXor r b) 0 ≡ bitXor (entered n r b) (b / 2 ^ n)
+pub entered-sum : (n r b : ℕ) → entered n (bitXor r b) 0 ≡ bitXor (entered n r b) (b / 2 ^ n)
 unfolding entered
 entered-sum zero r b = ap (bitXor r) (sym (div-one b))
 entered-sum (suc n) r b =

@@ -1,4 +1,5 @@
 pub mod Laws
 pub mod Entering
+pub mod Eights
 pub mod Numbers
 pub mod Determined

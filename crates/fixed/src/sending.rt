@@ -86,7 +86,7 @@ fn send_full(
 pub fn send_all(parity: usize, depth: usize) {
     let mut hold = io::buffer();
     let mut out = [0u8; Group::LENGTH];
-    let mut matrix = Matrix::fresh();
+    let mut matrix = interleaver::fresh();
     let want = base::least(four_messages(parity), hold.len());
     let mut have: usize = 0;
     let mut reads = u64::MAX;

@@ -24,7 +24,7 @@ use Rattle.parity.specs.Calls.{rootLimit}
 use Rattle.stream.specs.Reader.{Reading, waiting, read, reads}
 use Rattle.stream.specs.Sender.{stream, delivered, openedFrom}
 use Rattle.stream.proofs.Streaming.{synchronised, from-flag}
-use Rattle.interleaver.specs.Running.{fresh, push}
+use Rattle.matrices.specs.Running.{fresh, push}
 use Rattle.blocks.specs.Channel.{Event, frames, blocks, losses, IsWord, FirstMarker}
 use Rattle.blocks.specs.declared.Condition.the-variants.{Clean as clean}
 use Rattle.blocks.proofs.Streaming.{first-marker, stream-bytes}

@@ -15,8 +15,8 @@ use borrow.Author.Tests.{lt-ltb, le-ltb}
 use Rattle.base.specs.Calls.{andThen, run, tell}
 use Rattle.base.proofs.Calls.{run-append}
 use Rattle.stream.specs.Reader.{Reading}
-use Rattle.interleaver.specs.Running.{pull}
-use Rattle.interleaver.specs.declared.Back.{Back}
+use Rattle.matrices.specs.Running.{pull}
+use Rattle.matrices.specs.declared.Back.{Back}
 use Rattle.blocks.specs.Channel.{Event, zeros}
 use Rattle.blocks.specs.declared.Hunting.{Hunting}
 use Rattle.blocks.proofs.Streaming.{theMarker}

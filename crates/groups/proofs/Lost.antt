@@ -12,8 +12,8 @@ use mathlib.Core.List.{List, [], _∷_, _++_}
 use lib.ListN.{length}
 use Rattle.base.specs.Calls.{andThen, run}
 use Rattle.stream.specs.Reader.{Reading, waiting}
-use Rattle.interleaver.specs.Running.{freshBack, pull}
-use Rattle.interleaver.specs.declared.Back.{Back}
+use Rattle.matrices.specs.Running.{freshBack, pull}
+use Rattle.matrices.specs.declared.Back.{Back}
 use Rattle.blocks.specs.Sender.{marker}
 use Rattle.blocks.specs.Channel.{Event, lost, isMarker, FirstMarker}
 use Rattle.blocks.specs.declared.Hunting.{Hunting}

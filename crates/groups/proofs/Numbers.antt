@@ -10,7 +10,7 @@ use mathlib.Core.List.{List, [], _∷_, _++_, map}
 use lib.ListN.{length, replicate}
 use Rattle.frames.specs.Escape.{flag}
 use Rattle.stream.specs.Reader.{waiting}
-use Rattle.interleaver.specs.Running.{freshBack}
+use Rattle.matrices.specs.Running.{freshBack}
 use Rattle.blocks.specs.Sender as channel
 use Rattle.blocks.specs.Channel as received
 use Rattle.blocks.proofs.Streaming.{theMarker}

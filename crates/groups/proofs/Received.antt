@@ -21,11 +21,11 @@ use Rattle.base.proofs.Bytes.{each-append}
 use Rattle.base.proofs.Tests.{by-le}
 use Rattle.repair.proofs.Promising.{left-length}
 use Rattle.stream.specs.Reader.{Reading, waiting}
-use Rattle.interleaver.specs.Running.{depthLimit, fresh, freshBack, sent, push, pull, closingBytes}
-use Rattle.interleaver.specs.declared.Matrix.{Matrix}
-use Rattle.interleaver.proofs.Calling.{passes, deeper}
-use Rattle.interleaver.proofs.Pushing.{sent-length}
-use Rattle.interleaver.proofs.Round.{there-and-back}
+use Rattle.matrices.specs.Running.{depthLimit, fresh, freshBack, sent, push, pull, closingBytes}
+use Rattle.matrices.specs.declared.Matrix.{Matrix}
+use Rattle.matrices.proofs.Calling.{passes, deeper}
+use Rattle.matrices.proofs.Pushing.{sent-length}
+use Rattle.matrices.proofs.Round.{there-and-back}
 use Rattle.blocks.specs.Sender.{marker, wordBytes}
 use Rattle.blocks.specs.Channel.{Event, shift, isMarker, zeros, IsWord, FirstMarker}
 use Rattle.blocks.specs.declared.Hunting.{Hunting}

@@ -20,11 +20,11 @@ use Rattle.base.specs.Choice.{pick}
 use Rattle.base.proofs.Tests.{by-le}
 use Rattle.parity.specs.Calls.{rootLimit}
 use Rattle.stream.specs.Reader.{waiting}
-use Rattle.interleaver.specs.Places.{cell}
-use Rattle.interleaver.specs.Running.{depthLimit, size, fresh, freshBack, push, pull, gave}
-use Rattle.interleaver.specs.declared.Back.{Back}
-use Rattle.interleaver.proofs.Calling.{passes}
-use Rattle.interleaver.proofs.Round.{returned-told, returned-length}
+use Rattle.matrices.specs.Places.{cell}
+use Rattle.matrices.specs.Running.{depthLimit, size, fresh, freshBack, push, pull, gave}
+use Rattle.matrices.specs.declared.Back.{Back}
+use Rattle.matrices.proofs.Calling.{passes}
+use Rattle.matrices.proofs.Round.{returned-told, returned-length}
 use Rattle.blocks.specs.Sender.{wordBytes}
 use Rattle.blocks.specs.Channel.{Event, IsWord, FirstMarker}
 use Rattle.groups.specs.Sender.{groupWords, cutUp, flagWord, closingWords, wordsOf, wordsBack, grouped, sent}

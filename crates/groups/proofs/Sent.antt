@@ -18,7 +18,7 @@ use Rattle.base.specs.Choice.{pick}
 use Rattle.base.proofs.Bytes.{each-append, each-replicate}
 use Rattle.frames.specs.Escape.{flag}
 use Rattle.parity.specs.Calls.{rootLimit}
-use Rattle.interleaver.specs.Running.{fresh, push}
+use Rattle.matrices.specs.Running.{fresh, push}
 use Rattle.blocks.specs.Sender.{marker, wordBytes}
 use Rattle.blocks.specs.Channel.{IsWord}
 use Rattle.groups.specs.Sender.{messageBytes, groupWords, groupBytes, wordOf, missing, filled, cutUp, messagesOf}

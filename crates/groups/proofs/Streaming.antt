@@ -29,7 +29,7 @@ use Rattle.repair.proofs.Promising.{clean-left}
 use Rattle.stream.specs.Reader.{Reading, waiting, read, reads}
 use Rattle.stream.specs.Sender.{stream, delivered}
 use Rattle.stream.proofs.Streaming.{stream-read}
-use Rattle.interleaver.specs.Running.{depthLimit}
+use Rattle.matrices.specs.Running.{depthLimit}
 use Rattle.blocks.specs.Channel.{conditionBy, frames, blocks, losses, IsWord, FirstMarker}
 use Rattle.blocks.specs.declared.Condition.the-variants.{Clean as clean}
 use Rattle.blocks.proofs.Streaming.{frames-whole, blocks-whole, losses-whole, stream-bytes}

@@ -15,7 +15,7 @@ use Rattle.base.specs.Calls.{joined, run}
 use Rattle.base.specs.Choice.{pick}
 use Rattle.frames.specs.Escape.{flag}
 use Rattle.words.specs.Word.{remainder}
-use Rattle.interleaver.specs.Running.{fresh, push}
+use Rattle.matrices.specs.Running.{fresh, push}
 use Rattle.blocks.specs.Sender.{marker, wordBytes}
 
 -- message bytes of a word

@@ -13,8 +13,8 @@ use lib.ListN.{length}
 use Rattle.base.specs.Calls.{andThen}
 use Rattle.base.specs.Choice.{pick}
 use Rattle.stream.specs.Reader.{Reading, waiting, reads}
-use Rattle.interleaver.specs.Running.{freshBack, pull}
-use Rattle.interleaver.specs.declared.Back.{Back}
+use Rattle.matrices.specs.Running.{freshBack, pull}
+use Rattle.matrices.specs.declared.Back.{Back}
 use Rattle.blocks.specs.Sender.{wordBytes}
 use Rattle.blocks.specs.Channel.{Event, said, block, lost, shift, isMarker, zeros}
 use Rattle.blocks.specs.declared.Hunting.{Hunting}

@@ -7,7 +7,7 @@ use mathlib.Core.List.{List, map}
 use lib.ListN.{take}
 use Rattle.base.specs.Calls.{joined, run}
 use Rattle.repair.specs.Way.{repaired as repairedWord}
-use Rattle.interleaver.specs.Running.{freshBack, pull}
+use Rattle.matrices.specs.Running.{freshBack, pull}
 use Rattle.blocks.specs.declared.Condition.{Condition}
 use Rattle.blocks.specs.Sender.{wordBytes}
 use Rattle.blocks.specs.Channel.{conditionBy}

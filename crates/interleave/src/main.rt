@@ -83,7 +83,7 @@ fn tens(high: usize, low: usize) -> usize {
 fn push_all(depth: usize) {
     let mut piece = io::large_buffer();
     let mut out = io::large_buffer();
-    let mut matrix = Matrix::fresh();
+    let mut matrix = interleaver::fresh();
     let mut reads = u64::MAX;
     while reads > 0 {
         let got = libc::read(STDIN_FILENO, &mut piece);
@@ -92,11 +92,14 @@ fn push_all(depth: usize) {
             return;
         }
         if got == 0 {
-            pushed(matrix.close(depth, &mut out), &out);
+            pushed(interleaver::close(matrix, depth, &mut out), &out);
             return;
         }
         let n = io::count(got, &piece);
-        let sent = pushed(matrix.push(depth, &piece[..n], &mut out), &out);
+        let sent = pushed(
+            interleaver::push(matrix, depth, &piece[..n], &mut out),
+            &out,
+        );
         matrix = sent.matrix;
         if !sent.go {
             return;
@@ -109,7 +112,7 @@ fn push_all(depth: usize) {
 fn pull_all(depth: usize) {
     let mut piece = io::large_buffer();
     let mut out = io::large_buffer();
-    let mut back = Back::fresh();
+    let mut back = interleaver::fresh_back();
     let mut reads = u64::MAX;
     while reads > 0 {
         let got = libc::read(STDIN_FILENO, &mut piece);
@@ -121,7 +124,7 @@ fn pull_all(depth: usize) {
             return;
         }
         let n = io::count(got, &piece);
-        let taken = pulled(back.pull(depth, &piece[..n], &mut out), &out);
+        let taken = pulled(interleaver::pull(back, depth, &piece[..n], &mut out), &out);
         back = taken.back;
         if !taken.go {
             return;

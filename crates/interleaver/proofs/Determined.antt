@@ -2,16 +2,16 @@
 use mathlib.Core.Path.{refl}
 use Rattle.base.specs.Determined.{Determined}
 use Rattle.base.proofs.Determining.{same, buffer, skip}
-use Rattle.interleaver.proofs.Matrix.fresh.Kinds as fresh-kinds
-use Rattle.interleaver.proofs.Matrix.fresh.Reads as fresh-reads
-use Rattle.interleaver.proofs.Matrix.push.Kinds as push-kinds
-use Rattle.interleaver.proofs.Matrix.push.Reads as push-reads
-use Rattle.interleaver.proofs.Matrix.close.Kinds as close-kinds
-use Rattle.interleaver.proofs.Matrix.close.Reads as close-reads
-use Rattle.interleaver.proofs.Back.fresh.Kinds as back-kinds
-use Rattle.interleaver.proofs.Back.fresh.Reads as back-reads
-use Rattle.interleaver.proofs.Back.pull.Kinds as pull-kinds
-use Rattle.interleaver.proofs.Back.pull.Reads as pull-reads
+use Rattle.interleaver.proofs.fresh.Kinds as fresh-kinds
+use Rattle.interleaver.proofs.fresh.Reads as fresh-reads
+use Rattle.interleaver.proofs.push.Kinds as push-kinds
+use Rattle.interleaver.proofs.push.Reads as push-reads
+use Rattle.interleaver.proofs.close.Kinds as close-kinds
+use Rattle.interleaver.proofs.close.Reads as close-reads
+use Rattle.interleaver.proofs.fresh_back.Kinds as back-kinds
+use Rattle.interleaver.proofs.fresh_back.Reads as back-reads
+use Rattle.interleaver.proofs.pull.Kinds as pull-kinds
+use Rattle.interleaver.proofs.pull.Reads as pull-reads
 
 pub fresh-determined : Determined fresh-kinds.ps fresh-kinds.r fresh-reads.Asked fresh-reads.Learnt
 fresh-determined κs a z z′ ws ws′ pre p q = (same p q, refl)

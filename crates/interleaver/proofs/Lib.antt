@@ -1,11 +1,4 @@
-pub mod Places
-pub mod Turns
 pub mod Loops
-pub mod Calling
-pub mod Pushing
-pub mod Pulling
-pub mod Round
-pub mod Cutting
+pub mod Holding
 pub mod Steps
-pub mod Numbers
 pub mod Determined

@@ -6,24 +6,14 @@ ghost use lib.ListN.{length};
 ghost use Rattle.base.specs.Calls.{run};
 ghost use Rattle.base.specs.Written.{outcome};
 ghost use Rattle.base.specs.declared.Written.the-variants.{Refused};
-ghost use Rattle.interleaver.specs.Places.{width, cell};
-ghost use Rattle.interleaver.specs.Running.{depthLimit, size, next, matrix, fresh, freshBack, sent, taken};
-ghost use Rattle.interleaver.specs.Running.{beyond, pushing, closingBytes, closing, pulling};
+ghost use Rattle.matrices.specs.Places.{width, cell};
+ghost use Rattle.matrices.specs.Running.{depthLimit, size, next, matrix, fresh, freshBack, sent, taken};
+ghost use Rattle.matrices.specs.Running.{beyond, pushing, closingBytes, closing, pulling};
 ghost use Rattle.interleaver.specs.Private.{left, held, Ready, given};
 use base::Refusal;
 use base::Written;
-
-/// The sender's side: the place whose turn it is, and the cells, up to 64 rows of 255.
-pub struct Matrix {
-    pub place: usize,
-    pub cells: [u8; Matrix::CELLS],
-}
-
-/// The receiving side: whether its first pass is over, its place and cells.
-pub struct Back {
-    pub again: bool,
-    pub matrix: Matrix,
-}
+pub use matrices::Back;
+pub use matrices::Matrix;
 
 /// What a push answers.
 pub struct Pushed {
@@ -37,141 +27,131 @@ pub struct Pulled {
     pub back: Back,
 }
 
-impl Matrix {
-    // The most rows.
-    const DEEPEST: usize = 64;
-    // The columns of a row.
-    const ROW: usize = 255;
-    // The cells of the largest.
-    const CELLS: usize = Self::DEEPEST * Self::ROW;
-    // From output to output the column moves on by so many, around 255.
-    const STEP: usize = 53;
+// From output to output the column moves on by so many, around 255.
+const STEP: usize = 53;
 
-    /// No byte pushed yet.
-    pub fn fresh() -> Self
-        ensures { λ r. ⌜ r ≡ fresh ⌝ }
-    {
-        Self {
-            place: 0,
-            cells: [0; Matrix::CELLS],
-        }
-    }
-
-    /// Pushes bytes through the cells; as many come out.
-    pub fn push(self, depth: usize, bytes: &[u8], out: &mut [u8]) -> Pushed
-        ensures { λ r. ⌜ (outcome (r .written) (now (out .exit)), r .matrix) ≡ pushing depth self (now (bytes .entry)) (now (out .entry)) ⌝ }
-    {
-        let place = self.place;
-        if beyond(depth, place) {
-            return self.refused(Refusal::STATE);
-        }
-        if Matrix::DEEPEST < depth {
-            return self.refused(Refusal::DEPTH);
-        }
-        if out.len() < bytes.len() {
-            return self.refused(Refusal::OUTPUT);
-        }
-        let written = Written::Wrote(bytes.len());
-        if depth < 2 {
-            base::copy(bytes, out);
-            return Pushed {
-                written,
-                matrix: self,
-            };
-        }
-        let cells = self.cells;
-        let matrix = send(cells, place, depth, bytes, out);
-        Pushed { written, matrix }
-    }
-
-    /// The closing push: N - 1 zeros behind the last byte, none at depth 0 and 1.
-    pub fn close(self, depth: usize, out: &mut [u8]) -> Pushed
-        ensures { λ r. ⌜ (outcome (r .written) (now (out .exit)), r .matrix) ≡ closing depth self (now (out .entry)) ⌝ }
-    {
-        let zeros = [0u8; Matrix::CELLS];
-        let n = closing_bytes(depth);
-        self.push(depth, &zeros[0..n], out)
-    }
-
-    // A refused push: the state as it was.
-    fn refused(self, number: u8) -> Pushed
-        ensures { λ r. ⌜ r ≡ record { written = Refused number; matrix = self } ⌝ }
-    {
-        Pushed {
-            written: Written::Refused(number),
-            matrix: self,
-        }
+/// The sender's side, no byte pushed yet.
+pub fn fresh() -> Matrix
+    ensures { λ r. ⌜ r ≡ fresh ⌝ }
+{
+    Matrix {
+        place: 0,
+        cells: [0; Matrix::CELLS],
     }
 }
 
-impl Back {
-    /// Nothing received yet.
-    pub fn fresh() -> Self
-        ensures { λ r. ⌜ r ≡ freshBack ⌝ }
-    {
-        Self {
-            again: false,
-            matrix: Matrix::fresh(),
-        }
+/// Pushes bytes through the cells; as many come out.
+pub fn push(matrix: Matrix, depth: usize, bytes: &[u8], out: &mut [u8]) -> Pushed
+    ensures { λ r. ⌜ (outcome (r .written) (now (out .exit)), r .matrix) ≡ pushing depth matrix (now (bytes .entry)) (now (out .entry)) ⌝ }
+{
+    let place = matrix.place;
+    if beyond(depth, place) {
+        return unpushed(matrix, Refusal::STATE);
     }
-
-    /// Takes received bytes in; those come back that N - 1 others have followed.
-    pub fn pull(self, depth: usize, bytes: &[u8], out: &mut [u8]) -> Pulled
-        ensures { λ r. ⌜ (outcome (r .written) (now (out .exit)), r .back) ≡ pulling depth self (now (bytes .entry)) (now (out .entry)) ⌝ }
-    {
-        let matrix = self.matrix;
-        let place = matrix.place;
-        if beyond(depth, place) {
-            return self.refused(Refusal::STATE);
-        }
-        if Matrix::DEEPEST < depth {
-            return self.refused(Refusal::DEPTH);
-        }
-        let kept = held(depth, self.again, place, bytes.len());
-        if out.len() < bytes.len() - kept {
-            return self.refused(Refusal::OUTPUT);
-        }
-        let written = Written::Wrote(bytes.len() - kept);
-        if depth < 2 {
-            base::copy(bytes, out);
-            return Pulled {
-                written,
-                back: self,
-            };
-        }
-        let back = self.take(depth, bytes, kept, out);
-        Pulled { written, back }
+    if Matrix::DEEPEST < depth {
+        return unpushed(matrix, Refusal::DEPTH);
     }
-
-    // A refused pull: the state as it was.
-    fn refused(self, number: u8) -> Pulled
-        ensures { λ r. ⌜ r ≡ record { written = Refused number; back = self } ⌝ }
-    {
-        Pulled {
-            written: Written::Refused(number),
-            back: self,
-        }
+    if out.len() < bytes.len() {
+        return unpushed(matrix, Refusal::OUTPUT);
     }
+    let written = Written::Wrote(bytes.len());
+    if depth < 2 {
+        base::copy(bytes, out);
+        return Pushed { written, matrix };
+    }
+    let cells = matrix.cells;
+    let behind = send(cells, place, depth, bytes, out);
+    Pushed {
+        written,
+        matrix: behind,
+    }
+}
 
-    // At depth 2 or more: the first `kept` bytes give none back, each other one gives one.
-    fn take(self, depth: usize, bytes: &[u8], kept: usize, out: &mut [u8]) -> Self
-        requires { ⌜ Ready depth self (now bytes) (now out) kept ⌝ }
-        ensures { λ r. ⌜ (now (out .exit), r) ≡ given depth self (now (bytes .entry)) (now (out .entry)) ⌝ }
-    {
-        let matrix = self.matrix;
-        let cells = matrix.cells;
-        let first = keep(cells, matrix.place, depth, &bytes[0..kept]);
-        if kept == bytes.len() {
-            return Self {
-                again: self.again,
-                matrix: first,
-            };
-        }
-        let stored = first.cells;
-        Self {
-            again: true,
-            matrix: give(stored, first.place, depth, &bytes[kept..], out),
-        }
+/// The closing push: N - 1 zeros behind the last byte, none at depth 0 and 1.
+pub fn close(matrix: Matrix, depth: usize, out: &mut [u8]) -> Pushed
+    ensures { λ r. ⌜ (outcome (r .written) (now (out .exit)), r .matrix) ≡ closing depth matrix (now (out .entry)) ⌝ }
+{
+    let zeros = [0u8; Matrix::CELLS];
+    let n = closing_bytes(depth);
+    push(matrix, depth, &zeros[0..n], out)
+}
+
+// A refused push: the state as it was.
+fn unpushed(matrix: Matrix, number: u8) -> Pushed
+    ensures { λ r. ⌜ r ≡ record { written = Refused number; matrix = matrix } ⌝ }
+{
+    Pushed {
+        written: Written::Refused(number),
+        matrix,
+    }
+}
+
+/// The receiving side, nothing received yet.
+pub fn fresh_back() -> Back
+    ensures { λ r. ⌜ r ≡ freshBack ⌝ }
+{
+    Back {
+        again: false,
+        matrix: fresh(),
+    }
+}
+
+/// Takes received bytes in; those come back that N - 1 others have followed.
+pub fn pull(back: Back, depth: usize, bytes: &[u8], out: &mut [u8]) -> Pulled
+    ensures { λ r. ⌜ (outcome (r .written) (now (out .exit)), r .back) ≡ pulling depth back (now (bytes .entry)) (now (out .entry)) ⌝ }
+{
+    let matrix = back.matrix;
+    let place = matrix.place;
+    if beyond(depth, place) {
+        return unpulled(back, Refusal::STATE);
+    }
+    if Matrix::DEEPEST < depth {
+        return unpulled(back, Refusal::DEPTH);
+    }
+    let kept = held(depth, back.again, place, bytes.len());
+    if out.len() < bytes.len() - kept {
+        return unpulled(back, Refusal::OUTPUT);
+    }
+    let written = Written::Wrote(bytes.len() - kept);
+    if depth < 2 {
+        base::copy(bytes, out);
+        return Pulled { written, back };
+    }
+    let behind = take(back, depth, bytes, kept, out);
+    Pulled {
+        written,
+        back: behind,
+    }
+}
+
+// A refused pull: the state as it was.
+fn unpulled(back: Back, number: u8) -> Pulled
+    ensures { λ r. ⌜ r ≡ record { written = Refused number; back = back } ⌝ }
+{
+    Pulled {
+        written: Written::Refused(number),
+        back,
+    }
+}
+
+// At depth 2 or more: the first `kept` bytes give none back, each other one gives one.
+fn take(back: Back, depth: usize, bytes: &[u8], kept: usize, out: &mut [u8]) -> Back
+    requires { ⌜ Ready depth back (now bytes) (now out) kept ⌝ }
+    ensures { λ r. ⌜ (now (out .exit), r) ≡ given depth back (now (bytes .entry)) (now (out .entry)) ⌝ }
+{
+    let matrix = back.matrix;
+    let cells = matrix.cells;
+    let first = keep(cells, matrix.place, depth, &bytes[0..kept]);
+    if kept == bytes.len() {
+        return Back {
+            again: back.again,
+            matrix: first,
+        };
+    }
+    let stored = first.cells;
+    Back {
+        again: true,
+        matrix: give(stored, first.place, depth, &bytes[kept..], out),
     }
 }
 
@@ -191,7 +171,7 @@ fn cell(depth: usize, place: usize) -> usize
     ensures { λ r. ⌜ (r ≡ cell depth place) × (r < depthLimit * width) ⌝ }
 {
     let row = (place - (Matrix::ROW - 1) * (place / Matrix::ROW)) % depth;
-    let column = Matrix::STEP * place % Matrix::ROW;
+    let column = STEP * place % Matrix::ROW;
     row * Matrix::ROW + column
 }
 

@@ -10,8 +10,8 @@ use lib.ListN.{length, length-append}
 use Rattle.base.specs.Private.{Laid}
 use Rattle.base.proofs.Laid.{laid-append}
 use Rattle.listed.specs.Lines.{decimal, longest}
-use Rattle.ports.specs.declared.Noted.{Noted}
-use Rattle.ports.specs.declared.Noted.the-variants.{First, InOrder, Repeated, Missing, Late, Refused}
+use Rattle.sequences.specs.declared.Noted.{Noted}
+use Rattle.sequences.specs.declared.Noted.the-variants.{First, InOrder, Repeated, Missing, Late, Refused}
 use Rattle.lines.specs.Noted.{words, notedLine}
 use Rattle.listed.proofs.Digits.{digits-short}
 use Rattle.lines.proofs.Writes.{laid-as, Item, Put}

@@ -26,7 +26,7 @@ use Rattle.blocks.specs.declared.Condition.the-variants.{Clean, Repaired, Beyon
 use Rattle.channel.specs.declared.answer.Answer.{Answer}
 use Rattle.channel.specs.declared.answer.Answer.the-variants.{Said}
 use Rattle.listed.specs.Lines.{decimal, longest}
-use Rattle.ports.specs.declared.Noted.{Noted}
+use Rattle.sequences.specs.declared.Noted.{Noted}
 use Rattle.shown.specs.Text.{sixteenth, shownByte, heading}
 use Rattle.shown.specs.Board.{Line, missing, unwatched, restricted, refusedFrame, brokenFrame, cleanBlock, repairedBlock, beyondRepair, lockLost, wrongAt}
 use Rattle.shown.specs.Board.{missingWord, unwatchedWord, restrictedWord, refusedWord, cleanWord, repairedWord, beyondWord, lostWord, wrongWord}

@@ -4,8 +4,8 @@
 use Prim.Native.Nat.{ℕ}
 use mathlib.Core.List.{List, [], _∷_, _++_}
 use Rattle.listed.specs.Lines.{decimal}
-use Rattle.ports.specs.declared.Noted.{Noted}
-use Rattle.ports.specs.declared.Noted.the-variants.{First, InOrder, Repeated, Missing, Late, Refused}
+use Rattle.sequences.specs.declared.Noted.{Noted}
+use Rattle.sequences.specs.declared.Noted.the-variants.{First, InOrder, Repeated, Missing, Late, Refused}
 
 -- `first`, `in order`, `repeated`, `missing N`, `late`, `refused N`
 abbrev pub words : Noted → List ℕ

@@ -1,22 +1,16 @@
 -- A call stays within what it is lent.
 -- took-within     no more bytes are taken than the piece has
 -- call-within     nor printed than the output has room for
--- last-within     the same of the last line
 use Prim.Native.Nat.{ℕ, zero, suc, _-_, _≤_, zero-le}
 use native.Mathlib.Omega.{arith}
-use mathlib.Core.Path.{_≡_, sym, _∙_, ap}
+use mathlib.Core.Path.{ap}
 use mathlib.Core.Bool.{Bool, true, false}
 use mathlib.Core.List.{List}
 use mathlib.Core.Option.{Option, some, none}
 use lib.Dec.{ltb}
 use lib.ListN.{length, drop, length-append, length-drop}
 use Rattle.base.specs.Choice.{pick}
-use Rattle.base.specs.declared.Written.{Written}
-use Rattle.base.specs.declared.Written.the-variants.{Wrote, Refused}
-use Rattle.base.specs.Written.{Outcome, outcome, write}
 use Rattle.base.proofs.Calls.{FitsBy, fits}
-use Rattle.base.proofs.Tests.{by-le}
-use Rattle.base.proofs.Writing.{write-fits, write-short, copied-fits}
 use Rattle.blocks.specs.Channel.{Event}
 use Rattle.channel.specs.Called.{sound, roomy}
 use Rattle.channel.specs.declared.answer.Answer.{Answer}
@@ -73,14 +67,3 @@ call-within m t bs old h =
       omega (arith, ap (λ (y : Took). y .taken) (h .0), took-within m t (length old) bs),
       omega (arith, ap (λ (y : Took). y .written) (h .0), ap length (h .3), length-append (x .text) (drop (length (x .text)) old)),
     )
-
-abbrev number : Written → ℕ
-number (Wrote n) = n
-number (Refused n) = 0
-
-pub last-within : (bs out : List ℕ) {w : Written} {n : ℕ} {out′ : List ℕ} → w ≡ Wrote n → outcome w out′ ≡ write bs out → n ≤ length out′
-last-within bs out {w} {n} {out′} e h =
-    by-le (length bs) (length out)
-    (λ l. let j = h ∙ write-fits bs out l ∙ ap (outcome (Wrote (length bs))) (copied-fits bs out l) in
-    omega (arith, sym (ap number e), ap (λ (o : Outcome). number (o .answer)) j, ap (λ (o : Outcome). length (o .output)) j, length-append bs (drop (length bs) out)))
-    (λ l. let j = h ∙ write-short bs out l in omega (arith, sym (ap number e), ap (λ (o : Outcome). number (o .answer)) j))

@@ -1,5 +1,5 @@
 //! Lists the recording on standard input, on standard output. Where one of them fails it says so on standard error and stops,
-//! without a last line.
+//! without a last line. Where the last line is `X`, it stands on standard error too.
 ghost use Prim.Native.Nat.{_≤_};
 ghost use lib.ListN.{length};
 use base::Written;
@@ -113,10 +113,16 @@ fn is_refused(wants: Wants) -> bool {
 // The last line.
 fn finish(recording: Recording, out: &mut [u8]) {
     match recording.finish(out) {
-        Written::Wrote(n) => {
-            print(&out[0..n]);
-        }
+        Written::Wrote(n) => end(&out[0..base::least(n, out.len())]),
         Written::Refused(_) => {}
+    }
+}
+
+// .. which begins with `X` where the input is no whole recording.
+fn end(line: &[u8]) {
+    if print(line) && line.len() > 0 && line[0] == 0x58 {
+        fail(b"listing: no whole recording: ");
+        fail(line);
     }
 }
 

@@ -6,6 +6,8 @@ use Rattle.packet.proofs.port.class_of.Kinds as class-of-kinds
 use Rattle.packet.proofs.port.class_of.Reads as class-of-reads
 use Rattle.packet.proofs.escape.wrong_behind.Kinds as wrong-behind-kinds
 use Rattle.packet.proofs.escape.wrong_behind.Reads as wrong-behind-reads
+use Rattle.packet.proofs.search.up_to.Kinds as up-to-kinds
+use Rattle.packet.proofs.search.up_to.Reads as up-to-reads
 use Rattle.packet.proofs.frame.judge.Kinds as judge-kinds
 use Rattle.packet.proofs.frame.judge.Reads as judge-reads
 use Rattle.packet.proofs.sender.write_as.Kinds as write-as-kinds
@@ -18,6 +20,9 @@ class-of-determined κs a z z′ ws ws′ pre p q = (same p q, refl)
 
 pub wrong-behind-determined : Determined wrong-behind-kinds.ps wrong-behind-kinds.r wrong-behind-reads.Asked wrong-behind-reads.Learnt
 wrong-behind-determined κs a z z′ ws ws′ pre p q = (same p q, refl)
+
+pub up-to-determined : Determined up-to-kinds.ps up-to-kinds.r up-to-reads.Asked up-to-reads.Learnt
+up-to-determined κs a z z′ ws ws′ pre p q = (same (p .0) (q .0), refl)
 
 pub judge-determined : Determined judge-kinds.ps judge-kinds.r judge-reads.Asked judge-reads.Learnt
 judge-determined κs a z z′ ws ws′ pre p q = (same (p .0) (q .0), buffer (same (p .1) (q .1)) refl)

@@ -1,3 +1,4 @@
+pub mod Seeking
 pub mod Runs
 pub mod Sending
 pub mod Determined

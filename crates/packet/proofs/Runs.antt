@@ -1,26 +1,27 @@
 -- Laws of `run`, the bytes before the first 7D.
--- moved-none .. moved-done       the loop that moves a run
+-- shift-none, shift-more, shift-done   bytes that are moved: to where they stand; a turn of the loop, and its end
+-- run-within, run-moved          a run of known length, and what moving it leaves
 -- found-is, found-within         the place of the 7D behind it, or the end
 -- scan-ends, scan-hands          plain reading ends behind the run, or hands over behind the 7D that follows it
 -- wrong-plain                    .. and goes on behind a right byte
 -- at-start, behind-escape, behind-other   which reading begins at a place, by the byte before it
 -- undo-ends, undo-hands          the same where escapes are undone
-use mathlib.Core.Path.{_≡_, refl, sym, ap, _∙_}
+use mathlib.Core.Path.{_≡_, refl, sym, ap, ap₂, _∙_}
 use mathlib.Core.Logic.{_≢_}
 use Prim.Native.Nat.{ℕ, suc, _+_, _-_, _<_, _≤_}
 use mathlib.Core.List.{List, [], _∷_, _++_}
-use native.Mathlib.Nat.{add-zero}
+use native.Mathlib.Numerals.{add-one}
 use native.Mathlib.Omega.{arith}
 use borrow.Author.Tests.{eq-eqb, ne-eqb}
-use lib.ListN.{length, take, drop, getD, set, length-drop, length-take}
-use lib.Seq.{sets, drop-drop}
+use lib.ListN.{length, take, drop, getD, set, length-drop, length-take, take-append-drop}
+use lib.Seq.{sets, sets-eq, drop-drop, take-take, length-take-le}
 use Rattle.base.specs.Private.{Laid}
 use Rattle.base.specs.UpTo.{upTo}
-use Rattle.base.proofs.Laid.{laid-none, laid-more, laid-append}
-use Rattle.base.proofs.Lists.{part-next, part-set}
+use Rattle.base.proofs.Laid.{laid-append}
+use Rattle.base.proofs.Lists.{part-next, part-over, part-set, drop-take}
 use Rattle.base.proofs.Parts.{tail-is}
-use Rattle.base.proofs.Tests.{by-eq}
-use Rattle.base.proofs.UpTo.{up-to-go, up-to-short}
+use Rattle.base.proofs.Tests.{by-eq, by-le}
+use Rattle.base.proofs.UpTo.{up-to-short, up-to-is}
 use Rattle.frames.specs.Escape.{plain, escaped, wrongFrom, wrongBehind}
 use Rattle.packet.specs.Private.{run}
 use Rattle.frames.proofs.Places.{wrong-before}
@@ -75,25 +76,49 @@ wrong-run (b ∷ bs) p at n h =
     rw (ne-eqb p 0x7D n)
     (simp (ne-eqb b 0x7D m) (wrong-run bs b (suc at) m (omega (arith, k)) ∙ ap (λ (i : ℕ). wrongFrom 0x7D i (drop (suc (length (run bs))) bs)) s)))
 
--- ---- the loop that moves a run: i bytes are moved, and what moves the rest moves all
-abbrev pub Moved : List ℕ → ℕ → ℕ → ℕ → List ℕ → ℕ → Type 0
-Moved l₀ n from to l i = (a : List ℕ) (e : ℕ) → Laid l (to + i) (run (drop (from + i) (take n l))) a e → Laid l₀ to (run (drop from (take n l₀))) a e
+-- ---- bytes moved within a buffer
+pub shift-none : (l : List ℕ) (i n : ℕ) → n ≤ length l → sets l i (drop i (take n l)) ≡ l
+shift-none l i n h =
+    by-le i n
+    (λ k.
+    let m : length (drop i (take n l)) ≡ n - i = length-drop i (take n l) ∙ ap (λ (x : ℕ). x - i) (length-take-le n l h) in
+    let e : i + length (drop i (take n l)) ≡ n = omega arith in
+    sets-eq (drop i (take n l)) l i (omega arith)
+    ∙ ap₂ (λ (x : List ℕ) (j : ℕ). x ++ drop (i + length (drop i (take n l))) l) (ap (λ (x : List ℕ). x ++ drop i (take n l)) (sym (take-take i n l k)) ∙ take-append-drop i (take n l)) e
+    ∙ ap (λ (j : ℕ). take n l ++ drop j l) e
+    ∙ take-append-drop n l)
+    (λ k. ap (sets l i) (part-over l i n (omega arith)))
 
-pub moved-none : (l : List ℕ) (n from to : ℕ) → Moved l n from to l 0
-moved-none l n from to a e h = simp add-zero at h
+pub shift-more : (l : List ℕ) (i j n : ℕ) {t : List ℕ} → i < n → n ≤ length l → j ≤ i → sets l j (drop i (take n l)) ≡ t
+    → sets (set l j (getD l i 0)) (j + 1) (drop (i + 1) (take n (set l j (getD l i 0)))) ≡ t
+shift-more l i j n h k w inv =
+    ap₂ (sets (set l j (getD l i 0))) (add-one j) (part-set l (i + 1) n j (getD l i 0) (omega arith) (omega arith))
+    ∙ sym (ap (sets l j) (part-next l i n h k)) ∙ inv
 
-module _ (l₀ l : List ℕ) (n from to i : ℕ) (inv : Moved l₀ n from to l i) where
-  pub moved-more : from + i < n → n ≤ length l → to ≤ from → (getD l (from + i) 0 ≡ 0x7D → ⊥)
-      → Moved l₀ n from to (set l (to + i) (getD l (from + i) 0)) (i + 1)
-  moved-more h k w m a e laid =
-      let at : to + (i + 1) ≡ to + i + 1 = omega arith in
-      let behind : from + (i + 1) ≡ from + i + 1 = omega arith in
-      inv a e
-      (rw (up-to-go 0x7D (part-next l (from + i) n h k) m)
-      (laid-more _ (rw (part-set l (from + i + 1) n (to + i) (getD l (from + i) 0) (omega arith) (omega arith)) at (rw behind at (rw at at laid)))))
+pub shift-done : (l : List ℕ) (i j n : ℕ) {t : List ℕ} → n ≤ i → sets l j (drop i (take n l)) ≡ t → l ≡ t
+shift-done l i j n h inv = sym (ap (sets l j) (part-over l i n h)) ∙ inv
 
-  pub moved-done : run (drop (from + i) (take n l)) ≡ [] → Laid l₀ to (run (drop from (take n l₀))) l (to + i)
-  moved-done e = inv l (to + i) (rw e (laid-none l (to + i)))
+-- the run, where its length is known
+module _ (l : List ℕ) (n from : ℕ) {k : ℕ} (e : k ≡ length (run (take (n - from) (drop from l)))) (room : n ≤ length l) where
+  pub run-within : from ≤ n → from + k ≤ n
+  run-within h = omega (arith, up-to-short 0x7D (take (n - from) (drop from l)), length-take-le (n - from) (drop from l) (omega (arith, length-drop from l)))
+
+  pub run-part : from ≤ n → drop from (take (from + k) l) ≡ run (drop from (take n l))
+  run-part h =
+      let j : from + k - from ≡ k = omega arith in
+      drop-take from (from + k) l
+      ∙ ap (λ (m : ℕ). take m (drop from l)) j
+      ∙ sym (take-take k (n - from) (drop from l) (omega (arith, run-within h)))
+      ∙ ap (λ (m : ℕ). take m (take (n - from) (drop from l))) e
+      ∙ sym (up-to-is 0x7D (take (n - from) (drop from l)))
+      ∙ ap run (sym (drop-take from n l))
+
+  pub run-moved : from ≤ n → (to : ℕ) {after : List ℕ} → after ≡ sets l to (drop from (take (from + k) l)) → Laid l to (run (drop from (take n l))) after (to + k)
+  run-moved h to s =
+      record {
+        ends = ap (λ (m : ℕ). to + m) (e ∙ ap (λ (x : List ℕ). length (run x)) (sym (drop-take from n l)));
+        holds = s ∙ ap (sets l to) (run-part h);
+      }
 
 -- ---- handing over
 -- stores before a place leave what is left

@@ -1,10 +1,13 @@
 //! Escapes: undone on reading, counted and stored on writing.
 ghost use mathlib.Core.Path.{_≡_};
 ghost use Prim.Native.Nat.{_+_, _<_, _≤_};
+ghost use lib.Dec.{ltb};
 ghost use lib.ListN.{length, take, drop};
+ghost use lib.Seq.{sets};
 ghost use Rattle.base.specs.Private.{Laid};
 ghost use Rattle.frames.specs.Escape.{escape, escapeByte, plain, escaped, wrongFrom, wrongBehind, scan, restored};
 ghost use Rattle.packet.specs.Private.{run};
+use crate::search;
 use frames::Escapes;
 
 // Plain reading of raw[at..]: the place of the first wrong byte behind 7D, 0 where there is none.
@@ -12,7 +15,7 @@ fn scan_plain(raw: &[u8], at: usize) -> usize
     requires { ⌜ at ≤ length (now raw) ⌝ }
     ensures { λ r. ⌜ r ≡ wrongFrom 0 at (drop at (now (raw .entry))) ⌝ }
 {
-    let i = at + base::up_to(&raw[at..], 0x7D);
+    let i = at + search::up_to(&raw[at..], 0x7D);
     if i == raw.len() {
         return 0;
     }
@@ -75,21 +78,31 @@ fn restored(b: u8) -> u8
     if b == 0x5E { 0x7E } else { 0x7D }
 }
 
+// Moves recv[from..end] to the places from `to` on.
+fn shift(recv: &mut [u8], from: usize, end: usize, to: usize)
+    requires { ⌜ (end ≤ length (now recv)) × (to ≤ from) ⌝ }
+    ensures { λ _. ⌜ now (recv .exit) ≡ sets (now (recv .entry)) to (drop from (take end (now (recv .entry)))) ⌝ }
+{
+    if from == to {
+        return;
+    }
+    let mut i = from;
+    let mut j = to;
+    while i < end {
+        recv[j] = recv[i];
+        i += 1;
+        j += 1;
+    }
+}
+
 // Moves the bytes of recv[from..n] before the first 7D to the places from `to` on; how many.
 fn move_run(recv: &mut [u8], n: usize, from: usize, to: usize) -> usize
     requires { ⌜ (n ≤ length (now recv)) × (from ≤ n) × (to ≤ from) ⌝ }
     ensures { λ r. ⌜ Laid (now (recv .entry)) to (run (drop from (take n (now (recv .entry))))) (now (recv .exit)) (to + r) ⌝ }
 {
-    let mut i: usize = 0;
-    while from + i < n {
-        let b = recv[from + i];
-        if b == 0x7D {
-            return i;
-        }
-        recv[to + i] = b;
-        i += 1;
-    }
-    i
+    let k = search::up_to(&recv[from..n], 0x7D);
+    shift(recv, from, from + k, to);
+    k
 }
 
 // Plain reading of recv[from..n]: stored, escapes undone, from `to` on; the place behind.
@@ -140,6 +153,16 @@ pub fn escaped_len(bytes: &[u8]) -> usize
         i += 1;
     }
     n
+}
+
+// Whether they are more than `limit` then: half as many cannot be.
+pub fn longer(bytes: &[u8], limit: usize) -> bool
+    ensures { λ r. ⌜ r ≡ ltb limit (length (escape (now (bytes .entry)))) ⌝ }
+{
+    if bytes.len() <= limit / 2 {
+        return false;
+    }
+    limit < escaped_len(bytes)
 }
 
 // Stores a byte, escaped, from `at` on; the place behind.

@@ -94,7 +94,7 @@ fn judge_packet(format: u8, number: u8, key: &[u8], rest: &[u8]) -> Judged
     if port::barred(port) {
         return Judged::Refused(Refusal::PORT);
     }
-    if Packet::PAYLOAD < escape::escaped_len(&rest[4..]) {
+    if escape::longer(&rest[4..], Packet::PAYLOAD) {
         return Judged::Refused(Refusal::PAYLOAD);
     }
     Judged::Packet(Delivery {

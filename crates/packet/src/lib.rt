@@ -2,6 +2,7 @@
 mod escape;
 mod frame;
 mod port;
+mod search;
 mod sender;
 
 pub use escape::wrong_behind;
@@ -11,5 +12,6 @@ pub use frames::Class;
 pub use frames::Delivery;
 pub use frames::Judged;
 pub use port::class_of;
+pub use search::up_to;
 pub use sender::write;
 pub use sender::write_as;

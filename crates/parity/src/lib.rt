@@ -4,11 +4,9 @@ ghost use mathlib.Core.List.{_∷_, _++_};
 ghost use Prim.Native.Nat.{_+_, _-_, _≤_};
 ghost use lib.ListN.{length, take, drop, replicate};
 ghost use Rattle.base.specs.Written.{copied, outcome};
-ghost use Rattle.field.specs.Field.{alpha};
 ghost use Rattle.words.specs.Word.{valuesFrom, clean, scale, onto, generator, divide, remainder};
 ghost use Rattle.words.specs.Private.{points, stepped};
-ghost use Rattle.parity.specs.Calls.{wordBytes, rootLimit, atRoots, checked, made};
-ghost use Rattle.parity.specs.Private.{atAll};
+ghost use Rattle.parity.specs.Calls.{wordBytes, rootLimit, atPowers, atRoots, checked, made};
 use base::Refusal;
 use base::Written;
 
@@ -32,12 +30,12 @@ impl Word {
     const GENERATOR: usize = Self::MOST + 1;
 }
 
-// The points alpha, alpha^2, .. alpha^64.
-fn points() -> [u8; Word::MOST]
-    ensures { λ p. ⌜ p ≡ points alpha rootLimit ⌝ }
+// 64 points from the first on, each alpha times the one before it.
+fn points(first: u8) -> [u8; Word::MOST]
+    ensures { λ p. ⌜ p ≡ points first rootLimit ⌝ }
 {
     let mut p = [0u8; Word::MOST];
-    let mut x = field::ALPHA;
+    let mut x = first;
     let mut j: usize = 0;
     while j < Word::MOST {
         p[j] = x;
@@ -52,19 +50,19 @@ fn step(c: u8, p: [u8; Word::MOST], v: [u8; Word::MOST]) -> [u8; Word::MOST]
     ensures { λ n. ⌜ n ≡ stepped c p v ⌝ }
 {
     let mut next = v;
-    let mut j: usize = 0;
-    while j < Word::MOST {
-        next[j] = field::plus(field::times(p[j], next[j]), c);
-        j += 1;
+    let mut lane: usize = 0;
+    while lane < Word::MOST {
+        next[lane] = field::plus(field::times(p[lane], next[lane]), c);
+        lane += 1;
     }
     next
 }
 
-// The values of a word at alpha, alpha^2, .. alpha^64: at all roots that it may have.
-fn at_all(word: &[u8]) -> [u8; Word::MOST]
-    ensures { λ v. ⌜ v ≡ atAll (now (word .entry)) ⌝ }
+/// The values at alpha^j, alpha^(j + 1), .. alpha^(j + 63) of coefficients, the highest first; for j = 1, at all roots that a word may have.
+pub fn at_powers(j: usize, word: &[u8]) -> [u8; Word::MOST]
+    ensures { λ v. ⌜ v ≡ atPowers j (now (word .entry)) ⌝ }
 {
-    let p = points();
+    let p = points(field::power(j));
     let mut v = [0u8; Word::MOST];
     let mut i: usize = 0;
     while i < word.len() {
@@ -75,16 +73,16 @@ fn at_all(word: &[u8]) -> [u8; Word::MOST]
     v
 }
 
-// Values of which the first r are those of a word at its roots: with 32 roots they are had from what division leaves of it.
+// Values of which the first r are those of a word at its roots: with at most 32 roots they are had from what division leaves of it.
 fn at_first(r: usize, word: &[u8]) -> [u8; Word::MOST]
     requires { ⌜ r ≤ rootLimit ⌝ }
     ensures { λ v. ⌜ take r v ≡ valuesFrom (now (word .entry)) 1 r ⌝ }
 {
-    if r == lanes::ROOTS {
+    if r <= lanes::ROOTS {
         let left = lanes::left(word);
-        return at_all(&left);
+        return at_powers(1, &left);
     }
-    at_all(word)
+    at_powers(1, word)
 }
 
 /// The values of a word at its r roots, at most 64, and zeros behind them.
@@ -103,10 +101,13 @@ fn zero_at(r: usize, word: &[u8]) -> bool
     requires { ⌜ r ≤ rootLimit ⌝ }
     ensures { λ b. ⌜ b ≡ clean r (now (word .entry)) ⌝ }
 {
+    if r == 0 {
+        return true;
+    }
     if r == lanes::ROOTS {
         return lanes::is_clean(word);
     }
-    let v = at_all(word);
+    let v = at_first(r, word);
     let mut j: usize = 0;
     while j < r {
         if v[j] != 0 {

@@ -1,47 +1,18 @@
 -- What the covered functions of the table of ports need.
--- rule-zero .. rule-late      the rule, way by way
 -- place-here, place-on, place-end    the loop that finds a port; free-.. that finds a free place
-use mathlib.Core.Path.{_≡_, refl, sym, ap, subst, _∙_}
-use mathlib.Core.Bool.{Bool, true, false, not, _&&_, _||_, false≢true, true≢false}
-use mathlib.Core.Logic.{_≢_}
+use mathlib.Core.Path.{_≡_, refl, sym, ap, _∙_}
+use mathlib.Core.Bool.{Bool, true, false, not, _&&_, false≢true, true≢false}
 use mathlib.Core.List.{List, [], _∷_}
-use Prim.Native.Nat.{ℕ, zero, suc, _+_, _-_, _≤_, _<_}
+use Prim.Native.Nat.{ℕ, suc, _+_, _-_, _≤_, _<_}
 use native.Mathlib.Omega.{arith}
 use native.Mathlib.Numerals.{add-one}
-use borrow.Author.Tests.{eq-eqb, ne-eqb, lt-ltb, le-ltb}
-use lib.Dec.{eqb, ltb}
-use lib.ListN.{length, take, drop, getD, set, length-take, length-drop, drop-of-length-le}
-use lib.Seq.{slice-cons, length-take-le, take-all}
+use borrow.Author.Tests.{lt-ltb, le-ltb}
+use lib.Dec.{ltb}
+use lib.ListN.{length, take, drop, getD, length-take, length-drop, drop-of-length-le}
+use lib.Seq.{slice-cons, length-take-le}
 use Rattle.base.proofs.Tests.{by-le}
-use Rattle.base.specs.Choice.{pick}
-use Rattle.ports.specs.declared.Entry.{Entry}
-use Rattle.ports.specs.declared.Noted.{Noted}
-use Rattle.ports.specs.declared.Noted.the-variants.{First, InOrder, Repeated, Missing, Late, Refused}
-use Rattle.ports.specs.Distance.{half, gap, ruled, lastBehind}
-use Rattle.ports.specs.Ports.{freed, entry, holds, placeOf, freePlace, twice, unfit, noting, forgetting}
-
-module _ (last new : ℕ) {d : ℕ} (e : d ≡ gap last new) where
-  pub rule-zero : d ≡ 0 → Repeated ≡ ruled last new
-  rule-zero h = rw (eq-eqb _ _ (sym e ∙ h)) refl
-
-  module _ (n : d ≢ 0) where
-    pub rule-one : d ≡ 1 → InOrder ≡ ruled last new
-    rule-one h = rw (ne-eqb _ _ (λ z. n (e ∙ z)), eq-eqb _ _ (sym e ∙ h)) refl
-
-    module _ (m : d ≢ 1) where
-      pub rule-missing : d < half → Missing (d - 1) ≡ ruled last new
-      rule-missing h =
-          rw (ne-eqb _ _ (λ z. n (e ∙ z)), ne-eqb _ _ (λ z. m (e ∙ z)), lt-ltb (gap last new) half (subst (λ (k : ℕ). k < half) e h)) (ap (λ (k : ℕ). Missing (k - 1)) e)
-
-      pub rule-late : half ≤ d → Late ≡ ruled last new
-      rule-late h =
-          rw (ne-eqb _ _ (λ z. n (e ∙ z)), ne-eqb _ _ (λ z. m (e ∙ z)), le-ltb (gap last new) half (subst (λ (k : ℕ). half ≤ k) e h)) refl
-
-  pub last-new : d < half → new ≡ lastBehind last new
-  last-new h = rw (lt-ltb (gap last new) half (subst (λ (k : ℕ). k < half) e h)) refl
-
-  pub last-late : half ≤ d → last ≡ lastBehind last new
-  last-late h = rw (le-ltb (gap last new) half (subst (λ (k : ℕ). half ≤ k) e h)) refl
+use Rattle.sequences.specs.declared.Entry.{Entry}
+use Rattle.sequences.specs.Ports.{freed, holds, placeOf, freePlace, twice}
 
 -- ---- the loops: what is left from place i on, of the first n places
 part-next : (t : List Entry) (i n : ℕ) → i < n → n ≤ length t → drop i (take n t) ≡ getD t i freed ∷ drop (i + 1) (take n t)

@@ -1,10 +1,6 @@
 pub mod Determined
 pub mod Finding
-pub mod Keeping
-pub mod Laws
 pub mod Lending
-pub mod Numbers
-pub mod Refusing
 pub mod Says
-pub mod Signed
 pub mod Tables
+pub mod Fresh

@@ -1,5 +1,3 @@
 pub mod ByHand
-pub mod Distance
-pub mod Ports
+pub mod ByValue
 pub mod Private
-pub mod Refusing

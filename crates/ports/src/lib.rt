@@ -2,11 +2,11 @@
 ghost use mathlib.Core.Path.{_≡_};
 ghost use mathlib.Core.List.{List};
 ghost use lib.ListN.{getD, set};
-ghost use Rattle.ports.specs.Ports.{freed, noting, forgetting};
+ghost use Rattle.sequences.specs.Ports.{freed, noting, forgetting};
 ghost use Rattle.ports.specs.Private.{tableOf, freeingOf, notingOf, unfreed, unnoted};
-ghost use Rattle.ports.specs.declared.Entry.{Entry};
-ghost use Rattle.ports.specs.declared.Noted.{Noted};
-ghost use Rattle.ports.specs.declared.Forgot.{Forgot};
+ghost use Rattle.sequences.specs.declared.Entry.{Entry};
+ghost use Rattle.sequences.specs.declared.Noted.{Noted};
+ghost use Rattle.sequences.specs.declared.Forgot.{Forgot};
 use base::Refusal;
 use distance::last_behind;
 use places::free_place;
@@ -21,32 +21,9 @@ pub use by_value::ForgotIn;
 pub use by_value::NotedIn;
 pub use by_value::Ports;
 pub use distance::rule;
-
-/// A place of the table.
-pub struct Entry {
-    pub held: bool,
-    pub port: u16,
-    pub last: u16,
-}
-
-/// What a delivered packet is to its port.
-pub enum Noted {
-    First,
-    InOrder,
-    Repeated,
-    /// So many packets are missing before it.
-    Missing(u16),
-    Late,
-    /// Refused, by this number of the paper.
-    Refused(u8),
-}
-
-/// What becomes of a port to forget.
-pub enum Forgot {
-    Forgotten,
-    /// Refused, by this number of the paper.
-    Refused(u8),
-}
+pub use sequences::Entry;
+pub use sequences::Forgot;
+pub use sequences::Noted;
 
 // A lent table, as a value: its length and its first 16 places.
 struct Table {

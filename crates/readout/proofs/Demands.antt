@@ -15,7 +15,7 @@ use Rattle.channel.proofs.Fine.{fine-fresh}
 use Rattle.channel.proofs.Shown.{shown-all}
 use Rattle.listed.specs.Apart.{freshSpot, apart, onChannel}
 use Rattle.listed.specs.Listing.{heard}
-use Rattle.ports.proofs.Keeping.{fresh-fit}
+use Rattle.ports.proofs.Fresh.{fresh-fit}
 use Rattle.shown.specs.Board.{writtenAll, shows, boardText, recordingText, ending}
 use Rattle.tape.specs.Deck.{fresh}
 use Rattle.tape.specs.Called.{far}

@@ -23,10 +23,10 @@ use Rattle.channel.proofs.Cutting.{hand-one}
 use Rattle.channel.proofs.Fine.{fine-is, fine-roomy, fine-eat, fine-hand}
 use Rattle.listed.specs.declared.Spot.{Spot}
 use Rattle.listed.specs.Lines.{given, longest}
-use Rattle.ports.specs.declared.Entry.{Entry}
-use Rattle.ports.specs.declared.Noted.{Noted}
-use Rattle.ports.specs.Ports.{unfit, noting}
-use Rattle.ports.proofs.Keeping.{fit-noted}
+use Rattle.sequences.specs.declared.Entry.{Entry}
+use Rattle.sequences.specs.declared.Noted.{Noted}
+use Rattle.sequences.specs.Ports.{unfit, noting}
+use Rattle.sequences.proofs.Keeping.{fit-noted}
 use Rattle.shown.specs.Board.{tableBehind}
 use Rattle.shown.specs.Parts.{lead}
 use Rattle.shown.proofs.Split.{lead-short, remark-short}

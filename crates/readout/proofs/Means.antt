@@ -21,9 +21,9 @@ use Rattle.blocks.specs.Channel.{Event, said, block, lost}
 use Rattle.channel.specs.Called.{roomy}
 use Rattle.bid.specs.Line.{feed}
 use Rattle.listed.specs.Lines.{given}
-use Rattle.ports.specs.declared.Entry.{Entry}
-use Rattle.ports.specs.declared.Noted.{Noted}
-use Rattle.ports.specs.Ports.{noting}
+use Rattle.sequences.specs.declared.Entry.{Entry}
+use Rattle.sequences.specs.declared.Noted.{Noted}
+use Rattle.sequences.specs.Ports.{noting}
 use Rattle.shown.specs.Text.{shownText}
 use Rattle.shown.specs.Board.{Line, writtenAll, eventLines, tableBehind, boardLines}
 use Rattle.shown.specs.Parts.{lead, remark}

@@ -24,8 +24,8 @@ use Rattle.channel.specs.declared.answer.Answer.the-variants.{More, Said, Block
 use Rattle.channel.specs.declared.answer.Hearing.{Hearing}
 use Rattle.bid.specs.Line.{feed}
 use Rattle.listed.specs.Apart.{well}
-use Rattle.ports.specs.declared.Entry.{Entry}
-use Rattle.ports.specs.declared.Noted.{Noted}
+use Rattle.sequences.specs.declared.Entry.{Entry}
+use Rattle.sequences.specs.declared.Noted.{Noted}
 use Rattle.ports.specs.declared.by_value.Ports.{Ports}
 use Rattle.shown.specs.Text.{shownByte}
 use Rattle.shown.specs.Board.{wrongAt, written, writtenAll}

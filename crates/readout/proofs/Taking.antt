@@ -19,7 +19,7 @@ use Rattle.blocks.specs.Channel.{Event, said, block, lost}
 use Rattle.channel.specs.Called.{sound, roomy, answered}
 use Rattle.listed.specs.Lines.{longest, given}
 use Rattle.ports.specs.declared.by_value.Ports.{Ports}
-use Rattle.ports.specs.Ports.{soundPorts}
+use Rattle.ports.specs.ByValue.{soundPorts}
 use Rattle.shown.specs.Board.{tableBehind}
 use Rattle.tape.specs.declared.tape.Tape.{Tape}
 use Rattle.tape.specs.declared.tape.Heard.{Heard}

@@ -17,8 +17,8 @@ use Rattle.blocks.specs.Channel.{Event}
 use Rattle.channel.specs.Called.{sound, roomy}
 use Rattle.listed.specs.Lines.{given}
 use Rattle.listed.specs.declared.Spot.{Spot}
-use Rattle.ports.specs.declared.Entry.{Entry}
-use Rattle.ports.specs.Ports.{freshPorts, soundPorts}
+use Rattle.sequences.specs.declared.Entry.{Entry}
+use Rattle.ports.specs.ByValue.{freshPorts, soundPorts}
 use Rattle.shown.specs.Board.{Line, tableBehind, ending}
 use Rattle.tape.specs.Called.{freshTape, deckOf, tapeOf, nearSpot}
 use Rattle.readout.specs.declared.owed.Owed.{Owed}

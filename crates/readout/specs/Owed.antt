@@ -18,9 +18,9 @@ use Rattle.channel.specs.declared.answer.Answer.{Answer}
 use Rattle.channel.specs.declared.answer.Answer.the-variants.{More, Said, Block, LockLost}
 use Rattle.bid.specs.Line.{feed}
 use Rattle.listed.specs.Lines.{longest}
-use Rattle.ports.specs.declared.Entry.{Entry}
-use Rattle.ports.specs.declared.Noted.{Noted}
-use Rattle.ports.specs.Ports.{noting}
+use Rattle.sequences.specs.declared.Entry.{Entry}
+use Rattle.sequences.specs.declared.Noted.{Noted}
+use Rattle.sequences.specs.Ports.{noting}
 use Rattle.shown.specs.Text.{shownByte, shownText}
 use Rattle.shown.specs.Parts.{lead, remark}
 use Rattle.lines.specs.declared.piece.Piece.{Piece}

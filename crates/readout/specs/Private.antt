@@ -16,7 +16,7 @@ use Rattle.channel.specs.Called.{hearCall, answered}
 use Rattle.channel.specs.declared.answer.Answer.{Answer}
 use Rattle.channel.specs.declared.answer.Answer.the-variants.{More, Said, Block, LockLost}
 use Rattle.ports.specs.declared.by_value.Ports.{Ports}
-use Rattle.ports.specs.Ports.{noting}
+use Rattle.sequences.specs.Ports.{noting}
 use Rattle.tape.specs.declared.tape.Heard.{Heard}
 use Rattle.tape.specs.Deck.{Deck}
 use Rattle.tape.specs.Called.{deckOf}

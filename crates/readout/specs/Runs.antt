@@ -13,7 +13,7 @@ use Rattle.base.specs.Calls.{joined}
 use Rattle.frames.specs.Contents.{rawLimit}
 use Rattle.blocks.specs.Sender.{wordBytes}
 use Rattle.blocks.specs.Channel.{Event}
-use Rattle.ports.specs.declared.Entry.{Entry}
+use Rattle.sequences.specs.declared.Entry.{Entry}
 use Rattle.shown.specs.Board.{tableBehind, boardLines, writtenAll}
 use Rattle.readout.specs.declared.readout.Readout.{Readout}
 use Rattle.readout.specs.declared.readout.Wants.the-variants.{More, Again}

@@ -1,33 +1,36 @@
 -- A turn and the end of each loop, on the lists that it works on; and what the calls of a function leave together.
 use mathlib.Core.Path.{_≡_, refl, sym, ap, ap₂, _∙_, subst}
-use mathlib.Core.List.{List, [], _∷_, _++_, append-assoc, append-nil, map}
-use Prim.Native.Nat.{ℕ, zero, suc, _+_, _-_, _≤_, _<_, min}
+use mathlib.Core.List.{List, [], _∷_, _++_, append-assoc, append-nil, map, reverse, reverse-cons}
+use Prim.Native.Nat.{ℕ, zero, suc, _+_, _-_, _*_, _≤_, _<_, min}
 use native.Mathlib.Nat.{le-refl, le-antisymm, suc-inj, pos-of-ne-zero}
 use native.Mathlib.Nat.{add-zero as plus-zero, add-assoc as nat-add-assoc, zero-add as nat-zero-add}
 use native.Mathlib.Numerals.{add-one}
 use native.Mathlib.Omega.{arith}
 use lib.Dec.{eqb}
 use borrow.Author.Tests.{eq-eqb, ne-eqb, lt-ltb, le-ltb}
-use lib.ListN.{length, take, drop, getD, set, replicate, drop-of-length-le, length-drop, length-replicate, List·getD-append}
-use lib.Seq.{drop-append-le, drop-cons, take-suc, take-all, take-at, take-take, drop-length, take-length, set-at, getD-take, length-take-le, take-suc-set, drop-set-lt}
+use borrow.Rule.Slice.PartMut.{putMid}
+use lib.ListN.{length, take, drop, getD, set, replicate, drop-of-length-le, length-append, length-drop, length-replicate, List·getD-append}
+use lib.Seq.{drop-cons, take-suc, take-all, take-at, take-take, drop-length, take-length, set-at, getD-take, length-take-le, take-suc-set, drop-set-lt}
 use Rattle.base.specs.Choice.{pick}
 use Rattle.base.specs.Bytes.{Bytes}
 use Rattle.base.specs.Written.{copied}
 use Rattle.base.proofs.Writing.{copied-fits}
+use Rattle.base.proofs.Parts.{tail-put, tail-length}
 use Rattle.field.specs.Field.{alpha, add, mul, pow, inverse}
-use Rattle.field.proofs.Sum.{add-zero, zero-add, add-assoc}
+use Rattle.field.proofs.Sum.{add-zero, zero-add, add-assoc, add-comm}
 use Rattle.field.proofs.Product.{mul-zero, zero-mul, mul-comm}
 use Rattle.field.proofs.Powers.{pow-suc}
-use Rattle.words.specs.Word.{valuesFrom, scale, onto}
-use Rattle.parity.specs.Calls.{atRoots, checked, rootLimit, wordBytes}
+use Rattle.words.specs.Word.{horner, eval, valuesFrom, scale, onto}
+use Rattle.parity.specs.Calls.{atPowers, atRoots, checked, rootLimit, wordBytes}
 use Rattle.parity.specs.declared.Checked.{Checked}
 use Rattle.parity.specs.declared.Checked.the-variants as check
 use Rattle.words.proofs.Sums.{length-onto}
+use Rattle.words.proofs.Values.{horner-append}
+use Rattle.words.proofs.Roots.{length-values, values-at}
 use Rattle.repair.specs.declared.Mended.{Mended}
 use Rattle.repair.specs.declared.Mended.the-variants.{Repaired, Beyond}
 use Rattle.repair.specs.Promise.{distance, half, Promised}
 use Rattle.repair.specs.Way.{low, tails, dot, sums, windows, head, shift, pivot, normal, reduced, extended, solve, errorAt, errors, locator, amended, settled, mended}
-use Rattle.repair.proofs.Locate.{length-tails}
 use Rattle.repair.proofs.Meeting.{mended-promised}
 
 -- ---- distance
@@ -135,6 +138,12 @@ scale-zeros k [] n l = rw (sym l) (ap (λ (t : ℕ). t ∷ []) (sym (mul-zero k)
 scale-zeros k (x ∷ xs) zero l = absurd (omega arith)
 scale-zeros k (x ∷ xs) (suc n) l = ap₂ _∷_ (add-zero (mul k x)) (scale-zeros k xs n (suc-inj l))
 
+nothing-added : (p w : List ℕ) → onto (scale 0 p) w ≡ w
+unfolding scale onto
+nothing-added [] w = refl
+nothing-added (x ∷ p) [] = refl
+nothing-added (x ∷ p) (y ∷ w) = ap₂ _∷_ (ap (λ (t : ℕ). add t y) (zero-mul x) ∙ zero-add y) (nothing-added p w)
+
 module _ (row : List ℕ) (l : length row ≡ 33) where
   tail : take 32 (drop 1 row) ≡ drop 1 row
   tail = take-all 32 (drop 1 row) (omega (arith, length-drop 1 row))
@@ -152,6 +161,9 @@ module _ (row : List ℕ) (l : length row ≡ 33) where
       (es ∙ ap (λ (t : List ℕ). copied t (replicate 33 0)) tail
       ∙ copied-fits (drop 1 row) (replicate 33 0) (omega (arith, length-drop 1 row, length-replicate {A = ℕ} 33 0))
       ∙ ap (λ (n : ℕ). drop 1 row ++ drop n (replicate 33 0)) extended)
+
+  pub reduced-zero : (p : List ℕ) {o : List ℕ} → o ≡ copied (take 32 (drop 1 row)) (replicate 33 0) → getD row 0 0 ≡ 0 → o ≡ reduced p row
+  reduced-zero p {o} eo z = reduced-is p eo (sym (ap (λ (k : ℕ). onto (scale k p) o) z ∙ nothing-added p o))
 
 behind-is : (p u : List ℕ) → (length u ≡ 0 → ⊥) → extended p u ≡ dot u p ∷ u
 unfolding extended
@@ -203,23 +215,80 @@ module _ (n : ℕ) (rows : List (List ℕ)) where
         → o ≡ solve n rows
     solve-some n0 ep ered eu eo = rw (eo, eu, ered, ep) (sym (rw (ne-eqb (head row) 0 n0) at opened-solve))
 
--- ---- from the end of a polynomial to its front
-module _ (x : ℕ) (v : List ℕ) where
-  pub low-start : 0 ≡ low (drop (length v) v) x
-  unfolding low
-  low-start = ap (λ (t : List ℕ). low t x) (sym (drop-length v))
+-- ---- a list from its end to its front
+front : (v : List ℕ) (i : ℕ) → 0 < i → i ≤ length v → drop (i - 1) v ≡ getD v (i - 1) 0 ∷ drop i v
+front v i h k = let same : suc (i - 1) ≡ i = omega arith in drop-cons v (i - 1) 0 (omega arith) ∙ ap (λ (n : ℕ). getD v (i - 1) 0 ∷ drop n v) same
 
-  module _ (i : ℕ) (h : 0 < i) (k : i ≤ length v) where
-    front : drop (i - 1) v ≡ getD v (i - 1) 0 ∷ drop i v
-    front = let same : suc (i - 1) ≡ i = omega arith in drop-cons v (i - 1) 0 (omega arith) ∙ ap (λ (n : ℕ). getD v (i - 1) 0 ∷ drop n v) same
+-- ---- turned: the coefficients behind place i stand the other way round before place j
+module _ (v u : List ℕ) (i j : ℕ) (inv : take j u ≡ reverse (drop i v)) where
+  pub turned-next : 0 < i → i ≤ length v → j < length u → take (j + 1) (set u j (getD v (i - 1) 0)) ≡ reverse (drop (i - 1) v)
+  turned-next h k l =
+      ap (λ (n : ℕ). take n (set u j (getD v (i - 1) 0))) (add-one j) ∙ take-suc-set u j (getD v (i - 1) 0) l
+      ∙ ap (λ (t : List ℕ). t ++ getD v (i - 1) 0 ∷ []) inv
+      ∙ sym (ap (reverse {A = ℕ}) (front v i h k) ∙ reverse-cons (getD v (i - 1) 0) (drop i v))
 
-    pub low-next : {a t b : ℕ} → a ≡ low (drop i v) x → t ≡ mul a x → b ≡ add (getD v (i - 1) 0) t → b ≡ low (drop (i - 1) v) x
-    unfolding low
-    low-next {a} ea et eb = eb ∙ ap (add (getD v (i - 1) 0)) (et ∙ mul-comm a x ∙ ap (mul x) ea) ∙ sym (ap (λ (t : List ℕ). low t x) front)
+  pub turned-done : i ≤ 0 → j + i ≡ length v → take (length v) u ≡ reverse v
+  turned-done h e =
+      let none : i ≡ 0 = omega arith in
+      let all : length v ≡ j = omega arith in
+      ap (λ (n : ℕ). take n u) all ∙ inv ∙ ap (λ (n : ℕ). reverse (drop n v)) none
 
-  pub low-done : (i : ℕ) {a : ℕ} → i ≤ 0 → a ≡ low (drop i v) x → a ≡ low v x
-  low-done zero h p = p
-  low-done (suc i) h p = absurd (omega arith)
+-- ---- at_places: 64 values more
+values-joined : (u : List ℕ) (j n m : ℕ) → valuesFrom u j n ++ valuesFrom u (j + n) m ≡ valuesFrom u j (n + m)
+unfolding valuesFrom
+values-joined u j zero m = ap₂ (λ (a b : ℕ). valuesFrom u a b) (plus-zero j) (sym (nat-zero-add m))
+values-joined u j (suc n) m =
+    let later : j + suc n ≡ suc j + n = omega arith in
+    let more : suc n + m ≡ suc (n + m) = omega arith in
+    rw (later, more) (ap (λ (t : List ℕ). eval u (pow alpha j) ∷ t) (values-joined u (suc j) n m))
+
+pub places-start : (u : List ℕ) → [] ≡ valuesFrom u 0 0
+unfolding valuesFrom
+places-start u = refl
+
+module _ (u z : List ℕ) (k : ℕ) (l : length z ≡ 256) (inv : take (k * 64) z ≡ valuesFrom u 0 (k * 64)) where
+  module _ (h : k < 4) {p y : List ℕ} (ep : p ≡ atPowers (k * 64) u) (ey : y ≡ copied p (take (256 - k * 64) (drop (k * 64) z))) where
+    came : y ≡ valuesFrom u (k * 64) 64 ++ drop 64 (drop (k * 64) z)
+    came =
+        let rest : take (256 - k * 64) (drop (k * 64) z) ≡ drop (k * 64) z = take-all (256 - k * 64) (drop (k * 64) z) (omega (arith, length-drop (k * 64) z)) in
+        let long : length (valuesFrom u (k * 64) 64) ≡ 64 = length-values u (k * 64) 64 in
+        ey ∙ ap₂ copied ep rest ∙ copied-fits (valuesFrom u (k * 64) 64) (drop (k * 64) z) (omega (arith, long, length-drop (k * 64) z))
+        ∙ ap (λ (n : ℕ). valuesFrom u (k * 64) 64 ++ drop n (drop (k * 64) z)) long
+
+    pub places-length : length (putMid (k * 64) (256 - k * 64) z y) ≡ 256
+    places-length = ap (λ (n : ℕ). length (putMid (k * 64) (n - k * 64) z y)) (sym l) ∙ tail-length (k * 64) z y same ∙ l
+      where
+        same : length y ≡ length (drop (k * 64) z)
+        same =
+            ap length came ∙ length-append (valuesFrom u (k * 64) 64) (drop 64 (drop (k * 64) z))
+            ∙ omega (arith, length-values u (k * 64) 64, length-drop 64 (drop (k * 64) z), length-drop (k * 64) z)
+
+    pub places-next : take ((k + 1) * 64) (putMid (k * 64) (256 - k * 64) z y) ≡ valuesFrom u 0 ((k + 1) * 64)
+    places-next =
+        let more : (k + 1) * 64 ≡ k * 64 + 64 = omega arith in
+        rw more
+        (ap (take (k * 64 + 64)) (ap (λ (n : ℕ). putMid (k * 64) (n - k * 64) z y) (sym l) ∙ tail-put (k * 64) z y ∙ ap₂ _++_ inv came ∙ sym (append-assoc (valuesFrom u 0 (k * 64)) (valuesFrom u (k * 64) 64) (drop 64 (drop (k * 64) z)))
+        ∙ ap (λ (t : List ℕ). t ++ drop 64 (drop (k * 64) z)) joined)
+        ∙ take-at (valuesFrom u 0 (k * 64 + 64)) (drop 64 (drop (k * 64) z)) (k * 64 + 64) (length-values u 0 (k * 64 + 64)))
+      where
+        joined : valuesFrom u 0 (k * 64) ++ valuesFrom u (k * 64) 64 ≡ valuesFrom u 0 (k * 64 + 64)
+        joined = ap (λ (n : ℕ). valuesFrom u 0 (k * 64) ++ valuesFrom u n 64) (sym (nat-zero-add (k * 64))) ∙ values-joined u 0 (k * 64) 64
+
+  pub places-done : k ≤ 4 → 4 ≤ k → z ≡ valuesFrom u 0 256
+  places-done h g = let all : k * 64 ≡ 256 = omega arith in sym (take-all 256 z (omega arith)) ∙ rw all at inv
+
+-- the highest coefficient first or last, the value is the same
+low-turned : (v : List ℕ) (x : ℕ) → eval (reverse v) x ≡ low v x
+unfolding eval horner low
+low-turned [] x = refl
+low-turned (c ∷ v) x =
+    ap (λ (t : List ℕ). horner x 0 t) (reverse-cons c v) ∙ horner-append x 0 (reverse v) (c ∷ [])
+    ∙ add-comm (mul (horner x 0 (reverse v)) x) c ∙ ap (add c) (mul-comm (horner x 0 (reverse v)) x ∙ ap (mul x) (low-turned v x))
+
+pub value-there : (v : List ℕ) (k : ℕ) {x : ℕ} {z : List ℕ} → k < 256 → z ≡ valuesFrom (reverse v) 0 256 → x ≡ pow alpha k → getD z k 0 ≡ low v x
+value-there v k h ez ex =
+    ap (λ (t : List ℕ). getD t k 0) ez ∙ values-at (reverse v) 0 256 k h ∙ ap (λ (n : ℕ). eval (reverse v) (pow alpha n)) (nat-zero-add k)
+    ∙ low-turned v (pow alpha k) ∙ ap (low v) (sym ex)
 
 -- ---- a list changed in place from its end: f is what is left of a tail
 module _ (f : List ℕ → List ℕ) (v : List ℕ) where
@@ -247,64 +316,69 @@ module _ (f : List ℕ → List ℕ) (v : List ℕ) where
   back-done zero w h inv = inv
   back-done (suc i) w h inv = absurd (omega arith)
 
--- ---- divide
-module _ (x : ℕ) (v : List ℕ) where
-  pub tails-start : v ≡ take (length v) v ++ tails (drop (length v) v) x
-  unfolding tails
-  tails-start = back-start (λ t. tails t x) v refl
-
-  pub tails-next : (i : ℕ) → 0 < i → i ≤ length v → (w : List ℕ) → w ≡ take i v ++ tails (drop i v) x → (b : ℕ) → b ≡ low (drop (i - 1) v) x
-      → set w (i - 1) b ≡ take (i - 1) v ++ tails (drop (i - 1) v) x
-  unfolding tails
-  tails-next i h k w inv b e =
-      back-next (λ t. tails t x) v i h k w inv b
-      (ap (λ (t : ℕ). t ∷ tails (drop i v) x) (e ∙ ap (λ (t : List ℕ). low t x) (front x v i h k)) ∙ ap (λ (t : List ℕ). tails t x) (sym (front x v i h k)))
-
--- ---- add: the point of place i is alpha to the number of places behind it
+-- ---- add: the point of a place is alpha to the number of places behind it
 module _ (v s w₀ : List ℕ) where
   pub add-start : w₀ ≡ take (length w₀) w₀ ++ onto (errors v s (length (drop (length w₀) w₀))) (drop (length w₀) w₀)
   unfolding errors onto
   add-start = back-start (λ t. onto (errors v s (length t)) t) w₀ refl
 
-  module _ (i : ℕ) (h : 0 < i) (k : i ≤ length w₀) where
-    pub add-next : (w : List ℕ) → w ≡ take i w₀ ++ onto (errors v s (length (drop i w₀))) (drop i w₀) → {x e b : ℕ} → x ≡ pow alpha (length w₀ - i) → e ≡ errorAt v s x
-        → b ≡ add e (getD w (i - 1) 0) → set w (i - 1) b ≡ take (i - 1) w₀ ++ onto (errors v s (length (drop (i - 1) w₀))) (drop (i - 1) w₀)
-    unfolding errors onto
-    add-next w inv {x} {e} {b} ex ee eb =
-        back-next (λ t. onto (errors v s (length t)) t) w₀ i h k w inv b
-        (ap (λ (t : ℕ). t ∷ onto (errors v s (length (drop i w₀))) (drop i w₀))
-        (eb ∙ ap₂ add (ee ∙ ap (errorAt v s) (ex ∙ ap (pow alpha) (sym (length-drop i w₀)))) (back-read (λ t. onto (errors v s (length t)) t) w₀ i h k w inv))
-        ∙ ap (λ (t : List ℕ). onto (errors v s (length t)) t) (sym (front 0 w₀ i h k)))
+  pub add-next : (k i : ℕ) (w : List ℕ) → 0 < i → w ≡ take i w₀ ++ onto (errors v s (length (drop i w₀))) (drop i w₀) → {x e b : ℕ} → k + i ≡ length w₀ → x ≡ pow alpha k → e ≡ errorAt v s x
+      → b ≡ add e (getD w (i - 1) 0) → set w (i - 1) b ≡ take (i - 1) w₀ ++ onto (errors v s (length (drop (i - 1) w₀))) (drop (i - 1) w₀)
+  unfolding errors onto
+  add-next k i w h inv {x} {e} {b} at ex ee eb =
+      back-next (λ t. onto (errors v s (length t)) t) w₀ i h within w inv b
+      (ap (λ (t : ℕ). t ∷ onto (errors v s (length (drop i w₀))) (drop i w₀))
+      (eb ∙ ap₂ add (ee ∙ ap (errorAt v s) (ex ∙ ap (pow alpha) behind)) (back-read (λ t. onto (errors v s (length t)) t) w₀ i h within w inv))
+      ∙ ap (λ (t : List ℕ). onto (errors v s (length t)) t) (sym (front w₀ i h within)))
+    where
+      within : i ≤ length w₀
+      within = omega arith
 
-    pub point-next : {x y : ℕ} → x ≡ pow alpha (length w₀ - i) → y ≡ mul x alpha → y ≡ pow alpha (length w₀ - (i - 1))
-    point-next {x} ex ey =
-        let more : suc (length w₀ - i) ≡ length w₀ - (i - 1) = omega arith in
-        ey ∙ mul-comm x alpha ∙ ap (mul alpha) ex ∙ sym (pow-suc alpha (length w₀ - i)) ∙ ap (pow alpha) more
+      behind : k ≡ length (drop i w₀)
+      behind = omega (arith, length-drop i w₀)
 
--- ---- error_at
-pub error-none : (v s : List ℕ) (x : ℕ) {l : ℕ} → l ≡ low v x → (l ≡ 0 → ⊥) → 0 ≡ errorAt v s x
-unfolding errorAt
-error-none v s x e n = rw (ne-eqb (low v x) 0 (λ z. n (e ∙ z)))
+pub point-next : (k : ℕ) {x y : ℕ} → x ≡ pow alpha k → y ≡ mul x alpha → y ≡ pow alpha (k + 1)
+point-next k {x} ex ey = ey ∙ mul-comm x alpha ∙ ap (mul alpha) ex ∙ sym (ap (pow alpha) (add-one k) ∙ pow-suc alpha k)
 
-module _ (v s : List ℕ) (x : ℕ) {z y : List ℕ} (pos : 0 < length v) (short : length v ≤ 33) (hz : z ≡ copied v (replicate 33 0)) (hy : y ≡ tails (take (length v) z) x) where
-  divided : y ≡ tails v x
-  divided =
-      hy ∙ ap (λ (t : List ℕ). tails t x)
-      (ap (take (length v)) (hz ∙ copied-fits v (replicate 33 0) (omega (arith, length-replicate {A = ℕ} 33 0))) ∙ take-at v _ (length v) refl)
+-- ---- error_at: the three sums of the coefficients behind place i
+abbrev pub Summed : List ℕ → List ℕ → ℕ → ℕ → ℕ → ℕ → ℕ → Type 0
+Summed v s x i a b sum = (a ≡ low (drop i v) x) × (b ≡ low (tails (drop i v) x) x) × (sum ≡ dot (tails (drop i v) x) (drop (i - 1) s))
 
-  quotient-is : take (length v - 1) (drop 1 (y ++ drop (length v) z)) ≡ drop 1 (tails v x)
-  quotient-is =
-      ap (λ (t : List ℕ). take (length v - 1) (drop 1 (t ++ drop (length v) z))) divided
-      ∙ ap (take (length v - 1)) (drop-append-le 1 (tails v x) (drop (length v) z) (omega (arith, length-tails v x)))
-      ∙ take-at (drop 1 (tails v x)) _ (length v - 1) (length-drop 1 (tails v x) ∙ omega (arith, length-tails v x))
+quotient : (v : List ℕ) (x : ℕ) → 0 < length v → drop 1 (tails v x) ≡ tails (drop 1 v) x
+unfolding tails
+quotient [] x p = absurd (omega arith)
+quotient (c ∷ v) x p = refl
 
-  pub error-is : {l sum lq slope inv e : ℕ} → l ≡ low v x → l ≡ 0 → sum ≡ dot (take (length v - 1) (drop 1 (y ++ drop (length v) z))) s
-      → lq ≡ low (take (length v - 1) (drop 1 (y ++ drop (length v) z))) x → slope ≡ mul x lq → inv ≡ inverse slope → e ≡ mul sum inv → e ≡ errorAt v s x
+module _ (v s : List ℕ) (x : ℕ) where
+  pub error-none : {l : ℕ} → l ≡ low v x → (l ≡ 0 → ⊥) → 0 ≡ errorAt v s x
   unfolding errorAt
-  error-is {l} hl hzero hs hq hp hi he =
-      rw (eq-eqb (low v x) 0 (sym hl ∙ hzero))
-      (he
-      ∙ ap₂ mul (hs ∙ ap (λ (q : List ℕ). dot q s) quotient-is) (hi ∙ ap inverse (hp ∙ ap (mul x) (hq ∙ ap (λ (q : List ℕ). low q x) quotient-is))))
+  error-none e n = rw (ne-eqb (low v x) 0 (λ z. n (e ∙ z)))
+
+  pub error-start : Summed v s x (length v) 0 0 0
+  unfolding low tails dot
+  error-start = rw (drop-length v) (refl, refl, refl)
+
+  pub error-next : (i : ℕ) {a b sum : ℕ} → 1 < i → i ≤ length v → length v ≤ length s → Summed v s x i a b sum → {t a′ t′ b′ u sum′ : ℕ} → t ≡ mul x a → a′ ≡ add (getD v (i - 1) 0) t
+      → t′ ≡ mul x b → b′ ≡ add a′ t′ → u ≡ mul a′ (getD s (i - 1 - 1) 0) → sum′ ≡ add u sum → Summed v s x (i - 1) a′ b′ sum′
+  unfolding low tails dot
+  error-next i h k l inv {t} {a′} {t′} {b′} {u} {sum′} et ea et′ eb eu es = rw (front v i (omega arith) k, front s (i - 1) (omega arith) (omega arith)) (value, slope, product)
+    where
+      value : a′ ≡ add (getD v (i - 1) 0) (mul x (low (drop i v) x))
+      value = ea ∙ ap (add (getD v (i - 1) 0)) (et ∙ ap (mul x) (inv .0))
+
+      slope : b′ ≡ add (add (getD v (i - 1) 0) (mul x (low (drop i v) x))) (mul x (low (tails (drop i v) x) x))
+      slope = eb ∙ ap₂ add value (et′ ∙ ap (mul x) (inv .1))
+
+      product : sum′ ≡ add (mul (add (getD v (i - 1) 0) (mul x (low (drop i v) x))) (getD s (i - 1 - 1) 0)) (dot (tails (drop i v) x) (drop (i - 1) s))
+      product = es ∙ ap₂ add (eu ∙ ap (λ (y : ℕ). mul y (getD s (i - 1 - 1) 0)) value) (inv .2)
+
+  pub error-done : (i : ℕ) {l a b sum : ℕ} → 0 < i → i ≤ 1 → 0 < length v → l ≡ low v x → l ≡ 0 → Summed v s x i a b sum → {slope inv e : ℕ} → slope ≡ mul x b → inv ≡ inverse slope
+      → e ≡ mul sum inv → e ≡ errorAt v s x
+  unfolding errorAt
+  error-done i h g pos el z inv ep ei ee =
+      let one : i ≡ 1 = omega arith in
+      rw (eq-eqb (low v x) 0 (sym el ∙ z), quotient v x pos)
+      (ee ∙ ap₂ mul (rw one at (inv .2)) (ei ∙ ap inverse (ep ∙ ap (mul x) (rw one at (inv .1)))))
 
 -- ---- amend
 errors-none : (s w : List ℕ) (n : ℕ) → onto (errors [] s n) w ≡ w

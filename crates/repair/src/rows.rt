@@ -76,6 +76,9 @@ fn reduced(p: [u8; 33], row: [u8; 33]) -> [u8; 33]
     let k = row[0];
     let mut out = [0u8; 33];
     base::copy(&row[1..], &mut out);
+    if k == 0 {
+        return out;
+    }
     parity::subtract(k, &p, &mut out);
     out
 }

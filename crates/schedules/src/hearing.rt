@@ -2,15 +2,11 @@
 //! repaired in n places), a packet's format and key, and its payload, behind it. The numbers of a sub-channel, as x sets them in 16 bits each and
 //! v tells them: told, R, depth, locked, lost; the four hunted bytes (of x two to a number); bytes of the group, of the marker, of the word,
 //! message bytes handed on; a frame's opened, raw count, stored bytes, remembered place; whether the first pass is over, the cells' place.
-use crate::Case;
-use base::Refusal;
 use channel::Answer;
 use channel::Condition;
 use channel::Hunting;
 use interleaver::Back;
 use interleaver::Matrix;
-use packet::Delivery;
-use packet::Judged;
 use stream::Frame;
 use subchannel::Counts;
 use subchannel::Lane;
@@ -19,44 +15,42 @@ use subchannel::Sub;
 use subchannels::Configured;
 use subchannels::Receiver;
 
-pub fn configure(case: Case, receiver: Receiver) -> Receiver {
-    let done = receiver.configure(case.a, case.b, case.c);
+pub fn configure(number: u64, receiver: Receiver) -> Receiver {
+    let done = receiver.configure(
+        cases::first(number),
+        cases::second(number),
+        cases::third(number),
+    );
     let answer = done.answer;
-    crate::print(configured(answer));
+    cases::print(configured(answer));
     done.receiver
 }
 
 fn configured(answer: Configured) -> u64 {
     match answer {
         Configured::Told => 0,
-        Configured::Refused(n) => crate::refusal(n),
+        Configured::Refused(n) => cases::refused(n),
     }
 }
 
 // Lends the two buffers of a sub-channel, as much of them as the case says; beyond the four those of the last.
 pub fn hear(
-    case: Case,
+    number: u64,
     receiver: Receiver,
     recv: &mut [u8],
     word: &mut [u8],
-    bytes: &[u8],
+    piece: &[u8],
 ) -> Receiver {
-    let k = base::least(case.a, 3);
+    let n = cases::first(number);
+    let k = base::least(n, 3);
     let from = Sub::RAW * k;
     let at = Sub::WORD * k;
-    let to = from + base::least(case.b, Sub::RAW);
-    let end = at + base::least(case.c, Sub::WORD);
-    let length = case.length;
-    if recv.len() < to || word.len() < end || bytes.len() < length {
+    let to = from + base::least(cases::second(number), Sub::RAW);
+    let end = at + base::least(cases::third(number), Sub::WORD);
+    if recv.len() < to || word.len() < end {
         return receiver;
     }
-    hear_all(
-        receiver,
-        case.a,
-        &mut recv[from..to],
-        &mut word[at..end],
-        &bytes[0..length],
-    )
+    hear_all(receiver, n, &mut recv[from..to], &mut word[at..end], piece)
 }
 
 // A piece, until more is wanted or a call is refused.
@@ -86,15 +80,6 @@ fn hear_all(
     next
 }
 
-fn code(answer: Answer) -> u64 {
-    match answer {
-        Answer::More => 0,
-        Answer::Said(j) => judged(j),
-        Answer::Block(condition) => block(condition),
-        Answer::LockLost => 3,
-    }
-}
-
 fn block(condition: Condition) -> u64 {
     match condition {
         Condition::Clean => 1,
@@ -103,45 +88,24 @@ fn block(condition: Condition) -> u64 {
     }
 }
 
-// A packet: port, sequence, length, and 1 above them; a broken escape: its place above the number.
-fn judged(j: Judged) -> u64 {
-    match j {
-        Judged::Packet(d) => d.port as u64
-            | (d.sequence as u64) << 16
-            | (d.length as u64 % 0x1000000) << 32
-            | 1 << 56,
-        Judged::Refused(n) => crate::refusal(n),
-        Judged::Broken(place) => { crate::refusal(Refusal::ESCAPE) | (place as u64 % 65536) << 32 }
-    }
-}
-
 // Tells a call: whether the piece is handed in again.
 fn goes_on(taken: usize, answer: Answer, recv: &[u8]) -> bool {
-    crate::print(taken as u64);
-    crate::print(code(answer));
+    cases::print(taken as u64);
     match answer {
-        Answer::More => false,
-        Answer::Said(j) => deliver(j, recv),
-        Answer::Block(_) => true,
-        Answer::LockLost => true,
-    }
-}
-
-fn deliver(j: Judged, recv: &[u8]) -> bool {
-    match j {
-        Judged::Packet(d) => parts(d, recv),
-        Judged::Refused(n) => {
-            n != Refusal::STATE && n != Refusal::BUFFER && n != Refusal::SUB_CHANNEL
+        Answer::More => {
+            cases::print(0);
+            false
         }
-        Judged::Broken(_) => true,
+        Answer::Said(j) => deliveries::said(j, recv),
+        Answer::Block(condition) => {
+            cases::print(block(condition));
+            true
+        }
+        Answer::LockLost => {
+            cases::print(3);
+            true
+        }
     }
-}
-
-// Format, key number and key length, then key and payload.
-fn parts(d: Delivery, recv: &[u8]) -> bool {
-    crate::print(d.format as u64 | (d.number as u64) << 8 | (d.key as u64) << 16);
-    io::write_all(1, stream::key(recv, d));
-    io::write_all(1, stream::payload(recv, d))
 }
 
 fn get(r: Receiver, k: usize) -> Sub {
@@ -170,11 +134,12 @@ fn put(r: Receiver, k: usize, sub: Sub) -> Receiver {
     }
 }
 
-pub fn set(case: Case, receiver: Receiver, x: &[u8]) -> Receiver {
-    let old = get(receiver, case.a);
+pub fn set(number: u64, receiver: Receiver, x: &[u8]) -> Receiver {
+    let k = cases::first(number);
+    let old = get(receiver, k);
     put(
         receiver,
-        case.a,
+        k,
         Sub {
             lane: lane(x),
             back: back(old.back, x),
@@ -186,8 +151,8 @@ fn lane(x: &[u8]) -> Lane {
     Lane {
         settings: Settings {
             told: is_set(x, 0),
-            parity: crate::pair(x, 2),
-            depth: crate::pair(x, 4),
+            parity: cases::pair_at(x, 2),
+            depth: cases::pair_at(x, 4),
         },
         locked: is_set(x, 6),
         lost: is_set(x, 8),
@@ -198,7 +163,7 @@ fn lane(x: &[u8]) -> Lane {
 }
 
 fn is_set(x: &[u8], at: usize) -> bool {
-    crate::pair(x, at) == 1
+    cases::pair_at(x, at) == 1
 }
 
 fn hunting(x: &[u8]) -> Hunting {
@@ -220,19 +185,19 @@ fn hunting(x: &[u8]) -> Hunting {
 
 fn counts(x: &[u8]) -> Counts {
     Counts {
-        group: crate::pair(x, 14),
-        marker: crate::pair(x, 16),
-        word: crate::pair(x, 18),
-        handed: crate::pair(x, 20),
+        group: cases::pair_at(x, 14),
+        marker: cases::pair_at(x, 16),
+        word: cases::pair_at(x, 18),
+        handed: cases::pair_at(x, 20),
     }
 }
 
 fn frame(x: &[u8]) -> Frame {
     Frame {
         opened: is_set(x, 22),
-        raw: crate::pair(x, 24),
-        stored: crate::pair(x, 26),
-        place: crate::pair(x, 28),
+        raw: cases::pair_at(x, 24),
+        stored: cases::pair_at(x, 26),
+        place: cases::pair_at(x, 28),
     }
 }
 
@@ -243,24 +208,24 @@ fn back(old: Back, x: &[u8]) -> Back {
     Back {
         again: is_set(x, 30),
         matrix: Matrix {
-            place: crate::pair(x, 32),
+            place: cases::pair_at(x, 32),
             cells,
         },
     }
 }
 
-pub fn view(case: Case, receiver: Receiver, recv: &[u8], word: &[u8]) {
-    let k = base::least(case.a, 3);
+pub fn view(number: u64, room: usize, receiver: Receiver, recv: &[u8], word: &[u8]) {
+    let k = base::least(cases::first(number), 3);
     let sub = get(receiver, k);
     let back = sub.back;
     let matrix = back.matrix;
     let lane = sub.lane;
     print_lane(lane);
-    crate::print(back.again as u64);
-    crate::print(matrix.place as u64);
+    cases::print(back.again as u64);
+    cases::print(matrix.place as u64);
     print_part(Sub::RAW * k, Sub::RAW, recv);
     print_part(Sub::WORD * k, Sub::WORD, word);
-    print_cells(matrix, case.room);
+    print_cells(matrix, room);
 }
 
 fn print_cells(matrix: Matrix, n: usize) {
@@ -301,5 +266,5 @@ fn print_lane(lane: Lane) {
         frame.stored as u64,
         frame.place as u64,
     ];
-    crate::print_all(&numbers);
+    cases::print_all(&numbers);
 }

@@ -15,9 +15,9 @@ use lib.Dec.{ltb, leb}
 use lib.ListN.{getD}
 use Rattle.base.proofs.Tests.{by-le}
 use Rattle.base.specs.Choice.{pick}
-use Rattle.ports.specs.Distance.{ruled}
-use Rattle.ports.specs.declared.Noted.{Noted}
-use Rattle.ports.specs.declared.Noted.the-variants.{First}
+use Rattle.sequences.specs.Distance.{ruled}
+use Rattle.sequences.specs.declared.Noted.{Noted}
+use Rattle.sequences.specs.declared.Noted.the-variants.{First}
 use Rattle.sheets.specs.declared.Tally.{Tally}
 use Rattle.sheets.specs.declared.Row.{Row}
 use Rattle.sheets.specs.Tally.{far, plus, one, wide}

@@ -18,8 +18,8 @@ use lib.ListN.{length, take, drop, getD, set, length-take, drop-of-length-le, Li
 use lib.Seq.{slice-cons, getD-take}
 use Rattle.base.specs.Choice.{pick}
 use Rattle.base.proofs.Tests.{by-eq, by-le}
-use Rattle.ports.specs.Distance.{half, gap, ruled, lastBehind}
-use Rattle.ports.specs.declared.Noted.the-variants.{First}
+use Rattle.sequences.specs.Distance.{half, gap, ruled, lastBehind}
+use Rattle.sequences.specs.declared.Noted.the-variants.{First}
 use Rattle.sheets.specs.declared.Row.{Row}
 use Rattle.sheets.specs.Rows.{blank, verdict, heardRow, noteIn, rowFor, cleared, paddedTo}
 use Rattle.sheets.specs.Places.{lastBy, placeFor, isOld, putAt, tab}

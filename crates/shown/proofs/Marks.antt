@@ -21,13 +21,13 @@ use Rattle.frames.specs.Frame.{packet, refusal, broken}
 use Rattle.blocks.specs.Channel.{Event, said, block, lost, frames}
 use Rattle.blocks.specs.declared.Condition.{Condition}
 use Rattle.blocks.specs.declared.Condition.the-variants.{Clean, Repaired, Beyond}
-use Rattle.ports.specs.declared.Entry.{Entry}
-use Rattle.ports.specs.declared.Noted.{Noted}
-use Rattle.ports.specs.declared.Noted.the-variants.{First, InOrder, Repeated, Missing, Late, Refused}
-use Rattle.ports.specs.Distance.{around, Distance, ahead, behind, Leads, meaning}
-use Rattle.ports.specs.Ports.{freePlace, lastOf, unfit, noting}
-use Rattle.ports.proofs.Laws.{noted-last, noted-full}
-use Rattle.ports.proofs.Signed.{rule-means}
+use Rattle.sequences.specs.declared.Entry.{Entry}
+use Rattle.sequences.specs.declared.Noted.{Noted}
+use Rattle.sequences.specs.declared.Noted.the-variants.{First, InOrder, Repeated, Missing, Late, Refused}
+use Rattle.sequences.specs.Distance.{around, Distance, ahead, behind, Leads, meaning}
+use Rattle.sequences.specs.Ports.{freePlace, lastOf, unfit, noting}
+use Rattle.sequences.proofs.Laws.{noted-last, noted-full}
+use Rattle.sequences.proofs.Signed.{rule-means}
 use Rattle.shown.specs.Board.{Line, missing, unwatched, packetLines, blockLines, eventLines, boardLines}
 use Rattle.shown.specs.Typed.{isBid, bidsAmong, packetsAmong, asBid, isCurrent, isShown, currentFrom}
 

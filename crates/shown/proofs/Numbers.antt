@@ -17,7 +17,7 @@ use Rattle.blocks.specs.declared.Condition.the-variants.{Clean, Repaired, Beyon
 use Rattle.listed.specs.Apart.{nextAt, inStream, apart}
 use Rattle.listed.specs.Lines.{decimalBy, decimal}
 use Rattle.listed.specs.Listing.{heard}
-use Rattle.ports.specs.Ports.{placeOf, freePlace, twice, noting}
+use Rattle.sequences.specs.Ports.{placeOf, freePlace, twice, noting}
 use Rattle.shown.specs.Text.{shownByte, shownText, bidText}
 use Rattle.shown.specs.Board.{Line, bid, missing, unwatched, late, repeated, restricted, refusedFrame, brokenFrame}
 use Rattle.shown.specs.Board.{cleanBlock, repairedBlock, beyondRepair, lockLost, wrongAt, written, writtenAll, boardLines, shows, recordingText}

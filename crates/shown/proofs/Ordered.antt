@@ -19,13 +19,14 @@ use Rattle.frames.specs.Contents.{Packet, plainFormat, keyFormat}
 use Rattle.frames.specs.Frame.{Told}
 use Rattle.stream.specs.Sender.{delivered}
 use Rattle.blocks.specs.Channel.{Event, frames}
-use Rattle.ports.specs.declared.Entry.{Entry}
-use Rattle.ports.specs.declared.Noted.{Noted}
-use Rattle.ports.specs.declared.Noted.the-variants.{First, InOrder, Refused}
-use Rattle.ports.specs.Distance.{around, gap, ruled, lastBehind}
-use Rattle.ports.specs.Ports.{freePlace, lastOf, unfit, noting}
-use Rattle.ports.proofs.Laws.{others-noted, noted-last, noted-first, noted-full, first-last}
-use Rattle.ports.proofs.Keeping.{fit-noted, fresh-fit, fresh-none}
+use Rattle.sequences.specs.declared.Entry.{Entry}
+use Rattle.sequences.specs.declared.Noted.{Noted}
+use Rattle.sequences.specs.declared.Noted.the-variants.{First, InOrder, Refused}
+use Rattle.sequences.specs.Distance.{around, gap, ruled, lastBehind}
+use Rattle.sequences.specs.Ports.{freePlace, lastOf, unfit, noting}
+use Rattle.sequences.proofs.Laws.{others-noted, noted-last, noted-first, noted-full, first-last}
+use Rattle.sequences.proofs.Keeping.{fit-noted}
+use Rattle.ports.proofs.Fresh.{fresh-fit, fresh-none}
 use Rattle.shown.specs.Board.{boardLines, freshTable}
 use Rattle.shown.specs.Typed.{bidsAmong, packetsAmong, asBid, isCurrent, isShown, currentFrom, numbersOf, ByOne}
 use Rattle.shown.proofs.Marks.{bids-current}

@@ -22,13 +22,14 @@ use Rattle.stream.specs.Sender.{delivered}
 use Rattle.blocks.specs.Channel.{Event, said, block, lost, frames, blocks, losses}
 use Rattle.blocks.specs.declared.Condition.{Condition}
 use Rattle.blocks.specs.declared.Condition.the-variants.{Clean, Repaired, Beyond}
-use Rattle.ports.specs.declared.Entry.{Entry}
-use Rattle.ports.specs.declared.Noted.{Noted}
-use Rattle.ports.specs.declared.Noted.the-variants.{First, InOrder}
-use Rattle.ports.specs.Distance.{lastBehind}
-use Rattle.ports.specs.Ports.{placeLimit, placeOf, freePlace, lastOf, twice, unfit, entry, lastAt, noting}
-use Rattle.ports.proofs.Laws.{noting-ways, others-noted, away-by, once, or-right}
-use Rattle.ports.proofs.Keeping.{fit-noted, fresh-fit, fresh-none}
+use Rattle.sequences.specs.declared.Entry.{Entry}
+use Rattle.sequences.specs.declared.Noted.{Noted}
+use Rattle.sequences.specs.declared.Noted.the-variants.{First, InOrder}
+use Rattle.sequences.specs.Distance.{lastBehind}
+use Rattle.sequences.specs.Ports.{placeLimit, placeOf, freePlace, lastOf, twice, unfit, entry, lastAt, noting}
+use Rattle.sequences.proofs.Laws.{noting-ways, others-noted, away-by, once, or-right}
+use Rattle.sequences.proofs.Keeping.{fit-noted}
+use Rattle.ports.proofs.Fresh.{fresh-fit, fresh-none}
 use Rattle.shown.specs.Board.{Line, packetLines, refusedFrame, brokenFrame, boardLines, freshTable}
 use Rattle.shown.specs.Typed.{asBid, numbersOf, ByOne, Member, Among}
 use Rattle.shown.proofs.Marks.{plain-lines}

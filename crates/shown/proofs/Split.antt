@@ -26,9 +26,9 @@ use Rattle.channel.specs.declared.answer.Answer.the-variants.{More, Said, Block
 use Rattle.bid.specs.Line.{feed}
 use Rattle.listed.specs.Lines.{decimal}
 use Rattle.listed.proofs.Digits.{digits-short}
-use Rattle.ports.specs.declared.Entry.{Entry}
-use Rattle.ports.specs.declared.Noted.{Noted}
-use Rattle.ports.specs.declared.Noted.the-variants.{First, InOrder, Repeated, Missing, Late, Refused}
+use Rattle.sequences.specs.declared.Entry.{Entry}
+use Rattle.sequences.specs.declared.Noted.{Noted}
+use Rattle.sequences.specs.declared.Noted.the-variants.{First, InOrder, Repeated, Missing, Late, Refused}
 use Rattle.shown.specs.Text.{heading, shownText, bidText}
 use Rattle.shown.specs.Board.{Line, restricted, lateWord, repeatedWord, number, written, writtenAll, aheadOf, ownLine, packetLines, eventLines}
 use Rattle.shown.specs.Parts.{ownLead, lead, behind, remark}

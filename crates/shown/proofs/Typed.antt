@@ -18,7 +18,7 @@ use Rattle.bid.specs.Line.{feed, Verdict, noBid, refused, accepted, verdict}
 use Rattle.bid.specs.Input.{linesFrom, linesOf, packets, packetsOf, numbered, complaintsFrom, complaints}
 use Rattle.bid.proofs.Lines.{lines-feed, lines-other, lines-none}
 use Rattle.bid.proofs.Verdicts.{accepted-bid}
-use Rattle.ports.specs.Distance.{around}
+use Rattle.sequences.specs.Distance.{around}
 use Rattle.shown.specs.Board.{written, writtenAll}
 use Rattle.shown.specs.Typed.{isAccepted, accepting, acceptedLines, typed, asShown, Plainly, asBid}
 use Rattle.shown.proofs.Line.{line-plain}

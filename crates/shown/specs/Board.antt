@@ -19,10 +19,11 @@ use Rattle.listed.specs.declared.Spot.{Spot}
 use Rattle.listed.specs.Apart.{freshSpot, apart, well, onChannel}
 use Rattle.listed.specs.Lines.{decimal}
 use Rattle.listed.specs.Listing.{heard}
-use Rattle.ports.specs.declared.Entry.{Entry}
-use Rattle.ports.specs.declared.Noted.{Noted}
-use Rattle.ports.specs.declared.Noted.the-variants.{First, InOrder, Repeated, Missing, Late, Refused}
-use Rattle.ports.specs.Ports.{freshPorts, noting}
+use Rattle.sequences.specs.declared.Entry.{Entry}
+use Rattle.sequences.specs.declared.Noted.{Noted}
+use Rattle.sequences.specs.declared.Noted.the-variants.{First, InOrder, Repeated, Missing, Late, Refused}
+use Rattle.sequences.specs.Ports.{noting}
+use Rattle.ports.specs.ByValue.{freshPorts}
 use Rattle.shown.specs.Text.{bidText}
 
 -- a line: a bid, or a remark

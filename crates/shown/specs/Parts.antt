@@ -13,8 +13,8 @@ use Rattle.frames.specs.declared.Judged.the-variants.{Packet as Delivered, Refu
 use Rattle.channel.specs.declared.answer.Answer.{Answer}
 use Rattle.channel.specs.declared.answer.Answer.the-variants.{More, Said, Block, LockLost}
 use Rattle.bid.specs.Line.{feed}
-use Rattle.ports.specs.declared.Noted.{Noted}
-use Rattle.ports.specs.declared.Noted.the-variants.{First, InOrder, Repeated, Missing, Late, Refused}
+use Rattle.sequences.specs.declared.Noted.{Noted}
+use Rattle.sequences.specs.declared.Noted.the-variants.{First, InOrder, Repeated, Missing, Late, Refused}
 use Rattle.shown.specs.Text.{heading, shownText}
 use Rattle.shown.specs.Board.{restricted, refusedFrame, brokenFrame, lockLost, lateWord, repeatedWord, written, writtenAll, aheadOf, blockLines}
 

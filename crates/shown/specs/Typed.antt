@@ -22,10 +22,10 @@ use Rattle.frames.specs.Contents.{Packet, keyFormat}
 use Rattle.frames.specs.Frame.{Told, packet, refusal, broken}
 use Rattle.bid.specs.Line.{feed, space, past, port, sequence, text, Verdict, noBid, refused, accepted, verdict}
 use Rattle.bid.specs.Input.{linesOf}
-use Rattle.ports.specs.declared.Entry.{Entry}
-use Rattle.ports.specs.declared.Noted.{Noted}
-use Rattle.ports.specs.declared.Noted.the-variants.{First, InOrder, Repeated, Missing, Late, Refused}
-use Rattle.ports.specs.Ports.{noting}
+use Rattle.sequences.specs.declared.Entry.{Entry}
+use Rattle.sequences.specs.declared.Noted.{Noted}
+use Rattle.sequences.specs.declared.Noted.the-variants.{First, InOrder, Repeated, Missing, Late, Refused}
+use Rattle.sequences.specs.Ports.{noting}
 use Rattle.shown.specs.Text.{backslash, printable, bidText}
 use Rattle.shown.specs.Board.{Line, bid, missing, unwatched, late, repeated, restricted, refusedFrame, brokenFrame}
 use Rattle.shown.specs.Board.{cleanBlock, repairedBlock, beyondRepair, lockLost, wrongAt}

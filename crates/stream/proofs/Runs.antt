@@ -1,34 +1,35 @@
 -- Laws of runs of bytes up to a flag (what a loop over them needs: crates/base/proofs/UpTo.antt).
--- store-more, store-done        a turn of the loop that stores, and its end
+-- stored                        what copying them to their place leaves
 -- counted-is, counted-room      the counts behind a run
 -- before-stops, before-rest, before-stop, no-flag-before   what stands behind a run, and what is not in it
 -- gather-found, gather-none     what the calls of `gather` leave together
 use Prim.Native.Nat.{ℕ, zero, suc, _+_, _-_, _≤_, _<_, min}
+use native.Mathlib.Nat.{sub-zero}
 use native.Mathlib.Omega.{arith}
 use mathlib.Core.Path.{_≡_, refl, sym, _∙_, ap, ap₂, subst}
 use mathlib.Core.Bool.{Bool, true, false}
 use mathlib.Core.List.{List, [], _∷_, _++_, append-nil}
-use lib.ListN.{length, take, drop, getD, set, length-append}
+use lib.ListN.{length, take, drop, getD, length-append}
 use lib.Seq.{sets, take-all, take-at, length-take-le}
 use borrow.Author.Tests.{eq-eqb, ne-eqb}
+use borrow.Rule.Slice.PartMut.{putMid}
 use Rattle.base.specs.UpTo.{upTo}
+use Rattle.base.specs.Written.{copied}
+use Rattle.base.proofs.Laid.{laid-copied}
 use Rattle.base.proofs.Lists.{next, over}
-use Rattle.base.proofs.UpTo.{up-to-more, up-to-over, up-to-short}
+use Rattle.base.proofs.UpTo.{up-to-over, up-to-short, up-to-is}
 use Rattle.base.proofs.Tests.{by-eq, by-le}
 use Rattle.frames.specs.Contents.{rawLimit}
 use Rattle.frames.specs.Escape.{flag, NoFlag}
 use Rattle.stream.specs.declared.frame.Frame.{Frame}
 use Rattle.stream.specs.Private.{before, countedBy, counted, gatheredBy}
 
--- ---- the loop that stores
-module _ (l r : List ℕ) (at i : ℕ) {t : List ℕ} (inv : sets r (at + i) (before (drop i l)) ≡ t) where
-  pub store-more : i < length l → (getD l i 0 ≡ flag → ⊥) → sets (set r (at + i) (getD l i 0)) (at + (i + 1)) (before (drop (i + 1) l)) ≡ t
-  store-more h n =
-      let e : at + (i + 1) ≡ suc (at + i) = omega arith in
-      rw e (sym (ap (sets r (at + i)) (up-to-more flag l i h n)) ∙ inv)
-
-  pub store-done : before (drop i l) ≡ [] → r ≡ t
-  store-done e = sym (ap (sets r (at + i)) e) ∙ inv
+-- ---- the bytes stored
+pub stored : (l recv : List ℕ) (at : ℕ) {n : ℕ} {y : List ℕ} → at + length l ≤ length recv → n ≡ length (before l) → y ≡ copied (take (n - 0) l) (take (length recv - at) (drop at recv))
+    → putMid at (length recv - at) recv y ≡ sets recv at (before l)
+stored l recv at {n} h e c =
+    let b : take (n - 0) l ≡ before l = ap (λ (k : ℕ). take k l) (sub-zero n ∙ e) ∙ sym (up-to-is flag l) in
+    laid-copied {l = recv} {bs = before l} {at = at} (omega (arith, up-to-short flag l)) (c ∙ ap (λ (x : List ℕ). copied x (take (length recv - at) (drop at recv))) b) .holds
 
 -- ---- the counts
 pub counted-is : (f : Frame) (n : ℕ) {k s : ℕ} → f .opened ≡ true → f .raw ≤ suc rawLimit → k ≡ min n (suc rawLimit - f .raw) → s ≡ min (f .raw + k) rawLimit

@@ -56,15 +56,9 @@ fn store(recv: &mut [u8], at: usize, bytes: &[u8]) -> usize
     requires { ⌜ at + length (now bytes) ≤ length (now recv) ⌝ }
     ensures { λ r. ⌜ (r ≡ length (before (now (bytes .entry)))) × (now (recv .exit) ≡ sets (now (recv .entry)) at (before (now (bytes .entry)))) ⌝ }
 {
-    let mut i: usize = 0;
-    while i < bytes.len() {
-        if bytes[i] == Frame::FLAG {
-            return i;
-        }
-        recv[at + i] = bytes[i];
-        i += 1;
-    }
-    i
+    let n = packet::up_to(bytes, Frame::FLAG);
+    base::copy(&bytes[0..n], &mut recv[at..]);
+    n
 }
 
 impl Frame {
@@ -163,9 +157,9 @@ impl Frame {
             if k < n {
                 return k;
             }
-            return n + base::up_to(&bytes[n..], Frame::FLAG);
+            return n + packet::up_to(&bytes[n..], Frame::FLAG);
         }
-        base::up_to(bytes, Frame::FLAG)
+        packet::up_to(bytes, Frame::FLAG)
     }
 
     // Whether a flag closes a frame here.

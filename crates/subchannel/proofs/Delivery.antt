@@ -11,8 +11,8 @@ use Rattle.base.proofs.Calls.{with-hear}
 use Rattle.frames.specs.Frame.{Told}
 use Rattle.stream.specs.Called.{takeByte}
 use Rattle.stream.proofs.Delivery.{ThereIf, there-byte}
-use Rattle.interleaver.specs.Running.{pull}
-use Rattle.interleaver.specs.declared.Back.{Back}
+use Rattle.matrices.specs.Running.{pull}
+use Rattle.matrices.specs.declared.Back.{Back}
 use Rattle.blocks.specs.declared.Hunting.{Hunting}
 use Rattle.blocks.specs.Sender.{wordBytes}
 use Rattle.blocks.specs.Channel.{isMarker, shift}

@@ -19,8 +19,8 @@ use Rattle.frames.specs.Sender.{Accepted}
 use Rattle.parity.specs.Calls.{rootLimit}
 use Rattle.stream.specs.Reader.{waiting, reads}
 use Rattle.stream.specs.Sender.{stream, delivered, openedFrom}
-use Rattle.interleaver.specs.Running.{depthLimit}
-use Rattle.interleaver.specs.declared.Back.{Back}
+use Rattle.matrices.specs.Running.{depthLimit}
+use Rattle.matrices.specs.declared.Back.{Back}
 use Rattle.blocks.specs.Sender.{wordBytes}
 use Rattle.blocks.specs.Channel.{Event, frames, blocks, losses, IsWord, FirstMarker}
 use Rattle.blocks.specs.declared.Condition.the-variants.{Clean as clean}

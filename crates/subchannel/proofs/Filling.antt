@@ -15,8 +15,8 @@ use lib.Dec.{ltb}
 use borrow.Author.Tests.{lt-ltb, le-ltb}
 use Rattle.base.specs.Choice.{pick}
 use Rattle.base.proofs.Tests.{by-le}
-use Rattle.interleaver.specs.Running.{matrix, back, taken, full, gave, pull, beyond}
-use Rattle.interleaver.specs.declared.Back.{Back}
+use Rattle.matrices.specs.Running.{matrix, back, taken, full, gave, pull, beyond}
+use Rattle.matrices.specs.declared.Back.{Back}
 use Rattle.channel.specs.declared.answer.Answer.the-variants.{More}
 use Rattle.blocks.specs.Sender.{wordBytes}
 use Rattle.groups.specs.Sender.{groupBytes}

@@ -20,8 +20,8 @@ use Rattle.frames.specs.Contents.{rawLimit}
 use Rattle.parity.specs.Calls.{rootLimit}
 use Rattle.repair.proofs.Promising.{left-length}
 use Rattle.stream.proofs.Fine.{fine-take, fine-of as frame-of, fine-is as frame-is}
-use Rattle.interleaver.specs.Running.{depthLimit, size, pull, gave, beyond}
-use Rattle.interleaver.specs.declared.Back.{Back}
+use Rattle.matrices.specs.Running.{depthLimit, size, pull, gave, beyond}
+use Rattle.matrices.specs.declared.Back.{Back}
 use Rattle.blocks.specs.declared.Hunting.{Hunting}
 use Rattle.blocks.specs.Sender.{wordBytes}
 use Rattle.blocks.specs.Channel.{shift, isMarker}

@@ -28,8 +28,8 @@ use Rattle.stream.specs.declared.frame.Heard.the-variants as heard
 use Rattle.stream.specs.Called.{Held, held, takeByte, readOn, readCall, ReadIs, answered as frameAnswered, Fine as FineFrame}
 use Rattle.stream.proofs.Fine.{fine-take}
 use Rattle.stream.proofs.Cutting.{read-agrees}
-use Rattle.interleaver.specs.Running.{beyond, matrix, back, freshBack, pull}
-use Rattle.interleaver.specs.declared.Back.{Back}
+use Rattle.matrices.specs.Running.{beyond, matrix, back, freshBack, pull}
+use Rattle.matrices.specs.declared.Back.{Back}
 use Rattle.blocks.specs.declared.Hunting.{Hunting}
 use Rattle.channel.specs.declared.answer.Answer.the-variants.{More, Said}
 use Rattle.blocks.specs.Sender.{wordBytes}

@@ -4,7 +4,7 @@ use Prim.Native.Nat.{ℕ}
 use mathlib.Core.Path.{_≡_, refl}
 use mathlib.Core.Bool.{Bool, true, false}
 use mathlib.Core.List.{List, [], _∷_, map}
-use Rattle.interleaver.specs.Running.{matrix, back}
+use Rattle.matrices.specs.Running.{matrix, back}
 use Rattle.blocks.specs.Channel.{zeros}
 use Rattle.stream.specs.Called.{fresh}
 use Rattle.subchannel.specs.declared.sub.Sub.{Sub}

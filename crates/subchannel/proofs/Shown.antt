@@ -23,8 +23,8 @@ use Rattle.parity.specs.Calls.{rootLimit}
 use Rattle.stream.specs.Reader.{Reading, read, reads}
 use Rattle.stream.specs.Called.{Held, takeByte, heldOf}
 use Rattle.stream.proofs.Shown.{shown-byte, tell-end, held-use, held-st}
-use Rattle.interleaver.specs.Running.{pull}
-use Rattle.interleaver.specs.declared.Back.{Back}
+use Rattle.matrices.specs.Running.{pull}
+use Rattle.matrices.specs.declared.Back.{Back}
 use Rattle.blocks.specs.declared.Hunting.{Hunting}
 use Rattle.blocks.specs.Sender.{wordBytes}
 use Rattle.blocks.specs.Channel.{Event, said, block, shift, isMarker}

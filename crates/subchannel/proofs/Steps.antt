@@ -20,10 +20,10 @@ use borrow.Author.Tests.{lt-ltb, le-ltb, eq-eqb, ne-eqb, leb-true}
 use Rattle.base.specs.Choice.{pick}
 use Rattle.base.proofs.Tests.{and-parts}
 use Rattle.parity.specs.Calls.{rootLimit}
-use Rattle.interleaver.specs.Places.{cell}
-use Rattle.interleaver.specs.Running.{size, next, matrix, back, taken, full, gave, pull}
-use Rattle.interleaver.specs.declared.Matrix.{Matrix}
-use Rattle.interleaver.specs.declared.Back.{Back}
+use Rattle.matrices.specs.Places.{cell}
+use Rattle.matrices.specs.Running.{size, next, matrix, back, taken, full, gave, pull}
+use Rattle.matrices.specs.declared.Matrix.{Matrix}
+use Rattle.matrices.specs.declared.Back.{Back}
 use Rattle.interleaver.proofs.Steps as cells
 use Rattle.base.specs.Bytes.{Bytes}
 use Rattle.repair.specs.declared.Mended.{Mended}

@@ -24,8 +24,8 @@ use Rattle.frames.specs.Frame.{Told, refusal, There}
 use Rattle.parity.specs.Calls.{rootLimit}
 use Rattle.stream.specs.declared.frame.Frame.{Frame}
 use Rattle.stream.specs.Called.{Held, held, fresh, takeByte, heldOf, sound as soundFrame, Fine as FineFrame}
-use Rattle.interleaver.specs.Running.{depthLimit, freshBack, pull, beyond}
-use Rattle.interleaver.specs.declared.Back.{Back}
+use Rattle.matrices.specs.Running.{depthLimit, freshBack, pull, beyond}
+use Rattle.matrices.specs.declared.Back.{Back}
 use Rattle.blocks.specs.declared.Hunting.{Hunting}
 use Rattle.blocks.specs.Sender.{wordBytes}
 use Rattle.blocks.specs.Channel.{Event, said, block, lost, shift, isMarker, zeros}

@@ -17,8 +17,8 @@ use lib.ListN.{length, drop, replicate}
 use Rattle.base.specs.Calls.{after}
 use Rattle.frames.specs.Contents.{rawLimit}
 use Rattle.parity.specs.Calls.{rootLimit}
-use Rattle.interleaver.specs.Running.{depthLimit, matrix, back, beyond}
-use Rattle.interleaver.specs.declared.Back.{Back}
+use Rattle.matrices.specs.Running.{depthLimit, matrix, back, beyond}
+use Rattle.matrices.specs.declared.Back.{Back}
 use Rattle.blocks.specs.Sender.{wordBytes}
 use Rattle.blocks.specs.Channel.{Event}
 use Rattle.channel.specs.Called.{answered}

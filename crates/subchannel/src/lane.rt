@@ -4,7 +4,7 @@ ghost use mathlib.Core.Bool.{true, false};
 ghost use Prim.Native.Nat.{suc, _≤_, _<_};
 ghost use lib.Dec.{ltb};
 ghost use mathlib.Core.Option.{some};
-ghost use Rattle.interleaver.specs.Running.{matrix, back, beyond};
+ghost use Rattle.matrices.specs.Running.{matrix, back, beyond};
 ghost use Rattle.parity.specs.Calls.{rootLimit};
 ghost use Rattle.blocks.specs.Channel.{shift, isMarker};
 ghost use Rattle.channel.specs.Called.{roomy};

@@ -24,8 +24,8 @@ use Rattle.base.proofs.Calls.{inv-hear}
 use Rattle.base.proofs.Tests.{and-parts, by-eq}
 use Rattle.frames.specs.Contents.{rawLimit}
 use Rattle.parity.specs.Calls.{rootLimit}
-use Rattle.interleaver.specs.Running.{depthLimit, pull}
-use Rattle.interleaver.specs.declared.Back.{Back}
+use Rattle.matrices.specs.Running.{depthLimit, pull}
+use Rattle.matrices.specs.declared.Back.{Back}
 use Rattle.blocks.specs.declared.Hunting.{Hunting}
 use Rattle.blocks.specs.Sender.{wordBytes}
 use Rattle.blocks.specs.Channel.{Event, shift, isMarker}

@@ -10,7 +10,7 @@ use mathlib.Core.Bool.{Bool, true, false}
 use borrow.Author.Tests.{lt-ltb, le-ltb, eq-eqb}
 use Rattle.base.specs.Choice.{pick}
 use Rattle.parity.specs.Calls.{rootLimit}
-use Rattle.interleaver.specs.Running.{depthLimit}
+use Rattle.matrices.specs.Running.{depthLimit}
 use Rattle.subchannel.specs.declared.sub.Sub.{Sub}
 use Rattle.subchannel.specs.declared.sub.Hearing as fixed
 use Rattle.subchannel.specs.Called.{Board, board, toldSub, hearCall, HearingIs}

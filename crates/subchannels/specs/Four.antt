@@ -15,7 +15,7 @@ use Rattle.base.specs.Calls.{Reads}
 use Rattle.base.specs.Choice.{pick}
 use Rattle.frames.specs.Frame.{refusal}
 use Rattle.parity.specs.Calls.{rootLimit}
-use Rattle.interleaver.specs.Running.{depthLimit, freshBack}
+use Rattle.matrices.specs.Running.{depthLimit, freshBack}
 use Rattle.stream.specs.Called.{fresh}
 use Rattle.blocks.specs.Channel.{Event, said, zeros}
 use Rattle.channel.specs.Called.{answered}

@@ -4,7 +4,6 @@ ghost use Rattle.subchannels.specs.Four.{untold, freshReceiver, get, put
 use base::Refusal;
 use channel::Answer;
 use channel::Hunting;
-use interleaver::Back;
 use packet::Judged;
 use stream::Frame;
 use subchannel::Counts;
@@ -68,7 +67,7 @@ fn untold() -> Sub
             },
             frame: Frame::fresh(),
         },
-        back: Back::fresh(),
+        back: interleaver::fresh_back(),
     }
 }
 

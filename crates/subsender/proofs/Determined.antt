@@ -8,8 +8,8 @@ use Rattle.base.specs.Written.{Keeps}
 use Rattle.base.proofs.Determining.{same, same-answer, same-output, buffer, skip}
 use Rattle.base.proofs.Writing.{write-keeps, refused-keeps, pick-keeps}
 use Rattle.parity.specs.Calls.{rootLimit}
-use Rattle.interleaver.specs.Running.{depthLimit}
-use Rattle.interleaver.specs.declared.Matrix.{Matrix}
+use Rattle.matrices.specs.Running.{depthLimit}
+use Rattle.matrices.specs.declared.Matrix.{Matrix}
 use Rattle.groups.specs.Sender.{sent}
 use Rattle.subsender.specs.Sending.{sending, groupSending}
 use Rattle.subsender.proofs.send.Kinds as send-kinds

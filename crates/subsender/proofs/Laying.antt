@@ -20,10 +20,10 @@ use Rattle.frames.specs.Escape.{flag}
 use Rattle.words.specs.Word.{remainder}
 use Rattle.words.proofs.Division.{length-remainder}
 use Rattle.parity.specs.Calls.{rootLimit}
-use Rattle.interleaver.specs.Running.{sent, push}
-use Rattle.interleaver.specs.declared.Matrix.{Matrix}
-use Rattle.interleaver.proofs.Calling.{passes, deeper}
-use Rattle.interleaver.proofs.Pushing.{sent-length}
+use Rattle.matrices.specs.Running.{sent, push}
+use Rattle.matrices.specs.declared.Matrix.{Matrix}
+use Rattle.matrices.proofs.Calling.{passes, deeper}
+use Rattle.matrices.proofs.Pushing.{sent-length}
 use Rattle.blocks.specs.Sender.{marker, wordBytes}
 use Rattle.groups.specs.Sender.{messageBytes, groupWords, groupBytes, wordOf, missing, filled, cutUp, messagesOf}
 use Rattle.groups.specs.Sender.{flagWord, closingWords, completing, pushed, wordsOf, grouped}

@@ -25,8 +25,8 @@ use Rattle.base.proofs.Lists.{drop-take}
 use Rattle.base.proofs.Tests.{by-le}
 use Rattle.base.proofs.Writing.{write-fits, write-short}
 use Rattle.parity.specs.Calls.{rootLimit}
-use Rattle.interleaver.specs.Running.{depthLimit, fresh, push, beyond}
-use Rattle.interleaver.specs.declared.Matrix.{Matrix}
+use Rattle.matrices.specs.Running.{depthLimit, fresh, push, beyond}
+use Rattle.matrices.specs.declared.Matrix.{Matrix}
 use Rattle.blocks.specs.Sender.{marker}
 use Rattle.groups.specs.Sender.{messageBytes, groupWords, groupBytes, wordOf, missing, closingWords, sent}
 use Rattle.subsender.specs.Sending.{messageOf, wordsFrom, groupNext, groupStream, groupWritten, groupSending, groupCount, counting, groupsBy}

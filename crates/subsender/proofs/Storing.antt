@@ -34,9 +34,9 @@ use Rattle.frames.specs.Escape.{flag}
 use Rattle.words.specs.Word.{remainder}
 use Rattle.words.proofs.Division.{length-remainder}
 use Rattle.parity.specs.Calls.{rootLimit, wordBytes, made}
-use Rattle.interleaver.specs.Running.{depthLimit, size, fresh, sent, push, beyond, pushing}
-use Rattle.interleaver.specs.declared.Matrix.{Matrix}
-use Rattle.interleaver.proofs.Calling.{wrote}
+use Rattle.matrices.specs.Running.{depthLimit, size, fresh, sent, push, beyond, pushing}
+use Rattle.matrices.specs.declared.Matrix.{Matrix}
+use Rattle.matrices.proofs.Calling.{wrote}
 use Rattle.blocks.specs.Sender.{marker}
 use Rattle.channel.proofs.Sending.{lent, back}
 use Rattle.groups.specs.Sender.{messageBytes, groupWords, groupBytes, wordOf, missing, closingWords, wordsOf, grouped}

@@ -6,8 +6,8 @@ use mathlib.Core.Path.{_≡_}
 use mathlib.Core.List.{List, _++_}
 use Rattle.base.specs.Calls.{joined, run}
 use Rattle.base.specs.Written.{copied}
-use Rattle.interleaver.specs.Running.{push}
-use Rattle.interleaver.specs.declared.Matrix.{Matrix}
+use Rattle.matrices.specs.Running.{push}
+use Rattle.matrices.specs.declared.Matrix.{Matrix}
 use Rattle.blocks.specs.Sender.{marker}
 use Rattle.groups.specs.Sender.{groupWords, groupBytes, grouped}
 use Rattle.subsender.specs.Sending.{wordsFrom}

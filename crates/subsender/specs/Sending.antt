@@ -14,8 +14,8 @@ use Rattle.base.specs.Choice.{pick}
 use Rattle.base.specs.Written.{Outcome, refused, write, copied}
 use Rattle.frames.specs.Escape.{flag}
 use Rattle.parity.specs.Calls.{rootLimit}
-use Rattle.interleaver.specs.Running.{depthLimit, push, beyond}
-use Rattle.interleaver.specs.declared.Matrix.{Matrix}
+use Rattle.matrices.specs.Running.{depthLimit, push, beyond}
+use Rattle.matrices.specs.declared.Matrix.{Matrix}
 use Rattle.blocks.specs.Sender.{marker}
 use Rattle.groups.specs.Sender.{messageBytes, groupWords, wordOf, missing, closingWords, sent}
 use Rattle.subsender.specs.declared.Counted.{Counted}

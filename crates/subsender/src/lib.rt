@@ -7,7 +7,7 @@ ghost use Rattle.base.specs.Calls.{joined};
 ghost use Rattle.base.specs.Written.{outcome, copied};
 ghost use Rattle.frames.specs.Escape.{flag};
 ghost use Rattle.parity.specs.Calls.{rootLimit, wordBytes};
-ghost use Rattle.interleaver.specs.Running.{depthLimit, fresh, beyond};
+ghost use Rattle.matrices.specs.Running.{depthLimit, fresh, beyond};
 ghost use Rattle.groups.specs.Sender.{groupWords, groupBytes, wordOf, missing, closingWords};
 ghost use Rattle.base.specs.declared.Written.the-variants.{Refused};
 ghost use Rattle.subsender.specs.Sending.{sending, messageOf, wordsFrom, groupSending, counting};
@@ -130,7 +130,7 @@ fn put_group(depth: usize, matrix: Matrix, group: &[u8], out: &mut [u8]) -> Matr
 {
     let marker = Group::MARKER;
     base::copy(&marker, out);
-    let pushed = matrix.push(depth, group, &mut out[4..]);
+    let pushed = interleaver::push(matrix, depth, group, &mut out[4..]);
     pushed.matrix
 }
 
@@ -139,7 +139,7 @@ fn put_groups(parity: usize, depth: usize, groups: usize, stream: &[u8], out: &m
     requires { ⌜ (parity ≤ rootLimit) × (depth ≤ depthLimit) × (groups * groupLength ≤ length (now out)) ⌝ }
     ensures { λ _. ⌜ now (out .exit) ≡ copied (groupsFrom parity depth groups fresh (now (stream .entry))) (now (out .entry)) ⌝ }
 {
-    let mut matrix = Matrix::fresh();
+    let mut matrix = interleaver::fresh();
     let mut from: usize = 0;
     let mut i: usize = 0;
     while i < groups {

@@ -16,7 +16,7 @@ use Rattle.base.specs.Written.{Outcome, Keeps, refused, write}
 use Rattle.base.proofs.Tests.{by-le}
 use Rattle.base.proofs.Writing.{write-keeps, refused-keeps, pick-keeps}
 use Rattle.parity.specs.Calls.{rootLimit}
-use Rattle.interleaver.specs.Running.{depthLimit}
+use Rattle.matrices.specs.Running.{depthLimit}
 use Rattle.groups.specs.Sender.{sent}
 use Rattle.subchannel.specs.declared.settings.Settings.{Settings}
 use Rattle.subchannel.specs.Called.{settings, within}

@@ -13,7 +13,7 @@ use Rattle.base.specs.Choice.{pick}
 use Rattle.base.specs.Written.{Outcome, refused, write}
 use Rattle.base.proofs.Tests.{and-parts}
 use Rattle.parity.specs.Calls.{rootLimit}
-use Rattle.interleaver.specs.Running.{depthLimit}
+use Rattle.matrices.specs.Running.{depthLimit}
 use Rattle.groups.specs.Sender.{sent}
 use Rattle.subchannel.specs.declared.settings.Settings.{Settings}
 use Rattle.subchannel.specs.Called.{settings, within}

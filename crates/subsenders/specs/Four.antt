@@ -9,7 +9,7 @@ use lib.Dec.{ltb, leb}
 use Rattle.base.specs.Choice.{pick}
 use Rattle.base.specs.Written.{Outcome, refused, write}
 use Rattle.parity.specs.Calls.{rootLimit}
-use Rattle.interleaver.specs.Running.{depthLimit}
+use Rattle.matrices.specs.Running.{depthLimit}
 use Rattle.groups.specs.Sender.{sent}
 use Rattle.subchannel.specs.declared.settings.Settings.{Settings}
 use Rattle.subchannel.specs.Called.{settings, within}

@@ -1,4 +1,4 @@
-//! Answers cases of the monthly sheet from standard input, one after the other, so that tests/sheet can hold the calls to the second program.
+//! Answers cases of the monthly sheet, for tests/sheet.
 //!
 //! All are numbers of eight bytes, low byte first. A row: port, delivered, repeated, late, missing, total, heard, last. A case: how many rows the
 //! sheet has, 16 rows, how many packets the recording has, port and sequence number of each, whether it ends well. An answer: what becomes of the
@@ -13,12 +13,12 @@ use sheets::Row;
 use sheets::Tally;
 
 fn main() {
-    let mut cases = u64::MAX;
-    while cases > 0 {
+    let mut left = u64::MAX;
+    while left > 0 {
         if !answer() {
             return;
         }
-        cases -= 1;
+        left -= 1;
     }
 }
 
@@ -28,7 +28,7 @@ fn answer() -> bool {
     if io::read_full(0, &mut head) != 8 {
         return false;
     }
-    let ports = number(head) as usize;
+    let ports = cases::number_at(&head, 0) as usize;
     let rows = rows();
     let sheet = Sheet { ports, rows };
     let draft = note_all(sheet.begin(), next());
@@ -36,8 +36,8 @@ fn answer() -> bool {
     let counted = closed.counted;
     let after = closed.sheet;
     let left = after.rows;
-    print(code(counted));
-    print(after.ports as u64);
+    cases::print(code(counted));
+    cases::print(after.ports as u64);
     tell_rows(after, left);
     true
 }
@@ -83,27 +83,21 @@ fn note_all(begun: Draft, n: u64) -> Draft {
 }
 
 fn short() -> u16 {
-    (next() % 65536) as u16
+    cases::half(next())
 }
 
 // The next number of the input.
 fn next() -> u64 {
     let mut bytes = [0u8; 8];
     io::read_full(0, &mut bytes);
-    number(bytes)
-}
-
-fn number(b: [u8; 8]) -> u64 {
-    let low = b[0] as u64 | (b[1] as u64) << 8 | (b[2] as u64) << 16 | (b[3] as u64) << 24;
-    let high = b[4] as u64 | (b[5] as u64) << 8 | (b[6] as u64) << 16 | (b[7] as u64) << 24;
-    low | high << 32
+    cases::number_at(&bytes, 0)
 }
 
 fn code(counted: Counted) -> u64 {
     match counted {
         Counted::Counts => 0,
         Counted::Wrong => 1,
-        Counted::Refused(n) => 65536 + n as u64,
+        Counted::Refused(n) => cases::refused(n),
     }
 }
 
@@ -118,44 +112,20 @@ fn tell_rows(sheet: Sheet, rows: [Row; 16]) {
 
 fn tell_row(row: Row) {
     let t = row.tally;
-    print(row.port as u64);
-    print(t.delivered);
-    print(t.repeated);
-    print(t.late);
-    print(t.missing);
-    print(t.total);
-    print(if row.heard { 1 } else { 0 });
-    print(row.last as u64);
+    cases::print(row.port as u64);
+    cases::print(t.delivered);
+    cases::print(t.repeated);
+    cases::print(t.late);
+    cases::print(t.missing);
+    cases::print(t.total);
+    cases::print(if row.heard { 1 } else { 0 });
+    cases::print(row.last as u64);
 }
 
 fn tell_line(sheet: Sheet, i: usize) {
     let mut text = [0u8; Line::ROW];
     match sheet.print(i, &mut text) {
-        Written::Wrote(n) => show(n, &text),
-        Written::Refused(n) => print(65536 + n as u64),
+        Written::Wrote(n) => cases::show(n, &text),
+        Written::Refused(n) => cases::print(cases::refused(n)),
     }
-}
-
-// What was written, its length first.
-fn show(n: usize, text: &[u8]) {
-    print(n as u64);
-    if text.len() < n {
-        return;
-    }
-    io::write_all(1, &text[0..n]);
-}
-
-// Writes a number, its low byte first.
-fn print(n: u64) {
-    let text = [
-        (n % 256) as u8,
-        (n / 0x100 % 256) as u8,
-        (n / 0x10000 % 256) as u8,
-        (n / 0x1000000 % 256) as u8,
-        (n / 0x100000000 % 256) as u8,
-        (n / 0x10000000000 % 256) as u8,
-        (n / 0x1000000000000 % 256) as u8,
-        (n / 0x100000000000000 % 256) as u8,
-    ];
-    io::write_all(1, &text);
 }

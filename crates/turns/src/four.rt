@@ -10,9 +10,9 @@ const SETTINGS: usize = 24;
 pub fn configure(number: u64, bytes: &[u8]) -> u64 {
     let sender = sender_in(bytes);
     let done = sender.configure(
-        crate::low_pair(number),
-        crate::high_pair(number),
-        crate::high_pair(number / 65536),
+        cases::first(number),
+        cases::second(number),
+        cases::third(number),
     );
     let answer = done.answer;
     let next = done.sender;
@@ -22,7 +22,7 @@ pub fn configure(number: u64, bytes: &[u8]) -> u64 {
     print(next.d);
     match answer {
         Configured::Told => 0,
-        Configured::Refused(n) => 65536 + n as u64,
+        Configured::Refused(n) => cases::refused(n),
     }
 }
 
@@ -31,7 +31,7 @@ pub fn send(number: u64, bytes: &[u8], out: &mut [u8]) -> Written {
         return Written::Wrote(0);
     }
     let sender = sender_in(bytes);
-    sender.send(crate::low_pair(number), &bytes[SETTINGS..], out)
+    sender.send(cases::first(number), &bytes[SETTINGS..], out)
 }
 
 fn sender_in(bytes: &[u8]) -> Sender {
@@ -45,24 +45,14 @@ fn sender_in(bytes: &[u8]) -> Sender {
 
 fn settings(bytes: &[u8], told: usize, parity: usize, depth: usize) -> Settings {
     Settings {
-        told: pair_at(bytes, told) == 1,
-        parity: pair_at(bytes, parity),
-        depth: pair_at(bytes, depth),
+        told: cases::pair_at(bytes, told) == 1,
+        parity: cases::pair_at(bytes, parity),
+        depth: cases::pair_at(bytes, depth),
     }
-}
-
-fn pair_at(bytes: &[u8], at: usize) -> usize {
-    if bytes.len() < 2 {
-        return 0;
-    }
-    if bytes.len() - 2 < at {
-        return 0;
-    }
-    crate::pair(bytes[at], bytes[at + 1])
 }
 
 fn print(settings: Settings) {
-    crate::print(settings.told as u64);
-    crate::print(settings.parity as u64);
-    crate::print(settings.depth as u64);
+    cases::print(settings.told as u64);
+    cases::print(settings.parity as u64);
+    cases::print(settings.depth as u64);
 }

@@ -9,8 +9,8 @@ use lib.ListN.{length, getD, replicate, length-append, length-replicate, List·g
 use lib.Seq.{getD-append-add}
 use borrow.Author.Tests.{eq-eqb, ne-eqb}
 use Rattle.base.proofs.Tests.{by-le}
-use Rattle.units.specs.Bits.{digits, bits}
-use Rattle.units.specs.Unit.{marked, laidOut}
+use Rattle.multiplex.specs.Bits.{digits, bits}
+use Rattle.multiplex.specs.Unit.{marked, laidOut}
 use Rattle.units.proofs.Digits.{bits-at, bits-over}
 
 -- behind xs

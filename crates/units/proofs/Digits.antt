@@ -12,8 +12,8 @@ use native.Mathlib.Omega.{arith}
 use lib.ListN.{length, take, drop, getD, replicate, List·getD-append, List·getD-eq-default}
 use lib.Seq.{getD-at, getD-append-add, drop-cons}
 use Rattle.base.proofs.Tests.{by-le}
-use Rattle.units.specs.Bits.{digits, bits, number}
-use Rattle.units.proofs.Bits.{length-digits, length-bits}
+use Rattle.multiplex.specs.Bits.{digits, bits, number}
+use Rattle.multiplex.proofs.Bits.{length-digits, length-bits}
 
 pub digit-at : (n v k : ℕ) → k < n → v / 2 ^ (n - 1 - k) % 2 ≡ getD (digits n v) k 0
 unfolding digits

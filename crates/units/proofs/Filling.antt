@@ -13,9 +13,8 @@ use lib.ListN.{length, getD, length-append}
 use borrow.Author.Tests.{eq-eqb, ne-eqb, lt-ltb, le-ltb}
 use Rattle.base.specs.Choice.{pick}
 use Rattle.base.proofs.Tests.{by-le}
-use Rattle.units.specs.Unit.{marked, filled, hidden}
-use Rattle.units.specs.Private.{zeros}
-use Rattle.units.proofs.Hidden.{hidden-is}
+use Rattle.multiplex.specs.Unit.{marked, filled, hidden, zeros}
+use Rattle.multiplex.proofs.Hidden.{hidden-is}
 use Rattle.units.proofs.Contents.{length-some}
 
 pub no-audio : (n a o f : ℕ) → n < a → true ≡ ltb n (a + pick (eqb o 0) 0 (5 + o) + f)

@@ -19,11 +19,11 @@ use borrow.Author.Tests.{eq-eqb, ne-eqb}
 use Rattle.base.specs.Choice.{pick}
 use Rattle.base.proofs.Lists.{drop-take}
 use Rattle.base.proofs.Tests.{by-test, by-le}
-use Rattle.units.specs.Bits.{bits}
-use Rattle.units.specs.Tables.{heads, start, step, payload}
-use Rattle.units.specs.Unit.{begins, opened}
-use Rattle.units.specs.Reading.{unwoven, payloadOf}
-use Rattle.units.proofs.Bits.{length-pack}
+use Rattle.multiplex.specs.Bits.{bits}
+use Rattle.multiplex.specs.Tables.{heads, start, step, payload}
+use Rattle.multiplex.specs.Unit.{begins, opened}
+use Rattle.multiplex.specs.Reading.{unwoven, payloadOf}
+use Rattle.multiplex.proofs.Bits.{length-pack}
 
 pub length-payload : (l : ℕ) (u : List ℕ) → length (payloadOf l u) ≡ payload l
 unfolding payloadOf

@@ -15,12 +15,12 @@ use lib.Dec.{eqb}
 use lib.ListN.{length, take, drop, getD}
 use lib.Seq.{drop-drop}
 use Rattle.base.specs.Choice.{pick}
-use Rattle.units.specs.Bits.{digits, bits, number, pack}
-use Rattle.units.specs.Tables.{cw0, cw1, cw2, cw3, cw4, heads, start, step, payload, lent, unfit}
-use Rattle.units.specs.Reading.{heard, unwoven, headerOf, payloadOf, isHeader, named}
-use Rattle.units.proofs.Bits.{length-bits}
-use Rattle.units.proofs.Rows.{by-row, accepted, few, fits}
-use Rattle.units.proofs.Carrying.{holds, spans}
+use Rattle.multiplex.specs.Bits.{digits, bits, number, pack}
+use Rattle.multiplex.specs.Tables.{cw0, cw1, cw2, cw3, cw4, heads, start, step, payload, lent, unfit}
+use Rattle.multiplex.specs.Reading.{heard, unwoven, headerOf, payloadOf, isHeader, named}
+use Rattle.multiplex.proofs.Bits.{length-bits}
+use Rattle.multiplex.proofs.Rows.{by-row, accepted, few, fits}
+use Rattle.multiplex.proofs.Carrying.{holds, spans}
 use Rattle.units.proofs.Unwoven.{Reach, reaches, at-start, at-once, at-gap, length-unwoven, heard-from, heard-next}
 
 -- within l bits

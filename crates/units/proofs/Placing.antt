@@ -11,15 +11,15 @@ use native.Mathlib.Numerals.{add-one}
 use native.Mathlib.Omega.{arith}
 use lib.ListN.{length, take, drop, getD, set}
 use lib.Seq.{getD-take, drop-drop, drop-cons, set-at, append-snoc}
-use Rattle.units.specs.Bits.{digits, bits, number, pack}
-use Rattle.units.specs.Tables.{heads, start, step, payload, lent, unfit}
-use Rattle.units.specs.Unit.{weave, filled, laidOut, unitBits, unit}
-use Rattle.units.proofs.Bits.{length-weave, length-pack}
-use Rattle.units.proofs.Rows.{accepted, few}
+use Rattle.multiplex.specs.Bits.{digits, bits, number, pack}
+use Rattle.multiplex.specs.Tables.{heads, start, step, payload, lent, unfit}
+use Rattle.multiplex.specs.Unit.{weave, filled, laidOut, unitBits, unit}
+use Rattle.multiplex.proofs.Bits.{length-weave, length-pack}
+use Rattle.multiplex.proofs.Rows.{accepted, few}
 use Rattle.units.proofs.Contents.{length-laid}
 use Rattle.units.proofs.Digits.{zeros-at}
 use Rattle.units.proofs.Woven.{At, before, placed}
-use Rattle.units.proofs.Carrying.{hs, ps, room, length-hs, length-ps, holds, woven}
+use Rattle.multiplex.proofs.Carrying.{hs, ps, room, length-hs, length-ps, holds, woven}
 
 module _ (l cw : ℕ) (p : List ℕ) (k : 0 < step l) (e : length p ≡ payload l) where
   length-bits-unit : length (unitBits l cw p) ≡ lent l * 8

@@ -10,13 +10,13 @@ use lib.ListN.{length, take, drop, length-drop}
 use lib.Seq.{drop-drop, length-take-le}
 use Rattle.base.specs.Written.{Outcome, refused, write}
 use Rattle.base.proofs.Lists.{drop-take}
-use Rattle.units.specs.Tables.{sequence, heads, payload, lent, unfit, announced}
-use Rattle.units.specs.Unit.{opened}
-use Rattle.units.specs.Reading.{headerOf, payloadOf, named, middle, readParts, readUnit}
-use Rattle.units.proofs.Rows.{accepted, few}
+use Rattle.multiplex.specs.Tables.{sequence, heads, payload, lent, unfit, announced}
+use Rattle.multiplex.specs.Unit.{opened}
+use Rattle.multiplex.specs.Reading.{headerOf, payloadOf, named, middle, readParts, readUnit}
+use Rattle.multiplex.proofs.Rows.{accepted, few}
 use Rattle.units.proofs.Hearing.{payload-low}
 use Rattle.units.proofs.Finding.{length-payload, opened-short, opened-is}
-use Rattle.units.proofs.Ways.{no-name, wrong-told, wrong-fit, read-plain, not-found, read-found, bad-length, bad-unit, read-is}
+use Rattle.multiplex.proofs.Ways.{no-name, wrong-told, wrong-fit, read-plain, not-found, read-found, bad-length, bad-unit, read-is}
 
 module _ (l : ℕ) (d : List ℕ) (a f : ℕ) (u out : List ℕ) {b : Bool} (eb : b ≡ unfit l) where
   -- the payload

@@ -12,7 +12,7 @@ use native.Mathlib.Omega.{arith}
 use lib.ListN.{length, take, drop, getD, List·getD-append, length-append, length-drop}
 use lib.Seq.{getD-append-add, getD-take, getD-drop, drop-drop, length-take-le}
 use Rattle.base.proofs.Tests.{by-le}
-use Rattle.units.specs.Reading.{heard, unwoven}
+use Rattle.multiplex.specs.Reading.{heard, unwoven}
 
 abbrev pub Reach : ℕ → ℕ → ℕ → ℕ → Type 0
 Reach until gap zero m = Unit {0}

@@ -10,8 +10,8 @@ use native.Mathlib.Omega.{arith}
 use lib.ListN.{length, take, drop, getD, List·getD-append, length-drop}
 use lib.Seq.{getD-at, getD-append-add, getD-take, getD-drop, length-take-le}
 use Rattle.base.proofs.Tests.{by-le}
-use Rattle.units.specs.Unit.{weave}
-use Rattle.units.proofs.Weaving.{Room}
+use Rattle.multiplex.specs.Unit.{weave}
+use Rattle.multiplex.proofs.Weaving.{Room}
 
 pub before : (until gap : ℕ) (hs p : List ℕ) (i : ℕ) → Room until gap (length hs) (length p) → i < until → getD p i 0 ≡ getD (weave until gap hs p) i 0
 unfolding weave

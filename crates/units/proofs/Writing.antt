@@ -14,12 +14,12 @@ use Rattle.base.specs.Choice.{pick}
 use Rattle.base.specs.Written.{outcome, refused, write}
 use Rattle.base.specs.declared.Written.the-variants.{Wrote}
 use Rattle.base.proofs.Writing.{write-short}
-use Rattle.units.specs.Tables.{sequence, payload, lent, unfit}
-use Rattle.units.specs.Unit.{filled, laidOut, unit, hidden, written}
-use Rattle.units.proofs.Rows.{accepted}
+use Rattle.multiplex.specs.Tables.{sequence, payload, lent, unfit}
+use Rattle.multiplex.specs.Unit.{filled, laidOut, unit, hidden, written}
+use Rattle.multiplex.proofs.Rows.{accepted}
 use Rattle.units.proofs.Filling.{length-marked}
-use Rattle.units.proofs.Carrying.{length-unit}
-use Rattle.units.proofs.Ways.{mixed, whole, written-is}
+use Rattle.multiplex.proofs.Carrying.{length-unit}
+use Rattle.multiplex.proofs.Ways.{mixed, whole, written-is}
 
 module _ (l : ℕ) (d audio opp fixed out : List ℕ) (five : length d ≡ 5) {u : Bool} (eu : u ≡ unfit l) where
   pub refuse-length : u ≡ true → refused 50 out ≡ written l d audio opp fixed out

@@ -1,23 +1,16 @@
 -- What private functions alone are promised by.
--- zeros                         whether a delimiter is zeros
 -- hiddenIn                      54 on writing, in a payload of n bytes
 -- BitOf, ByteOf, BytesOf        what writing a bit, a byte and all bytes of a unit ask
 -- bitsIn, unitIn                the unit of a sequence and of parts, as bits and as bytes
 -- delivered                     what is read, with o opportunistic bytes
 use mathlib.Core.Path.{_≡_}
-use mathlib.Core.Bool.{Bool, true, false, _&&_}
-use mathlib.Core.List.{List, [], _∷_, _++_}
+use mathlib.Core.Bool.{Bool, false}
+use mathlib.Core.List.{List, _++_}
 use Prim.Native.Nat.{ℕ, _-_, _≤_, _<_}
-use lib.Dec.{eqb}
 use lib.ListN.{length, take, drop}
 use Rattle.base.specs.Written.{Outcome, write}
-use Rattle.units.specs.Tables.{mostBytes, payload, lent, unfit}
-use Rattle.units.specs.Unit.{filled, laidOut, unitBits, unit, hidden}
-
--- whether every member is 0
-unfoldable pub zeros : List ℕ → Bool
-zeros [] = true
-zeros (x ∷ d) = eqb x 0 && zeros d
+use Rattle.multiplex.specs.Tables.{mostBytes, payload, lent, unfit}
+use Rattle.multiplex.specs.Unit.{filled, laidOut, unitBits, unit, hidden}
 
 -- the gap is what the parts leave
 abbrev pub hiddenIn : ℕ → List ℕ → List ℕ → List ℕ → List ℕ → Bool

@@ -2,7 +2,7 @@
 ghost use mathlib.Core.Path.{_≡_};
 ghost use mathlib.Core.Bool.{true};
 ghost use Prim.Native.Nat.{_-_, _≤_, _<_};
-ghost use Rattle.units.specs.Tables.{most, mostBytes, sequence, heads, start, step, payload, lent, unfit};
+ghost use Rattle.multiplex.specs.Tables.{most, mostBytes, sequence, heads, start, step, payload, lent, unfit};
 
 // Lengths of units, in bits.
 struct Length;

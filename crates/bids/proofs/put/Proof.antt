@@ -31,4 +31,5 @@ put-spec =
     (search needs)
     (search needs)
     (search needs)
+    (search needs)
     (search needs))

@@ -5,7 +5,6 @@ use Prim.Native.Nat.{_-_, _≤_}
 use native.Mathlib.Omega.{arith}
 use lib.ListN.{length, take, length-set}
 use borrow.Author.Needs.{needs}
-use Rattle.field.specs.Field.{alpha}
 use Rattle.words.specs.Private.{points}
 use Rattle.parity.proofs.Loops.{points-next, points-done}
 use Rattle.parity.proofs.points.Statement.{statement}
@@ -13,10 +12,10 @@ use Rattle.parity.proofs.points.Tie as tie
 use Rattle.parity.specs.Calls.{rootLimit}
 
 abbrev Inv-loop : tie.InvT-loop
-Inv-loop p₀ x₀ j₀ p x j = (j ≤ rootLimit) × (length p ≡ rootLimit) × (take j p ++ points x (rootLimit - j) ≡ points alpha rootLimit)
+Inv-loop first p₀ x₀ j₀ p x j = (j ≤ rootLimit) × (length p ≡ rootLimit) × (take j p ++ points x (rootLimit - j) ≡ points first rootLimit)
 
 abbrev μ-loop : tie.MeasureT-loop
-μ-loop p₀ x₀ j₀ p x j = rootLimit - j
+μ-loop first p₀ x₀ j₀ p x j = rootLimit - j
 
 pub points-spec : {M : Type 1} → statement M
 points-spec =

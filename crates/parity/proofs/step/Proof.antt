@@ -33,7 +33,7 @@ step-spec =
     let at = c .before .before .before .loop in
     let more = c .before .before .loop-test .taken in (
       omega arith,
-      length-set (at .next) (at .j) (c .plus .result) ∙ at .inv .1,
-      step-next _ _ (c .before .before .before .before .args .t2) _ (at .inv .2) (omega arith) (subst (λ (n : ℕ). at .j < n) (sym (at .inv .1)) more) (c .before .times .ensures) (c .plus .ensures),
+      length-set (at .next) (at .lane) (c .plus .result) ∙ at .inv .1,
+      step-next _ _ (c .before .before .before .before .args .t2) _ (at .inv .2) (omega arith) (subst (λ (n : ℕ). at .lane < n) (sym (at .inv .1)) more) (c .before .times .ensures) (c .plus .ensures),
     ))
-    (λ c. step-done _ (c .before .loop .j) (c .before .before .args .t2) _ (c .before .loop .inv .2) (omega arith)))
+    (λ c. step-done _ (c .before .loop .lane) (c .before .before .args .t2) _ (c .before .loop .inv .2) (omega arith)))

@@ -19,16 +19,17 @@ pub zero-at-spec : {M : Type 1} → statement M
 zero-at-spec =
     tie.close
     (tie.spec Inv-loop μ-loop
+    (λ c. unfold clean in rw (c .if1 .taken) refl)
     (search needs)
-    (λ c. rw (c .before .if1 .taken) (c .is-clean .ensures))
+    (λ c. rw (c .before .if2 .taken) (c .is-clean .ensures))
     (search needs)
     (λ c. unfold clean in (omega arith, refl))
     (omega arith)
-    (λ c. clean-fails _ _ (c .before .before .before .at-all .ensures) (omega arith) _ (omega arith) (c .if2 .taken))
+    (λ c. clean-fails _ _ _ _ (c .before .before .before .at-first .ensures) (omega arith) (c .if3 .taken))
     (omega arith)
     (omega arith)
     (λ c. (
       omega arith,
-      clean-next _ _ (c .before .before .before .at-all .ensures) (omega arith) (c .if2 .left) (c .before .before .loop .inv .1),
+      clean-next _ _ _ _ (c .before .before .before .at-first .ensures) (omega arith) (c .if3 .left) (c .before .before .loop .inv .1),
     ))
     (λ c. clean-done _ _ _ (c .before .loop .inv .0) (omega arith) (c .before .loop .inv .1)))

@@ -22,7 +22,7 @@ amend-spec =
     (λ c κs.
     let f = c .before .before .before .before .before .locator in
     let l = length-take-le (f .result .n) (f .result .v) (omega (arith, f .ensures .0, f .ensures .1)) in
-    (omega (arith, l, c .before .before .before .before .if1 .left), omega (arith, l, f .ensures .0), omega (arith, l, f .ensures .0)))
+    (omega (arith, l, c .before .before .before .before .if1 .left), omega (arith, l, f .ensures .0), omega (arith, l, f .ensures .0), omega arith))
     (search needs)
     (λ c.
     let f = c .before .before .before .before .before .before .before .before .locator in

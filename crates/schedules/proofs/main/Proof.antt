@@ -9,11 +9,11 @@ use Rattle.schedules.proofs.main.Statement.{statement}
 use Rattle.schedules.proofs.main.Tie as tie
 
 abbrev Inv-loop : tie.InvT-loop
-Inv-loop bytes₀ recv₀ word₀ receiver₀ cases₀ bytes recv word receiver cases =
+Inv-loop bytes₀ recv₀ word₀ receiver₀ left₀ bytes recv word receiver left =
     (65536 ≡ length bytes) × (4 * rawLimit ≡ length recv) × (4 * wordBytes ≡ length word)
 
 abbrev μ-loop : tie.MeasureT-loop
-μ-loop bytes₀ recv₀ word₀ receiver₀ cases₀ bytes recv word receiver cases = cases
+μ-loop bytes₀ recv₀ word₀ receiver₀ left₀ bytes recv word receiver left = left
 
 pub main-spec : {M : Type 1} → statement M
 main-spec =

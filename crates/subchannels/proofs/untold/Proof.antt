@@ -12,4 +12,4 @@ untold-spec =
     (tie.spec
     (search needs)
     (search needs)
-    (λ c i. sub (lane (settings false 0 0) false false zeros (counts 0 0 0 0) (c .before .fresh .ensures i)) (c .fresh2 .ensures i)))
+    (λ c i. sub (lane (settings false 0 0) false false zeros (counts 0 0 0 0) (c .before .fresh .ensures i)) (c .fresh-back .ensures i)))

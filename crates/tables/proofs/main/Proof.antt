@@ -5,10 +5,10 @@ use Rattle.tables.proofs.main.Statement.{statement}
 use Rattle.tables.proofs.main.Tie as tie
 
 abbrev Inv-loop : tie.InvT-loop
-Inv-loop cases₀ cases = Unit {0}
+Inv-loop left₀ left = Unit {0}
 
 abbrev μ-loop : tie.MeasureT-loop
-μ-loop cases₀ cases = cases
+μ-loop left₀ left = left
 
 pub main-spec : {M : Type 1} → statement M
 main-spec =

@@ -10,7 +10,7 @@ use Rattle.base.proofs.Cycle.{at, below}
 use Rattle.base.proofs.Lists.{next, over}
 use Rattle.frames.proofs.Escaping.{right-in, right-low, right-high}
 use Rattle.packet.proofs.Runs.{found-is, found-within, scan-ends, scan-hands, wrong-plain}
-use Rattle.base.proofs.up_to.Reads as up-to-reads
+use Rattle.packet.proofs.search.up_to.Reads as up-to-reads
 use Rattle.packet.proofs.escape.scan_escaped.Reads as escaped-reads
 use Rattle.packet.proofs.escape.scan_plain.Reads as plain-reads
 use Rattle.packet.proofs.escape.scan_escaped.Kinds as escaped-kinds

@@ -1,6 +1,7 @@
 -- `packet::frame::judge_packet` meets its contract: each return by the tests that led there.
-use mathlib.Core.Path.{refl}
+use mathlib.Core.Path.{refl, sym, _∙_}
 use borrow.Author.Needs.{needs}
+use borrow.Author.Tests.{ltb-true, ltb-false}
 use Rattle.frames.proofs.Judging.{rest-port, rest-payload, rest-packet}
 use Rattle.packet.proofs.frame.judge_packet.Statement.{statement}
 use Rattle.packet.proofs.frame.judge_packet.Tie as tie
@@ -23,7 +24,7 @@ judge-packet-spec =
     let t = c .before .before .before in
     let b = t .before in
     let a = b .before .before .before .before .args in
-    rest-payload (a .format) (a .number) (a .key .now) (a .rest .now) (b .before .word-at .ensures) (b .barred .ensures) (t .if1 .left) (c .before .escaped-len .ensures) (c .if2 .taken))
+    rest-payload (a .format) (a .number) (a .key .now) (a .rest .now) (b .before .word-at .ensures) (b .barred .ensures) (t .if1 .left) refl (ltb-true _ _ (sym (c .before .longer .ensures) ∙ c .if2 .taken)))
     (search needs)
     (λ c κs. search needs)
     (search needs)
@@ -32,4 +33,4 @@ judge-packet-spec =
     let t = e .before .before in
     let b = t .before in
     let a = b .before .before .before .before .args in
-    rest-packet (a .format) (a .number) (a .key .now) (a .rest .now) (b .before .word-at .ensures) (b .barred .ensures) (t .if1 .left) (e .escaped-len .ensures) refl (c .word-at2 .ensures) refl (c .before .if2 .left)))
+    rest-packet (a .format) (a .number) (a .key .now) (a .rest .now) (b .before .word-at .ensures) (b .barred .ensures) (t .if1 .left) refl refl (c .word-at2 .ensures) refl (ltb-false _ _ (sym (e .longer .ensures) ∙ c .before .if2 .left))))

@@ -1,7 +1,7 @@
--- `repair::rows::reduced` meets its contract.
+-- `repair::rows::reduced` meets its contract: a row that begins with zero is only shifted.
 use native.Mathlib.Omega.{arith}
 use borrow.Author.Needs.{needs}
-use Rattle.repair.proofs.Loops.{reduced-is}
+use Rattle.repair.proofs.Loops.{reduced-is, reduced-zero}
 use Rattle.repair.proofs.rows.reduced.Statement.{statement}
 use Rattle.repair.proofs.rows.reduced.Tie as tie
 
@@ -15,7 +15,8 @@ reduced-spec =
     (search needs)
     (search needs)
     (search needs)
+    (λ c. reduced-zero (c .before .before .before .before .before .before .args .t2) (omega arith) (c .before .before .before .before .before .before .args .t1) (c .before .before .copy .ensures) (c .if1 .taken))
     (search needs)
     (search needs)
     (search needs)
-    (λ c. reduced-is (c .before .before .before .before .before .before .before .before .before .args .t2) (omega arith) (c .before .before .before .before .before .before .before .before .before .args .t1) (c .before .before .before .before .before .copy .ensures) (c .before .subtract .ensures)))
+    (λ c. reduced-is (c .before .before .before .before .before .before .before .before .before .before .args .t2) (omega arith) (c .before .before .before .before .before .before .before .before .before .before .args .t1) (c .before .before .before .before .before .before .copy .ensures) (c .before .subtract .ensures)))

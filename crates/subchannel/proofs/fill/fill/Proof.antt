@@ -4,7 +4,7 @@ use mathlib.Core.Path.{_≡_, refl, _∙_}
 use mathlib.Core.Bool.{false}
 use native.Mathlib.Omega.{arith}
 use lib.ListN.{length, getD, length-set}
-use Rattle.interleaver.specs.Running.{depthLimit, matrix, back, beyond}
+use Rattle.matrices.specs.Running.{depthLimit, matrix, back, beyond}
 use Rattle.blocks.specs.Sender.{wordBytes}
 use Rattle.subchannel.proofs.Filling.{Runs, runs-first, runs-next, runs-last, turned-placed}
 use Rattle.subchannel.proofs.fill.fill.Statement.{statement}

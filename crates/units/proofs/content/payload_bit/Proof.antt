@@ -3,7 +3,7 @@ use mathlib.Core.Path.{ap, _∙_}
 use Prim.Native.Nat.{ℕ, _%_}
 use lib.ListN.{getD}
 use borrow.Author.Needs.{needs}
-use Rattle.units.specs.Bits.{digits}
+use Rattle.multiplex.specs.Bits.{digits}
 use Rattle.units.proofs.Contents.{bits-any}
 use Rattle.units.proofs.content.payload_bit.Statement.{statement}
 use Rattle.units.proofs.content.payload_bit.Tie as tie

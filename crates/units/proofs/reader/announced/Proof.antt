@@ -1,6 +1,6 @@
 -- `units::reader::announced` meets its contract.
 use borrow.Author.Tests.{eq-eqb, ne-eqb}
-use Rattle.units.specs.Tables.{announced}
+use Rattle.multiplex.specs.Tables.{announced}
 use Rattle.units.proofs.reader.announced.Statement.{statement}
 use Rattle.units.proofs.reader.announced.Tie as tie
 

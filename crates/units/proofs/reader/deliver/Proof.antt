@@ -1,7 +1,7 @@
 -- `units::reader::deliver` meets its contract.
 use borrow.Author.Needs.{needs}
-use Rattle.units.specs.Tables.{payload}
-use Rattle.units.specs.Reading.{payloadOf}
+use Rattle.multiplex.specs.Tables.{payload}
+use Rattle.multiplex.specs.Reading.{payloadOf}
 use Rattle.units.proofs.Finding.{length-payload}
 use Rattle.units.proofs.Delivering.{deliver-short, delivered}
 use Rattle.units.proofs.reader.deliver.Statement.{statement}

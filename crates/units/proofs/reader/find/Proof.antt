@@ -4,8 +4,8 @@ use Prim.Native.Nat.{_+_, _-_, _≤_}
 use native.Mathlib.Omega.{arith}
 use lib.ListN.{length, take, drop}
 use borrow.Author.Needs.{needs}
-use Rattle.units.specs.Unit.{opened}
-use Rattle.units.specs.Reading.{payloadOf}
+use Rattle.multiplex.specs.Unit.{opened}
+use Rattle.multiplex.specs.Reading.{payloadOf}
 use Rattle.units.proofs.Finding.{length-payload, window-next, window-begins, find-here, find-next, find-over}
 use Rattle.units.proofs.reader.find.Statement.{statement}
 use Rattle.units.proofs.reader.find.Tie as tie

@@ -2,7 +2,7 @@
 use mathlib.Core.Path.{sym, ap, _∙_}
 use Prim.Native.Nat.{ℕ}
 use borrow.Author.Needs.{needs}
-use Rattle.units.specs.Reading.{named}
+use Rattle.multiplex.specs.Reading.{named}
 use Rattle.units.proofs.Hearing.{named-24, named-23, named-22, is-22}
 use Rattle.units.proofs.reader.named.Statement.{statement}
 use Rattle.units.proofs.reader.named.Tie as tie

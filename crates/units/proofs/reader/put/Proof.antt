@@ -5,7 +5,7 @@ use native.Mathlib.Omega.{arith}
 use lib.ListN.{length, drop, length-set}
 use lib.Seq.{paste, paste-zero}
 use borrow.Author.Needs.{needs}
-use Rattle.units.specs.Reading.{payloadOf}
+use Rattle.multiplex.specs.Reading.{payloadOf}
 use Rattle.units.proofs.Finding.{length-payload, put-more, put-done}
 use Rattle.units.proofs.reader.put.Statement.{statement}
 use Rattle.units.proofs.reader.put.Tie as tie

@@ -4,7 +4,7 @@ use Prim.Native.Nat.{_-_}
 use native.Mathlib.Omega.{arith}
 use lib.ListN.{length, drop}
 use borrow.Author.Needs.{needs}
-use Rattle.units.specs.Unit.{begins}
+use Rattle.multiplex.specs.Unit.{begins}
 use Rattle.units.proofs.Finding.{begins-not, begins-next, begins-done}
 use Rattle.units.proofs.reader.same.Statement.{statement}
 use Rattle.units.proofs.reader.same.Tie as tie

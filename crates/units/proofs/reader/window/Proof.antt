@@ -1,7 +1,7 @@
 -- `units::reader::window` meets its contract.
 use native.Mathlib.Omega.{arith}
 use borrow.Author.Needs.{needs}
-use Rattle.units.specs.Reading.{payloadOf}
+use Rattle.multiplex.specs.Reading.{payloadOf}
 use Rattle.units.proofs.Finding.{length-payload, window-of}
 use Rattle.units.proofs.reader.window.Statement.{statement}
 use Rattle.units.proofs.reader.window.Tie as tie

@@ -3,7 +3,7 @@ use mathlib.Core.Path.{ap, _∙_}
 use Prim.Native.Nat.{ℕ, _*_, _/_}
 use borrow.Author.Needs.{needs}
 use borrow.Author.Tests.{eq-eqb, ne-eqb, lt-ltb, le-ltb}
-use Rattle.units.specs.Tables.{step}
+use Rattle.multiplex.specs.Tables.{step}
 use Rattle.units.proofs.table.step.Statement.{statement}
 use Rattle.units.proofs.table.step.Tie as tie
 

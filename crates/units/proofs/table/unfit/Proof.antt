@@ -1,7 +1,7 @@
 -- `units::table::unfit` meets its contract.
 use borrow.Author.Needs.{needs}
 use borrow.Author.Tests.{lt-ltb, le-ltb}
-use Rattle.units.specs.Tables.{unfit}
+use Rattle.multiplex.specs.Tables.{unfit}
 use Rattle.units.proofs.table.unfit.Statement.{statement}
 use Rattle.units.proofs.table.unfit.Tie as tie
 

@@ -5,9 +5,9 @@ use Prim.Native.Nat.{_-_, _≤_}
 use native.Mathlib.Omega.{arith}
 use lib.ListN.{length, drop, length-set}
 use borrow.Author.Needs.{needs}
-use Rattle.units.specs.Bits.{pack}
-use Rattle.units.specs.Tables.{payload}
-use Rattle.units.specs.Unit.{laidOut, unitBits}
+use Rattle.multiplex.specs.Bits.{pack}
+use Rattle.multiplex.specs.Tables.{payload}
+use Rattle.multiplex.specs.Unit.{laidOut, unitBits}
 use Rattle.units.proofs.Placing.{spread-none, spread-more, spread-done}
 use Rattle.units.proofs.writer.spread.Statement.{statement}
 use Rattle.units.proofs.writer.spread.Tie as tie

@@ -16,4 +16,4 @@ told-spec =
     (λ c i.
     let a = c .before .before .before .args in
     sub (lane (settings true (a .parity) (a .depth)) false false zeros (c .before .before .zero .ensures i) (c .before .fresh .ensures i))
-    (c .fresh2 .ensures i)))
+    (c .fresh-back .ensures i)))

@@ -1,0 +1,14 @@
+pub mod Examples
+pub mod Weaving
+pub mod Packing
+pub mod Delimiter
+pub mod Rows
+pub mod Bits
+pub mod Hidden
+pub mod Sequences
+pub mod Carrying
+pub mod Ways
+pub mod Round
+pub mod Keeping
+pub mod Refusing
+pub mod Ignored

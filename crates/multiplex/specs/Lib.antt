@@ -1,0 +1,5 @@
+pub mod Bits
+pub mod Tables
+pub mod Unit
+pub mod Reading
+pub mod Refusing

@@ -1,0 +1,6 @@
+pub mod Keeping
+pub mod Laws
+pub mod Numbers
+pub mod Refusing
+pub mod Rule
+pub mod Signed
