@@ -17,7 +17,7 @@ use Rattle.base.specs.Written.{outcome, write, copied}
 use Rattle.fcs.specs.Fcs as check
 use Rattle.field.specs.Field.{add, mul, pow, alpha, inverse}
 use Rattle.words.specs.Word.{clean, onto, scale}
-use Rattle.words.specs.Residue.{residue}
+use Rattle.words.specs.Residue.{residue, residueFrom}
 use Rattle.parity.specs.Calls.{atPowers, atRoots, made, checked}
 use Rattle.repair.specs.Promise.{Promised}
 use Rattle.matrices.specs.Running.{pushing, closing, pulling}
@@ -181,6 +181,7 @@ use Rattle.field.proofs.power as field-power
 use Rattle.field.proofs.inverse as field-inverse
 use Rattle.lanes.proofs.is_clean as lanes-is-clean
 use Rattle.lanes.proofs.left as lanes-left
+use Rattle.lanes.proofs.left_above as lanes-left-above
 use Rattle.parity.proofs.at_powers as parity-at-powers
 use Rattle.parity.proofs.at_roots as parity-at-roots
 use Rattle.parity.proofs.subtract as parity-subtract
@@ -763,6 +764,10 @@ lanes-is-clean-means = (λ M. lanes-is-clean.Met.met, λ κs a. tt, λ κs a z w
 pub lanes-left-means : Means lanes-left.Statement.statement lanes-left.Kinds.ps lanes-left.Kinds.r lanes-left.Reads.Asked lanes-left.Reads.Learnt
     λ κs bytes l. l ≡ residue 32 (now bytes)
 lanes-left-means = (λ M. lanes-left.Met.met, λ κs a. tt, λ κs a z ws. (λ p. p, λ p. p))
+
+pub lanes-left-above-means : Means lanes-left-above.Statement.statement lanes-left-above.Kinds.ps lanes-left-above.Kinds.r lanes-left-above.Reads.Asked lanes-left-above.Reads.Learnt
+    λ κs bytes l. l ≡ residueFrom 33 32 (now bytes)
+lanes-left-above-means = (λ M. lanes-left-above.Met.met, λ κs a. tt, λ κs a z ws. (λ p. p, λ p. p))
 
 pub parity-at-powers-means : Means parity-at-powers.Statement.statement parity-at-powers.Kinds.ps parity-at-powers.Kinds.r parity-at-powers.Reads.Asked parity-at-powers.Reads.Learnt
     λ κs j word v. v ≡ atPowers j (now word)

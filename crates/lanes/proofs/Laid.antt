@@ -1,7 +1,7 @@
 -- Four numbers as 32 bytes: what each function of `Lanes` leaves, and a turn of each loop.
 -- laid-plus, laid-doubled, laid-shifted, laid-first, laid-zero   sum, double, shift, the first byte, the test
 -- doubles-are, Rows, rows-are   the products with 2, 4 and 8, and with each of 0, 1, .. 15
--- tables-are, product-turn, beyond-is, twice-turn   the products of a byte's halves; a byte's product by its halves; two bytes more of a division
+-- tables-are, divisor-is, tables-both, product-turn, beyond-is, twice-turn   the products of a byte's halves; a byte's product by its halves; two bytes more of a division
 -- pair-.., next-fits   the bytes left are pairs
 -- low-.., high-..  a byte's halves are places in a table
 -- left-..          the bytes handed out
@@ -28,12 +28,11 @@ use Rattle.field.proofs.Sum.{add-comm, parts}
 use Rattle.field.proofs.Product.{mul-assoc, one-mul, double-is, mul-lt}
 use Rattle.words.specs.Word.{scale, onto}
 use Rattle.words.specs.Residue.{laneRoots}
-use Rattle.words.specs.Private.{below, bytesOf, isZero, fed}
-use Rattle.lanes.specs.Private.{laid, nothing, Doubles, Multiples, Tables}
+use Rattle.words.specs.Private.{bytesOf, isZero, fed}
+use Rattle.lanes.specs.Private.{laid, nothing, divisor, Doubles, Multiples, Tables}
 use Rattle.lanes.specs.declared.Lanes.{Lanes}
 use Rattle.lanes.specs.declared.Doublings.{Doublings}
 use Rattle.words.proofs.Sums.{length-scale, length-onto, onto-append, onto-comm, onto-assoc}
-use Rattle.words.proofs.Generator.{length-generator, generator-monic}
 use Rattle.words.proofs.Packed.{length-bytes, bytes-bytes, bytes-xor, bytes-behind, bytes-first, bytes-zero, zero-append, size}
 use Rattle.words.proofs.Residue.{length-fed, scale-zero, scale-add, scale-scale, fed-twice}
 
@@ -341,6 +340,15 @@ tables-are g k e s t low high ek hs he ht hl hh = (λ i h. hl i h ∙ ap (scale 
     sixteenth : laid (t .one) ≡ scale 16 g
     sixteenth = ap laid (ht .0) ∙ he ∙ ap (map double) (hs .1 .2 ∙ ap (scale 8) once) ∙ scale-double 8 g ∙ ap (λ (n : ℕ). scale n g) (twice 8 (omega arith))
 
+pub divisor-is : (g : Lanes) (low high : List Lanes) → Tables low high (laid g) → divisor low ≡ laid g
+divisor-is g low high tables = tables .0 1 (omega arith) ∙ scale-one (laid g) (bytes-laid g)
+
+-- the tables of g and of a step behind it, by the first one's own product with 1
+pub tables-both : (g : Lanes) (low high low2 high2 : List Lanes) → Tables low high (laid g) → Tables low2 high2 (fed (laid g) (laid g) 0)
+    → Tables low high (divisor low) × Tables low2 high2 (fed (divisor low) (divisor low) 0)
+tables-both g low high low2 high2 one two =
+    subst (λ (d : List ℕ). Tables low high d × Tables low2 high2 (fed d d 0)) (sym (divisor-is g low high one)) (one, two)
+
 halves : (f : ℕ) → add (f % 16) (f / 16 * 16) ≡ f
 halves f = add-comm (f % 16) (f / 16 * 16) ∙ sym (parts f 4)
 
@@ -374,16 +382,12 @@ product-turn g low high n tables s t u f hf et eu = eu ∙ ap₂ onto (et ∙ ap
         ∙ sym (onto-assoc hi lo (laid s) (omega (arith, long-lo, long-hi)))
         ∙ ap (λ (v : List ℕ). onto v (laid s)) (onto-comm hi lo (long-hi ∙ sym long-lo) ∙ sym (scale-add (f % 16) (f / 16 * 16) g) ∙ ap (λ (n : ℕ). scale n g) (halves f))
 
-pub length-below : length below ≡ laneRoots
-length-below = omega (arith, ap length (generator-monic laneRoots), length-generator laneRoots)
+pub length-beyond : (g : Lanes) → length (fed (laid g) (laid g) 0) ≡ laneRoots
+length-beyond g = length-fed (laid g) (laid g) 0 refl (omega (arith, length-laid g)) ∙ length-laid g
 
-pub length-beyond : length (fed below below 0) ≡ laneRoots
-length-beyond = length-fed below below 0 refl (omega (arith, length-below)) ∙ length-below
-
-pub beyond-is : (k s u : Lanes) (f : ℕ) → laid k ≡ below → f ≡ getD (laid k) 0 0 → laid s ≡ drop 1 (laid k) ++ 0 ∷ [] → laid u ≡ onto (scale f below) (laid s) → laid u ≡ fed below below 0
+pub beyond-is : (g s u : Lanes) (f : ℕ) → f ≡ getD (laid g) 0 0 → laid s ≡ drop 1 (laid g) ++ 0 ∷ [] → laid u ≡ onto (scale f (laid g)) (laid s) → laid u ≡ fed (laid g) (laid g) 0
 unfolding fed
-beyond-is k s u f ek ef es eu =
-    eu ∙ ap₂ (λ (n : ℕ) (v : List ℕ). onto (scale n below) v) (ef ∙ ap (λ (v : List ℕ). getD v 0 0) ek) (es ∙ ap (λ (v : List ℕ). drop 1 v ++ 0 ∷ []) ek)
+beyond-is g s u f ef es eu = eu ∙ ap₂ (λ (n : ℕ) (v : List ℕ). onto (scale n (laid g)) v) ef es
 
 -- two bytes more of a division
 pub twice-turn : (g xs : List ℕ) (f s x y : ℕ) {v ys : List ℕ} → length g ≡ laneRoots → length xs ≡ laneRoots → f ≡ getD xs 0 0 → s ≡ getD xs 1 0

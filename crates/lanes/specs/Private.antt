@@ -2,6 +2,7 @@
 -- laid             the bytes of four numbers
 -- Doubles          the products with 2, 4 and 8
 -- Multiples, Tables   products with 0, 1, .. 15, and with 16, 32, .. 240
+-- divisor          what a table is of
 use mathlib.Core.Path.{_≡_}
 use mathlib.Core.List.{List, _++_}
 use Prim.Native.Nat.{ℕ, _<_}
@@ -30,3 +31,7 @@ Multiples m g = (i : ℕ) → i < 16 → laid (getD m i nothing) ≡ scale i g
 -- .. and of sixteen times as much
 abbrev pub Tables : List Lanes → List Lanes → List ℕ → Type 0
 Tables low high g = Multiples low g × Multiples high (scale 16 g)
+
+-- the product with 1
+abbrev pub divisor : List Lanes → List ℕ
+divisor m = laid (getD m 1 nothing)

@@ -1,13 +1,14 @@
-//! Division by the generator for 32 roots: what is left lies in four numbers of eight bytes, and two bytes go in at a turn.
+//! Division by the generator for 32 roots, and by the product for the 32 roots behind them: what is left lies in four numbers of eight bytes,
+//! and two bytes go in at a turn.
 ghost use mathlib.Core.Path.{_≡_};
 ghost use mathlib.Core.List.{[], _∷_, _++_, map};
 ghost use Prim.Native.Nat.{_+_, _-_, _%_, _≤_, _<_};
 ghost use lib.ListN.{length, take, drop, getD, replicate};
 ghost use Rattle.field.specs.Field.{double};
 ghost use Rattle.words.specs.Word.{clean, onto};
-ghost use Rattle.words.specs.Residue.{residue, laneRoots};
-ghost use Rattle.words.specs.Private.{below, bytesOf, fed, isZero};
-ghost use Rattle.lanes.specs.Private.{laid, Doubles, Multiples, Tables};
+ghost use Rattle.words.specs.Residue.{residue, residueFrom, laneRoots, nextRoot};
+ghost use Rattle.words.specs.Private.{below, above, bytesOf, fed, fedAll, isZero};
+ghost use Rattle.lanes.specs.Private.{laid, divisor, Doubles, Multiples, Tables};
 
 // 32 coefficients, the highest first: eight in a number.
 struct Lanes {
@@ -77,6 +78,18 @@ impl Lanes {
             b: 0x2B52A4EE019E0D77,
             c: 0x9EE086E3D2A3326B,
             d: 0x281B68FD18EFD82D,
+        }
+    }
+
+    // The product for the next 32 roots, its leading 1 aside.
+    fn above() -> Self
+        ensures { λ r. ⌜ laid r ≡ above ⌝ }
+    {
+        Lanes {
+            a: 0x7765A7C27367EB1E,
+            b: 0xD8F2CFF6D10F89C1,
+            c: 0xB3138D0A4560917F,
+            d: 0xFEB953B2417209EA,
         }
     }
 
@@ -210,12 +223,11 @@ fn rows(s: Doublings) -> [Lanes; 16]
     ]
 }
 
-// One step behind the generator itself: what a byte is worth that stands before the first.
-fn beyond(low: [Lanes; 16], high: [Lanes; 16]) -> Lanes
-    requires { ⌜ Tables low high below ⌝ }
-    ensures { λ r. ⌜ laid r ≡ fed below below 0 ⌝ }
+// One step behind the divisor g itself: what a byte is worth that stands before the first.
+fn beyond(g: Lanes, low: [Lanes; 16], high: [Lanes; 16]) -> Lanes
+    requires { ⌜ Tables low high (laid g) ⌝ }
+    ensures { λ r. ⌜ laid r ≡ fed (laid g) (laid g) 0 ⌝ }
 {
-    let g = Lanes::generator();
     let f = g.first();
     let lower = low[f % 16];
     let upper = high[f / 16];
@@ -276,8 +288,8 @@ fn begun(n: usize, bytes: &[u8]) -> Lanes
     l
 }
 
-// Two bytes a turn. A byte's product is that of its low half and that of its high half: for the second byte in the first two tables, for the
-// first one, which stands a place further up, in the others.
+// Division by what the tables are of, two bytes a turn. A byte's product is that of its low half and that of its high half: for the second byte in
+// the first two tables, for the first one, which stands a place further up, in the others.
 fn divided(
     low: [Lanes; 16],
     high: [Lanes; 16],
@@ -285,8 +297,8 @@ fn divided(
     high2: [Lanes; 16],
     bytes: &[u8],
 ) -> Lanes
-    requires { ⌜ Tables low high below × Tables low2 high2 (fed below below 0) ⌝ }
-    ensures { λ l. ⌜ laid l ≡ residue laneRoots (now (bytes .entry)) ⌝ }
+    requires { ⌜ Tables low high (divisor low) × Tables low2 high2 (fed (divisor low) (divisor low) 0) ⌝ }
+    ensures { λ l. ⌜ laid l ≡ fedAll (divisor low) (replicate laneRoots 0) (now (bytes .entry)) ⌝ }
 {
     let mut i = head(bytes.len());
     let mut l = begun(i, bytes);
@@ -308,17 +320,51 @@ fn divided(
 fn residue(bytes: &[u8]) -> Lanes
     ensures { λ l. ⌜ laid l ≡ residue laneRoots (now (bytes .entry)) ⌝ }
 {
-    let g = steps(Lanes::generator());
-    let eighth = g.eight;
-    let h = steps(eighth.doubled());
-    let low = rows(g);
-    let high = rows(h);
-    let g2 = steps(beyond(low, high));
-    let eighth2 = g2.eight;
-    let h2 = steps(eighth2.doubled());
-    let low2 = rows(g2);
-    let high2 = rows(h2);
+    let g = Lanes::generator();
+    let s = steps(g);
+    let eighth = s.eight;
+    let t = steps(eighth.doubled());
+    let low = rows(s);
+    let high = rows(t);
+    let s2 = steps(beyond(g, low, high));
+    let eighth2 = s2.eight;
+    let t2 = steps(eighth2.doubled());
+    let low2 = rows(s2);
+    let high2 = rows(t2);
     divided(low, high, low2, high2, bytes)
+}
+
+// .. and by the product for the next 32 roots: apart, so that the compiler knows the divisor here too, and makes the tables.
+fn residue_above(bytes: &[u8]) -> Lanes
+    ensures { λ l. ⌜ laid l ≡ residueFrom nextRoot laneRoots (now (bytes .entry)) ⌝ }
+{
+    let g = Lanes::above();
+    let s = steps(g);
+    let eighth = s.eight;
+    let t = steps(eighth.doubled());
+    let low = rows(s);
+    let high = rows(t);
+    let s2 = steps(beyond(g, low, high));
+    let eighth2 = s2.eight;
+    let t2 = steps(eighth2.doubled());
+    let low2 = rows(s2);
+    let high2 = rows(t2);
+    divided(low, high, low2, high2, bytes)
+}
+
+// The bytes, one by one.
+fn unlaid(l: Lanes) -> [u8; ROOTS]
+    ensures { λ r. ⌜ r ≡ laid l ⌝ }
+{
+    let mut rest = l;
+    let mut b = [0u8; ROOTS];
+    let mut i: usize = 0;
+    while i < ROOTS {
+        b[i] = rest.first() as u8;
+        rest = rest.shifted(0);
+        i += 1;
+    }
+    b
 }
 
 /// Whether a word is clean: nothing is left of it.
@@ -332,13 +378,12 @@ pub fn is_clean(word: &[u8]) -> bool
 pub fn left(bytes: &[u8]) -> [u8; ROOTS]
     ensures { λ l. ⌜ l ≡ residue laneRoots (now (bytes .entry)) ⌝ }
 {
-    let mut rest = residue(bytes);
-    let mut l = [0u8; ROOTS];
-    let mut i: usize = 0;
-    while i < ROOTS {
-        l[i] = rest.first() as u8;
-        rest = rest.shifted(0);
-        i += 1;
-    }
-    l
+    unlaid(residue(bytes))
+}
+
+/// What division by the product for the next 32 roots leaves.
+pub fn left_above(bytes: &[u8]) -> [u8; ROOTS]
+    ensures { λ l. ⌜ l ≡ residueFrom nextRoot laneRoots (now (bytes .entry)) ⌝ }
+{
+    unlaid(residue_above(bytes))
 }

@@ -58,13 +58,30 @@ fn step(c: u8, p: [u8; Word::MOST], v: [u8; Word::MOST]) -> [u8; Word::MOST]
     next
 }
 
+// How many zeros stand before the first other byte: the values stay zero over them.
+fn zeros(word: &[u8]) -> usize
+    ensures { λ n. ⌜ (n ≤ length (now (word .entry))) × (take n (now (word .entry)) ≡ replicate n 0) ⌝ }
+{
+    let mut i: usize = 0;
+    while i < word.len() {
+        if word[i] != 0 {
+            return i;
+        }
+        i += 1;
+    }
+    i
+}
+
 /// The values at alpha^j, alpha^(j + 1), .. alpha^(j + 63) of coefficients, the highest first; for j = 1, at all roots that a word may have.
 pub fn at_powers(j: usize, word: &[u8]) -> [u8; Word::MOST]
     ensures { λ v. ⌜ v ≡ atPowers j (now (word .entry)) ⌝ }
 {
-    let p = points(field::power(j));
     let mut v = [0u8; Word::MOST];
-    let mut i: usize = 0;
+    let mut i = zeros(word);
+    if i == word.len() {
+        return v;
+    }
+    let p = points(field::power(j));
     while i < word.len() {
         let next = step(word[i], p, v);
         v = next;
@@ -73,7 +90,19 @@ pub fn at_powers(j: usize, word: &[u8]) -> [u8; Word::MOST]
     v
 }
 
-// Values of which the first r are those of a word at its roots: with at most 32 roots they are had from what division leaves of it.
+// The values of a word at 64 roots: at the first 32 those of what division by their product leaves of it, at the others likewise.
+fn at_all(word: &[u8]) -> [u8; Word::MOST]
+    ensures { λ v. ⌜ v ≡ atPowers 1 (now (word .entry)) ⌝ }
+{
+    let left = lanes::left(word);
+    let low = at_powers(1, &left);
+    let above = lanes::left_above(word);
+    let mut v = at_powers(1, &above);
+    base::copy(&low[..lanes::ROOTS], &mut v);
+    v
+}
+
+// Values of which the first r are those of a word at its roots: with at most 32 roots one division is enough.
 fn at_first(r: usize, word: &[u8]) -> [u8; Word::MOST]
     requires { ⌜ r ≤ rootLimit ⌝ }
     ensures { λ v. ⌜ take r v ≡ valuesFrom (now (word .entry)) 1 r ⌝ }
@@ -82,7 +111,7 @@ fn at_first(r: usize, word: &[u8]) -> [u8; Word::MOST]
         let left = lanes::left(word);
         return at_powers(1, &left);
     }
-    at_powers(1, word)
+    at_all(word)
 }
 
 /// The values of a word at its r roots, at most 64, and zeros behind them.

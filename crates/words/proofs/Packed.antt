@@ -3,7 +3,7 @@
 -- bytes-xor, bytes-double     sum and double of the number, byte by byte; room for the latter
 -- bytes-behind, bytes-first   a byte behind the others, and the first one apart
 -- bytes-zero                  all are zero exactly where the number is
--- below-packed                the generator of 32 roots, its leading 1 aside, as four numbers: computed
+-- below-packed, above-packed  the generator of 32 roots and the product for the next 32, the leading 1 aside, as four numbers: computed
 use mathlib.Core.Path.{_≡_, refl, sym, ap, ap₂, _∙_}
 use mathlib.Core.Bool.{Bool, true, false, _&&_}
 use mathlib.Core.List.{List, [], _∷_, _++_, map, map-append}
@@ -21,7 +21,8 @@ use Rattle.base.proofs.Tests.{all-at, by-eq}
 use Rattle.field.specs.Field.{polynomial, add, double, shiftAdd, mul, pow}
 use Rattle.field.proofs.Product.{double-lt}
 use Rattle.words.specs.Word.{scale, onto, timesRoot, generator}
-use Rattle.words.specs.Private.{bytesOf, below, isZero}
+use Rattle.words.specs.Residue.{generatorFrom}
+use Rattle.words.specs.Private.{bytesOf, below, above, isZero}
 use Rattle.words.proofs.Sums.{onto-append}
 
 pub length-bytes : (n x : ℕ) → length (bytesOf n x) ≡ n
@@ -166,3 +167,7 @@ bytes-zero (suc n) x h =
 pub below-packed : bytesOf 8 0xE81DBD328EF6E80F ++ bytesOf 8 0x2B52A4EE019E0D77 ++ bytesOf 8 0x9EE086E3D2A3326B ++ bytesOf 8 0x281B68FD18EFD82D ≡ below
 unfolding bytesOf generator timesRoot onto scale pow mul shiftAdd double add
 below-packed = refl
+
+pub above-packed : bytesOf 8 0x7765A7C27367EB1E ++ bytesOf 8 0xD8F2CFF6D10F89C1 ++ bytesOf 8 0xB3138D0A4560917F ++ bytesOf 8 0xFEB953B2417209EA ≡ above
+unfolding bytesOf generatorFrom timesRoot onto scale pow mul shiftAdd double add
+above-packed = refl

@@ -1,10 +1,12 @@
--- What long division by the generator leaves of bytes.
--- fedAll, fed-start, fed-next, fed-done   the division byte by byte: its beginning, a turn of two, its end
+-- What long division by the generator leaves of bytes, and by a product for other roots.
+-- fed-start, fed-next, fed-done   the division byte by byte: its beginning, a turn of two, its end
 -- fed-twice                  two steps at once
 -- residue-value              it has the value of the bytes at every root
+-- residue-values, from-values   so at roots that follow each other
+-- residue-fed, from-fed      byte by byte it is the same
 -- residue-clean              of a word nothing is left exactly where it is clean
 -- residue-parity             of a message with zeros behind it the parity is left
-use mathlib.Core.Path.{_≡_, refl, sym, ap, ap₂, _∙_}
+use mathlib.Core.Path.{_≡_, refl, sym, ap, ap₂, _∙_, subst}
 use mathlib.Core.Bool.{Bool, true, false}
 use mathlib.Core.List.{List, [], _∷_, _++_, append-assoc, append-nil}
 use Prim.Native.Nat.{ℕ, zero, suc, _+_, _-_, _≤_, _<_}
@@ -22,20 +24,15 @@ use Rattle.field.specs.Field.{alpha, add, mul, pow}
 use Rattle.field.proofs.Sum.{zero-add}
 use Rattle.field.proofs.Product.{add-mul, mul-add, mul-assoc, mul-zero, zero-mul}
 use Rattle.words.specs.Word.{horner, eval, valuesFrom, scale, onto, generator, divide, remainder, clean}
-use Rattle.words.specs.Residue.{residue, laneRoots}
-use Rattle.words.specs.Private.{below, fed, isZero}
+use Rattle.words.specs.Residue.{generatorFrom, residue, residueFrom, laneRoots}
+use Rattle.words.specs.Private.{fed, fedAll, isZero}
 use Rattle.words.proofs.Sums.{length-scale, length-onto, onto-assoc, onto-comm, onto-append, zeros-onto, product, length-product}
 use Rattle.words.proofs.Values.{horner-append, eval-add, eval-zeros, eval-product}
-use Rattle.words.proofs.Generator.{length-generator, generator-monic, generator-root}
+use Rattle.words.proofs.Generator.{length-generator, generator-monic, generator-root, from-length, from-monic, from-root}
 use Rattle.words.proofs.Division.{divide-step, quotient, length-divide, bytes-divide, length-quotient, bytes-quotient, divide-whole}
 use Rattle.words.proofs.Clean.{roots-clean, clean-roots, zeros}
 
 -- ---- a byte at a time
--- the bytes one after the other
-unfoldable pub fedAll : List ℕ → List ℕ → List ℕ → List ℕ
-fedAll g xs [] = xs
-fedAll g xs (b ∷ bs) = fedAll g (fed g xs b) bs
-
 pub length-fed : (g xs : List ℕ) (x : ℕ) → length xs ≡ length g → 0 < length g → length (fed g xs x) ≡ length g
 unfolding fed
 length-fed g [] x l h = absurd (omega arith)
@@ -204,39 +201,60 @@ same-test true t f h = sym (f refl)
 same-test false true f h = h refl
 same-test false false f h = refl
 
--- ---- by the generator
-module _ (r : ℕ) (w : List ℕ) where
+-- ---- by d, whose leading coefficient is 1
+module _ (r : ℕ) (d w : List ℕ) (monic : d ≡ 1 ∷ drop 1 d) (many : length d ≡ suc r) where
   abbrev g : List ℕ
-  g = drop 1 (generator r)
+  g = drop 1 d
+
+  abbrev rest : List ℕ
+  rest = divide (length w) d (replicate r 0 ++ w)
 
   long-g : length g ≡ r
-  long-g = omega (arith, ap length (generator-monic r), length-generator r)
+  long-g = omega (arith, ap length monic, many)
 
   long : length (replicate r 0 ++ w) ≡ length w + length g
   long = length-append (replicate r 0) w ∙ omega (arith, length-replicate {A = ℕ} r 0, long-g)
 
-  is : residue r w ≡ divide (length w) (1 ∷ g) (replicate r 0 ++ w)
-  unfolding residue
-  is = ap (λ (d : List ℕ). divide (length w) d (replicate r 0 ++ w)) (generator-monic r)
+  is : rest ≡ divide (length w) (1 ∷ g) (replicate r 0 ++ w)
+  is = ap (λ (e : List ℕ). divide (length w) e (replicate r 0 ++ w)) monic
 
-  residue-fed : 0 < r → fedAll g (replicate r 0) w ≡ residue r w
-  residue-fed h = fed-divide g (replicate r 0) w (length-replicate r 0 ∙ sym long-g) (omega (arith, long-g)) ∙ sym is
+  rest-fed : 0 < r → fedAll g (replicate r 0) w ≡ rest
+  rest-fed h = fed-divide g (replicate r 0) w (length-replicate r 0 ∙ sym long-g) (omega (arith, long-g)) ∙ sym is
 
-  pub length-residue : length (residue r w) ≡ r
-  length-residue = ap length is ∙ length-divide (length w) g (replicate r 0 ++ w) (omega (arith, long)) ∙ omega (arith, long, long-g)
+  length-rest : length rest ≡ r
+  length-rest = ap length is ∙ length-divide (length w) g (replicate r 0 ++ w) (omega (arith, long)) ∙ omega (arith, long, long-g)
 
   module _ (b : Bytes w) where
     bytes : Bytes (replicate r 0 ++ w)
     bytes = each-append IsByte (replicate r 0) w (each-replicate IsByte r 0 (omega arith)) b
 
+    bytes-rest : Bytes rest
+    bytes-rest = rw is (bytes-divide (length w) g (replicate r 0 ++ w) bytes)
+
+    rest-value : (a : ℕ) → eval d a ≡ 0 → eval rest a ≡ eval w a
+    rest-value a z =
+        ap (λ (l : List ℕ). eval l a) is
+        ∙ divide-value a (length w) g (replicate r 0 ++ w) (ap (λ (l : List ℕ). eval l a) (sym monic) ∙ z) bytes long
+        ∙ zeros-before a r w
+
+-- ---- by the generator
+module _ (r : ℕ) (w : List ℕ) where
+  pub residue-fed : 0 < r → fedAll (drop 1 (generator r)) (replicate r 0) w ≡ residue r w
+  unfolding residue
+  residue-fed h = rest-fed r (generator r) w (generator-monic r) (length-generator r) h
+
+  pub length-residue : length (residue r w) ≡ r
+  unfolding residue
+  length-residue = length-rest r (generator r) w (generator-monic r) (length-generator r)
+
+  module _ (b : Bytes w) where
     pub bytes-residue : Bytes (residue r w)
-    bytes-residue = rw is (bytes-divide (length w) g (replicate r 0 ++ w) bytes)
+    unfolding residue
+    bytes-residue = bytes-rest r (generator r) w (generator-monic r) (length-generator r) b
 
     pub residue-value : (j : ℕ) → 0 < j → j ≤ r → eval (residue r w) (pow alpha j) ≡ eval w (pow alpha j)
-    residue-value j p q =
-        ap (λ (l : List ℕ). eval l (pow alpha j)) is
-        ∙ divide-value (pow alpha j) (length w) g (replicate r 0 ++ w) (ap (λ (l : List ℕ). eval l (pow alpha j)) (sym (generator-monic r)) ∙ generator-root r j p q) bytes long
-        ∙ zeros-before (pow alpha j) r w
+    unfolding residue
+    residue-value j p q = rest-value r (generator r) w (generator-monic r) (length-generator r) b (pow alpha j) (generator-root r j p q)
 
     pub residue-clean : r < 255 → isZero (residue r w) ≡ clean r w
     residue-clean k = same-test (isZero (residue r w)) (clean r w) (λ z. roots-clean r w (λ j p q. sym (residue-value j p q) ∙ gone z j)) (λ c. ap isZero (nothing c) ∙ is-zero r)
@@ -248,8 +266,9 @@ module _ (r : ℕ) (w : List ℕ) where
         nothing c = zeros r k (residue r w) length-residue bytes-residue (λ j p q. residue-value j p q ∙ clean-roots r w c j p q)
 
 -- the division begins with the first n bytes laid down behind zeros
-pub fed-start : (w : List ℕ) (n : ℕ) {xs : List ℕ} → n ≤ laneRoots → n ≤ length w → xs ≡ replicate (laneRoots - n) 0 ++ take n w → fedAll below xs (drop n w) ≡ residue laneRoots w
-fed-start w n h k e = ap (λ (v : List ℕ). fedAll below v (drop n w)) e ∙ fed-begun below laneRoots n w h k ∙ residue-fed laneRoots w (omega arith)
+pub fed-start : (g w : List ℕ) (n : ℕ) {xs : List ℕ} → n ≤ laneRoots → n ≤ length w → xs ≡ replicate (laneRoots - n) 0 ++ take n w
+    → fedAll g xs (drop n w) ≡ fedAll g (replicate laneRoots 0) w
+fed-start g w n h k e = ap (λ (v : List ℕ). fedAll g v (drop n w)) e ∙ fed-begun g laneRoots n w h k
 
 -- the values at the first n roots, from any of them on
 pub residue-values : (r : ℕ) (w : List ℕ) → Bytes w → (n j : ℕ) → 0 < j → j + n ≤ suc r → valuesFrom (residue r w) j n ≡ valuesFrom w j n
@@ -257,12 +276,37 @@ unfolding valuesFrom
 residue-values r w b zero j p q = refl
 residue-values r w b (suc n) j p q = ap₂ _∷_ (residue-value r w b j p (omega arith)) (residue-values r w b n (suc j) (omega arith) (omega arith))
 
+-- ---- by the product for n roots from alpha^j on
+module _ (j n : ℕ) (w : List ℕ) where
+  pub from-fed : 0 < n → fedAll (drop 1 (generatorFrom j n)) (replicate n 0) w ≡ residueFrom j n w
+  unfolding residueFrom
+  from-fed h = rest-fed n (generatorFrom j n) w (from-monic j n) (from-length j n) h
+
+  module _ (b : Bytes w) where
+    from-value : (i : ℕ) → i < n → eval (residueFrom j n w) (pow alpha (j + i)) ≡ eval w (pow alpha (j + i))
+    unfolding residueFrom
+    from-value i h = rest-value n (generatorFrom j n) w (from-monic j n) (from-length j n) b (pow alpha (j + i)) (from-root j n i h)
+
+    values-behind : (k i : ℕ) → i + k ≤ n → valuesFrom (residueFrom j n w) (j + i) k ≡ valuesFrom w (j + i) k
+    unfolding valuesFrom
+    values-behind zero i h = refl
+    values-behind (suc k) i h = ap₂ _∷_ (from-value i (omega arith)) (subst (λ (p : ℕ). valuesFrom (residueFrom j n w) p k ≡ valuesFrom w p k) more (values-behind k (suc i) (omega arith)))
+      where
+        more : j + suc i ≡ suc (j + i)
+        more = omega arith
+
+    pub from-values : valuesFrom (residueFrom j n w) j n ≡ valuesFrom w j n
+    from-values = subst (λ (p : ℕ). valuesFrom (residueFrom j n w) p n ≡ valuesFrom w p n) none (values-behind n 0 (omega arith))
+      where
+        none : j + 0 ≡ j
+        none = omega arith
+
 pub residue-parity : (r : ℕ) (m : List ℕ) → residue r (m ++ replicate r 0) ≡ remainder r m
-unfolding remainder
+unfolding residue remainder
 residue-parity r m =
-    is r (m ++ replicate r 0)
-    ∙ ap (λ (n : ℕ). divide n (1 ∷ g r (m ++ replicate r 0)) (replicate r 0 ++ (m ++ replicate r 0))) long-m
-    ∙ divide-zeros r (length m) (g r m) (m ++ replicate r 0)
+    is r (generator r) (m ++ replicate r 0) (generator-monic r) (length-generator r)
+    ∙ ap (λ (n : ℕ). divide n (1 ∷ drop 1 (generator r)) (replicate r 0 ++ (m ++ replicate r 0))) long-m
+    ∙ divide-zeros r (length m) (drop 1 (generator r)) (m ++ replicate r 0)
     ∙ ap (λ (d : List ℕ). divide (length m) d (m ++ replicate r 0)) (sym (generator-monic r))
   where
     long-m : length (m ++ replicate r 0) ≡ r + length m

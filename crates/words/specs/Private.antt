@@ -2,8 +2,10 @@
 -- points     x, alpha x, alpha^2 x, ..
 -- stepped    one step of Horner's rule at every point
 -- below      the generator for `laneRoots` roots, its leading 1 aside
+-- above      the product for as many roots behind them, its leading 1 aside
 -- bytesOf    the bytes of a number
 -- fed        a step of long division
+-- fedAll     the division byte by byte
 -- isZero     whether nothing is left
 use mathlib.Core.Bool.{Bool, true, _&&_}
 use mathlib.Core.List.{List, [], _∷_, _++_}
@@ -12,7 +14,7 @@ use lib.Dec.{eqb}
 use lib.ListN.{drop, getD}
 use Rattle.field.specs.Field.{alpha, add, mul}
 use Rattle.words.specs.Word.{scale, onto, generator}
-use Rattle.words.specs.Residue.{laneRoots}
+use Rattle.words.specs.Residue.{generatorFrom, laneRoots, nextRoot}
 
 -- n points from x on, each alpha times the one before it
 unfoldable pub points : ℕ → ℕ → List ℕ
@@ -29,6 +31,10 @@ stepped c (x ∷ p) (y ∷ v) = add (mul x y) c ∷ stepped c p v
 abbrev pub below : List ℕ
 below = drop 1 (generator laneRoots)
 
+-- those of the product for the roots behind them
+abbrev pub above : List ℕ
+above = drop 1 (generatorFrom nextRoot laneRoots)
+
 -- the last n bytes of a number, the highest first
 unfoldable pub bytesOf : ℕ → ℕ → List ℕ
 bytesOf zero x = []
@@ -37,6 +43,11 @@ bytesOf (suc n) x = bytesOf n (x / 256) ++ x % 256 ∷ []
 -- one step of division by 1 ∷ g: the first place goes, its multiple of g is taken away, and a byte comes behind
 unfoldable pub fed : List ℕ → List ℕ → ℕ → List ℕ
 fed g xs x = onto (scale (getD xs 0 0) g) (drop 1 xs ++ x ∷ [])
+
+-- the bytes one after the other
+unfoldable pub fedAll : List ℕ → List ℕ → List ℕ → List ℕ
+fedAll g xs [] = xs
+fedAll g xs (b ∷ bs) = fedAll g (fed g xs b) bs
 
 -- whether every one is zero
 unfoldable pub isZero : List ℕ → Bool

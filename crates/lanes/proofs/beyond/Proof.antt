@@ -1,6 +1,6 @@
--- `lanes::beyond` meets its contract: a step of the division, with the generator in the lanes.
-use Rattle.words.specs.Private.{below}
-use Rattle.lanes.proofs.Laid.{length-below, product-turn, beyond-is, low-place, low-fits, high-place, high-fits}
+-- `lanes::beyond` meets its contract: a step of the division, with the divisor in the lanes.
+use Rattle.lanes.specs.Private.{laid}
+use Rattle.lanes.proofs.Laid.{length-laid, product-turn, beyond-is, low-place, low-fits, high-place, high-fits}
 use Rattle.lanes.proofs.beyond.Statement.{statement}
 use Rattle.lanes.proofs.beyond.Tie as tie
 
@@ -8,7 +8,6 @@ pub beyond-spec : {M : Type 1} → statement M
 beyond-spec =
     tie.close
     (tie.spec
-    (λ c κs. tt)
     (λ c κs. tt)
     (λ c. low-fits (c .first .result))
     (λ c. low-place (c .first .result))
@@ -19,7 +18,8 @@ beyond-spec =
     (λ c κs. tt)
     (λ c.
     let first = c .before .before .before .before .before in
-    let start = c .before .before .before .before .before .before .before in
-    beyond-is _ (c .before .before .shifted .result) (c .plus2 .result) _ (first .before .generator .ensures) (first .first .ensures .0) (c .before .before .shifted .ensures)
-    (product-turn below (start .args .t1) (start .args .t2) length-below (start .pre) (c .before .before .shifted .result) (c .before .plus .result) (c .plus2 .result) _
+    let start = first .before in
+    let g = start .args .g in
+    beyond-is g (c .before .before .shifted .result) (c .plus2 .result) _ (first .first .ensures .0) (c .before .before .shifted .ensures)
+    (product-turn (laid g) (start .args .t2) (start .args .t3) (length-laid g) (start .pre) (c .before .before .shifted .result) (c .before .plus .result) (c .plus2 .result) _
     (first .first .ensures .1) (c .before .plus .ensures) (c .plus2 .ensures))))

@@ -3,19 +3,19 @@
 use mathlib.Core.Path.{_≡_, ap, _∙_}
 use Prim.Native.Nat.{_-_, _%_, _≤_, _<_}
 use native.Mathlib.Omega.{arith}
-use lib.ListN.{length, drop}
+use lib.ListN.{length, drop, getD, replicate}
 use borrow.Author.Needs.{needs}
 use Rattle.words.specs.Word.{scale, onto}
-use Rattle.words.specs.Residue.{residue, laneRoots}
-use Rattle.words.specs.Private.{below, fed}
-use Rattle.lanes.specs.Private.{laid}
-use Rattle.words.proofs.Residue.{fedAll, fed-start, fed-next, fed-done}
-use Rattle.lanes.proofs.Laid.{length-laid, length-below, length-beyond, product-turn, twice-turn, pair-next, pair-fits, next-fits, low-place, low-fits, high-place, high-fits}
+use Rattle.words.specs.Residue.{laneRoots}
+use Rattle.words.specs.Private.{fed, fedAll}
+use Rattle.lanes.specs.Private.{laid, nothing, divisor}
+use Rattle.words.proofs.Residue.{fed-start, fed-next, fed-done}
+use Rattle.lanes.proofs.Laid.{length-laid, length-beyond, product-turn, twice-turn, pair-next, pair-fits, next-fits, low-place, low-fits, high-place, high-fits}
 use Rattle.lanes.proofs.divided.Statement.{statement}
 use Rattle.lanes.proofs.divided.Tie as tie
 
 abbrev Inv-loop : tie.InvT-loop
-Inv-loop bytes low high low2 high2 i₀ l₀ i l = (i ≤ length bytes) × ((length bytes - i) % 2 ≡ 0) × (length bytes < 0x10000000000000000) × (fedAll below (laid l) (drop i bytes) ≡ residue laneRoots bytes)
+Inv-loop bytes low high low2 high2 i₀ l₀ i l = (i ≤ length bytes) × ((length bytes - i) % 2 ≡ 0) × (length bytes < 0x10000000000000000) × (fedAll (divisor low) (laid l) (drop i bytes) ≡ fedAll (divisor low) (replicate laneRoots 0) bytes)
 
 abbrev μ-loop : tie.MeasureT-loop
 μ-loop bytes low high low2 high2 i₀ l₀ i l = length bytes - i
@@ -28,7 +28,7 @@ divided-spec =
     (λ c κs. (c .head .ensures .0, c .head .ensures .1))
     (λ c.
     let n = c .before .head .ensures in
-    (n .1, n .2, omega arith, fed-start _ _ (n .0) (n .1) (c .begun .ensures)))
+    (n .1, n .2, omega arith, fed-start _ _ _ (n .0) (n .1) (c .begun .ensures)))
     (λ c κs. tt)
     (λ c κs. tt)
     (λ c. low-fits (c .second .result))
@@ -60,18 +60,19 @@ divided-spec =
     let at = first .before .before in
     let start = at .before .before .before .before in
     let l = at .loop .l in
+    let g = getD (start .args .t1) 1 nothing in
     let pair = pair-next (at .loop .i) _ (first .before .loop-test .taken) (at .loop .inv .1) in
     let one =
-    product-turn below (start .args .t1) (start .args .t2) length-below (start .pre .0) (two .shifted-twice .result) (c .before .before .before .plus .result) (c .before .before .plus2 .result)
+    product-turn (laid g) (start .args .t1) (start .args .t2) (length-laid g) (start .pre .0) (two .shifted-twice .result) (c .before .before .before .plus .result) (c .before .before .plus2 .result)
     (second .second .result) (second .second .ensures .1) (c .before .before .before .plus .ensures) (c .before .before .plus2 .ensures) in
     let other =
-    product-turn (fed below below 0) (start .args .t3) (start .args .t4) length-beyond (start .pre .1) (c .before .before .plus2 .result) (c .before .plus3 .result) (c .plus4 .result)
+    product-turn (fed (laid g) (laid g) 0) (start .args .t3) (start .args .t4) (length-beyond g) (start .pre .1) (c .before .before .plus2 .result) (c .before .plus3 .result) (c .plus4 .result)
     (first .first .result) (first .first .ensures .1) (c .before .plus3 .ensures) (c .plus4 .ensures) in (
       pair .1,
       pair .2,
       at .loop .inv .2,
-      fed-next below (laid l) (start .args .bytes .now) (at .loop .i) (at .loop .inv .3) (pair .0)
-          (twice-turn below (laid l) (first .first .result) (second .second .result) _ _ length-below (length-laid l) (first .first .ensures .0) (second .second .ensures .0)
-          (one ∙ ap (onto (scale (second .second .result) below)) (two .shifted-twice .ensures)) other),
+      fed-next (laid g) (laid l) (start .args .bytes .now) (at .loop .i) (at .loop .inv .3) (pair .0)
+          (twice-turn (laid g) (laid l) (first .first .result) (second .second .result) _ _ (length-laid g) (length-laid l) (first .first .ensures .0) (second .second .ensures .0)
+          (one ∙ ap (onto (scale (second .second .result) (laid g))) (two .shifted-twice .ensures)) other),
     ))
     (λ c. fed-done _ _ _ _ (c .before .loop .inv .3) (c .loop-test .left)))

@@ -17,4 +17,4 @@ at-first-spec =
     let start = c .before .before .before .before in
     first-left _ _ (bytes-of (start .before .args .word .now) (λ i. start .shared-slice-known .given i .fits)) (c .before .before .before .if1 .taken) (c .before .before .left .ensures) (c .at-powers .ensures))
     (search needs)
-    (λ c. first-all _ _ (omega arith) (c .at-powers2 .ensures)))
+    (λ c. first-all _ _ (omega arith) (c .at-all .ensures)))

@@ -5,8 +5,7 @@ use native.Mathlib.Omega.{arith}
 use lib.ListN.{length, take}
 use borrow.Author.Needs.{needs}
 use Rattle.words.specs.Word.{valuesFrom}
-use Rattle.words.proofs.Roots.{values-none}
-use Rattle.parity.proofs.Loops.{at-powers-next, at-powers-done}
+use Rattle.parity.proofs.Loops.{zeros-values, at-powers-next, at-powers-done}
 use Rattle.parity.proofs.at_powers.Statement.{statement}
 use Rattle.parity.proofs.at_powers.Tie as tie
 use Rattle.parity.specs.Calls.{rootLimit}
@@ -22,8 +21,16 @@ at-powers-spec =
     tie.close
     (tie.spec Inv-loop μ-loop
     (search needs)
+    (λ c.
+    let a = c .before .before .before .args in
+    let n = c .before .zeros .result in
+    at-powers-done (a .j) n (a .word .now) (zeros-values (a .j) n (a .word .now) (c .before .zeros .ensures .1)) (omega arith))
     (search needs)
-    (λ c. (omega arith, values-none _ rootLimit))
+    (search needs)
+    (λ c.
+    let passed = c .before .before .before in
+    let a = passed .before .before .args in
+    (passed .zeros .ensures .0, zeros-values (a .j) (passed .zeros .result) (a .word .now) (passed .zeros .ensures .1)))
     (search needs)
     (search needs)
     (search needs)
