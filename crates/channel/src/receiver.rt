@@ -249,7 +249,8 @@ impl Receiver {
     // A call behind refusals 10 and 11: a stored word's rest, then bytes up to a word's, then those.
     fn hear_on(self, recv: &mut [u8], word: &mut [u8], piece: &[u8]) -> Hearing
         requires { ⌜ (sound self ≡ true) × (roomy (now recv) (now word) ≡ true) ⌝ }
-        ensures { λ r. ⌜ HearingIs (hearOn (board self (now (recv .entry)) (now (word .entry))) (now (piece .entry))) r (now (recv .exit)) (now (word .exit)) ⌝ }
+        ensures { λ r. ⌜ HearingIs (hearOn (board self (now (recv .entry)) (now (word .entry))) (now (piece .entry)))
+            r (now (recv .exit)) (now (word .exit)) ⌝ }
     {
         let handed = self.hand_on(recv, word);
         if handed.done {
@@ -267,7 +268,8 @@ impl Receiver {
 
     /// One call: at most one answer, and no byte behind the one that caused it is taken.
     pub fn hear(self, recv: &mut [u8], word: &mut [u8], piece: &[u8]) -> Hearing
-        ensures { λ r. ⌜ HearingIs (hearCall (board self (now (recv .entry)) (now (word .entry))) (now (piece .entry))) r (now (recv .exit)) (now (word .exit)) ⌝ }
+        ensures { λ r. ⌜ HearingIs (hearCall (board self (now (recv .entry)) (now (word .entry))) (now (piece .entry)))
+            r (now (recv .exit)) (now (word .exit)) ⌝ }
     {
         if !self.sound() {
             return Hearing {

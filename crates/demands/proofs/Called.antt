@@ -100,7 +100,7 @@ small-byte h b = small-take (eqb b flag) (h .st .opened) h b
 frame-only : (o : Option Told) (h : Held) (n : ℕ) → With SmallHeld o h → OfCall n → o ≡ some (refusal n) → ⊥
 frame-only o h n w k e = frame-or-call n (subst (λ (o : Option Told). With SmallHeld o h) e w) k
 
-is-read : (h : Held) (m n : ℕ) → OfCall m → ByRead (some (refusal m), 0, h) n ↔ n ≡ m
+is-read : (h : Held) (m n : ℕ) → OfCall m → ByRead {B = Held} (some (refusal m), 0, h) n ↔ n ≡ m
 is-read h m n k = (λ e. let z : m ≡ n = cc in sym z, λ e. (subst OfCall (sym e) k, λ i. some (refusal (sym e i))))
 
 pub read-exact : (h : Held) (bs : List ℕ) → Exact ByRead (readCall h bs) ((10, FrameBeyond (h .st)) ∷ (11, length (h .recv) < rawLimit) ∷ [])

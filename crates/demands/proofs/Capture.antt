@@ -44,8 +44,8 @@ use Rattle.capture.specs.declared.reader.Capture.{Capture}
 use Rattle.capture.proofs.Cutting.{read-yields, every-cut}
 use Rattle.capture.proofs.There.{export-there, read-there}
 use Rattle.demands.specs.Table.{Exact}
-use Rattle.demands.specs.Refusals.{ByCall}
-use Rattle.demands.specs.Captures.{CaptureBeyond, NoPacket, HeaderMissed, RecordCut, FaultBefore, ByImport, ByEnd, FetchedHeld, FetchedBoard, FetchedSub, FetchedDeck}
+use Rattle.demands.specs.Refusals.{ByCall, ByRead}
+use Rattle.demands.specs.Captures.{CaptureBeyond, NoPacket, HeaderMissed, RecordCut, FaultBefore, ByEnd, FetchedHeld, FetchedBoard, FetchedSub, FetchedDeck}
 use Rattle.demands.specs.Captures.{put, entriesBy}
 use Rattle.demands.proofs.Fetching.{Enters, packet-there, plain-fetched, board-fetched, sub-fetched, deck-fetched}
 use Rattle.demands.proofs.Rows.{wrote}
@@ -195,7 +195,7 @@ pub enter-refusals : (i : ℕ) (bs out : List ℕ) → Bytes bs → Exact ByCall
     [])
 enter-refusals = enter-exact
 
-pub import-refusals : (h : Held) (bs : List ℕ) → Exact ByImport (readCall h bs)
+pub import-refusals : (h : Held) (bs : List ℕ) → Exact ByRead (readCall h bs)
     ((10, CaptureBeyond (h .st)) ∷  -- a count of the state is beyond its limit
     (11, length (h .store) < entryLimit) ∷  -- store under 8,231 bytes
     [])
@@ -221,5 +221,5 @@ enter-keeps i bs out = go (entry bs)
     go (refusal n) = refused-keeps n out
     go (broken n) = refused-keeps 62 out
 
-pub import-keeps : (h : Held) (bs : List ℕ) (n : ℕ) → ByImport (readCall h bs) n → readCall h bs ≡ (some (refusal n), 0, h)
+pub import-keeps : (h : Held) (bs : List ℕ) (n : ℕ) → ByRead (readCall h bs) n → readCall h bs ≡ (some (refusal n), 0, h)
 import-keeps = import-same

@@ -28,8 +28,8 @@ use Rattle.capture.specs.declared.reader.Capture.the-variants.{Header, Head, Re
 use Rattle.capture.specs.declared.reader.Ended.the-variants.{Whole, Refused}
 use Rattle.capture.proofs.Entering.{length-record}
 use Rattle.demands.specs.Table.{Exact}
-use Rattle.demands.specs.Refusals.{OfCall, ByCall}
-use Rattle.demands.specs.Captures.{CaptureBeyond, NoPacket, HeaderMissed, RecordCut, FaultBefore, ByImport, ByEnd}
+use Rattle.demands.specs.Refusals.{OfCall, ByCall, ByRead}
+use Rattle.demands.specs.Captures.{CaptureBeyond, NoPacket, HeaderMissed, RecordCut, FaultBefore, ByEnd}
 use Rattle.demands.proofs.Rows.{applies, over, passed, not-both, refuses, wrote}
 use Rattle.demands.proofs.Called.{not-most}
 
@@ -102,25 +102,25 @@ own-only o h n w k e =
     let l : 60 ≤ n = subst (λ (o : Option Told). With Own o h) e w in
     ⊎-elim (λ z. omega (arith, l, z)) (λ z. omega (arith, l, z)) k
 
-is-import : (h : Held) (m n : ℕ) → OfCall m → ByImport (some (refusal m), 0, h) n ↔ n ≡ m
-is-import h m n k = (λ e. let z : m ≡ n = cc in sym z, λ e. (subst OfCall (sym e) k, λ i. some (refusal (sym e i))))
+is-read : (h : Held) (m n : ℕ) → OfCall m → ByRead {B = Held} (some (refusal m), 0, h) n ↔ n ≡ m
+is-read h m n k = (λ e. let z : m ≡ n = cc in sym z, λ e. (subst OfCall (sym e) k, λ i. some (refusal (sym e i))))
 
-pub import-exact : (h : Held) (bs : List ℕ) → Exact ByImport (readCall h bs) ((10, CaptureBeyond (h .st)) ∷ (11, length (h .store) < entryLimit) ∷ [])
+pub import-exact : (h : Held) (bs : List ℕ) → Exact ByRead (readCall h bs) ((10, CaptureBeyond (h .st)) ∷ (11, length (h .store) < entryLimit) ∷ [])
 import-exact h bs = go (sound (h .st)) (leb entryLimit (length (h .store))) refl refl
   where
     go : (s r : Bool) → sound (h .st) ≡ s → leb entryLimit (length (h .store)) ≡ r
-        → Exact ByImport (readBy s r h bs) ((10, CaptureBeyond (h .st)) ∷ (11, length (h .store) < entryLimit) ∷ [])
-    go false r e f = applies ByImport _ (λ n. is-import h 10 n (inl refl)) (beyond (h .st) e)
-    go true false e f = over ByImport (within (h .st) e) (applies ByImport _ (λ n. is-import h 11 n (inr refl)) (leb-false _ _ f))
+        → Exact ByRead (readBy s r h bs) ((10, CaptureBeyond (h .st)) ∷ (11, length (h .store) < entryLimit) ∷ [])
+    go false r e f = applies ByRead _ (λ n. is-read h 10 n (inl refl)) (beyond (h .st) e)
+    go true false e f = over ByRead (within (h .st) e) (applies ByRead _ (λ n. is-read h 11 n (inr refl)) (leb-false _ _ f))
     go true true e f =
-        over ByImport (within (h .st) e) (over ByImport (not-most _ _ f) (passed ByImport λ n b.
+        over ByRead (within (h .st) e) (over ByRead (not-most _ _ f) (passed ByRead λ n b.
         own-only (readOn h bs .0) (readOn h bs .2) n
         (with-hear owesNone handsNone takeByte none-owed Own (λ g. tt) (λ g b. own-take (g .st) (g .store) b) h bs) (b .0) (b .1)))
 
-pub import-same : (h : Held) (bs : List ℕ) (n : ℕ) → ByImport (readCall h bs) n → readCall h bs ≡ (some (refusal n), 0, h)
+pub import-same : (h : Held) (bs : List ℕ) (n : ℕ) → ByRead (readCall h bs) n → readCall h bs ≡ (some (refusal n), 0, h)
 import-same h bs n = go (sound (h .st)) (leb entryLimit (length (h .store)))
   where
-    go : (s r : Bool) → ByImport (readBy s r h bs) n → readBy s r h bs ≡ (some (refusal n), 0, h)
+    go : (s r : Bool) → ByRead (readBy s r h bs) n → readBy s r h bs ≡ (some (refusal n), 0, h)
     go false r b = λ i. (b .1 i, 0, h)
     go true false b = λ i. (b .1 i, 0, h)
     go true true b =

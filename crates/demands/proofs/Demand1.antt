@@ -63,7 +63,7 @@ use Rattle.office.specs.Desk.{Desk, endingOf, refusal as line-refusal}
 use Rattle.office.specs.Called.{holdLimit, outLimit, starting, denied, hearCall as desk-hear, closeCall, spokenOut, answeredOut, finishing as desk-finish}
 use Rattle.demands.specs.Table.{Exact}
 use Rattle.demands.specs.Desks.{DeskBeyond, DeskShort, lineRows, ByDesk, ByStart, ByLine, BySpoken}
-use Rattle.demands.specs.Refusals.{PlaceBeyond, Unusable, Unfit, frameRows, FrameBeyond, Beyond, NextBeyond, TapeBeyond, BoardBeyond, Short, OfFrame, OfCall, ByFrame, ByCall, ByState, ByCheck, ByRepair, ByRead, ByHear, ByNext, ByTake, ByShow}
+use Rattle.demands.specs.Refusals.{PlaceBeyond, Unusable, UnfitHead, frameRows, FrameBeyond, Beyond, NextBeyond, TapeBeyond, BoardBeyond, Short, OfFrame, OfCall, ByFrame, ByCall, ByState, ByCheck, ByRepair, ByRead, ByHear, ByNext, ByTake, ByShow}
 use Rattle.demands.proofs.Rows.{row, row-not, not-less, not-same, refuses, wrote, refuses-word, found, repair-as-check, calling-exact, calling-same}
 use Rattle.demands.proofs.Frames.{barred-is, free-is, unfit-is, fit-is, closed-exact, judging-exact, judging-same, judge-exact, undone}
 use Rattle.demands.proofs.Called.{read-given, hear-given, read-exact, read-same, hear-exact, hear-same}
@@ -154,7 +154,7 @@ pub write-refusals : (p : Packet) (out : List ℕ) → Exact ByCall (writing p o
     ((20, length (p .payload) ≡ 0) ∷  -- payload empty
     (21, payloadLimit < length (escape (p .payload))) ∷  -- payload above 8,192 bytes as escaped
     (22, Unusable (p .port)) ∷  -- port 7D00-7EFF
-    (24, Unfit p) ∷  -- a 0x26 key length outside 2 to 32, another format, or a key length or number above zero in format 0x21
+    (24, UnfitHead p) ∷  -- a 0x26 key length outside 2 to 32, another format, or a key length or number above zero in format 0x21
     (23, length out < length (frameOf p)) ∷  -- output shorter than the result
     [])
 unfolding writing
@@ -169,7 +169,7 @@ pub begin-refusals : (out : List ℕ) → Exact ByCall (write (flag ∷ []) out)
 begin-refusals out = wrote (flag ∷ []) out 1 refl
 
 pub append-refusals : (at : ℕ) (p : Packet) (out : List ℕ) → Exact ByCall (appending at p out)
-    ((20, length (p .payload) ≡ 0) ∷ (21, payloadLimit < length (escape (p .payload))) ∷ (22, Unusable (p .port)) ∷ (24, Unfit p)
+    ((20, length (p .payload) ≡ 0) ∷ (21, payloadLimit < length (escape (p .payload))) ∷ (22, Unusable (p .port)) ∷ (24, UnfitHead p)
     ∷ (23, length (drop at out) < length (frameOf p)) ∷ [])
 append-refusals at p out = record { says = write-refusals p (drop at out) .says }
 

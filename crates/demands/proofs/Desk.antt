@@ -35,7 +35,7 @@ use Rattle.office.specs.Desk.{Spoken, blocks, unread, refusal, Said, endingBy, 
 use Rattle.office.specs.Called.{heldLimit, holdLimit, outLimit, freshOffice, starting, sound, roomy, hearOn, denied, hearBy, hearCall, endBytes, closeCall, spoken, answered, spokenOut, answeredOut, finishBy, finishing}
 use Rattle.demands.specs.Table.{Exact}
 use Rattle.demands.specs.Refusals.{ByCall}
-use Rattle.demands.specs.Desks.{DeskBeyond, DeskShort, Bids, lineRows, OfCall, ByDesk, ByStart, ByLine, BySpoken}
+use Rattle.demands.specs.Desks.{DeskBeyond, DeskShort, Bids, lineRows, OfDesk, ByDesk, ByStart, ByLine, BySpoken}
 use Rattle.demands.proofs.Rows.{applies, over, row, passed, not-less, refuses, wrote, first-each, not-both}
 use Rattle.demands.proofs.Frames.{barred-is, free-is}
 use Rattle.demands.proofs.Called.{not-most}
@@ -144,7 +144,7 @@ eat-said d b = go (eqb b feed)
 hear-said : (d : Desk) (bs : List ℕ) → With SaidOfLine (hearOn d bs .0) (hearOn d bs .2)
 hear-said d bs = with-hear owesNone handsNone eat none-owed SaidOfLine (λ g. tt) eat-said d bs
 
-line-only : (o : Option Said) (d : Desk) (n : ℕ) → With SaidOfLine o d → OfCall n → answered o ≡ Refused n → ⊥
+line-only : (o : Option Said) (d : Desk) (n : ℕ) → With SaidOfLine o d → OfDesk n → answered o ≡ Refused n → ⊥
 line-only none d n w c e = let z : _≡_ {A = ℕ} 0 1 = cc in omega arith
 line-only (some (k, blocks bs)) d n w c e = let z : _≡_ {A = ℕ} 0 1 = cc in omega arith
 line-only (some (k, unread)) d n w c e = let z : _≡_ {A = ℕ} 0 1 = cc in omega arith
@@ -153,8 +153,8 @@ line-only (some (k, refusal m)) d n w c e =
     ⊎-elim (λ f. omega (arith, w .0, w .1)) (⊎-elim (λ f. omega (arith, w .0, w .1)) (λ f. omega (arith, w .0, w .1))) c
 
 -- ---- the next bytes
-is-desk : (d : Desk) (m n : ℕ) → OfCall m → ByDesk (denied m d) n ↔ n ≡ m
-is-desk d m n c = (λ e. let z : m ≡ n = cc in sym z, λ e. (subst OfCall (sym e) c, λ i. Refused (sym e i)))
+is-desk : (d : Desk) (m n : ℕ) → OfDesk m → ByDesk (denied m d) n ↔ n ≡ m
+is-desk d m n c = (λ e. let z : m ≡ n = cc in sym z, λ e. (subst OfDesk (sym e) c, λ i. Refused (sym e i)))
 
 module _ (room : ℕ) (d : Desk) (bs : List ℕ) where
   pub office-hear-exact : Exact ByDesk (hearCall room d bs)

@@ -32,7 +32,7 @@ use Rattle.frames.proofs.Judging.{key-fits}
 use Rattle.frames.proofs.Round.{by-format}
 use Rattle.frames.proofs.Faults.{Scanned, scan-says, broken-followed}
 use Rattle.demands.specs.Table.{Row, Exact}
-use Rattle.demands.specs.Refusals.{Unusable, KeyBeyond, KeyWrong, portAt, payloadOf, bodyRows, contentsRows, frameRows, Unfit, OfFrame, OfCall, ByFrame}
+use Rattle.demands.specs.Refusals.{Unusable, KeyBeyond, KeyWrong, portAt, payloadOf, bodyRows, contentsRows, frameRows, UnfitHead, OfFrame, OfCall, ByFrame}
 use Rattle.demands.proofs.Rows.{applies, over, row, row-not, passed, not-both, not-less, not-same, first-each}
 
 pub barred-is : (port : ℕ) → barred port ≡ true → Unusable port
@@ -63,7 +63,7 @@ sized-not k = go (leb keyLeast k) refl
     go true e h = inr (leb-false _ _ h)
     go false e h = inl (leb-false _ _ e)
 
-pub unfit-is : (p : Packet) → headFits (p .format) (p .number) (length (p .key)) ≡ false → Unfit p
+pub unfit-is : (p : Packet) → headFits (p .format) (p .number) (length (p .key)) ≡ false → UnfitHead p
 unfit-is p = go (eqb (p .format) plainFormat) refl (eqb (p .format) keyFormat) refl
   where
     k : ℕ
@@ -74,12 +74,12 @@ unfit-is p = go (eqb (p .format) plainFormat) refl (eqb (p .format) keyFormat) r
     some false e h = inl (let n = eqb-false k 0 e in by-le k 0 (λ l. absurd (n (omega arith))) (λ l. l))
 
     go : (t : Bool) → eqb (p .format) plainFormat ≡ t → (u : Bool) → eqb (p .format) keyFormat ≡ u
-        → pick t (eqb k 0 && eqb (p .number) 0) (pick u (keySized k) false) ≡ false → Unfit p
+        → pick t (eqb k 0 && eqb (p .number) 0) (pick u (keySized k) false) ≡ false → UnfitHead p
     go true e u f h = inr (inr (eqb-true _ _ e, some (eqb k 0) refl h))
     go false e true f h = inl (eqb-true _ _ f, sized-not k h)
     go false e false f h = inr (inl (eqb-false _ _ e, eqb-false _ _ f))
 
-pub fit-is : (p : Packet) → headFits (p .format) (p .number) (length (p .key)) ≡ true → Unfit p → ⊥
+pub fit-is : (p : Packet) → headFits (p .format) (p .number) (length (p .key)) ≡ true → UnfitHead p → ⊥
 fit-is p h =
     by-format p h
     (λ e. let f : p .format ≡ plainFormat = ap (λ (q : Packet). q .format) e in

@@ -28,3 +28,4 @@ pub mod UnitRows
 pub mod Units
 pub mod Sheet
 pub mod Rack
+pub mod RackRuns

@@ -19,10 +19,13 @@ use Rattle.listed.specs.Listing.{heard, lastLine, listed, listing}
 use Rattle.lines.specs.Noted.{notedLine}
 use Rattle.lines.specs.Row.{rowLine}
 use Rattle.sequences.specs.Ports.{placeOf, freePlace, twice, noting, forgetting}
-use Rattle.multiplex.specs.Bits.{digits, number}
-use Rattle.multiplex.specs.Tables.{heads, start, step, unfit}
-use Rattle.multiplex.specs.Reading.{isHeader, named}
+use Rattle.multiplex.specs.Bits.{digits, bits, number, pack}
+use Rattle.multiplex.specs.Tables.{sequence, announced, heads, start, step, payload, lent, unfit}
+use Rattle.multiplex.specs.Unit.{weave, begins, opened, laidOut, unitBits, unit, hidden, written}
+use Rattle.multiplex.specs.Reading.{heard as heads-heard, unwoven, headerOf, payloadOf, isHeader, named, readParts, readUnit}
+use Rattle.sheets.specs.Tally.{toldFrom, told as told-numbers, sum}
 use Rattle.sheets.specs.Recording.{marks}
+use Rattle.sheets.specs.Month.{numbersOf, numbers as numbers-of, added, addedAll, anyWide}
 use Rattle.demands.specs.Numbers.{table, wrong}
 use Rattle.demands.specs.Printed.{printed}
 use Rattle.demands.specs.Requested.{requested}
@@ -36,5 +39,5 @@ unfolding fcs register entered contents withCheck escape escapeByte judge closed
 as-printed = refl
 
 pub as-requested : wrong requested ≡ []
-unfolding digits number isHeader named heads start step unfit records read entry judgeBody plain rowLine decimal decimalBy marks
+unfolding digits number isHeader named heads start step unfit records read entry judgeBody plain rowLine decimal decimalBy marks fcs register entered withCheck judgeContents escape escapeByte mul shiftAdd double add pow remainder divide generator timesRoot onto scale bits pack sequence announced payload lent weave begins opened laidOut unitBits unit hidden written heads-heard unwoven headerOf payloadOf readParts readUnit toldFrom told-numbers sum numbersOf numbers-of added addedAll anyWide
 as-requested = refl

@@ -4,6 +4,7 @@
 -- What each function answers and leaves is `making`, `checking`, `mending`, `reading`, `hearing` (crates/rack/specs), to which Promises binds it;
 -- these are the landed definitions with each case told by its number.
 -- ..-refusals   the paper's table, row by row; ..-keeps, what a refused call leaves
+-- rack-read-numbers, rack-hear-numbers   the numbers that the receiving calls give; never-nine, of both
 -- mends-as-promised   a repair's number and word are those of every answer that repair promises
 -- zeros-..      a state of zeros is a fresh one
 -- ..-back       a state handed back as it was received is the same state
@@ -12,7 +13,7 @@ use Prim.Native.Nat.{ℕ, _-_, _<_, _%_}
 use native.Mathlib.Omega.{arith}
 use mathlib.Core.Path.{_≡_, refl, sym, ap, subst, _∙_}
 use mathlib.Core.Bool.{Bool, true, false, not}
-use mathlib.Core.Logic.{_≢_}
+use mathlib.Core.Logic.{_⊎_, _≢_}
 use mathlib.Core.Logic._⊎_.{inl, inr}
 use mathlib.Core.List.{List, [], _∷_}
 use mathlib.Core.Option.{Option, some, none}
@@ -45,10 +46,11 @@ use Rattle.rack.specs.Words.{writtenNumber, checkedNumber, mendedNumber, making
 use Rattle.rack.specs.Told as told
 use Rattle.rack.specs.Calls.{readBy, reading, heardBy, hearing}
 use Rattle.demands.specs.Table.{Exact}
-use Rattle.demands.specs.Refusals.{FrameBeyond, Beyond as BeyondState, Short, OfCall, ByCall, ByCheck}
-use Rattle.demands.specs.Rack.{ByNumber, ByCalled}
+use Rattle.demands.specs.Refusals.{FrameBeyond, Beyond as BeyondState, Short, OfFrame, OfCall, ByFrame}
+use Rattle.demands.specs.Rack.{ByWord, ByCalled, OfReading, OfHearing}
 use Rattle.demands.proofs.Rows.{first-each}
 use Rattle.demands.proofs.Demand1.{make-refusals, make-keeps-out, check-refusals, repair-refusals, repair-keeps, read-refusals, read-keeps-all, hear-refusals, hear-keeps-all}
+use Rattle.demands.proofs.Demand1.{read-numbers, hear-numbers}
 
 -- a number that is neither 10 nor 11
 no-call : (n m : ℕ) → OfCall n → m ≡ n → (m ≢ 10) × (m ≢ 11) → ⊥
@@ -60,16 +62,16 @@ no-call n m (inr e) k h = h .1 (k ∙ e)
 abbrev OfWord : ℕ → Type 0
 OfWord n = (1 < n) × (n < 256)
 
-by-written : (w : Written) (n : ℕ) → ByNumber (writtenNumber w) n → w ≡ written.Refused n
+by-written : (w : Written) (n : ℕ) → ByWord (writtenNumber w) n → w ≡ written.Refused n
 by-written (written.Wrote k) n b = absurd (omega (arith, b .0, b .1))
 by-written (written.Refused m) n b = ap written.Refused (b .0)
 
-by-checked : (c : Checked) (n : ℕ) → ByNumber (checkedNumber c) n → c ≡ check.Refused n
+by-checked : (c : Checked) (n : ℕ) → ByWord (checkedNumber c) n → c ≡ check.Refused n
 by-checked check.Clean n b = absurd (omega (arith, b .0, b .1))
 by-checked check.Damaged n b = absurd (omega (arith, b .0, b .1))
 by-checked (check.Refused m) n b = ap check.Refused (b .0)
 
-pub rack-make-refusals : (r : ℕ) (message out : List ℕ) → Exact ByNumber (making r message out .0)
+pub rack-make-refusals : (r : ℕ) (message out : List ℕ) → Exact ByWord (making r message out .0)
     ((30, 64 < r) ∷  -- R above 64
     (31, length message ≢ 255 - r) ∷  -- message not 255 - R bytes
     (23, length out < r) ∷  -- output shorter than the result
@@ -85,12 +87,12 @@ rack-make-refusals r message out =
       );
     }
 
-pub rack-make-keeps : (r n : ℕ) (message out : List ℕ) → ByNumber (making r message out .0) n → making r message out ≡ (n, out)
+pub rack-make-keeps : (r n : ℕ) (message out : List ℕ) → ByWord (making r message out .0) n → making r message out ≡ (n, out)
 rack-make-keeps r n message out b =
     let k = make-keeps-out r message out n (by-written (made r message out .answer) n b) in
     λ i. (b .0 i, k i)
 
-pub rack-check-refusals : (r : ℕ) (word : List ℕ) → Exact ByNumber (checking r word)
+pub rack-check-refusals : (r : ℕ) (word : List ℕ) → Exact ByWord (checking r word)
     ((30, 64 < r) ∷  -- R above 64
     (31, length word ≢ 255) ∷  -- word not 255
     [])
@@ -109,13 +111,13 @@ rack-check-refusals r word =
 pub mends-as-promised : (r : ℕ) (word : List ℕ) → Bytes word → (a : Mended) (left : List ℕ) → Promised r word a left → (mendedNumber a, left) ≡ mending r word
 mends-as-promised r word h a left p = let s = promised-is r word h a left p in λ i. (mendedNumber (s .0 i), s .1 i)
 
-by-mended : (a : Mended) (n : ℕ) → ByNumber (mendedNumber a) n → a ≡ repair.Refused n
+by-mended : (a : Mended) (n : ℕ) → ByWord (mendedNumber a) n → a ≡ repair.Refused n
 by-mended repair.Clean n b = absurd (omega (arith, b .0, b .1))
 by-mended (repair.Repaired k) n b = absurd (omega (arith, b .0, b .2))
 by-mended repair.Beyond n b = absurd (omega (arith, b .0, b .1))
 by-mended (repair.Refused m) n b = ap repair.Refused (b .0)
 
-pub rack-repair-refusals : (r : ℕ) (word : List ℕ) → Bytes word → Exact ByNumber (mending r word .0)
+pub rack-repair-refusals : (r : ℕ) (word : List ℕ) → Bytes word → Exact ByWord (mending r word .0)
     ((30, 64 < r) ∷  -- R above 64
     (31, length word ≢ 255) ∷  -- word not 255
     [])
@@ -130,7 +132,7 @@ rack-repair-refusals r word h =
       );
     }
 
-pub rack-repair-keeps : (r n : ℕ) (word : List ℕ) → Bytes word → ByNumber (mending r word .0) n → mending r word ≡ (n, word)
+pub rack-repair-keeps : (r n : ℕ) (word : List ℕ) → Bytes word → ByWord (mending r word .0) n → mending r word ≡ (n, word)
 rack-repair-keeps r n word h b =
     let e = by-mended (repaired r word .0) n b in
     let p = subst (λ (a : Mended). Promised r word a (repaired r word .1)) e (repaired-promised r word h) in
@@ -201,6 +203,47 @@ rack-hear-keeps s recv word bs n b =
     kept : (n : ℕ) → OfCall n → heardBy s (some (said (refusal n)), 0, board (told.receiverOf s) recv word) ≡ (n, s, recv, word)
     kept n (inl e) = subst (λ (m : ℕ). heardBy s (some (said (refusal m)), 0, board (told.receiverOf s) recv word) ≡ (m, s, recv, word)) (sym e) refl
     kept n (inr e) = subst (λ (m : ℕ). heardBy s (some (said (refusal m)), 0, board (told.receiverOf s) recv word) ≡ (m, s, recv, word)) (sym e) refl
+
+-- ---- request W9, "Show that 9 is never given": the numbers that the two receiving calls give, and 9 is none of them
+-- a frame's answer has a number of frames or of calls
+abbrev Numbered : (Told → Type 0) → Type 0
+Numbered Is = (t : Told) (n : ℕ) → Is t → ByFrame t n → OfFrame n ⊎ OfCall n
+
+told-number : (o : Option Told) → Numbered (λ t. o ≡ some t) → OfReading (told.ofHeard (plain.answered o) .number)
+told-number none h = inl refl
+told-number (some (packet p)) h = inr (inl refl)
+told-number (some (refusal m)) h = inr (inr (h (refusal m) m refl refl))
+told-number (some (broken k)) h = inr (inr (h (broken k) 3 refl refl))
+
+event-number : (o : Option Event) → Numbered (λ t. o ≡ some (said t)) → OfHearing (told.ofAnswer (answered o) .number)
+event-number none h = inl (inl refl)
+event-number (some (said (packet p))) h = inl (inr (inl refl))
+event-number (some (said (refusal m))) h = inl (inr (inr (h (refusal m) m refl refl)))
+event-number (some (said (broken k))) h = inl (inr (inr (h (broken k) 3 refl refl)))
+event-number (some (block Clean)) h = inr (omega arith, omega arith)
+event-number (some (block (Repaired k))) h = inr (omega arith, omega arith)
+event-number (some (block Beyond)) h = inr (omega arith, omega arith)
+event-number (some lost) h = inr (omega arith, omega arith)
+
+pub rack-read-numbers : (s recv bs : List ℕ) → OfReading (reading s recv bs .0)
+rack-read-numbers s recv bs = let h = plain.held (told.frameOf s) recv in told-number (plain.readCall h bs .0) (read-numbers h bs)
+
+pub rack-hear-numbers : (s recv word bs : List ℕ) → OfHearing (hearing s recv word bs .0)
+rack-hear-numbers s recv word bs = let c = board (told.receiverOf s) recv word in event-number (hearCall c bs .0) (hear-numbers c bs)
+
+no-nine : (n : ℕ) → OfReading n → n ≢ 9
+no-nine n (inl e) k = omega (arith, e, k)
+no-nine n (inr (inl e)) k = omega (arith, e, k)
+no-nine n (inr (inr (inl (inl h)))) k = omega (arith, h .0, h .1, k)
+no-nine n (inr (inr (inl (inr e)))) k = omega (arith, e, k)
+no-nine n (inr (inr (inr h))) k = no-call n 9 h (sym k) (omega arith, omega arith)
+
+none-nine : (n : ℕ) → OfHearing n → n ≢ 9
+none-nine n (inl h) k = no-nine n h k
+none-nine n (inr h) k = omega (arith, h .0, k)
+
+pub never-nine : (s recv word bs : List ℕ) → (reading s recv bs .0 ≢ 9) × (hearing s recv word bs .0 ≢ 9)
+never-nine s recv word bs = (no-nine _ (rack-read-numbers s recv bs), none-nine _ (rack-hear-numbers s recv word bs))
 
 -- ---- states as numbers: zeros are fresh
 pub zeros-fresh : (told.frameOf (replicate 12 0) ≡ plain.fresh) × (told.receiverOf (replicate 21 0) ≡ freshReceiver)

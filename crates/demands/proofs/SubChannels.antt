@@ -76,7 +76,7 @@ use Rattle.subsenders.proofs.Apart as apart
 use Rattle.demands.specs.Table.{Exact}
 use Rattle.demands.specs.Guarantee.{Received, received}
 use Rattle.demands.specs.Refusals.{Short, OfFrame, OfCall, ByFrame, ByCall, ByHear}
-use Rattle.demands.specs.SubChannels.{SubBeyond, ReceiverBeyond, SenderBeyond, Unknown, OfNumbered, ByConfigure, ByNumber}
+use Rattle.demands.specs.SubChannels.{SubBeyond, ReceiverBeyond, SenderBeyond, Unknown, OfNumbered, ByConfigure, ByNumbered}
 use Rattle.demands.proofs.Rows.{row, not-less, refuses, wrote}
 use Rattle.demands.proofs.Altered.{unaltered, sent-clean-words, carried-received, answers-received, words-received, many-received}
 use Rattle.demands.proofs.Subs as rows
@@ -319,7 +319,7 @@ sub-send-refusals r d bs out =
     (row ByCall (ltb 64 d) (refuses 32 out) (ltb-true _ _) (not-less _ _) (wrote (sent r d bs) out _ refl))
 
 -- "then 42 for a sub-channel number above 3 or, outside configuring, one not configured; then 11 for its two buffers": by number
-pub number-hear-refusals : (s : Receiver) (n : ℕ) (recv word bs : List ℕ) → Exact ByNumber (hearFour s n recv word bs)
+pub number-hear-refusals : (s : Receiver) (n : ℕ) (recv word bs : List ℕ) → Exact ByNumbered (hearFour s n recv word bs)
     ((10, ReceiverBeyond s) ∷  -- a count of the state, which is all four, is beyond its limit
     (42, Unknown n (get s n .lane .settings)) ∷  -- a number above 3, or one not configured
     (11, Short recv word) ∷  -- its receive buffer under 8,272 bytes, its word buffer under 255
@@ -359,7 +359,7 @@ sub-hear-keeps-all = rows.sub-same
 pub sub-send-keeps-out : (r d : ℕ) (bs out : List ℕ) → Keeps out (sending r d bs out)
 sub-send-keeps-out = sending-keeps
 
-pub number-hear-keeps-all : (s : Receiver) (n : ℕ) (recv word bs : List ℕ) (m : ℕ) → ByNumber (hearFour s n recv word bs) m
+pub number-hear-keeps-all : (s : Receiver) (n : ℕ) (recv word bs : List ℕ) (m : ℕ) → ByNumbered (hearFour s n recv word bs) m
     → hearFour s n recv word bs ≡ (some (said (refusal m)), 0, s, recv, word)
 number-hear-keeps-all = rows.number-same
 

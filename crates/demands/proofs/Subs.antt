@@ -46,7 +46,7 @@ use Rattle.subsenders.specs.declared.Sender.{Sender}
 use Rattle.subsenders.specs.Four as sender
 use Rattle.demands.specs.Table.{Exact}
 use Rattle.demands.specs.Refusals.{PlaceBeyond, Short, OfFrame, OfCall, ByFrame, ByCall, ByHear}
-use Rattle.demands.specs.SubChannels.{SettingsBeyond, CountsBeyond, SubBeyond, ReceiverBeyond, SenderBeyond, Unknown, OfNumbered, ByConfigure, ByNumber}
+use Rattle.demands.specs.SubChannels.{SettingsBeyond, CountsBeyond, SubBeyond, ReceiverBeyond, SenderBeyond, Unknown, OfNumbered, ByConfigure, ByNumbered}
 use Rattle.demands.proofs.Rows.{applies, over, row, row-not, passed, not-both, not-less, refuses, wrote, place-beyond, place-within}
 use Rattle.demands.proofs.Frames.{frame-or-call}
 use Rattle.demands.proofs.Called.{not-most, frame-beyond, frame-within, short, long, small-byte, SmallEvent, small-as, event-only, is-hear, Given, number-given}
@@ -234,44 +234,44 @@ module _ (s : Receiver) (n : ℕ) (recv word bs : List ℕ) where
   abbrev behind : Option Event × ℕ × Board → Result
   behind x = (x .0, x .1, receiver.put s n (x .2 .st), x .2 .recv, x .2 .word)
 
-  is-number : (m k : ℕ) (x : Result) → x .0 ≡ some (said (refusal m)) → OfNumbered m → ByNumber x k ↔ k ≡ m
+  is-number : (m k : ℕ) (x : Result) → x .0 ≡ some (said (refusal m)) → OfNumbered m → ByNumbered x k ↔ k ≡ m
   is-number m k x e h = (
     λ b. let q : some (said (refusal m)) ≡ some (said (refusal k)) = sym e ∙ b .1 in let z : m ≡ k = cc in sym z,
     λ q. (subst OfNumbered (sym q) h, e ∙ (λ i. some (said (refusal (sym q i))))),
   )
 
-  pub number-exact : Exact ByNumber (receiver.hearFour s n recv word bs)
+  pub number-exact : Exact ByNumbered (receiver.hearFour s n recv word bs)
       ((10, ReceiverBeyond s) ∷ (42, Unknown n (receiver.get s n .lane .settings)) ∷ (11, Short recv word) ∷ [])
   number-exact = go (receiver.soundFour s) (receiver.known s n) refl refl
     where
-      left : (t : Bool) → roomy recv word ≡ t → Exact ByNumber (behind (hearBy true t c bs)) ((11, Short recv word) ∷ [])
-      left false f = applies ByNumber _ (λ k. is-number 11 k (behind (hearBy true false c bs)) refl (inl (inr refl))) (short recv word f)
+      left : (t : Bool) → roomy recv word ≡ t → Exact ByNumbered (behind (hearBy true t c bs)) ((11, Short recv word) ∷ [])
+      left false f = applies ByNumbered _ (λ k. is-number 11 k (behind (hearBy true false c bs)) refl (inl (inr refl))) (short recv word f)
       left true f =
-          over ByNumber (long recv word f) (passed ByNumber λ k b. numbered-only (hearOn c bs .0) (hearOn c bs .2) k (small-hear c bs) (b .0) (b .1))
+          over ByNumbered (long recv word f) (passed ByNumbered λ k b. numbered-only (hearOn c bs .0) (hearOn c bs .2) k (small-hear c bs) (b .0) (b .1))
 
-      go : (a b : Bool) → receiver.soundFour s ≡ a → receiver.known s n ≡ b → Exact ByNumber (receiver.heardBy a b s n recv word bs)
+      go : (a b : Bool) → receiver.soundFour s ≡ a → receiver.known s n ≡ b → Exact ByNumbered (receiver.heardBy a b s n recv word bs)
           ((10, ReceiverBeyond s) ∷ (42, Unknown n (receiver.get s n .lane .settings)) ∷ (11, Short recv word) ∷ [])
       go false b e f =
-          applies ByNumber _ (λ k. is-number 10 k (receiver.heardBy false b s n recv word bs) refl (inl (inl refl))) (receiver-fails s .0 e)
+          applies ByNumbered _ (λ k. is-number 10 k (receiver.heardBy false b s n recv word bs) refl (inl (inl refl))) (receiver-fails s .0 e)
       go true false e f =
-          over ByNumber (receiver-fails s .1 e)
-          (applies ByNumber _ (λ k. is-number 42 k (receiver.heardBy true false s n recv word bs) refl (inr refl))
+          over ByNumbered (receiver-fails s .1 e)
+          (applies ByNumbered _ (λ k. is-number 42 k (receiver.heardBy true false s n recv word bs) refl (inr refl))
           (known-fails n (receiver.get s n .lane .settings) .0 f))
       go true true e f =
-          over ByNumber (receiver-fails s .1 e) (over ByNumber (known-fails n (receiver.get s n .lane .settings) .1 f)
-          (subst (λ t. Exact ByNumber (behind (hearBy t (roomy recv word) c bs)) ((11, Short recv word) ∷ [])) (sym (sound-at s n e))
+          over ByNumbered (receiver-fails s .1 e) (over ByNumbered (known-fails n (receiver.get s n .lane .settings) .1 f)
+          (subst (λ t. Exact ByNumbered (behind (hearBy t (roomy recv word) c bs)) ((11, Short recv word) ∷ [])) (sym (sound-at s n e))
           (left (roomy recv word) refl)))
 
-  pub number-same : (m : ℕ) → ByNumber (receiver.hearFour s n recv word bs) m
+  pub number-same : (m : ℕ) → ByNumbered (receiver.hearFour s n recv word bs) m
       → receiver.hearFour s n recv word bs ≡ (some (said (refusal m)), 0, s, recv, word)
   number-same m = go (receiver.soundFour s) (receiver.known s n)
     where
-      left : (a b : Bool) → ByNumber (behind (hearBy a b c bs)) m → behind (hearBy a b c bs) ≡ (some (said (refusal m)), 0, s, recv, word)
+      left : (a b : Bool) → ByNumbered (behind (hearBy a b c bs)) m → behind (hearBy a b c bs) ≡ (some (said (refusal m)), 0, s, recv, word)
       left false b q = λ i. (q .1 i, 0, put-got s n i, recv, word)
       left true false q = λ i. (q .1 i, 0, put-got s n i, recv, word)
       left true true q = absurd (numbered-only (hearOn c bs .0) (hearOn c bs .2) m (small-hear c bs) (q .0) (q .1))
 
-      go : (a b : Bool) → ByNumber (receiver.heardBy a b s n recv word bs) m
+      go : (a b : Bool) → ByNumbered (receiver.heardBy a b s n recv word bs) m
           → receiver.heardBy a b s n recv word bs ≡ (some (said (refusal m)), 0, s, recv, word)
       go false b q = λ i. (q .1 i, 0, s, recv, word)
       go true false q = λ i. (q .1 i, 0, s, recv, word)

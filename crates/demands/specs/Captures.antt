@@ -2,33 +2,30 @@
 -- CaptureBeyond                    10: a count of the state is beyond its limit
 -- NoPacket                         62: no packet that the sender would accept
 -- HeaderMissed, RecordCut, FaultBefore   60 to 62 at the end of a file
--- ByImport, ByEnd                  that an answer refuses by a number
+-- ByEnd                            that an end refuses by a number
 -- Fetched..                        that what is fetched behind an answer is the packet's own bytes
 -- put, entriesBy                   what calls write, one behind the other
 use Prim.Native.Nat.{ℕ, suc, _≤_, _<_}
 use mathlib.Core.Path.{_≡_}
 use mathlib.Core.Logic.{_⊎_}
 use mathlib.Core.List.{List, [], _∷_, _++_}
-use mathlib.Core.Option.{Option, some}
 use lib.ListN.{take}
 use Rattle.base.specs.Written.{Outcome}
 use Rattle.base.specs.declared.Written.{Written}
 use Rattle.base.specs.declared.Written.the-variants.{Wrote, Refused as NotWritten}
 use Rattle.frames.specs.Contents.{Packet, packed}
-use Rattle.frames.specs.Frame.{Told, refusal}
+use Rattle.frames.specs.Frame.{Told}
 use Rattle.frames.specs.Sender.{Accepted}
-use Rattle.stream.specs.Called.{Held as FrameHeld}
+use Rattle.stream.specs.Called.{Held}
 use Rattle.blocks.specs.Channel.{Event, said, block, lost}
 use Rattle.channel.specs.Called.{Board}
 use Rattle.subchannel.specs.Called.{Board as SubBoard}
 use Rattle.tape.specs.Deck.{Deck}
 use Rattle.capture.specs.Export.{Fetched, entering}
-use Rattle.capture.specs.Called.{Held}
 use Rattle.capture.specs.declared.reader.Capture.{Capture}
 use Rattle.capture.specs.declared.reader.Capture.the-variants.{Header, Head, Record, Behind}
 use Rattle.capture.specs.declared.reader.Ended.{Ended}
 use Rattle.capture.specs.declared.reader.Ended.the-variants.{Refused}
-use Rattle.demands.specs.Refusals.{OfCall}
 
 -- 24 bytes of the header or more, 16 of a record's head or more, all of its bytes or more, or a fault other than 60 to 62
 abbrev pub CaptureBeyond : Capture → Type 0
@@ -62,11 +59,7 @@ FaultBefore (Head k) = ⊥
 FaultBefore (Record n d) = ⊥
 FaultBefore (Behind f) = f ≡ 62
 
--- a call on a capture's bytes is refused: by a number of calls, and not of captures
-abbrev pub ByImport : Option Told × ℕ × Held → ℕ → Type 0
-ByImport r n = OfCall n × (r .0 ≡ some (refusal n))
-
--- the end of a capture is
+-- the end of a capture is refused
 abbrev pub ByEnd : Ended → ℕ → Type 0
 ByEnd e n = e ≡ Refused n
 
@@ -77,7 +70,7 @@ FetchedEvent (block c) recv = Unit {0}
 FetchedEvent lost recv = Unit {0}
 
 -- .. of the frame reader
-abbrev pub FetchedHeld : Told → FrameHeld → Type 0
+abbrev pub FetchedHeld : Told → Held → Type 0
 FetchedHeld t h = Fetched t (h .recv)
 
 -- .. of the channel's receiver

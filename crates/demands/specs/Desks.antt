@@ -3,7 +3,7 @@
 -- DeskShort          11: a lent buffer is too short
 -- Bids               that a line is a bid: only then a number of the paper is given for it
 -- lineRows           20 to 22, of a line
--- OfCall             10, 11 and 23 are a call's numbers; 20 to 22 are a line's
+-- OfDesk             10, 11 and 23 are a call's numbers; 20 to 22 are a line's
 -- ByDesk, By..       that an answer refuses by a number
 use Prim.Native.Nat.{ℕ, _<_}
 use mathlib.Core.Path.{_≡_}
@@ -44,12 +44,12 @@ lineRows l =
     []
 
 -- a call's numbers
-abbrev pub OfCall : ℕ → Type 0
-OfCall n = (n ≡ 10) ⊎ (n ≡ 11) ⊎ (n ≡ 23)
+abbrev pub OfDesk : ℕ → Type 0
+OfDesk n = (n ≡ 10) ⊎ (n ≡ 11) ⊎ (n ≡ 23)
 
 -- a call of the office is refused
 abbrev pub ByDesk : Option Said × ℕ × Desk → ℕ → Type 0
-ByDesk r n = OfCall n × (answered (r .0) ≡ Refused n)
+ByDesk r n = OfDesk n × (answered (r .0) ≡ Refused n)
 
 -- the start is
 abbrev pub ByStart : Started × List ℕ → ℕ → Type 0

@@ -9,7 +9,7 @@ use Rattle.sequences.specs.declared.Noted.{Noted}
 use Rattle.sequences.specs.declared.Noted.the-variants.{Refused}
 use Rattle.sequences.specs.declared.Forgot.{Forgot}
 use Rattle.sequences.specs.declared.Forgot.the-variants.{Refused as Unforgotten}
-use Rattle.sequences.specs.Refusing.{Unfit, Held, Full}
+use Rattle.sequences.specs.Refusing.{Unfit as UnfitTable, Held, Full}
 use Rattle.demands.specs.Table.{Row}
 
 -- a packet to be noted is refused
@@ -23,13 +23,13 @@ ByForgot x n = x .0 ≡ Unforgotten n
 -- a packet noted
 abbrev pub noteRows : List Entry → ℕ → List Row
 noteRows es port =
-    (43, Unfit es) ∷  -- more than 16 places, or one port held twice
+    (43, UnfitTable es) ∷  -- more than 16 places, or one port held twice
     (40, (Held port es → ⊥) × Full es) ∷  -- a new port finds no free place
     []
 
 -- a port forgotten
 abbrev pub forgetRows : List Entry → ℕ → List Row
 forgetRows es port =
-    (43, Unfit es) ∷  -- as above
+    (43, UnfitTable es) ∷  -- as above
     (41, Held port es → ⊥) ∷  -- the port is not held
     []

@@ -51,7 +51,7 @@ table =
     (0x6A, mul 2 0x8E ∷ [], 1 ∷ []) ∷  -- (j) 2 times 0x8E is 1
     (0x6B, remainder 1 (lastOne 253), 0x02 ∷ []) ∷  -- (k) R = 1, message of zeros ending in 01: parity 02
     (0x6C, remainder 2 (lastOne 252), 0x06 ∷ 0x08 ∷ []) ∷  -- (l) R = 2, likewise: 06 08
-    (0x6D, map (cell 2) (0 ∷ 1 ∷ 2 ∷ 254 ∷ 255 ∷ 256 ∷ []), 0 ∷ 308 ∷ 106 ∷ 202 ∷ 255 ∷ 53 ∷ []) ∷  -- (m) depth 2, outputs 0, 1, 2, 254, 255, 256 are read from these cells
+    (0x6D, map (cell 2) (0 ∷ 1 ∷ 2 ∷ 254 ∷ 255 ∷ 256 ∷ []), 0 ∷ 308 ∷ 106 ∷ 202 ∷ 255 ∷ 53 ∷ []) ∷  -- (m) depth 2: the cells of outputs 0, 1, 2, 254, 255, 256
     []
 
 -- two lists of numbers agree

@@ -16,7 +16,21 @@ use Rattle.field.specs.Field as field
 use Rattle.parity.specs.Calls as parity
 use Rattle.matrices.specs.Places.{width}
 use Rattle.matrices.specs.Running as interleaver
-use Rattle.frames.specs.Contents.{Packet, packetOf, plainPacket, keyPacket, plainFormat, keyFormat, keyLeast, keyMost, payloadLimit, plainLimit, rawLimit, withCheck, contents}
+use Rattle.frames.specs.Contents.{
+  Packet,
+  packetOf,
+  plainPacket,
+  keyPacket,
+  plainFormat,
+  keyFormat,
+  keyLeast,
+  keyMost,
+  payloadLimit,
+  plainLimit,
+  rawLimit,
+  withCheck,
+  contents,
+}
 use Rattle.frames.specs.Escape.{flag, escape, escapeByte, plain, wrongFrom, right, last, scan}
 use Rattle.frames.specs.Frame.{Told, packet, refusal, broken, judgeContents, judgeBody, closedBy, closed, judge}
 use Rattle.frames.specs.Port.{class, barred}
@@ -58,7 +72,8 @@ toldNumber (broken n) = 3
 abbrev answersOf : ℕ → ℕ → ℕ → ℕ → List Event
 answersOf packets refusals damaged locks =
     block Clean ∷ block (Repaired 1)
-    ∷ replicate packets (said (packet (plainPacket 0x5100 0 (0x41 ∷ [])))) ++ (replicate refusals (said (refusal 4)) ++ (replicate damaged (block Beyond) ++ replicate locks lost))
+    ∷ replicate packets (said (packet (plainPacket 0x5100 0 (0x41 ∷ []))))
+    ++ (replicate refusals (said (refusal 4)) ++ (replicate damaged (block Beyond) ++ replicate locks lost))
 
 -- a recording that may end here, with so many stream bytes and these totals
 abbrev endsWith : ℕ → ℕ → ℕ → ℕ → ℕ → Recording
@@ -132,52 +147,158 @@ tableOf (suc n) = entry n 7 ∷ tableOf n
 -- the number of a row, what the definitions give, what the paper prints
 abbrev pub printed : List Line
 printed =
-    (1, flag ∷ plainFormat ∷ keyFormat ∷ keyLeast ∷ keyMost ∷ [], 0x7E ∷ 0x21 ∷ 0x26 ∷ 2 ∷ 32 ∷ []) ∷  -- flag 0x7E, format bytes 0x21 and 0x26, 2 to 32 key bytes
-    (2, payloadLimit ∷ plainLimit ∷ rawLimit ∷ listed.most ∷ [], 8192 ∷ 8205 ∷ 8272 ∷ 4294967295 ∷ []) ∷  -- a payload of 8,192 bytes as escaped, 8,205 raw bytes of a packet of format 0x21, 8,272 of any frame, a stream of 4,294,967,295 bytes, at most
-    (3, parity.wordBytes ∷ parity.rootLimit ∷ [], 255 ∷ 64 ∷ []) ∷  -- a word is 255 bytes, R from 0 to 64
-    (4, messageBytes ∷ parityBytes ∷ wordBytes ∷ blockBytes ∷ [], 223 ∷ 32 ∷ 255 ∷ 259 ∷ []) ∷  -- each 223 bytes become a word with R = 32, of 255 bytes; a block is 259
-    (5, marker, 0x7D ∷ 0x3A ∷ 0xE2 ∷ 0x42 ∷ []) ∷  -- the marker 7D 3A E2 42
-    (6, check.ones ∷ check.polynomial ∷ [], 0xFFFF ∷ 0x8408 ∷ []) ∷  -- register starts at 0xFFFF, reversed polynomial 0x8408
-    (7, field.polynomial ∷ field.alpha ∷ [], 0x11D ∷ 2 ∷ []) ∷  -- x^8+x^4+x^3+x^2+1; alpha is 2
-    (8, escape (0x7E ∷ 0x7D ∷ 0x5E ∷ 0x5D ∷ 0x21 ∷ []), 0x7D ∷ 0x5E ∷ 0x7D ∷ 0x5D ∷ 0x5E ∷ 0x5D ∷ 0x21 ∷ []) ∷  -- 0x7E becomes 7D 5E, 0x7D becomes 7D 5D; no other byte is escaped
-    (9, contents (plainPacket 0x1234 0x0102 (0x41 ∷ [])), 0x21 ∷ 0x34 ∷ 0x12 ∷ 0x02 ∷ 0x01 ∷ 0x41 ∷ 0x3F ∷ 0x8A ∷ []) ∷  -- port and sequence each two bytes, low first: port 1234, sequence 0102
-    (10, heard (0x7E ∷ 0x21 ∷ 0x34 ∷ 0x12 ∷ 0x02 ∷ 0x01 ∷ 0x41 ∷ 0x3F ∷ 0x8A ∷ 0x7E ∷ []), 0 ∷ 0x21 ∷ 0 ∷ 0 ∷ 0x1234 ∷ 0x0102 ∷ 0x41 ∷ []) ∷  -- .. and taken apart
-    (11, line (Said (Delivered (record { format = 0x26; number = 7; key = 2; port = 0x5100; sequence = 0x0102; length = 3 }))), 80 ∷ 32 ∷ 50 ∷ 48 ∷ 55 ∷ 51 ∷ 54 ∷ 32 ∷ 50 ∷ 53 ∷ 56 ∷ 32 ∷ 51 ∷ 32 ∷ 77 ∷ 10 ∷ []) ∷  -- `P port sequence payload-length class`: P 20736 258 3 M
-    (12, line (Said (Denied 4)), 82 ∷ 32 ∷ 52 ∷ 10 ∷ []) ∷  -- `R n`: R 4
-    (13, line (Block Clean), 66 ∷ 32 ∷ 48 ∷ 10 ∷ []) ∷  -- `B 0` clean
-    (14, line (Block (Repaired 16)), 66 ∷ 32 ∷ 49 ∷ 54 ∷ 10 ∷ []) ∷  -- `B count` repaired: B 16
-    (15, line (Block Beyond), 66 ∷ 32 ∷ 88 ∷ 10 ∷ []) ∷  -- `B X` beyond repair
-    (16, line LockLost, 76 ∷ 10 ∷ []) ∷  -- `L` lock lost
-    (17, totalLine 50 (answersOf 1 2 3 4), 69 ∷ 32 ∷ 53 ∷ 48 ∷ 32 ∷ 49 ∷ 32 ∷ 50 ∷ 32 ∷ 51 ∷ 32 ∷ 52 ∷ 10 ∷ []) ∷  -- `E` with stream bytes, packets, frame refusals, damaged blocks, lost locks: 50 bytes, 1, 2, 3 and 4 of them
-    (18, lastOf (endsWith 50 1 2 3 4), 69 ∷ 32 ∷ 53 ∷ 48 ∷ 32 ∷ 49 ∷ 32 ∷ 50 ∷ 32 ∷ 51 ∷ 32 ∷ 52 ∷ 10 ∷ []) ∷  -- .. and as the finishing call prints it
-    (19, wrongLine 7, 88 ∷ 32 ∷ 55 ∷ 10 ∷ []) ∷  -- `X offset`: X 7
-    (20, listing [], 88 ∷ 32 ∷ 48 ∷ 10 ∷ []) ∷  -- empty input gives `X 0`
-    (21, listing (0x50 ∷ 0xF5 ∷ 0x5F ∷ 0x05 ∷ 0x00 ∷ 0x7E ∷ 0x21 ∷ 0x00 ∷ 0x51 ∷ 0x00 ∷ 0xF5 ∷ 0x5F ∷ 0x05 ∷ 0x00 ∷ 0x00 ∷ 0x41 ∷ 0xE4 ∷ 0xEC ∷ 0x7E ∷ []), 80 ∷ 32 ∷ 50 ∷ 48 ∷ 55 ∷ 51 ∷ 54 ∷ 32 ∷ 48 ∷ 32 ∷ 49 ∷ 32 ∷ 77 ∷ 10 ∷ 69 ∷ 32 ∷ 49 ∷ 48 ∷ 32 ∷ 49 ∷ 32 ∷ 48 ∷ 32 ∷ 48 ∷ 32 ∷ 48 ∷ 10 ∷ []) ∷  -- the paper's case: P 20736 0 1 M and E 10 1 0 0 0
-    (22, map letterOf (0x0000 ∷ 0x0400 ∷ 0x5101 ∷ 0x5200 ∷ 0x5208 ∷ 0x52FF ∷ 0xFF00 ∷ 0xFFFF ∷ []), 83 ∷ 83 ∷ 83 ∷ 83 ∷ 83 ∷ 83 ∷ 83 ∷ 83 ∷ []) ∷  -- S 0000 0400 5101 5200 5208 52FF FF00 FFFF
-    (23, map letterOf (0x0401 ∷ 0x50FF ∷ 0x5100 ∷ 0x5201 ∷ 0x5207 ∷ []), 65 ∷ 65 ∷ 77 ∷ 68 ∷ 68 ∷ []) ∷  -- A 0401 50FF, M 5100, D 5201 5207
-    (24, map letterOf (0x5300 ∷ 0x7CFF ∷ 0x7F00 ∷ 0xFEFF ∷ []), 70 ∷ 70 ∷ 70 ∷ 70 ∷ []) ∷  -- F 5300 7CFF 7F00 FEFF
-    (25, map unusable (0x7CFF ∷ 0x7D00 ∷ 0x7EFF ∷ 0x7F00 ∷ []), 0 ∷ 1 ∷ 1 ∷ 0 ∷ []) ∷  -- 7D00-7EFF may not be used, and the ports beside them may
-    (26, lineLimit ∷ heldLimit ∷ holdLimit ∷ outLimit ∷ longest ∷ far ∷ [], 8205 ∷ 222 ∷ 8428 ∷ 9583 ∷ 128 ∷ 18446744073709551615 ∷ []) ∷  -- our own limits, as docs/REFUSALS.md and docs/DECISIONS.md print them
-    (27, map (λ l. refusalOf (paying l)) (replicate 8192 0 ∷ replicate 8193 0 ∷ replicate 4096 0x7E ∷ replicate 4097 0x7E ∷ []), 0 ∷ 21 ∷ 0 ∷ 21 ∷ []) ∷  -- 8,192 plain payload bytes pass and 8,193 get 21; 4,096 bytes of 0x7E pass and 4,097 get 21
-    (28, joined (map inNumbers (judge (replicate 8272 0x7D) ∷ judge (replicate 8273 0x7D) ∷ [])), 2 ∷ 1 ∷ []) ∷  -- 8,272 raw bytes are judged further and 8,273 get 1
-    (29, places (0x7E ∷ 0x7D ∷ 0x21 ∷ 0x7E ∷ 0x41 ∷ 0x7D ∷ 0x7D ∷ 0x5E ∷ 0x7D ∷ 0x22 ∷ 0x7E ∷ 0x7D ∷ 0x21 ∷ 0x7D ∷ 0x7E ∷ []), 1 ∷ 2 ∷ []) ∷  -- counted from 0 behind the opening flag, the first wrong byte after 7D: 21 at 1, the second 7D at 2; none where the last raw byte is 7D
-    (30, joined (map placeOf (judge (replicate 8270 0 ++ 0x7D ∷ 0x21 ∷ []) ∷ judge (replicate 8271 0 ++ 0x7D ∷ 0x21 ∷ []) ∷ [])), 8271 ∷ []) ∷  -- the last of 8,272 raw bytes is at 8,271; 8,273 get 1
-    (31, placeLimit ∷ [], 8271 ∷ []) ∷  -- 10 where the remembered place is above 8,271
-    (32, line (Said (Broken 105)), 82 ∷ 32 ∷ 51 ∷ 32 ∷ 49 ∷ 48 ∷ 53 ∷ 10 ∷ []) ∷  -- `R 3 n`: R 3 105
-    (33, contents (keyPacket 0x07 (0xAA ∷ 0xBB ∷ []) 0x1234 0x0102 (0x41 ∷ [])), 0x26 ∷ 0x02 ∷ 0x07 ∷ 0xAA ∷ 0xBB ∷ 0x34 ∷ 0x12 ∷ 0x02 ∷ 0x01 ∷ 0x41 ∷ 0x8E ∷ 0x3F ∷ []) ∷  -- "Between format and port stand a key length byte, a key number and 2 to 32 key bytes.", the check over everything from the format byte on
-    (34, heard (0x7E ∷ 0x26 ∷ 0x02 ∷ 0x07 ∷ 0xAA ∷ 0xBB ∷ 0x34 ∷ 0x12 ∷ 0x02 ∷ 0x01 ∷ 0x41 ∷ 0x8E ∷ 0x3F ∷ 0x7E ∷ []), 0 ∷ 0x26 ∷ 7 ∷ 2 ∷ 0xAA ∷ 0xBB ∷ 0x1234 ∷ 0x0102 ∷ 0x41 ∷ []) ∷  -- .. and taken apart
-    (35, keyRefusal 0 7 ∷ keyRefusal 1 7 ∷ keyRefusal 2 7 ∷ keyRefusal 32 7 ∷ keyRefusal 33 7 ∷ keyRefusal 2 6 ∷ keyRefusal 32 6 ∷ [], 12 ∷ 12 ∷ 0 ∷ 0 ∷ 12 ∷ 12 ∷ 12 ∷ []) ∷  -- 12: a key length outside 2 to 32, fewer than seven bytes behind the key
-    (36, map refusalOf (headed 0x26 0 1 ∷ headed 0x26 0 2 ∷ headed 0x26 255 32 ∷ headed 0x26 0 33 ∷ headed 0x26 0 258 ∷ headed 0x21 0 0 ∷ headed 0x21 0 2 ∷ headed 0x21 1 0 ∷ headed 0x22 0 2 ∷ []), 24 ∷ 0 ∷ 0 ∷ 24 ∷ 24 ∷ 0 ∷ 24 ∷ 24 ∷ 24 ∷ []) ∷  -- 24: such a length, a key length or number above zero in format 0x21, another format
-    (37, width ∷ interleaver.depthLimit ∷ length (interleaver.fresh .cells) ∷ [], 255 ∷ 64 ∷ 16320 ∷ []) ∷  -- D rows by 255, depth 0 to 64; a matrix holds up to 16,320 bytes
-    (38, map interleaver.closingBytes (0 ∷ 1 ∷ 2 ∷ 64 ∷ []), 0 ∷ 0 ∷ 509 ∷ 16319 ∷ []) ∷  -- the closing push: N - 1 bytes, none at depth 0 and 1
-    (39, map (refusalAt 2) (509 ∷ 510 ∷ []) ++ (map (refusalAt 64) (16319 ∷ 16320 ∷ []) ++ map (refusalAt 65) (16574 ∷ 16575 ∷ [])), 0 ∷ 10 ∷ 0 ∷ 10 ∷ 32 ∷ 10 ∷ []) ∷  -- 10 for a cell place of N or more; depth 64 passes, 65 gets 32, behind 10
-    (40, map (refusalAt 0) (0 ∷ 16320 ∷ []) ++ map (refusalAt 1) (255 ∷ 16320 ∷ []), 0 ∷ 0 ∷ 0 ∷ 0 ∷ []) ∷  -- depth 0 and 1 use no cell
-    (41, mostPorts ∷ around ∷ half ∷ [], 16 ∷ 65536 ∷ 32768 ∷ []) ∷  -- "up to 16"; "from -32,768 to 32,767, around 65,536"
-    (42, joined (map toldOf (ruled 0 1 ∷ ruled 65535 0 ∷ ruled 7 7 ∷ ruled 7 9 ∷ ruled 65535 2 ∷ ruled 0 32767 ∷ ruled 0 32768 ∷ ruled 7 6 ∷ ruled 0 65535 ∷ [])), 73 ∷ 73 ∷ 82 ∷ 77 ∷ 1 ∷ 77 ∷ 2 ∷ 77 ∷ 32766 ∷ 76 ∷ 76 ∷ 76 ∷ []) ∷  -- in order, repeated, missing, late
-    (43, lastBehind 0 1 ∷ lastBehind 7 7 ∷ lastBehind 65535 2 ∷ lastBehind 0 32767 ∷ lastBehind 0 32768 ∷ lastBehind 7 6 ∷ [], 1 ∷ 7 ∷ 2 ∷ 32767 ∷ 0 ∷ 7 ∷ []) ∷  -- "negative is late and leaves the last number"
-    (44, joined (toldOf (noting (replicate 17 freed) 20 1 .0) ∷ toldOf (noting (entry 5 1 ∷ entry 5 2 ∷ []) 20 1 .0) ∷ toldOf (noting (tableOf 16) 20 1 .0) ∷ toldOf (noting (freed ∷ tableOf 15) 20 1 .0) ∷ []), 43 ∷ 43 ∷ 40 ∷ 70 ∷ []) ∷  -- 43, 40, and a first packet
-    (45, joined (unforgottenOf (forgetting (replicate 17 freed) 20 .0) ∷ unforgottenOf (forgetting (entry 5 1 ∷ entry 5 2 ∷ []) 20 .0) ∷ unforgottenOf (forgetting (tableOf 16) 20 .0) ∷ unforgottenOf (forgetting (tableOf 16) 3 .0) ∷ []), 43 ∷ 43 ∷ 41 ∷ []) ∷  -- 43, 41, and a port forgotten
-    (46, notedLine 20736 411 First, 50 ∷ 48 ∷ 55 ∷ 51 ∷ 54 ∷ 32 ∷ 52 ∷ 49 ∷ 49 ∷ 32 ∷ 102 ∷ 105 ∷ 114 ∷ 115 ∷ 116 ∷ 10 ∷ []) ∷  -- `PORT SEQUENCE first`: 20736 411 first
-    (47, joined (map (notedLine 1 2) (InOrder ∷ Repeated ∷ Late ∷ [])), 49 ∷ 32 ∷ 50 ∷ 32 ∷ 105 ∷ 110 ∷ 32 ∷ 111 ∷ 114 ∷ 100 ∷ 101 ∷ 114 ∷ 10 ∷ 49 ∷ 32 ∷ 50 ∷ 32 ∷ 114 ∷ 101 ∷ 112 ∷ 101 ∷ 97 ∷ 116 ∷ 101 ∷ 100 ∷ 10 ∷ 49 ∷ 32 ∷ 50 ∷ 32 ∷ 108 ∷ 97 ∷ 116 ∷ 101 ∷ 10 ∷ []) ∷  -- `in order`, `repeated`, `late`
-    (48, joined (map (notedLine 1 2) (Missing 32766 ∷ NotNoted 40 ∷ [])), 49 ∷ 32 ∷ 50 ∷ 32 ∷ 109 ∷ 105 ∷ 115 ∷ 115 ∷ 105 ∷ 110 ∷ 103 ∷ 32 ∷ 51 ∷ 50 ∷ 55 ∷ 54 ∷ 54 ∷ 10 ∷ 49 ∷ 32 ∷ 50 ∷ 32 ∷ 114 ∷ 101 ∷ 102 ∷ 117 ∷ 115 ∷ 101 ∷ 100 ∷ 32 ∷ 52 ∷ 48 ∷ 10 ∷ []) ∷  -- `missing N`, `refused 40`
+    -- flag 0x7E, format bytes 0x21 and 0x26, 2 to 32 key bytes
+    (1, flag ∷ plainFormat ∷ keyFormat ∷ keyLeast ∷ keyMost ∷ [], 0x7E ∷ 0x21 ∷ 0x26 ∷ 2 ∷ 32 ∷ []) ∷
+    -- a payload of 8,192 bytes as escaped, 8,205 raw bytes of a packet of format 0x21, 8,272 of any frame, a stream of 4,294,967,295 bytes, at most
+    (2, payloadLimit ∷ plainLimit ∷ rawLimit ∷ listed.most ∷ [], 8192 ∷ 8205 ∷ 8272 ∷ 4294967295 ∷ []) ∷
+    -- a word is 255 bytes, R from 0 to 64
+    (3, parity.wordBytes ∷ parity.rootLimit ∷ [], 255 ∷ 64 ∷ []) ∷
+    -- each 223 bytes become a word with R = 32, of 255 bytes; a block is 259
+    (4, messageBytes ∷ parityBytes ∷ wordBytes ∷ blockBytes ∷ [], 223 ∷ 32 ∷ 255 ∷ 259 ∷ []) ∷
+    -- the marker 7D 3A E2 42
+    (5, marker, 0x7D ∷ 0x3A ∷ 0xE2 ∷ 0x42 ∷ []) ∷
+    -- register starts at 0xFFFF, reversed polynomial 0x8408
+    (6, check.ones ∷ check.polynomial ∷ [], 0xFFFF ∷ 0x8408 ∷ []) ∷
+    -- x^8+x^4+x^3+x^2+1; alpha is 2
+    (7, field.polynomial ∷ field.alpha ∷ [], 0x11D ∷ 2 ∷ []) ∷
+    -- 0x7E becomes 7D 5E, 0x7D becomes 7D 5D; no other byte is escaped
+    (8, escape (0x7E ∷ 0x7D ∷ 0x5E ∷ 0x5D ∷ 0x21 ∷ []), 0x7D ∷ 0x5E ∷ 0x7D ∷ 0x5D ∷ 0x5E ∷ 0x5D ∷ 0x21 ∷ []) ∷
+    -- port and sequence each two bytes, low first: port 1234, sequence 0102
+    (9, contents (plainPacket 0x1234 0x0102 (0x41 ∷ [])), 0x21 ∷ 0x34 ∷ 0x12 ∷ 0x02 ∷ 0x01 ∷ 0x41 ∷ 0x3F ∷ 0x8A ∷ []) ∷
+    -- .. and taken apart
+    (10, heard (0x7E ∷ 0x21 ∷ 0x34 ∷ 0x12 ∷ 0x02 ∷ 0x01 ∷ 0x41 ∷ 0x3F ∷ 0x8A ∷ 0x7E ∷ []), 0 ∷ 0x21 ∷ 0 ∷ 0 ∷ 0x1234 ∷ 0x0102 ∷ 0x41 ∷ []) ∷
+    -- `P port sequence payload-length class`: P 20736 258 3 M
+    (
+      11,
+      line (Said (Delivered (record { format = 0x26; number = 7; key = 2; port = 0x5100; sequence = 0x0102; length = 3 }))),
+      80 ∷ 32 ∷ 50 ∷ 48 ∷ 55 ∷ 51 ∷ 54 ∷ 32 ∷ 50 ∷ 53 ∷ 56 ∷ 32 ∷ 51 ∷ 32 ∷ 77 ∷ 10 ∷ [],
+    ) ∷
+    -- `R n`: R 4
+    (12, line (Said (Denied 4)), 82 ∷ 32 ∷ 52 ∷ 10 ∷ []) ∷
+    -- `B 0` clean
+    (13, line (Block Clean), 66 ∷ 32 ∷ 48 ∷ 10 ∷ []) ∷
+    -- `B count` repaired: B 16
+    (14, line (Block (Repaired 16)), 66 ∷ 32 ∷ 49 ∷ 54 ∷ 10 ∷ []) ∷
+    -- `B X` beyond repair
+    (15, line (Block Beyond), 66 ∷ 32 ∷ 88 ∷ 10 ∷ []) ∷
+    -- `L` lock lost
+    (16, line LockLost, 76 ∷ 10 ∷ []) ∷
+    -- `E` with stream bytes, packets, frame refusals, damaged blocks, lost locks: 50 bytes, 1, 2, 3 and 4 of them
+    (17, totalLine 50 (answersOf 1 2 3 4), 69 ∷ 32 ∷ 53 ∷ 48 ∷ 32 ∷ 49 ∷ 32 ∷ 50 ∷ 32 ∷ 51 ∷ 32 ∷ 52 ∷ 10 ∷ []) ∷
+    -- .. and as the finishing call prints it
+    (18, lastOf (endsWith 50 1 2 3 4), 69 ∷ 32 ∷ 53 ∷ 48 ∷ 32 ∷ 49 ∷ 32 ∷ 50 ∷ 32 ∷ 51 ∷ 32 ∷ 52 ∷ 10 ∷ []) ∷
+    -- `X offset`: X 7
+    (19, wrongLine 7, 88 ∷ 32 ∷ 55 ∷ 10 ∷ []) ∷
+    -- empty input gives `X 0`
+    (20, listing [], 88 ∷ 32 ∷ 48 ∷ 10 ∷ []) ∷
+    -- the paper's case: P 20736 0 1 M and E 10 1 0 0 0
+    (
+      21,
+      listing (0x50 ∷ 0xF5 ∷ 0x5F ∷ 0x05 ∷ 0x00 ∷ 0x7E ∷ 0x21 ∷ 0x00 ∷ 0x51 ∷ 0x00 ∷ 0xF5 ∷ 0x5F ∷ 0x05 ∷ 0x00 ∷ 0x00 ∷ 0x41 ∷ 0xE4 ∷ 0xEC ∷ 0x7E ∷ []),
+      80 ∷ 32 ∷ 50 ∷ 48 ∷ 55 ∷ 51 ∷ 54 ∷ 32 ∷ 48 ∷ 32 ∷ 49 ∷ 32 ∷ 77 ∷ 10 ∷
+          69 ∷ 32 ∷ 49 ∷ 48 ∷ 32 ∷ 49 ∷ 32 ∷ 48 ∷ 32 ∷ 48 ∷ 32 ∷ 48 ∷ 10 ∷ [],
+    ) ∷
+    -- S 0000 0400 5101 5200 5208 52FF FF00 FFFF
+    (22, map letterOf (0x0000 ∷ 0x0400 ∷ 0x5101 ∷ 0x5200 ∷ 0x5208 ∷ 0x52FF ∷ 0xFF00 ∷ 0xFFFF ∷ []), 83 ∷ 83 ∷ 83 ∷ 83 ∷ 83 ∷ 83 ∷ 83 ∷ 83 ∷ []) ∷
+    -- A 0401 50FF, M 5100, D 5201 5207
+    (23, map letterOf (0x0401 ∷ 0x50FF ∷ 0x5100 ∷ 0x5201 ∷ 0x5207 ∷ []), 65 ∷ 65 ∷ 77 ∷ 68 ∷ 68 ∷ []) ∷
+    -- F 5300 7CFF 7F00 FEFF
+    (24, map letterOf (0x5300 ∷ 0x7CFF ∷ 0x7F00 ∷ 0xFEFF ∷ []), 70 ∷ 70 ∷ 70 ∷ 70 ∷ []) ∷
+    -- 7D00-7EFF may not be used, and the ports beside them may
+    (25, map unusable (0x7CFF ∷ 0x7D00 ∷ 0x7EFF ∷ 0x7F00 ∷ []), 0 ∷ 1 ∷ 1 ∷ 0 ∷ []) ∷
+    -- our own limits, as docs/REFUSALS.md and docs/DECISIONS.md print them
+    (26, lineLimit ∷ heldLimit ∷ holdLimit ∷ outLimit ∷ longest ∷ far ∷ [], 8205 ∷ 222 ∷ 8428 ∷ 9583 ∷ 128 ∷ 18446744073709551615 ∷ []) ∷
+    -- 8,192 plain payload bytes pass and 8,193 get 21; 4,096 bytes of 0x7E pass and 4,097 get 21
+    (27, map (λ l. refusalOf (paying l)) (replicate 8192 0 ∷ replicate 8193 0 ∷ replicate 4096 0x7E ∷ replicate 4097 0x7E ∷ []), 0 ∷ 21 ∷ 0 ∷ 21 ∷ []) ∷
+    -- 8,272 raw bytes are judged further and 8,273 get 1
+    (28, joined (map inNumbers (judge (replicate 8272 0x7D) ∷ judge (replicate 8273 0x7D) ∷ [])), 2 ∷ 1 ∷ []) ∷
+    -- counted from 0 behind the opening flag, the first wrong byte after 7D: 21 at 1, the second 7D at 2; none where the last raw byte is 7D
+    (29, places (0x7E ∷ 0x7D ∷ 0x21 ∷ 0x7E ∷ 0x41 ∷ 0x7D ∷ 0x7D ∷ 0x5E ∷ 0x7D ∷ 0x22 ∷ 0x7E ∷ 0x7D ∷ 0x21 ∷ 0x7D ∷ 0x7E ∷ []), 1 ∷ 2 ∷ []) ∷
+    -- the last of 8,272 raw bytes is at 8,271; 8,273 get 1
+    (30, joined (map placeOf (judge (replicate 8270 0 ++ 0x7D ∷ 0x21 ∷ []) ∷ judge (replicate 8271 0 ++ 0x7D ∷ 0x21 ∷ []) ∷ [])), 8271 ∷ []) ∷
+    -- 10 where the remembered place is above 8,271
+    (31, placeLimit ∷ [], 8271 ∷ []) ∷
+    -- `R 3 n`: R 3 105
+    (32, line (Said (Broken 105)), 82 ∷ 32 ∷ 51 ∷ 32 ∷ 49 ∷ 48 ∷ 53 ∷ 10 ∷ []) ∷
+    -- "Between format and port stand a key length byte, a key number and 2 to 32 key bytes.", the check over everything from the format byte on
+    (
+      33,
+      contents (keyPacket 0x07 (0xAA ∷ 0xBB ∷ []) 0x1234 0x0102 (0x41 ∷ [])),
+      0x26 ∷ 0x02 ∷ 0x07 ∷ 0xAA ∷ 0xBB ∷ 0x34 ∷ 0x12 ∷ 0x02 ∷ 0x01 ∷ 0x41 ∷ 0x8E ∷ 0x3F ∷ [],
+    ) ∷
+    -- .. and taken apart
+    (
+      34,
+      heard (0x7E ∷ 0x26 ∷ 0x02 ∷ 0x07 ∷ 0xAA ∷ 0xBB ∷ 0x34 ∷ 0x12 ∷ 0x02 ∷ 0x01 ∷ 0x41 ∷ 0x8E ∷ 0x3F ∷ 0x7E ∷ []),
+      0 ∷ 0x26 ∷ 7 ∷ 2 ∷ 0xAA ∷ 0xBB ∷ 0x1234 ∷ 0x0102 ∷ 0x41 ∷ [],
+    ) ∷
+    -- 12: a key length outside 2 to 32, fewer than seven bytes behind the key
+    (
+      35,
+      keyRefusal 0 7 ∷ keyRefusal 1 7 ∷ keyRefusal 2 7 ∷ keyRefusal 32 7 ∷ keyRefusal 33 7 ∷ keyRefusal 2 6 ∷ keyRefusal 32 6 ∷ [],
+      12 ∷ 12 ∷ 0 ∷ 0 ∷ 12 ∷ 12 ∷ 12 ∷ [],
+    ) ∷
+    -- 24: such a length, a key length or number above zero in format 0x21, another format
+    (
+      36,
+      map refusalOf (
+          headed 0x26 0 1 ∷ headed 0x26 0 2 ∷ headed 0x26 255 32 ∷ headed 0x26 0 33 ∷ headed 0x26 0 258 ∷
+          headed 0x21 0 0 ∷ headed 0x21 0 2 ∷ headed 0x21 1 0 ∷ headed 0x22 0 2 ∷ []),
+      24 ∷ 0 ∷ 0 ∷ 24 ∷ 24 ∷ 0 ∷ 24 ∷ 24 ∷ 24 ∷ [],
+    ) ∷
+    -- D rows by 255, depth 0 to 64; a matrix holds up to 16,320 bytes
+    (37, width ∷ interleaver.depthLimit ∷ length (interleaver.fresh .cells) ∷ [], 255 ∷ 64 ∷ 16320 ∷ []) ∷
+    -- the closing push: N - 1 bytes, none at depth 0 and 1
+    (38, map interleaver.closingBytes (0 ∷ 1 ∷ 2 ∷ 64 ∷ []), 0 ∷ 0 ∷ 509 ∷ 16319 ∷ []) ∷
+    -- 10 for a cell place of N or more; depth 64 passes, 65 gets 32, behind 10
+    (
+      39,
+      map (refusalAt 2) (509 ∷ 510 ∷ []) ++ (map (refusalAt 64) (16319 ∷ 16320 ∷ []) ++ map (refusalAt 65) (16574 ∷ 16575 ∷ [])),
+      0 ∷ 10 ∷ 0 ∷ 10 ∷ 32 ∷ 10 ∷ [],
+    ) ∷
+    -- depth 0 and 1 use no cell
+    (40, map (refusalAt 0) (0 ∷ 16320 ∷ []) ++ map (refusalAt 1) (255 ∷ 16320 ∷ []), 0 ∷ 0 ∷ 0 ∷ 0 ∷ []) ∷
+    -- "up to 16"; "from -32,768 to 32,767, around 65,536"
+    (41, mostPorts ∷ around ∷ half ∷ [], 16 ∷ 65536 ∷ 32768 ∷ []) ∷
+    -- in order, repeated, missing, late
+    (
+      42,
+      joined (map toldOf (ruled 0 1 ∷ ruled 65535 0 ∷ ruled 7 7 ∷ ruled 7 9 ∷ ruled 65535 2 ∷ ruled 0 32767 ∷ ruled 0 32768 ∷ ruled 7 6 ∷ ruled 0 65535 ∷ [])),
+      73 ∷ 73 ∷ 82 ∷ 77 ∷ 1 ∷ 77 ∷ 2 ∷ 77 ∷ 32766 ∷ 76 ∷ 76 ∷ 76 ∷ [],
+    ) ∷
+    -- "negative is late and leaves the last number"
+    (43, lastBehind 0 1 ∷ lastBehind 7 7 ∷ lastBehind 65535 2 ∷ lastBehind 0 32767 ∷ lastBehind 0 32768 ∷ lastBehind 7 6 ∷ [], 1 ∷ 7 ∷ 2 ∷ 32767 ∷ 0 ∷ 7 ∷ []) ∷
+    -- 43, 40, and a first packet
+    (
+      44,
+      joined (
+          toldOf (noting (replicate 17 freed) 20 1 .0) ∷ toldOf (noting (entry 5 1 ∷ entry 5 2 ∷ []) 20 1 .0) ∷
+          toldOf (noting (tableOf 16) 20 1 .0) ∷ toldOf (noting (freed ∷ tableOf 15) 20 1 .0) ∷ []),
+      43 ∷ 43 ∷ 40 ∷ 70 ∷ [],
+    ) ∷
+    -- 43, 41, and a port forgotten
+    (
+      45,
+      joined (
+          unforgottenOf (forgetting (replicate 17 freed) 20 .0) ∷ unforgottenOf (forgetting (entry 5 1 ∷ entry 5 2 ∷ []) 20 .0) ∷
+          unforgottenOf (forgetting (tableOf 16) 20 .0) ∷ unforgottenOf (forgetting (tableOf 16) 3 .0) ∷ []),
+      43 ∷ 43 ∷ 41 ∷ [],
+    ) ∷
+    -- `PORT SEQUENCE first`: 20736 411 first
+    (46, notedLine 20736 411 First, 50 ∷ 48 ∷ 55 ∷ 51 ∷ 54 ∷ 32 ∷ 52 ∷ 49 ∷ 49 ∷ 32 ∷ 102 ∷ 105 ∷ 114 ∷ 115 ∷ 116 ∷ 10 ∷ []) ∷
+    -- `in order`, `repeated`, `late`
+    (
+      47,
+      joined (map (notedLine 1 2) (InOrder ∷ Repeated ∷ Late ∷ [])),
+      49 ∷ 32 ∷ 50 ∷ 32 ∷ 105 ∷ 110 ∷ 32 ∷ 111 ∷ 114 ∷ 100 ∷ 101 ∷ 114 ∷ 10 ∷
+          49 ∷ 32 ∷ 50 ∷ 32 ∷ 114 ∷ 101 ∷ 112 ∷ 101 ∷ 97 ∷ 116 ∷ 101 ∷ 100 ∷ 10 ∷
+          49 ∷ 32 ∷ 50 ∷ 32 ∷ 108 ∷ 97 ∷ 116 ∷ 101 ∷ 10 ∷ [],
+    ) ∷
+    -- `missing N`, `refused 40`
+    (
+      48,
+      joined (map (notedLine 1 2) (Missing 32766 ∷ NotNoted 40 ∷ [])),
+      49 ∷ 32 ∷ 50 ∷ 32 ∷ 109 ∷ 105 ∷ 115 ∷ 115 ∷ 105 ∷ 110 ∷ 103 ∷ 32 ∷ 51 ∷ 50 ∷ 55 ∷ 54 ∷ 54 ∷ 10 ∷
+          49 ∷ 32 ∷ 50 ∷ 32 ∷ 114 ∷ 101 ∷ 102 ∷ 117 ∷ 115 ∷ 101 ∷ 100 ∷ 32 ∷ 52 ∷ 48 ∷ 10 ∷ [],
+    ) ∷
     []

@@ -1,6 +1,6 @@
 -- Rows of the paper's tables ("Numbered refusals") that several calls share, or that take more than a line.
 -- frameRows             2 to 6, 12, 7 and 8, of the raw bytes of a frame
--- Unfit                 24: a head that is not to be sent
+-- UnfitHead             24: a head that is not to be sent
 -- PlaceBeyond           10: a place of the interleaver
 -- FrameBeyond, Beyond   10: a count of the state is beyond its limit
 -- NextBeyond            .. of a call on a recording's bytes
@@ -31,7 +31,7 @@ use Rattle.parity.specs.declared.Checked.{Checked}
 use Rattle.parity.specs.declared.Checked.the-variants.{Refused as WordRefused}
 use Rattle.repair.specs.declared.Mended.{Mended}
 use Rattle.repair.specs.declared.Mended.the-variants.{Refused as RepairRefused}
-use Rattle.stream.specs.Called.{Held, placeLimit}
+use Rattle.stream.specs.Called.{placeLimit}
 use Rattle.stream.specs.declared.frame.Frame.{Frame}
 use Rattle.blocks.specs.Channel.{Event, said}
 use Rattle.blocks.specs.Sender.{messageBytes, wordBytes}
@@ -97,8 +97,8 @@ frameRows raw =
     contentsRows (plain raw)
 
 -- 24: a 0x26 key length outside 2 to 32, another format, or a key length or number above zero in format 0x21
-abbrev pub Unfit : Packet → Type 0
-Unfit p =
+abbrev pub UnfitHead : Packet → Type 0
+UnfitHead p =
     ((p .format ≡ keyFormat) × KeyBeyond (length (p .key)))
     ⊎ ((p .format ≢ plainFormat) × (p .format ≢ keyFormat))
     ⊎ ((p .format ≡ plainFormat) × ((0 < length (p .key)) ⊎ (0 < p .number)))
@@ -158,8 +158,8 @@ ByCheck c n = c ≡ WordRefused n
 abbrev pub ByRepair : Mended → ℕ → Type 0
 ByRepair a n = a ≡ RepairRefused n
 
--- a receiving call on the plain stream is: by a number of calls, and not of frames
-abbrev pub ByRead : Option Told × ℕ × Held → ℕ → Type 0
+-- a receiving call on the plain stream is, or one on a capture's bytes: by a number of calls, and not of frames or captures
+abbrev pub ByRead : {B : Type 0} → Option Told × ℕ × B → ℕ → Type 0
 ByRead r n = OfCall n × (r .0 ≡ some (refusal n))
 
 -- a receiving call on the channel is, the opportunistic or a fixed one

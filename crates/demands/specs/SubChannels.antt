@@ -3,7 +3,7 @@
 -- ReceiverBeyond, SenderBeyond              .. of the state, which is all four
 -- Unknown                                   42, outside configuring
 -- OfNumbered                                the numbers of receiving calls by number
--- ByConfigure, ByNumber                     that configuring, and a receiving call by number, refuses by a number
+-- ByConfigure, ByNumbered                   that configuring, and a receiving call by number, refuses by a number
 use Prim.Native.Nat.{ℕ, _<_}
 use mathlib.Core.Path.{_≡_}
 use mathlib.Core.Bool.{false}
@@ -58,5 +58,5 @@ abbrev pub ByConfigure : {S : Type 0} → Configured × S → ℕ → Type 0
 ByConfigure x n = x .0 ≡ Refused n
 
 -- a receiving call by number is
-abbrev pub ByNumber : Option Event × ℕ × Receiver × List ℕ × List ℕ → ℕ → Type 0
-ByNumber x n = OfNumbered n × (x .0 ≡ some (said (refusal n)))
+abbrev pub ByNumbered : Option Event × ℕ × Receiver × List ℕ × List ℕ → ℕ → Type 0
+ByNumbered x n = OfNumbered n × (x .0 ≡ some (said (refusal n)))

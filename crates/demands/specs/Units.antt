@@ -7,13 +7,13 @@ use lib.ListN.{length}
 use Rattle.multiplex.specs.Tables.{heads, payload, lent}
 use Rattle.multiplex.specs.Unit.{filled}
 use Rattle.multiplex.specs.Reading.{headerOf, payloadOf, named, middle}
-use Rattle.multiplex.specs.Refusing.{Unfit, NoMix, Early, Unnamed, Disagree, Unmarked, carried}
+use Rattle.multiplex.specs.Refusing.{Unfit as UnfitLength, NoMix, Early, Unnamed, Disagree, Unmarked, carried}
 use Rattle.demands.specs.Table.{Row}
 
 -- of a call that writes a unit of l bits, with r bytes of output
 abbrev pub writeRows : ℕ → List ℕ → List ℕ → List ℕ → List ℕ → ℕ → List Row
 writeRows l d audio opp fixed r =
-    (50, Unfit l) ∷  -- length above the limit, a header spacing below zero
+    (50, UnfitLength l) ∷  -- length above the limit, a header spacing below zero
     (51, NoMix (length audio) (length fixed) (length opp)) ∷  -- a mix of content that has no sequence
     (53, payload l < filled d audio opp fixed) ∷  -- parts that do not fit
     (54, Early d (payload l - filled d audio opp fixed) opp) ∷  -- the delimiter would be found earlier than written
@@ -32,5 +32,5 @@ partRows l d a f u r cw xs =
 -- of a call that reads a unit u of l bits, a and f bytes of audio and fixed data being told, with r bytes of output
 abbrev pub readRows : ℕ → List ℕ → ℕ → ℕ → List ℕ → ℕ → List Row
 readRows l d a f u r =
-    (50, Unfit l ⊎ (length u < lent l)) ∷  -- .. or too few bytes lent
+    (50, UnfitLength l ⊎ (length u < lent l)) ∷  -- .. or too few bytes lent
     partRows l d a f u r (named (heads l) (headerOf l u)) (middle a f (payloadOf l u))

@@ -15,7 +15,22 @@ use lib.ListN.{length, getD, take, drop}
 use Rattle.base.specs.Choice.{pick}
 use Rattle.fcs.specs.Fcs.{fcs}
 use Rattle.frames.specs.Port.{barred}
-use Rattle.frames.specs.Contents.{Packet, plainFormat, keyFormat, keySized, restLeast, payloadLimit, rawLimit, wordAt, keyLength, keyAt, payloadAt, plainly, keyed, body}
+use Rattle.frames.specs.Contents.{
+  Packet,
+  plainFormat,
+  keyFormat,
+  keySized,
+  restLeast,
+  payloadLimit,
+  rawLimit,
+  wordAt,
+  keyLength,
+  keyAt,
+  payloadAt,
+  plainly,
+  keyed,
+  body,
+}
 use Rattle.frames.specs.Escape.{escape, plain, scan}
 use Rattle.frames.specs.declared.Escapes.{Escapes}
 use Rattle.frames.specs.declared.Escapes.the-variants.{Right, Unfinished, Wrong}
@@ -39,6 +54,10 @@ delivery p = record {
   sequence = p .sequence;
   length = length (p .payload);
 }
+
+-- no packet is told of
+abbrev pub noDelivery : Delivery
+noDelivery = record { format = 0; number = 0; key = 0; port = 0; sequence = 0; length = 0 }
 
 -- the code's answer
 abbrev pub judged : Told → Judged

@@ -91,7 +91,8 @@ fn send(
     out: &mut [u8],
 ) -> Ended
     requires { ⌜ (held ≤ heldLimit) × (holdLimit ≤ length (now hold)) × (outLimit ≤ length (now out)) ⌝ }
-    ensures { λ r. ⌜ EndedIs (endingBy (judged (plainPacket port sequence (now (text .entry)))) held (now (hold .entry))) (now (out .entry)) r (now (hold .exit)) (now (out .exit)) ⌝ }
+    ensures { λ r. ⌜ EndedIs (endingBy (judged (plainPacket port sequence (now (text .entry)))) held (now (hold .entry)))
+        (now (out .entry)) r (now (hold .exit)) (now (out .exit)) ⌝ }
 {
     match stream::append(hold, held, port, sequence, text) {
         Written::Wrote(n) => {
@@ -111,7 +112,8 @@ fn send(
 // A line's end.
 fn end_line(line: &[u8], held: usize, hold: &mut [u8], out: &mut [u8]) -> Ended
     requires { ⌜ (held ≤ heldLimit) × (holdLimit ≤ length (now hold)) × (outLimit ≤ length (now out)) ⌝ }
-    ensures { λ r. ⌜ EndedIs (endingBy (verdict (now (line .entry))) held (now (hold .entry))) (now (out .entry)) r (now (hold .exit)) (now (out .exit)) ⌝ }
+    ensures { λ r. ⌜ EndedIs (endingBy (verdict (now (line .entry))) held (now (hold .entry)))
+        (now (out .entry)) r (now (hold .exit)) (now (out .exit)) ⌝ }
 {
     match bid::read(line) {
         Found::Bid {
@@ -139,7 +141,8 @@ fn numbered(lines: u64) -> u64
 // Stores bytes of a line behind the first `at`, as many as decide; how many there are then.
 fn keep(line: &mut [u8], at: usize, bytes: &[u8]) -> usize
     requires { ⌜ (at ≤ lineLimit) × (lineLimit ≤ length (now line)) ⌝ }
-    ensures { λ r. ⌜ (r ≡ min (at + length (now (bytes .entry))) lineLimit) × (now (line .exit) ≡ sets (now (line .entry)) at (take (lineLimit - at) (now (bytes .entry)))) ⌝ }
+    ensures { λ r. ⌜ (r ≡ min (at + length (now (bytes .entry))) lineLimit)
+        × (now (line .exit) ≡ sets (now (line .entry)) at (take (lineLimit - at) (now (bytes .entry)))) ⌝ }
 {
     let end = Office::LINE;
     base::copy(bytes, &mut line[at..end]);
@@ -211,7 +214,8 @@ impl Office {
     // A call behind its refusals.
     fn hear_on(self, line: &mut [u8], hold: &mut [u8], piece: &[u8], out: &mut [u8]) -> Heard
         requires { ⌜ (sound self ≡ true) × (roomy (now line) (now hold) ≡ true) × (outLimit ≤ length (now out)) ⌝ }
-        ensures { λ r. ⌜ HeardIs (hearOn (desk self (now (line .entry)) (now (hold .entry))) (now (piece .entry))) (now (out .entry)) r (now (line .exit)) (now (hold .exit)) (now (out .exit)) ⌝ }
+        ensures { λ r. ⌜ HeardIs (hearOn (desk self (now (line .entry)) (now (hold .entry))) (now (piece .entry)))
+            (now (out .entry)) r (now (line .exit)) (now (hold .exit)) (now (out .exit)) ⌝ }
     {
         let n = base::up_to(piece, Line::FEED);
         let stored = keep(line, self.stored, &piece[0..n]);
@@ -241,7 +245,8 @@ impl Office {
 
     /// The next bytes, up to the end of a line: its packet goes behind the bytes held, and whole messages go out.
     pub fn hear(self, line: &mut [u8], hold: &mut [u8], piece: &[u8], out: &mut [u8]) -> Heard
-        ensures { λ r. ⌜ HeardIs (hearCall (length (now (out .entry))) (desk self (now (line .entry)) (now (hold .entry))) (now (piece .entry))) (now (out .entry)) r (now (line .exit)) (now (hold .exit)) (now (out .exit)) ⌝ }
+        ensures { λ r. ⌜ HeardIs (hearCall (length (now (out .entry))) (desk self (now (line .entry)) (now (hold .entry))) (now (piece .entry)))
+            (now (out .entry)) r (now (line .exit)) (now (hold .exit)) (now (out .exit)) ⌝ }
     {
         if !self.sound() {
             return Heard::refused(Refusal::STATE, self);
@@ -257,7 +262,8 @@ impl Office {
 
     /// The end of the input: it ends a line that is begun.
     pub fn close(self, line: &mut [u8], hold: &mut [u8], out: &mut [u8]) -> Heard
-        ensures { λ r. ⌜ HeardIs (closeCall (length (now (out .entry))) (desk self (now (line .entry)) (now (hold .entry)))) (now (out .entry)) r (now (line .exit)) (now (hold .exit)) (now (out .exit)) ⌝ }
+        ensures { λ r. ⌜ HeardIs (closeCall (length (now (out .entry))) (desk self (now (line .entry)) (now (hold .entry))))
+            (now (out .entry)) r (now (line .exit)) (now (hold .exit)) (now (out .exit)) ⌝ }
     {
         let feed = [Line::FEED];
         if self.stored == 0 {

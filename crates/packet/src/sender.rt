@@ -119,7 +119,8 @@ fn put_packet(
     out: &mut [u8],
 ) -> Written
     requires { ⌜ (length (now key) ≤ keyMost) × (length (escape (now payload)) ≤ payloadLimit) ⌝ }
-    ensures { λ w. ⌜ outcome w (now (out .exit)) ≡ write (frameOf (packetOf format number (now (key .entry)) port sequence (now (payload .entry)))) (now (out .entry)) ⌝ }
+    ensures { λ w. ⌜ outcome w (now (out .exit)) ≡
+        write (frameOf (packetOf format number (now (key .entry)) port sequence (now (payload .entry)))) (now (out .entry)) ⌝ }
 {
     let mut opening = [0u8; Packet::OPENING];
     let n = put_opening(&mut opening, format, number, key, port, sequence);
@@ -137,7 +138,8 @@ pub fn write_as(
     payload: &[u8],
     out: &mut [u8],
 ) -> Written
-    ensures { λ w. ⌜ outcome w (now (out .exit)) ≡ writing (packetOf format number (now (key .entry)) port sequence (now (payload .entry))) (now (out .entry)) ⌝ }
+    ensures { λ w. ⌜ outcome w (now (out .exit)) ≡
+        writing (packetOf format number (now (key .entry)) port sequence (now (payload .entry))) (now (out .entry)) ⌝ }
 {
     if payload.len() == 0 {
         return Written::Refused(Refusal::EMPTY);

@@ -16,6 +16,7 @@ use Rattle.base.specs.Choice.{pick}
 use Rattle.base.specs.Written.{outcome}
 use Rattle.base.specs.declared.Written.{Written}
 use Rattle.frames.specs.Contents.{payloadAt}
+use Rattle.frames.specs.Frame.{noDelivery}
 use Rattle.frames.specs.declared.Delivery.{Delivery}
 use Rattle.frames.specs.declared.Judged.{Judged}
 use Rattle.frames.specs.declared.Judged.the-variants.{Packet, Broken}
@@ -37,7 +38,7 @@ use Rattle.channel.specs.declared.receiver.Receiver.{Receiver}
 use Rattle.channel.specs.declared.answer.Hearing.{Hearing}
 use Rattle.rack.specs.declared.told.Told.{Told}
 use Rattle.rack.specs.Words.{writtenNumber, checkedNumber, mendedNumber, byNumber, making, checking, mending}
-use Rattle.rack.specs.Told.{none, bare, ofJudged, ofHeard, ofBlock, ofAnswer, ofCall, isSet, flagNumber, frameOf, receiverOf, toldNumbers, streamNumbers, channelNumbers}
+use Rattle.rack.specs.Told.{bare, ofJudged, ofHeard, ofBlock, ofAnswer, ofCall, isSet, flagNumber, frameOf, receiverOf, toldNumbers, streamNumbers, channelNumbers}
 use Rattle.rack.specs.Calls.{left, reading, hearing}
 
 -- ---- words
@@ -62,17 +63,17 @@ module _ (r : ℕ) (word : List ℕ) where
       λ i. (n i, s .1 i)
 
 -- ---- answers
-pub bare-told : (n : ℕ) {d : Delivery} → d ≡ none → record { number = n; delivery = d; place = 0; repaired = 0 } ≡ bare n
+pub bare-told : (n : ℕ) {d : Delivery} → d ≡ noDelivery → record { number = n; delivery = d; place = 0; repaired = 0 } ≡ bare n
 bare-told n e i = record { number = n; delivery = e i; place = 0; repaired = 0 }
 
 pub packet-told : {j : Judged} {d : Delivery} {k : ℕ} → k ≡ payloadAt (d .key) → j ≡ Packet d
     → record { number = 256; delivery = d; place = k; repaired = 0 } ≡ ofJudged j
 packet-told {d = d} p e = ap (λ (k : ℕ). record { number = 256; delivery = d; place = k; repaired = 0 }) p ∙ sym (ap ofJudged e)
 
-pub broken-told : {j : Judged} {d : Delivery} {k : ℕ} → d ≡ none → j ≡ Broken k → record { number = 3; delivery = d; place = k; repaired = 0 } ≡ ofJudged j
+pub broken-told : {j : Judged} {d : Delivery} {k : ℕ} → d ≡ noDelivery → j ≡ Broken k → record { number = 3; delivery = d; place = k; repaired = 0 } ≡ ofJudged j
 broken-told {k = k} p e = ap (λ (d : Delivery). record { number = 3; delivery = d; place = k; repaired = 0 }) p ∙ sym (ap ofJudged e)
 
-pub repaired-told : {c : Condition} {d : Delivery} {k : ℕ} → d ≡ none → c ≡ Mended-block k
+pub repaired-told : {c : Condition} {d : Delivery} {k : ℕ} → d ≡ noDelivery → c ≡ Mended-block k
     → record { number = 259; delivery = d; place = 0; repaired = k } ≡ ofBlock c
 repaired-told {k = k} p e = ap (λ (d : Delivery). record { number = 259; delivery = d; place = 0; repaired = k }) p ∙ sym (ap ofBlock e)
 

@@ -10,7 +10,7 @@ use lib.Dec.{eqb}
 use lib.ListN.{getD}
 use Rattle.base.specs.Choice.{pick}
 use Rattle.frames.specs.Contents.{payloadAt}
-use Rattle.frames.specs.declared.Delivery.{Delivery}
+use Rattle.frames.specs.Frame.{noDelivery}
 use Rattle.frames.specs.declared.Judged.{Judged}
 use Rattle.frames.specs.declared.Judged.the-variants.{Packet, Refused, Broken}
 use Rattle.stream.specs.declared.frame.Frame.{Frame}
@@ -23,19 +23,15 @@ use Rattle.channel.specs.declared.answer.Answer.{Answer}
 use Rattle.channel.specs.declared.answer.Answer.the-variants.{More, Said, Block, LockLost}
 use Rattle.rack.specs.declared.told.Told.{Told}
 
--- no packet is told of
-abbrev pub none : Delivery
-none = record { format = 0; number = 0; key = 0; port = 0; sequence = 0; length = 0 }
-
 -- a number alone: 0 is "more wanted", a refusal has the paper's number
 abbrev pub bare : ℕ → Told
-bare n = record { number = n; delivery = none; place = 0; repaired = 0 }
+bare n = record { number = n; delivery = noDelivery; place = 0; repaired = 0 }
 
 -- a packet: 256, and where its payload stands in the receive buffer. An escape that broke: 3, and the place of the byte behind 7D
 abbrev pub ofJudged : Judged → Told
 ofJudged (Packet d) = record { number = 256; delivery = d; place = payloadAt (d .key); repaired = 0 }
 ofJudged (Refused n) = bare n
-ofJudged (Broken k) = record { number = 3; delivery = none; place = k; repaired = 0 }
+ofJudged (Broken k) = record { number = 3; delivery = noDelivery; place = k; repaired = 0 }
 
 -- on the plain stream
 abbrev pub ofHeard : Heard → Told
@@ -45,7 +41,7 @@ ofHeard (plain.Said j) = ofJudged j
 -- a block: clean 258, repaired 259 and in how many places, beyond repair 260
 abbrev pub ofBlock : Condition → Told
 ofBlock Clean = bare 258
-ofBlock (Repaired k) = record { number = 259; delivery = none; place = 0; repaired = k }
+ofBlock (Repaired k) = record { number = 259; delivery = noDelivery; place = 0; repaired = k }
 ofBlock Beyond = bare 260
 
 -- on the channel: also lock lost, 257

@@ -1,7 +1,8 @@
 //! What an answer tells, in numbers.
 ghost use mathlib.Core.Path.{_≡_};
 ghost use Rattle.frames.specs.Contents.{payloadAt};
-ghost use Rattle.rack.specs.Told.{none, bare, ofJudged, ofHeard, ofBlock, ofAnswer, ofCall, frameBy, flagNumber};
+ghost use Rattle.frames.specs.Frame.{noDelivery};
+ghost use Rattle.rack.specs.Told.{bare, ofJudged, ofHeard, ofBlock, ofAnswer, ofCall, frameBy, flagNumber};
 use base::Refusal;
 use blocks::Condition;
 use channel::Answer;
@@ -38,7 +39,7 @@ pub(crate) struct Told {
 
 // No packet.
 fn none() -> Delivery
-    ensures { λ r. ⌜ r ≡ none ⌝ }
+    ensures { λ r. ⌜ r ≡ noDelivery ⌝ }
 {
     Delivery {
         format: 0,

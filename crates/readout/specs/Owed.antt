@@ -11,7 +11,7 @@ use lib.Dec.{eqb, ltb, leb}
 use lib.ListN.{length, getD, drop}
 use Rattle.base.specs.Choice.{pick}
 use Rattle.frames.specs.Contents.{keyFormat, payloadAt}
-use Rattle.frames.specs.Frame.{part}
+use Rattle.frames.specs.Frame.{part, noDelivery}
 use Rattle.frames.specs.declared.Delivery.{Delivery}
 use Rattle.frames.specs.declared.Judged.the-variants.{Packet as Delivered, Refused, Broken}
 use Rattle.channel.specs.declared.answer.Answer.{Answer}
@@ -26,10 +26,6 @@ use Rattle.shown.specs.Parts.{lead, remark}
 use Rattle.lines.specs.declared.piece.Piece.{Piece}
 use Rattle.lines.specs.Piece.{pieceOf, textOf}
 use Rattle.readout.specs.declared.owed.Owed.{Owed}
-
--- no packet
-abbrev pub noDelivery : Delivery
-noDelivery = record { format = 0; number = 0; key = 0; port = 0; sequence = 0; length = 0 }
 
 -- a piece, and nothing behind it
 abbrev pub alone : Piece → Owed

@@ -231,7 +231,9 @@ impl Readout {
     // The next answer.
     fn hear(self, recv: &mut [u8], word: &mut [u8], piece: &[u8]) -> Heard
         requires { ⌜ (soundState self (length (now piece)) ≡ true) × (roomy (now recv) (now word) ≡ true) ⌝ }
-        ensures { λ r. ⌜ HeardIs (self .bare) (sourceHear (source (self .bare) (deckOf (self .tape) (now (recv .entry)) (now (word .entry)))) (now (piece .entry))) r (now (recv .exit)) (now (word .exit)) ⌝ }
+        ensures { λ r. ⌜ HeardIs (self .bare)
+            (sourceHear (source (self .bare) (deckOf (self .tape) (now (recv .entry)) (now (word .entry)))) (now (piece .entry)))
+            r (now (recv .exit)) (now (word .exit)) ⌝ }
     {
         if self.bare {
             return self.hear_bare(recv, word, piece);
@@ -243,7 +245,8 @@ impl Readout {
     // A call behind refusals 10 and 11.
     fn take_on(self, recv: &mut [u8], word: &mut [u8], piece: &[u8], out: &mut [u8]) -> Took
         requires { ⌜ (soundState self (length (now piece)) ≡ true) × (roomy (now recv) (now word) ≡ true) × (length (self .owed .piece .bytes) ≡ longest) ⌝ }
-        ensures { λ r. ⌜ TookIs (takesOn (length (now (out .entry))) (screenOf self (now (recv .entry)) (now (word .entry))) (now (piece .entry))) r (now (recv .exit)) (now (word .exit)) (now (out .entry)) (now (out .exit)) ⌝ }
+        ensures { λ r. ⌜ TookIs (takesOn (length (now (out .entry))) (screenOf self (now (recv .entry)) (now (word .entry))) (now (piece .entry)))
+            r (now (recv .exit)) (now (word .exit)) (now (out .entry)) (now (out .exit)) ⌝ }
     {
         let before = self.owed;
         let put = before.put(recv, out);
@@ -277,7 +280,8 @@ impl Readout {
 
     /// The next bytes: what is owed is written as far as there is room, and where all of it is out the next answer is heard.
     pub fn take(self, recv: &mut [u8], word: &mut [u8], piece: &[u8], out: &mut [u8]) -> Took
-        ensures { λ r. ⌜ TookIs (takes (length (now (out .entry))) (screenOf self (now (recv .entry)) (now (word .entry))) (now (piece .entry))) r (now (recv .exit)) (now (word .exit)) (now (out .entry)) (now (out .exit)) ⌝ }
+        ensures { λ r. ⌜ TookIs (takes (length (now (out .entry))) (screenOf self (now (recv .entry)) (now (word .entry))) (now (piece .entry)))
+            r (now (recv .exit)) (now (word .exit)) (now (out .entry)) (now (out .exit)) ⌝ }
     {
         if !self.sound(piece.len()) {
             return Took::refused(Refusal::STATE, self);

@@ -219,8 +219,10 @@ impl Recording {
 
     // One answer, and its line.
     fn step(self, recv: &mut [u8], word: &mut [u8], piece: &[u8], out: &mut [u8]) -> Step
-        requires { ⌜ (sound (self .tape .receiver) ≡ true) × (roomy (now recv) (now word) ≡ true) × (near (self .tape .spot) (self .totals) (length (now piece)) (length (now out)) ≡ true) ⌝ }
-        ensures { λ r. ⌜ StepIs (deckOf (self .tape) (now (recv .entry)) (now (word .entry))) (self .totals) (now (piece .entry)) (now (out .entry)) r (now (recv .exit)) (now (word .exit)) (now (out .exit)) ⌝ }
+        requires { ⌜ (sound (self .tape .receiver) ≡ true) × (roomy (now recv) (now word) ≡ true)
+            × (near (self .tape .spot) (self .totals) (length (now piece)) (length (now out)) ≡ true) ⌝ }
+        ensures { λ r. ⌜ StepIs (deckOf (self .tape) (now (recv .entry)) (now (word .entry))) (self .totals) (now (piece .entry)) (now (out .entry))
+            r (now (recv .exit)) (now (word .exit)) (now (out .exit)) ⌝ }
     {
         if out.len() < Recording::ROOM {
             return Step {
@@ -259,8 +261,11 @@ impl Recording {
 
     // A call behind refusals 10 and 11.
     fn take_on(self, recv: &mut [u8], word: &mut [u8], piece: &[u8], out: &mut [u8]) -> Took
-        requires { ⌜ (sound (self .tape .receiver) ≡ true) × (roomy (now recv) (now word) ≡ true) × (near (self .tape .spot) (self .totals) (length (now piece)) (length (now out)) ≡ true) ⌝ }
-        ensures { λ r. ⌜ TookIs (print (length (now (out .entry))) (length (now (out .entry))) (deckOf (self .tape) (now (recv .entry)) (now (word .entry))) (self .totals) (now (piece .entry))) r (now (recv .exit)) (now (word .exit)) (now (out .entry)) (now (out .exit)) ⌝ }
+        requires { ⌜ (sound (self .tape .receiver) ≡ true) × (roomy (now recv) (now word) ≡ true)
+            × (near (self .tape .spot) (self .totals) (length (now piece)) (length (now out)) ≡ true) ⌝ }
+        ensures { λ r. ⌜ TookIs (print (length (now (out .entry))) (length (now (out .entry)))
+            (deckOf (self .tape) (now (recv .entry)) (now (word .entry))) (self .totals) (now (piece .entry)))
+            r (now (recv .exit)) (now (word .exit)) (now (out .entry)) (now (out .exit)) ⌝ }
     {
         let mut next = self;
         let mut i: usize = 0;
@@ -284,7 +289,9 @@ impl Recording {
 
     /// The next bytes: lines are written while the output has room for any line.
     pub fn take(self, recv: &mut [u8], word: &mut [u8], piece: &[u8], out: &mut [u8]) -> Took
-        ensures { λ r. ⌜ TookIs (takes (deckOf (self .tape) (now (recv .entry)) (now (word .entry))) (self .totals) (length (now (out .entry))) (now (piece .entry))) r (now (recv .exit)) (now (word .exit)) (now (out .entry)) (now (out .exit)) ⌝ }
+        ensures { λ r. ⌜ TookIs
+            (takes (deckOf (self .tape) (now (recv .entry)) (now (word .entry))) (self .totals) (length (now (out .entry))) (now (piece .entry)))
+            r (now (recv .exit)) (now (word .exit)) (now (out .entry)) (now (out .exit)) ⌝ }
     {
         let tape = self.tape;
         let receiver = tape.receiver;

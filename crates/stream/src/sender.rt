@@ -31,7 +31,8 @@ pub fn append_as(
     sequence: u16,
     payload: &[u8],
 ) -> Written
-    ensures { λ w. ⌜ outcome w (now (out .exit)) ≡ appending at (packetOf format number (now (key .entry)) port sequence (now (payload .entry))) (now (out .entry)) ⌝ }
+    ensures { λ w. ⌜ outcome w (now (out .exit)) ≡
+        appending at (packetOf format number (now (key .entry)) port sequence (now (payload .entry))) (now (out .entry)) ⌝ }
 {
     let from = base::least(at, out.len());
     packet::write_as(

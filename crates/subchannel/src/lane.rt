@@ -214,7 +214,8 @@ impl Lane {
     // A byte of a group that brings none.
     fn kept_byte(self) -> Self
         requires { ⌜ self .counts .group < groupBytes ⌝ }
-        ensures { λ r. ⌜ r ≡ moved self (self .hunting) (counts (suc (self .counts .group)) (self .counts .marker) (self .counts .word) (self .counts .handed)) ⌝ }
+        ensures { λ r. ⌜ r ≡ moved self (self .hunting)
+            (counts (suc (self .counts .group)) (self .counts .marker) (self .counts .word) (self .counts .handed)) ⌝ }
     {
         let counts = self.counts;
         let hunting = self.hunting;
@@ -237,7 +238,8 @@ impl Lane {
         b: u8,
     ) -> Eaten
         requires { ⌜ Able self (now word) × (self .counts .group < groupBytes) × (beyond (self .settings .depth) place ≡ false) ⌝ }
-        ensures { λ r. ⌜ EatenIs (grouped self (back again (matrix place (now (cells .entry)))) (now (word .entry)) b) r (now (cells .exit)) (now (word .exit)) ⌝ }
+        ensures { λ r. ⌜ EatenIs (grouped self (back again (matrix place (now (cells .entry)))) (now (word .entry)) b)
+            r (now (cells .exit)) (now (word .exit)) ⌝ }
     {
         let settings = self.settings;
         let t = cells::turn(cells, again, place, settings.depth, b);
@@ -272,7 +274,8 @@ impl Lane {
         b: u8,
     ) -> Eaten
         requires { ⌜ Able self (now word) × (beyond (self .settings .depth) place ≡ false) ⌝ }
-        ensures { λ r. ⌜ EatenIs (eat self (back again (matrix place (now (cells .entry)))) (now (word .entry)) b) r (now (cells .exit)) (now (word .exit)) ⌝ }
+        ensures { λ r. ⌜ EatenIs (eat self (back again (matrix place (now (cells .entry)))) (now (word .entry)) b)
+            r (now (cells .exit)) (now (word .exit)) ⌝ }
     {
         if self.lost {
             return Eaten {

@@ -152,7 +152,8 @@ impl Sub {
     // A call behind refusals 10 and 11: a stored word's rest, then new bytes.
     pub(crate) fn hear_on(self, recv: &mut [u8], word: &mut [u8], piece: &[u8]) -> Hearing
         requires { ⌜ (sound self ≡ true) × (roomy (now recv) (now word) ≡ true) ⌝ }
-        ensures { λ r. ⌜ HearingIs (hearOn (board self (now (recv .entry)) (now (word .entry))) (now (piece .entry))) r (now (recv .exit)) (now (word .exit)) ⌝ }
+        ensures { λ r. ⌜ HearingIs (hearOn (board self (now (recv .entry)) (now (word .entry))) (now (piece .entry)))
+            r (now (recv .exit)) (now (word .exit)) ⌝ }
     {
         let lane = self.lane;
         let back = self.back;
@@ -173,7 +174,8 @@ impl Sub {
 
     /// One call: at most one answer, and no byte behind the one that caused it is taken.
     pub fn hear(self, recv: &mut [u8], word: &mut [u8], piece: &[u8]) -> Hearing
-        ensures { λ r. ⌜ HearingIs (hearCall (board self (now (recv .entry)) (now (word .entry))) (now (piece .entry))) r (now (recv .exit)) (now (word .exit)) ⌝ }
+        ensures { λ r. ⌜ HearingIs (hearCall (board self (now (recv .entry)) (now (word .entry))) (now (piece .entry)))
+            r (now (recv .exit)) (now (word .exit)) ⌝ }
     {
         if !self.sound() {
             return Hearing {

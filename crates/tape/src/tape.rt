@@ -124,7 +124,9 @@ impl Tape {
     // Stream bytes.
     fn listen(self, recv: &mut [u8], word: &mut [u8], piece: &[u8]) -> Hearing
         requires { ⌜ (sound (self .receiver) ≡ true) × (roomy (now recv) (now word) ≡ true) ⌝ }
-        ensures { λ r. ⌜ EarIs (self .channel) (earHear (ear (self .channel) (board (self .receiver) (now (recv .entry)) (now (word .entry)))) (now (piece .entry))) r (now (recv .exit)) (now (word .exit)) ⌝ }
+        ensures { λ r. ⌜ EarIs (self .channel)
+            (earHear (ear (self .channel) (board (self .receiver) (now (recv .entry)) (now (word .entry)))) (now (piece .entry)))
+            r (now (recv .exit)) (now (word .exit)) ⌝ }
     {
         let receiver = self.receiver;
         if self.channel {
@@ -221,7 +223,8 @@ impl Tape {
 
     /// The next bytes: at most one answer. Both buffers are measured, also of a plain stream: which stream it is comes in with the bytes.
     pub fn next(self, recv: &mut [u8], word: &mut [u8], piece: &[u8]) -> Heard
-        ensures { λ r. ⌜ NextIs (tapeCall (deckOf self (now (recv .entry)) (now (word .entry))) (now (piece .entry))) r (now (recv .exit)) (now (word .exit)) ⌝ }
+        ensures { λ r. ⌜ NextIs (tapeCall (deckOf self (now (recv .entry)) (now (word .entry))) (now (piece .entry)))
+            r (now (recv .exit)) (now (word .exit)) ⌝ }
     {
         let receiver = self.receiver;
         if !receiver.sound() {

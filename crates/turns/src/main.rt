@@ -77,6 +77,7 @@ fn answer(sides: Sides, bytes: &mut [u8], out: &mut [u8]) -> Turn {
     }
 }
 
+// A case of the two states.
 fn tell(asked: u8, number: u64, sides: Sides, bytes: &[u8], out: &mut [u8]) -> Told {
     let matrix = sides.matrix;
     let back = sides.back;
@@ -97,33 +98,31 @@ fn tell(asked: u8, number: u64, sides: Sides, bytes: &[u8], out: &mut [u8]) -> T
             number: shown(sides, number, out),
             sides,
         },
-        b's' => Told {
-            number: cases::written(subsender::send(
-                cases::first(number),
-                cases::second(number),
-                bytes,
-                out,
-            )),
-            sides,
-        },
         b'g' => grouped(number, matrix, back, bytes, out),
-        b'p' => Told {
-            number: four::configure(number, bytes),
+        _ => Told {
+            number: tell_sent(asked, number, bytes, out),
             sides,
         },
-        b'w' => Told {
-            number: cases::written(four::send(number, bytes, out)),
-            sides,
-        },
-        b'q' => Told {
-            number: counted(subsender::count(
-                cases::first(number),
-                cases::second(number),
-                cases::number_at(bytes, 0) as usize,
-            )),
-            sides,
-        },
-        _ => Told { number: 0, sides },
+    }
+}
+
+// A case of a whole stream, or of the sender of four: both states stay.
+fn tell_sent(asked: u8, number: u64, bytes: &[u8], out: &mut [u8]) -> u64 {
+    match asked {
+        b's' => cases::written(subsender::send(
+            cases::first(number),
+            cases::second(number),
+            bytes,
+            out,
+        )),
+        b'q' => counted(subsender::count(
+            cases::first(number),
+            cases::second(number),
+            cases::number_at(bytes, 0) as usize,
+        )),
+        b'p' => four::configure(number, bytes),
+        b'w' => cases::written(four::send(number, bytes, out)),
+        _ => 0,
     }
 }
 
