@@ -11,6 +11,9 @@ prove() {
         all=$(for crate in $(sed -n "s/^$1://p" crates.txt); do [ ! -d "crates/$crate" ] || echo; done | wc -l)
         {
             ! command -v flock >/dev/null || flock 9
+            . bin/memory.sh
+            trap forget_memory EXIT
+            trap 'exit 1' HUP INT TERM
             rm -f "$log.failed"
             { rt check "$1" 2>&1 || : >"$log.failed"; } </dev/null | far $((all + 1)) >"$log"
             [ ! -e "$log.failed" ] || {
