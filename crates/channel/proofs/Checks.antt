@@ -1,5 +1,4 @@
 -- What the tests of the receiver's functions find.
--- two-and, three-and                        tests in a row that hold, and the last one
 -- owes-some, owes-none                      message bytes owed
 -- told-clean, told-damaged, told-refused    the word check's answer: a word of 255 bytes is never refused
 -- told-mended                               repair's answer, and the word it leaves
@@ -7,7 +6,7 @@
 use Prim.Native.Nat.{ℕ, _-_, _≤_}
 use native.Mathlib.Omega.{arith}
 use mathlib.Core.Path.{_≡_, refl, sym, _∙_, ap}
-use mathlib.Core.Bool.{Bool, true, false, _&&_}
+use mathlib.Core.Bool.{Bool, true, false}
 use mathlib.Core.List.{List, _++_}
 use lib.ListN.{length, take, drop, take-append-drop}
 use lib.Seq.{length-take-le}
@@ -28,12 +27,6 @@ use Rattle.blocks.specs.Sender.{parityBytes, wordBytes, messageBytes}
 use Rattle.blocks.specs.Channel.{conditionBy, condition, mend}
 use Rattle.channel.specs.Called.{owedBy, owes, mendIn}
 use Rattle.blocks.proofs.Words.{condition-clean, mend-clean, never-refused, block-determined}
-
-pub two-and : {a b x : Bool} → a ≡ true → b ≡ true → x ≡ a && (b && x)
-two-and p q = rw (p, q)
-
-pub three-and : {a b d x : Bool} → a ≡ true → b ≡ true → d ≡ true → x ≡ a && (b && (d && x))
-three-and p q r = rw (p, q, r)
 
 module _ (s : Receiver) (o : s .locked ≡ true) where
   pub owes-some : s .lock .word ≡ wordBytes → messageBytes - s .lock .handed ≡ owes s

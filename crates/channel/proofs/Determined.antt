@@ -6,10 +6,6 @@ use Rattle.channel.proofs.sender.mark.Kinds as mark-kinds
 use Rattle.channel.proofs.sender.mark.Reads as mark-reads
 use Rattle.channel.proofs.sender.send.Kinds as send-kinds
 use Rattle.channel.proofs.sender.send.Reads as send-reads
-use Rattle.channel.proofs.hunting.shift.Kinds as shift-kinds
-use Rattle.channel.proofs.hunting.shift.Reads as shift-reads
-use Rattle.channel.proofs.hunting.at_marker.Kinds as at-marker-kinds
-use Rattle.channel.proofs.hunting.at_marker.Reads as at-marker-reads
 use Rattle.channel.proofs.receiver.Receiver.fresh.Kinds as fresh-kinds
 use Rattle.channel.proofs.receiver.Receiver.fresh.Reads as fresh-reads
 use Rattle.channel.proofs.receiver.Receiver.sound.Kinds as sound-kinds
@@ -24,12 +20,6 @@ mark-determined κs a z z′ ws ws′ pre p q = (same-answer p q, skip (buffer (
 
 pub send-determined : Determined send-kinds.ps send-kinds.r send-reads.Asked send-reads.Learnt
 send-determined κs a z z′ ws ws′ pre p q = (same-answer p q, skip (buffer (same-output p q) refl))
-
-pub shift-determined : Determined shift-kinds.ps shift-kinds.r shift-reads.Asked shift-reads.Learnt
-shift-determined κs a z z′ ws ws′ pre p q = (same p q, refl)
-
-pub at-marker-determined : Determined at-marker-kinds.ps at-marker-kinds.r at-marker-reads.Asked at-marker-reads.Learnt
-at-marker-determined κs a z z′ ws ws′ pre p q = (same p q, refl)
 
 pub fresh-determined : Determined fresh-kinds.ps fresh-kinds.r fresh-reads.Asked fresh-reads.Learnt
 fresh-determined κs a z z′ ws ws′ pre p q = (same p q, refl)

@@ -5,9 +5,6 @@ use parity::Word;
 pub struct Block;
 
 impl Block {
-    /// What stands before each word.
-    pub const MARKER: [u8; 4] = [0x7D, 0x3A, 0xE2, 0x42];
-
     /// Bytes of a word.
     pub const WORD: usize = Word::LENGTH;
 

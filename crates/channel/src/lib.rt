@@ -12,8 +12,6 @@ pub use answer::Hearing;
 pub use block::Block;
 pub use blocks::Condition;
 pub use blocks::Hunting;
-pub use hunting::at_marker;
-pub use hunting::shift;
 pub use locked::Locked;
 pub use receiver::Receiver;
 pub use sender::mark;

@@ -43,7 +43,7 @@ impl Receiver {
     pub const FLAG: u8 = Frame::FLAG;
 
     /// The marker before each word.
-    pub const MARKER: [u8; 4] = Block::MARKER;
+    pub const MARKER: [u8; 4] = Hunting::MARKER;
 
     /// Bytes that the receive buffer needs.
     pub const RAW: usize = Frame::RAW;
@@ -55,17 +55,17 @@ impl Receiver {
     pub fn fresh() -> Self
         ensures { λ r. ⌜ r ≡ freshReceiver ⌝ }
     {
-        Receiver::lost_at(hunting::fresh())
+        Receiver::lost_at(Hunting::fresh())
     }
 
     /// Whether the buffers are as long as the receiver asks.
     pub fn has_room(recv: &[u8], word: &[u8]) -> bool
         ensures { λ r. ⌜ r ≡ roomy (now (recv .entry)) (now (word .entry)) ⌝ }
     {
-        if recv.len() < Frame::RAW {
+        if recv.len() < Self::RAW {
             return false;
         }
-        Block::WORD <= word.len()
+        Self::WORD <= word.len()
     }
 
     /// Whether no count is beyond its limit.
@@ -141,7 +141,7 @@ impl Receiver {
             };
             return Phase::end(Answer::More, n, next);
         }
-        if hunting::at_marker(hunting) {
+        if hunting.at_marker() {
             return Phase::on(n, Receiver::locked_at(hunting, frame));
         }
         Phase::end(Answer::LockLost, n, Receiver::lost_at(hunting))

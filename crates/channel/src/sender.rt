@@ -7,16 +7,16 @@ ghost use Rattle.base.specs.Written.{outcome, copied};
 ghost use Rattle.frames.specs.Escape.{flag};
 ghost use Rattle.blocks.specs.Sender.{marker, messageBytes, blockBytes, wordOf, fillers, marking, sending};
 use crate::block::Block;
+use crate::receiver::Receiver;
 use base::Refusal;
 use base::Written;
-use packet::Packet;
 
 // Writes one block: the marker, the message and its parity.
 fn put_block(message: &[u8], out: &mut [u8])
     requires { ⌜ (length (now message) ≡ messageBytes) × (blockBytes ≤ length (now out)) ⌝ }
     ensures { λ _. ⌜ now (out .exit) ≡ (marker ++ wordOf (now (message .entry))) ++ drop blockBytes (now (out .entry)) ⌝ }
 {
-    let marker = Block::MARKER;
+    let marker = Receiver::MARKER;
     base::copy(&marker, out);
     base::copy(message, &mut out[4..]);
     parity::make(Block::PARITY, message, &mut out[Block::PARITY_AT..]);
@@ -41,7 +41,7 @@ fn put_next(stream: &[u8], out: &mut [u8])
     requires { ⌜ blockBytes ≤ length (now out) ⌝ }
     ensures { λ _. ⌜ now (out .exit) ≡ (marker ++ wordOf (copied (now (stream .entry)) (replicate messageBytes flag))) ++ drop blockBytes (now (out .entry)) ⌝ }
 {
-    let mut message: [u8; Block::MESSAGE] = [Packet::FLAG; Block::MESSAGE];
+    let mut message: [u8; Block::MESSAGE] = [Receiver::FLAG; Block::MESSAGE];
     base::copy(stream, &mut message);
     mark(&message, out);
 }

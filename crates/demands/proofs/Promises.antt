@@ -80,14 +80,15 @@ use Rattle.packet.proofs.write as packet-write
 use Rattle.stream.proofs.begin as stream-begin
 use Rattle.stream.proofs.append_as as stream-append-as
 use Rattle.stream.proofs.append as stream-append
+use Rattle.blocks.proofs.Hunting.fresh as blocks-fresh
+use Rattle.blocks.proofs.Hunting.shift as blocks-shift
+use Rattle.blocks.proofs.Hunting.at_marker as blocks-at-marker
 use Rattle.channel.proofs.mark as channel-mark
 use Rattle.channel.proofs.send as channel-send
 use Rattle.channel.proofs.receiver.Receiver.fresh as channel-fresh
 use Rattle.channel.proofs.receiver.Receiver.hear as channel-hear
 use Rattle.channel.proofs.receiver.Receiver.sound as channel-sound
 use Rattle.channel.proofs.receiver.Receiver.has_room as channel-has-room
-use Rattle.channel.proofs.shift as channel-shift
-use Rattle.channel.proofs.at_marker as channel-at-marker
 use Rattle.subchannel.proofs.settings.Settings.within as subchannel-within
 use Rattle.subchannel.proofs.sub.Sub.told as subchannel-told
 use Rattle.subchannel.proofs.sub.Sub.sound as subchannel-sound
@@ -243,13 +244,18 @@ pub channel-has-room-means : Means channel-has-room.Statement.statement channel-
     λ κs recv word r. r ≡ roomy (now recv) (now word)
 channel-has-room-means = (λ M. channel-has-room.Met.met, λ κs a. tt, λ κs a z ws. (λ p. p, λ p. p))
 
-pub channel-shift-means : Means channel-shift.Statement.statement channel-shift.Kinds.ps channel-shift.Kinds.r channel-shift.Reads.Asked channel-shift.Reads.Learnt
-    λ κs last x r. r ≡ record { a = last .b; b = last .c; c = last .d; d = x }
-channel-shift-means = (λ M. channel-shift.Met.met, λ κs a. tt, λ κs a z ws. (λ p. p, λ p. p))
+-- .. and the four hunted bytes
+pub blocks-fresh-means : Means blocks-fresh.Statement.statement blocks-fresh.Kinds.ps blocks-fresh.Kinds.r blocks-fresh.Reads.Asked blocks-fresh.Reads.Learnt
+    λ κs r. r ≡ record { a = 0; b = 0; c = 0; d = 0 }
+blocks-fresh-means = (λ M. blocks-fresh.Met.met, λ κs a. tt, λ κs a z ws. (λ p. p, λ p. p))
 
-pub channel-at-marker-means : Means channel-at-marker.Statement.statement channel-at-marker.Kinds.ps channel-at-marker.Kinds.r channel-at-marker.Reads.Asked channel-at-marker.Reads.Learnt
-    λ κs last r. r ≡ isMarker last
-channel-at-marker-means = (λ M. channel-at-marker.Met.met, λ κs a. tt, λ κs a z ws. (λ p. p, λ p. p))
+pub blocks-shift-means : Means blocks-shift.Statement.statement blocks-shift.Kinds.ps blocks-shift.Kinds.r blocks-shift.Reads.Asked blocks-shift.Reads.Learnt
+    λ κs self x r. r ≡ record { a = self .b; b = self .c; c = self .d; d = x }
+blocks-shift-means = (λ M. blocks-shift.Met.met, λ κs a. tt, λ κs a z ws. (λ p. p, λ p. p))
+
+pub blocks-at-marker-means : Means blocks-at-marker.Statement.statement blocks-at-marker.Kinds.ps blocks-at-marker.Kinds.r blocks-at-marker.Reads.Asked blocks-at-marker.Reads.Learnt
+    λ κs self r. r ≡ isMarker self
+blocks-at-marker-means = (λ M. blocks-at-marker.Met.met, λ κs a. tt, λ κs a z ws. (λ p. p, λ p. p))
 
 -- ---- one fixed sub-channel. Just told its settings: hunting, nothing heard, the first marked block at row zero
 pub subchannel-told-means : Means subchannel-told.Statement.statement subchannel-told.Kinds.ps subchannel-told.Kinds.r subchannel-told.Reads.Asked subchannel-told.Reads.Learnt

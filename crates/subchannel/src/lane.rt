@@ -101,8 +101,8 @@ impl Lane {
     {
         let last = self.hunting;
         let counts = self.counts;
-        let hunting = channel::shift(last, b);
-        if channel::at_marker(hunting) {
+        let hunting = last.shift(b);
+        if hunting.at_marker() {
             let settings = self.settings;
             let frame = self.frame;
             return Lane {
@@ -139,7 +139,7 @@ impl Lane {
     {
         let last = self.hunting;
         let counts = self.counts;
-        let hunting = channel::shift(last, b);
+        let hunting = last.shift(b);
         if counts.marker + 1 < 4 {
             let more = Counts {
                 group: counts.group,
@@ -153,7 +153,7 @@ impl Lane {
                 lane: self.moved(hunting, more),
             };
         }
-        if channel::at_marker(hunting) {
+        if hunting.at_marker() {
             let begun = Counts {
                 group: 0,
                 marker: 0,

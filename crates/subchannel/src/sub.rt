@@ -12,8 +12,8 @@ use crate::settings::Counts;
 use crate::settings::Settings;
 use base::Refusal;
 use channel::Answer;
-use channel::Block;
 use channel::Hunting;
+use channel::Receiver;
 use interleaver::Back;
 use interleaver::Matrix;
 use packet::Judged;
@@ -35,17 +35,11 @@ pub struct Hearing {
 }
 
 impl Sub {
-    /// The flag between frames.
-    pub const FLAG: u8 = Frame::FLAG;
-
-    /// The marker before each group.
-    pub const MARKER: [u8; 4] = Block::MARKER;
-
     /// Bytes that the receive buffer needs.
-    pub const RAW: usize = Frame::RAW;
+    pub const RAW: usize = Receiver::RAW;
 
     /// Bytes of a word, and those that the word buffer needs.
-    pub const WORD: usize = Block::WORD;
+    pub const WORD: usize = Receiver::WORD;
 
     /// Bytes of a group: four words.
     pub const GROUP: usize = 4 * Self::WORD;
@@ -184,7 +178,7 @@ impl Sub {
                 sub: self,
             };
         }
-        if !channel::Receiver::has_room(recv, word) {
+        if !Receiver::has_room(recv, word) {
             return Hearing {
                 answer: Answer::Said(Judged::Refused(Refusal::BUFFER)),
                 taken: 0,

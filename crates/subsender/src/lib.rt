@@ -15,6 +15,7 @@ ghost use Rattle.subsender.specs.Private.{groupLength, groupsFrom, Group
 use base::Refusal;
 use base::Written;
 use channel::Block;
+use channel::Receiver;
 use interleaver::Matrix;
 use packet::Packet;
 
@@ -23,7 +24,7 @@ pub struct Group;
 
 impl Group {
     /// What stands before each group.
-    pub const MARKER: [u8; 4] = Block::MARKER;
+    pub const MARKER: [u8; 4] = Receiver::MARKER;
 
     /// Bytes of a word.
     pub const WORD: usize = Block::WORD;

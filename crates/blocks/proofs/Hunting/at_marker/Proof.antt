@@ -1,9 +1,9 @@
--- `channel::hunting::at_marker` meets its contract: the last byte is looked at first.
+-- `blocks::Hunting::at_marker` meets its contract: the last byte is looked at first.
 use borrow.Author.Tests.{eq-eqb, ne-eqb}
 use borrow.Author.Needs.{needs}
-use Rattle.channel.proofs.Checks.{three-and}
-use Rattle.channel.proofs.hunting.at_marker.Statement.{statement}
-use Rattle.channel.proofs.hunting.at_marker.Tie as tie
+use Rattle.blocks.proofs.Tests.{three-and}
+use Rattle.blocks.proofs.Hunting.at_marker.Statement.{statement}
+use Rattle.blocks.proofs.Hunting.at_marker.Tie as tie
 
 pub at-marker-spec : {M : Type 1} → statement M
 at-marker-spec =
