@@ -1,7 +1,7 @@
 # Read by the scripts that prove before they run, behind bin/help.sh.
 mkdir -p "$top/target"
 
-# prove CRATE: proves it and what it stands on, and shows the log where that is refused. On standard error it says how far it is, a line
+# prove CRATE: proves it and what it stands on, and shows what rt says where that is refused. On standard error it says how far it is, a line
 # for each crate that was still to be proved; rt proves those that do not need each other beside each other. One check at a time: the programs
 # of a pipe start together, and two checks in one place disturb each other. With PROVED=1 the caller has just had it proved.
 prove() {
@@ -13,12 +13,15 @@ prove() {
             . bin/memory.sh
             trap forget_memory EXIT
             trap 'exit 1' HUP INT TERM
-            # a pipe's status is that of `far`; rt's comes by the side, and only where all is proved
-            proved=$({ { rt check "$1" 2>&1 3>&- && echo proved >&3; } </dev/null | far $((all + 1)) >"target/$1.log" 3>&-; } 3>&1)
-            [ -n "$proved" ] || {
-                cat "target/$1.log" >&2
+            # a pipe's status is that of `far`: that all is proved is a last line
+            told=$({ rt check "$1" 2>&1 && echo "$1: ALL PROVED"; } </dev/null | far $((all + 1)))
+            case $told in
+            *"$1: ALL PROVED") ;;
+            *)
+                printf '%s\n' "$told" >&2
                 exit 1
-            }
+                ;;
+            esac
         } 9<.
     ) || return 1
 }
@@ -90,7 +93,7 @@ from_file() {
     [ $# -le 1 ] || usage "one file at most"
     [ $# -eq 1 ] || return 0
     can_read "$1" || exit 1
-    exec <"$1"
+    command exec <"$1" || exit 1
 }
 
 # heed PROGRAM WORDS..: runs it, proved. A proved program cannot set its exit status: where it says something on standard error, the status
@@ -140,7 +143,7 @@ heed_each() {
         heed $words || worst=$?
     else
         for file; do
-            heed $words <"$file" || worst=$?
+            { heed $words || worst=$?; } <"$file" || worst=1
         done
     fi
     return "$worst"
