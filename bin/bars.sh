@@ -4,7 +4,7 @@
 # Status: 0 drawn; 1 the picture could not be written; 2 wrong words.
 # Example: bin/sheet samples/morning.rec | bin/bars.sh >target/sheet.svg
 set -eu
-. "$(dirname "$0")/help.sh"
+. "$(dirname "$(readlink -f "$0")")/help.sh"
 [ $# -eq 0 ] || usage "it reads standard input"
 export LC_ALL=C # figures with a point
 awk '

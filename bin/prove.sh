@@ -1,27 +1,37 @@
-# Read by the scripts that prove before they run, behind bin/help.sh and with the repository in $top.
+# Read by the scripts that prove before they run, behind bin/help.sh.
 mkdir -p "$top/target"
 
-# prove PROGRAM: proves it and what it stands on, and shows the log where that is refused. On standard error it says how far it is, a line
+# prove CRATE: proves it and what it stands on, and shows what rt says where that is refused. On standard error it says how far it is, a line
 # for each crate that was still to be proved; rt proves those that do not need each other beside each other. One check at a time: the programs
 # of a pipe start together, and two checks in one place disturb each other. With PROVED=1 the caller has just had it proved.
 prove() {
     [ -n "${PROVED:-}" ] || (
-        cd "$top"
-        log=target/$1.log
+        has_rt && cd "$top" || exit 1
         all=$(for crate in $(sed -n "s/^$1://p" crates.txt); do [ ! -d "crates/$crate" ] || echo; done | wc -l)
         {
             ! command -v flock >/dev/null || flock 9
             . bin/memory.sh
             trap forget_memory EXIT
             trap 'exit 1' HUP INT TERM
-            rm -f "$log.failed"
-            { rt check "$1" 2>&1 || : >"$log.failed"; } </dev/null | far $((all + 1)) >"$log"
-            [ ! -e "$log.failed" ] || {
-                cat "$log" >&2
+            # a pipe's status is that of `far`: that all is proved is a last line
+            told=$({ rt check "$1" 2>&1 && echo "$1: ALL PROVED"; } </dev/null | far $((all + 1)))
+            case $told in
+            *"$1: ALL PROVED") ;;
+            *)
+                printf '%s\n' "$told" >&2
                 exit 1
-            }
-        } 9>target/lock
-    )
+                ;;
+            esac
+        } 9<.
+    ) || return 1
+}
+
+# has_rt: the toolchain is there; else it says so.
+has_rt() {
+    command -v rt >/dev/null || {
+        echo "$called: the Rattle toolchain's rt is not on the path" >&2
+        return 1
+    }
 }
 
 # far CRATES: hands rt's lines on, and tells of each crate that is proved anew; which of how many it is.
@@ -33,7 +43,7 @@ far() {
         "rt: "*" proved ("*)
             at=$((at + 1))
             crate=${line#rt: }
-            case $line in *"(unchanged"*) ;; *) echo "bin/${0##*/}: crate $at of $1: $crate" >&2 ;; esac
+            case $line in *"(unchanged"*) ;; *) echo "$called: crate $at of $1: $crate" >&2 ;; esac
             ;;
         esac
     done
@@ -54,7 +64,10 @@ start() {
 # files_only FILE..: none of them is an option; a file may begin with - where it is there.
 files_only() {
     for file; do
-        case $file in -*) [ -e "$file" ] || usage "options stand first, each once: $file" ;; esac
+        case $file in
+        -) [ -e - ] || usage "no file is called -; standard input is read where no file is named" ;;
+        -*) [ -e "$file" ] || usage "options stand first, each once: $file" ;;
+        esac
     done
 }
 
@@ -69,7 +82,7 @@ can_read() {
             why='no such file, or not to be read'
         fi
         [ -z "$why" ] || {
-            echo "bin/${0##*/}: $file: $why" >&2
+            printf '%s\n' "$called: $file: $why" >&2
             return 1
         }
     done
@@ -80,34 +93,41 @@ from_file() {
     [ $# -le 1 ] || usage "one file at most"
     [ $# -eq 1 ] || return 0
     can_read "$1" || exit 1
-    exec <"$1"
+    command exec <"$1" || exit 1
 }
 
 # heed PROGRAM WORDS..: runs it, proved. A proved program cannot set its exit status: where it says something on standard error, the status
-# is 1. What it says is passed on as it comes.
+# is 1. What it says is passed on as it comes. A signal that ends this shell ends the program: it would read on, and take what its successor waits for.
 heed() {
+    program='' talk='' ended=0
+    at_end 'kill $program 2>/dev/null || :; rm -rf "$talk"'
+    true 2>/dev/null 5<&0 || exec 0>/dev/null # closed: the program says that it cannot read
+    # a pipe by two numbers; a program in the background has its input by another one
+    talk=$(mktemp -d) && mkfifo "$talk/said" || return 1
+    exec 5<&0 6<>"$talk/said" 7<"$talk/said"
+    rm -rf "$talk"
     {
-        ended=$({ {
-            code=0
-            PROVED=1 "$top/bin/run" "$@" 2>&1 >&4 3>&- 4>&- || code=$?
-            echo "$code" >&3
-        } | pass_on 3>&- 4>&-; } 3>&1)
-    } 4>&1
-    case $ended in
-    0) return 0 ;;
-    *said*) return 1 ;;
-    *) return "$ended" ;;
-    esac
+        exec <&7 5<&- 6>&- 7<&-
+        pass_on
+    } &
+    passing=$!
+    PROVED=1 "$top/bin/run" "$@" <&5 2>&6 5<&- 6>&- 7<&- &
+    program=$!
+    wait "$program" || ended=$?
+    exec 5<&- 6>&- 7<&-
+    wait "$passing" || ended=1
+    trap - EXIT HUP INT TERM
+    return "$ended"
 }
 
-# pass_on: lines to standard error; says so where there was one.
+# pass_on: lines to standard error; fails where there was one.
 pass_on() {
-    said=
+    said=0
     while IFS= read -r line || [ -n "$line" ]; do
         printf '%s\n' "$line" >&2
-        said=said
+        said=1
     done
-    echo "$said"
+    return "$said"
 }
 
 # heed_each PROGRAM WORDS.. -- FILE..: the same of each file, or of standard input where none is named; the status is 1 where one of them failed.
@@ -123,7 +143,7 @@ heed_each() {
         heed $words || worst=$?
     else
         for file; do
-            heed $words <"$file" || worst=$?
+            { heed $words || worst=$?; } <"$file" || worst=1
         done
     fi
     return "$worst"

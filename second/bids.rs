@@ -18,7 +18,7 @@ use std::io::{Read, Write};
 
 pub fn run(words: &[&str]) -> i32 {
     let mut input = Vec::new();
-    if words.first() != Some(&"files") {
+    if matches!(words, ["send"] | ["record" | "flag" | "marker" | "parity" | "price" | "seen" | "framed", _]) {
         std::io::stdin().read_to_end(&mut input).expect("standard input");
     }
     match *words {

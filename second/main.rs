@@ -108,7 +108,7 @@ fn main() {
         ["fixed", "streams", dir] => Some(fixed_cases::write_streams(dir, 1)),
         ["fixed", "streams", dir, seed] => number(seed).map(|seed| fixed_cases::write_streams(dir, seed)),
         ["fixed", "list", r, depth] => sub_channel(r, depth).map(|(r, depth)| fixed::list_input(r, depth)),
-        ["bids", ref rest @ ..] => std::process::exit(bids::run(rest)),
+        ["bids", ref rest @ ..] => ended(bids::run(rest)),
         ["board", ref rest @ ..] if board::are_options(rest) => Some(board::show(rest).expect("standard input and output")),
         ["boards", dir] => Some(board_cases::write(dir, 1)),
         ["boards", dir, seed] => number(seed).map(|seed| board_cases::write(dir, seed)),
@@ -122,7 +122,7 @@ fn main() {
         ["list"] => Some(listing::list_input().expect("standard input and output")),
         ["missed"] => std::process::exit(ports::show_missed()),
         ["noise", "soak", minutes, seed, ref command @ ..] => number(minutes).zip(number(seed)).map(|(minutes, seed)| std::process::exit(soak::run(minutes, seed, command))),
-        ["noise", ref rest @ ..] => std::process::exit(noise::run(rest)),
+        ["noise", ref rest @ ..] => ended(noise::run(rest)),
         ["numbered", file] => Some(ports::write_numbered(file, 1)),
         ["numbered", file, seed] => number(seed).map(|seed| ports::write_numbered(file, seed)),
         ["sheet", _, ..] => std::process::exit(sheet::show(&words[1..])),
@@ -148,7 +148,7 @@ fn main() {
         _ => None,
     };
     if done.is_none() {
-        eprintln!("usage: second fcs HEX | parity R HEX | word R HEX | repair R HEX | interleave push|pull DEPTH | list | missed | kinds FILE..");
+        eprintln!("usage: second bids WORDS.. | fcs HEX | parity R HEX | word R HEX | repair R HEX | interleave push|pull DEPTH | list | missed | kinds FILE..");
         eprintln!("  | fixed send|list R DEPTH | fixed steady R DEPTH PAYLOAD MIB | fixed streams DIR [SEED] | board [--recording|--stream] [--blocks] | boards DIR [SEED] | feed FIFO TEXT STREAM");
         eprintln!("  | capture | replay | captures DIR [SEED] | viewed");
         eprintln!("  | recordings DIR [SEED] | steady plain|marked MIB | samples DIR | cases calls|turns|pieces|channels|listings|rooms|schedules|mixes|imports [SEED]");
@@ -156,6 +156,11 @@ fn main() {
         eprintln!("  | sheet FILE.. | months DIR [SEED] | tallies CASES ANSWERS [SEED] | rack CASES ANSWERS [SEED] | time-rack MIB");
         std::process::exit(2);
     }
+}
+
+/// Ends with this status, but for that of wrong words, which have the usage.
+fn ended(status: i32) -> Option<()> {
+    if status == 2 { None } else { std::process::exit(status) }
 }
 
 fn number(text: &str) -> Option<u64> {
