@@ -6,7 +6,7 @@
 --   check values    `fcs` (crates/fcs/specs/Fcs.antt)
 --   escapes         `escape`, `plain`, `scan` (crates/frames/specs/Escape.antt), and `reads` (crates/stream/specs/Reader.antt)
 --   parity words    `generator`, `remainder`, `clean` (crates/words/specs/Word.antt), over the field of crates/field/specs/Field.antt
---   interleaving    `cell` (crates/interleaver/specs/Places.antt), `push`, `pull`, `pushing`, `closing`, `pulling` (crates/interleaver/specs/Running.antt)
+--   interleaving    `cell` (crates/matrices/specs/Places.antt), `push`, `pull`, `pushing`, `closing`, `pulling` (crates/matrices/specs/Running.antt)
 --   markers         `marked` (crates/blocks/specs/Sender.antt), and `answers` (crates/blocks/specs/Channel.antt)
 --   block answers   `condition`, `mend` (crates/blocks/specs/Channel.antt), by repair's promise: `Promised` (crates/repair/specs/Promise.antt)
 --   the listing     `listing` (crates/listed/specs/Listing.antt), of recordings taken apart: `apart` (crates/listed/specs/Apart.antt)
@@ -42,7 +42,8 @@ use Rattle.repair.specs.Promise.{Promised}
 use Rattle.words.proofs.Clean.{clean-roots, roots-clean, parity-clean, clean-is}
 use Rattle.frames.specs.Escape.{flag, plain, last, BrokenAt}
 use Rattle.frames.specs.Port.{class}
-use Rattle.frames.proofs.Classes.{from-0000, from-0401, from-5100, from-5101, from-5201, from-5208, from-5300, from-7F00, from-FF00}
+use Rattle.frames.specs.declared.Class.the-variants.{Barred}
+use Rattle.frames.proofs.Classes.{from-0000, from-0401, from-5100, from-5101, from-5201, from-5208, from-5300, from-7D00, from-7F00, from-FF00}
 use Rattle.frames.specs.Frame.{packet, broken, delivery, judged, closed, judge, part}
 use Rattle.frames.proofs.Faults.{closed-broken, judge-broken}
 use Rattle.frames.specs.Sender.{Accepted, writing}
@@ -147,11 +148,12 @@ stream-filled bs = (fillers (length bs), refl, omega arith, omega arith, λ e. o
 pub words-carry : (bs : List ℕ) → Bytes bs → carried (map wordOf (messagesOf bs)) ≡ filled bs
 words-carry = streaming.words-carry
 
--- ---- "Port classes": S system, A applications, M, D, F future, by the letter that a listing prints
+-- ---- "Port classes": S system, A applications, M, D, F future, by the letter that a listing prints; "7D00-7EFF may not be used"
 pub class-letters : (p : ℕ)
     → (p ≤ 0x0400 → letter (class p) ≡ 83) × (0x0401 ≤ p → p ≤ 0x50FF → letter (class p) ≡ 65) × (p ≡ 0x5100 → letter (class p) ≡ 77)
     × (0x5101 ≤ p → p ≤ 0x5200 → letter (class p) ≡ 83) × (0x5201 ≤ p → p ≤ 0x5207 → letter (class p) ≡ 68) × (0x5208 ≤ p → p ≤ 0x52FF → letter (class p) ≡ 83)
-    × (0x5300 ≤ p → p ≤ 0x7CFF → letter (class p) ≡ 70) × (0x7F00 ≤ p → p ≤ 0xFEFF → letter (class p) ≡ 70) × (0xFF00 ≤ p → letter (class p) ≡ 83)
+    × (0x5300 ≤ p → p ≤ 0x7CFF → letter (class p) ≡ 70) × (0x7D00 ≤ p → p ≤ 0x7EFF → class p ≡ Barred)
+    × (0x7F00 ≤ p → p ≤ 0xFEFF → letter (class p) ≡ 70) × (0xFF00 ≤ p → letter (class p) ≡ 83)
 class-letters p = (
   λ h. ap letter (from-0000 p h),
   λ l h. ap letter (from-0401 p l h),
@@ -160,6 +162,7 @@ class-letters p = (
   λ l h. ap letter (from-5201 p l h),
   λ l h. ap letter (from-5208 p l h),
   λ l h. ap letter (from-5300 p l h),
+  from-7D00 p,
   λ l h. ap letter (from-7F00 p l h),
   λ l. ap letter (from-FF00 p l),
 )
