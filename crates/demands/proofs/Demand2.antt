@@ -6,7 +6,7 @@
 --   check values    `fcs` (crates/fcs/specs/Fcs.antt)
 --   escapes         `escape`, `plain`, `scan` (crates/frames/specs/Escape.antt), and `reads` (crates/stream/specs/Reader.antt)
 --   parity words    `generator`, `remainder`, `clean` (crates/words/specs/Word.antt), over the field of crates/field/specs/Field.antt
---   interleaving    `cell` (crates/interleaver/specs/Places.antt), `push`, `pull`, `pushing`, `closing`, `pulling` (crates/interleaver/specs/Running.antt)
+--   interleaving    `cell` (crates/matrices/specs/Places.antt), `push`, `pull`, `pushing`, `closing`, `pulling` (crates/matrices/specs/Running.antt)
 --   markers         `marked` (crates/blocks/specs/Sender.antt), and `answers` (crates/blocks/specs/Channel.antt)
 --   block answers   `condition`, `mend` (crates/blocks/specs/Channel.antt), by repair's promise: `Promised` (crates/repair/specs/Promise.antt)
 --   the listing     `listing` (crates/listed/specs/Listing.antt), of recordings taken apart: `apart` (crates/listed/specs/Apart.antt)
@@ -19,11 +19,13 @@
 -- class-letters                      classes of ports
 -- block-answer, block-only           a block's answer and the word that is read are what repair promises
 -- plain-listing, channel-listing, totals, sent-totals   the listing's lines and totals
+-- described, e-or-x                                     recordings as described, and no others, print `E`
+-- cut-short, wrong-first, wrong-mark, wrong-second, limit-passed   what others print
 -- x-offset, decimal-value                               the offset that `X` prints, and numbers as they are printed
 -- recorded-by-calls                                     a recording's answers by calls, and where it ends
 -- listed-by-calls, listed-at-last, finished-at-last     the listing by calls
 -- line-number, close-number                             the number of a line that the office tells of
-use Prim.Native.Nat.{ℕ, suc, _+_, _-_, _%_, _≤_, _<_}
+use Prim.Native.Nat.{ℕ, suc, _+_, _-_, _*_, _%_, _≤_, _<_}
 use native.Mathlib.Omega.{arith}
 use mathlib.Core.Path.{_≡_, refl, sym, _∙_, ap}
 use mathlib.Core.Bool.{Bool, true, false}
@@ -42,7 +44,8 @@ use Rattle.repair.specs.Promise.{Promised}
 use Rattle.words.proofs.Clean.{clean-roots, roots-clean, parity-clean, clean-is}
 use Rattle.frames.specs.Escape.{flag, plain, last, BrokenAt}
 use Rattle.frames.specs.Port.{class}
-use Rattle.frames.proofs.Classes.{from-0000, from-0401, from-5100, from-5101, from-5201, from-5208, from-5300, from-7F00, from-FF00}
+use Rattle.frames.specs.declared.Class.the-variants.{Barred}
+use Rattle.frames.proofs.Classes.{from-0000, from-0401, from-5100, from-5101, from-5201, from-5208, from-5300, from-7D00, from-7F00, from-FF00}
 use Rattle.frames.specs.Frame.{packet, broken, delivery, judged, closed, judge, part}
 use Rattle.frames.proofs.Faults.{closed-broken, judge-broken}
 use Rattle.frames.specs.Sender.{Accepted, writing}
@@ -55,11 +58,13 @@ use Rattle.blocks.specs.Sender.{parityBytes, wordOf, fillers, filled, messagesO
 use Rattle.blocks.specs.Channel.{conditionBy, condition, mend, carried, IsWord, Event, frames, blocks, losses, asMended}
 use Rattle.blocks.proofs.Streaming as streaming
 use Rattle.blocks.proofs.Words.{block-promised, block-determined}
-use Rattle.listed.specs.Apart.{most, freshSpot, apart, onChannel, records}
+use Rattle.listed.specs.Apart.{most, freshSpot, apart, well, onChannel, recordOf, records}
+use Rattle.listed.specs.Described.{firstByte, Described}
 use Rattle.bid.specs.Line.{digits, value}
-use Rattle.listed.specs.Lines.{decimal, letter, lines, isPacket, isRefusal, isDamaged, isLost, count, packetsIn, refusalsIn, damagedIn, longest}
+use Rattle.listed.specs.Lines.{decimal, letter, lines, isPacket, isRefusal, isDamaged, isLost, count, packetsIn, refusalsIn, damagedIn, wrongLine, longest}
 use Rattle.listed.specs.Listing.{heard, totalLine, listing}
 use Rattle.listed.specs.declared.Place.the-variants.{Wrong}
+use Rattle.listed.proofs.Described as recordings
 use Rattle.listed.proofs.Offsets.{offset-right, offset-wrong}
 use Rattle.listed.proofs.Totals.{packets-counted, refusals-counted, damaged-counted, lost-counted, sent-counted}
 use Rattle.frames.specs.Contents.{rawLimit, Packet, contents, payloadAt}
@@ -147,11 +152,12 @@ stream-filled bs = (fillers (length bs), refl, omega arith, omega arith, λ e. o
 pub words-carry : (bs : List ℕ) → Bytes bs → carried (map wordOf (messagesOf bs)) ≡ filled bs
 words-carry = streaming.words-carry
 
--- ---- "Port classes": S system, A applications, M, D, F future, by the letter that a listing prints
+-- ---- "Port classes": S system, A applications, M, D, F future, by the letter that a listing prints; "7D00-7EFF may not be used"
 pub class-letters : (p : ℕ)
     → (p ≤ 0x0400 → letter (class p) ≡ 83) × (0x0401 ≤ p → p ≤ 0x50FF → letter (class p) ≡ 65) × (p ≡ 0x5100 → letter (class p) ≡ 77)
     × (0x5101 ≤ p → p ≤ 0x5200 → letter (class p) ≡ 83) × (0x5201 ≤ p → p ≤ 0x5207 → letter (class p) ≡ 68) × (0x5208 ≤ p → p ≤ 0x52FF → letter (class p) ≡ 83)
-    × (0x5300 ≤ p → p ≤ 0x7CFF → letter (class p) ≡ 70) × (0x7F00 ≤ p → p ≤ 0xFEFF → letter (class p) ≡ 70) × (0xFF00 ≤ p → letter (class p) ≡ 83)
+    × (0x5300 ≤ p → p ≤ 0x7CFF → letter (class p) ≡ 70) × (0x7D00 ≤ p → p ≤ 0x7EFF → class p ≡ Barred)
+    × (0x7F00 ≤ p → p ≤ 0xFEFF → letter (class p) ≡ 70) × (0xFF00 ≤ p → letter (class p) ≡ 83)
 class-letters p = (
   λ h. ap letter (from-0000 p h),
   λ l h. ap letter (from-0401 p l h),
@@ -160,6 +166,7 @@ class-letters p = (
   λ l h. ap letter (from-5201 p l h),
   λ l h. ap letter (from-5208 p l h),
   λ l h. ap letter (from-5300 p l h),
+  from-7D00 p,
   λ l h. ap letter (from-7F00 p l h),
   λ l. ap letter (from-FF00 p l),
 )
@@ -194,6 +201,45 @@ plain-listing = plain-listed
 pub channel-listing : (pieces : List (List ℕ)) → length (joined pieces) ≤ most
     → listing (0x4F ∷ records pieces) ≡ lines (heard true (joined pieces)) ++ totalLine (length (joined pieces)) (heard true (joined pieces))
 channel-listing = channel-listed
+
+-- "Standard input: one byte, 0x50 plain stream or 0x4F opportunistic; then records: mark F5 5F, length (two bytes, low first, 0 allowed), that many
+-- stream bytes.": of bytes, where taking a recording apart ends it may end exactly where it is such, within the limit ..
+pub described : (file : List ℕ) → Bytes file → well (apart freshSpot file .1 .place) ≡ true ↔ Described file
+described = recordings.described
+
+-- .. "Instead of `E`, `X offset` where the input is not as described": `E` of what is, and `X` of what is not
+pub e-or-x : (file : List ℕ) → Bytes file
+    → let r = apart freshSpot file in
+    let es = heard (onChannel file) (r .0) in
+    (Described file → listing file ≡ lines es ++ totalLine (length (r .0)) es) × ((Described file → ⊥) → listing file ≡ lines es ++ wrongLine (r .1 .offset))
+e-or-x = recordings.e-or-x
+
+-- "the file offset of the first wrong byte": of the first, where it is none of the two ..
+pub wrong-first : (b : ℕ) (rest : List ℕ) → b ≢ 0x50 → b ≢ 0x4F → listing (b ∷ rest) ≡ wrongLine 0
+wrong-first = recordings.wrong-first
+
+-- .. of a byte behind records, on either stream, that is not F5, and of one behind F5 that is not 5F; what stands before it is read
+pub wrong-mark : (t : Bool) (ps : List (List ℕ)) (b : ℕ) (rest : List ℕ) → b ≢ 0xF5 → length (joined ps) ≤ most
+    → listing (firstByte t ∷ (records ps ++ b ∷ rest)) ≡ lines (heard t (joined ps)) ++ wrongLine (length (firstByte t ∷ records ps))
+wrong-mark = recordings.wrong-mark
+
+pub wrong-second : (t : Bool) (ps : List (List ℕ)) (b : ℕ) (rest : List ℕ) → b ≢ 0x5F → length (joined ps) ≤ most
+    → listing (firstByte t ∷ (records ps ++ 0xF5 ∷ b ∷ rest)) ≡ lines (heard t (joined ps)) ++ wrongLine (length (firstByte t ∷ records ps) + 1)
+wrong-second = recordings.wrong-second
+
+-- "or the input's length if it ends early"; "Stream bytes before that offset are read and their lines printed first, also those of a record cut
+-- short.": n bytes of a record of the bytes p, too few
+pub cut-short : (t : Bool) (ps : List (List ℕ)) (p : List ℕ) (n : ℕ) → 0 < n → n < length (recordOf p) → length (joined ps) + (n - 4) ≤ most
+    → let file = firstByte t ∷ (records ps ++ take n (recordOf p)) in
+    listing file ≡ lines (heard t (joined ps ++ take (n - 4) p)) ++ wrongLine (length file)
+cut-short = recordings.cut-short
+
+-- "also the file offset of the byte with which the stream would pass 4,294,967,295 bytes": b, in a record that has more stream bytes than xs
+pub limit-passed : (t : Bool) (ps : List (List ℕ)) (low high : ℕ) (xs : List ℕ) (b : ℕ) (rest : List ℕ)
+    → length xs < low + 256 * high → length (joined ps) + length xs ≡ 4294967295
+    → listing (firstByte t ∷ (records ps ++ 0xF5 ∷ 0x5F ∷ low ∷ high ∷ (xs ++ b ∷ rest)))
+    ≡ lines (heard t (joined ps ++ xs)) ++ wrongLine (length (firstByte t ∷ records ps) + 4 + length xs)
+limit-passed = recordings.limit-passed
 
 -- the totals are counted from the answers: packets and refusals each among the frame answers, blocks beyond repair among the block answers,
 -- and lost locks as often as lock is lost

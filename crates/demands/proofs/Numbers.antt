@@ -6,7 +6,7 @@ use mathlib.Core.Path.{_≡_, refl}
 use mathlib.Core.List.{[]}
 use Rattle.fcs.specs.Fcs.{fcs, register, entered}
 use Rattle.field.specs.Field.{add, double, shiftAdd, mul, pow}
-use Rattle.words.specs.Word.{scale, onto, timesRoot, generator, divide, remainder}
+use Rattle.words.specs.Word.{horner, eval, clean, scale, onto, timesRoot, generator, divide, remainder}
 use Rattle.frames.specs.Contents.{withCheck, contents}
 use Rattle.frames.specs.Escape.{escape, escapeByte, plain, wrongFrom, right, last, scan}
 use Rattle.frames.specs.Frame.{judgeBody, judgeContents, closedBy, closed, judge}
@@ -35,7 +35,7 @@ unfolding fcs register entered contents withCheck judge closed closedBy judgeCon
 numbers = refl
 
 pub as-printed : wrong printed ≡ []
-unfolding fcs register entered contents withCheck escape escapeByte judge closed closedBy judgeContents judgeBody scan last wrongFrom right plain class told lines count endLine wrongLine decimal decimalBy heard lastLine listed listing apart inStream nextAt notedLine noting forgetting placeOf freePlace twice
+unfolding fcs register entered contents withCheck escape escapeByte judge closed closedBy judgeContents judgeBody scan last wrongFrom right plain class told lines count endLine wrongLine decimal decimalBy heard lastLine listed listing apart inStream nextAt notedLine noting forgetting placeOf freePlace twice mul shiftAdd double add pow horner eval clean remainder divide generator timesRoot onto scale
 as-printed = refl
 
 pub as-requested : wrong requested ≡ []

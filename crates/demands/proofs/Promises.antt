@@ -71,7 +71,8 @@ use Rattle.sequences.specs.declared.Forgot.{Forgot}
 use Rattle.sequences.specs.Distance.{ruled}
 use Rattle.sequences.specs.Ports.{unfit, noting, forgetting}
 use Rattle.lines.specs.Row.{rowLine}
-use Rattle.sheet.specs.Called.{freshSheet, beginning, noting as counted, closing as settling, printing}
+use Rattle.sheets.specs.Rows.{paddedTo}
+use Rattle.sheet.specs.Called.{beginning, noting as counted, closing as settling, printing}
 use Rattle.rack.specs.Words.{making, checking, mending}
 use Rattle.rack.specs.Calls as rack
 use Rattle.demands.specs.Means.{Means, MeansByHand}
@@ -614,9 +615,13 @@ pub lines-none-means : Means lines-none.Statement.statement lines-none.Kinds.ps 
     λ κs r. r ≡ pieceOf []
 lines-none-means = (λ M. lines-none.Met.met, λ κs a. tt, λ κs a z ws. (λ p. p, λ p. p))
 
--- ---- the monthly sheet
+-- ---- the monthly sheet. Of no recording: no port, and 16 blank rows
 pub sheet-fresh-means : Means sheet-fresh.Statement.statement sheet-fresh.Kinds.ps sheet-fresh.Kinds.r sheet-fresh.Reads.Asked sheet-fresh.Reads.Learnt
-    λ κs r. r ≡ freshSheet
+    λ κs r. r ≡ record {
+      ports = 0;
+      rows = replicate 16 (record { port = 0; tally = record { delivered = 0; repeated = 0; late = 0; missing = 0; total = 0 }; heard = false; last = 0 });
+    }
+unfolding paddedTo
 sheet-fresh-means = (λ M. sheet-fresh.Met.met, λ κs a. tt, λ κs a z ws. (λ p. p, λ p. p))
 
 pub sheet-begin-means : Means sheet-begin.Statement.statement sheet-begin.Kinds.ps sheet-begin.Kinds.r sheet-begin.Reads.Asked sheet-begin.Reads.Learnt

@@ -4,7 +4,7 @@
 -- rising-order, line-each          the lines
 -- line-numbers, afresh, each-packet, delivered, loss, line-is     their numbers
 -- sheet-by-calls, sheet-begins, sheet-goes-on, sheet-of-many, sheet-rows, line-printed     by calls, for every cutting of each recording
--- close-refusals, month-refusals, sheet-stays, month-stays, x-is-wrong, counted-whole      what does not count
+-- close-refusals, month-refusals, close-keeps, sheet-stays, month-stays, x-is-wrong, counted-whole      what does not count
 -- print-refusals, print-row-refusals, ..-keeps-out     a line written
 use Prim.Native.Nat.{ℕ, _+_, _≤_, _<_}
 use native.Mathlib.Omega.{arith}
@@ -41,7 +41,7 @@ use Rattle.sheet.specs.declared.Closed.{Closed}
 use Rattle.sheet.specs.declared.Counted.{Counted}
 use Rattle.sheet.specs.declared.Counted.the-variants.{Counts, Wrong, Refused}
 use Rattle.sheet.specs.Called.{rowsOf, sheetOf, freshSheet, closed, answerOf, beyond, closing, recorded, lineOf, printing}
-use Rattle.sheet.proofs.Month.{rows-sheet, recorded-is, refused-keeps}
+use Rattle.sheet.proofs.Month.{rows-sheet, recorded-is, closing-keeps, refused-keeps}
 use Rattle.demands.specs.Table.{Exact}
 use Rattle.demands.specs.Refusals.{ByCall}
 use Rattle.demands.specs.Sheet.{ByClosed, closeRows, monthRows, printRows, recordedAll}
@@ -180,6 +180,15 @@ unfolding counting
 month-refusals month ms well f =
     subst (λ (x : Closed). Exact ByClosed x (monthRows month well ms)) (sym (recorded-is month ms well f))
     (by-ruling well (ltb portLimit (length (lines (with month ms)))) (anyWide (lines (with month ms))) _ (ltb-true portLimit _) (lt-ltb portLimit _) (λ e. e) (λ e. e))
+
+-- a refused end gives the sheet back as it was before the recording, of any draft
+pub close-keeps : (d : Draft) (well : Bool) (n : ℕ) → ByClosed (closing d well) n → closing d well ≡ closed (Refused n) (d .before)
+close-keeps d well n e =
+    let k : closing d well .sheet ≡ d .before = closing-keeps d well (λ c. uncounted (sym c ∙ e)) in
+    λ i. closed (e i) (k i)
+  where
+    uncounted : Counts ≡ Refused n → ⊥
+    uncounted f = let z : _≡_ {A = ℕ} 0 1 = cc in omega arith
 
 -- "such a recording, and one that ends in `X`, leaves the sheet as it was.": whatever does not count leaves it, of any sheet; and `X` is told apart
 pub sheet-stays : (s : Sheet) (well : Bool) (ms : List Mark) → recorded s well ms .counted ≢ Counts → recorded s well ms .sheet ≡ s

@@ -4,8 +4,9 @@
 -- printed    the rows
 use Prim.Native.Nat.{ℕ, zero, suc, _-_}
 use mathlib.Core.Path.{_≡_, refl}
-use mathlib.Core.Bool.{false}
+use mathlib.Core.Bool.{true, false}
 use mathlib.Core.List.{List, [], _∷_, _++_, map}
+use mathlib.Core.Option.{Option, some, none}
 use lib.ListN.{length, replicate}
 use Rattle.base.specs.Calls.{joined}
 use Rattle.base.specs.Choice.{pick}
@@ -14,6 +15,8 @@ use Rattle.base.specs.declared.Written.the-variants.{Wrote, Refused}
 use Rattle.fcs.specs.Fcs as check
 use Rattle.field.specs.Field as field
 use Rattle.parity.specs.Calls as parity
+use Rattle.parity.specs.declared.Checked.{Checked}
+use Rattle.parity.specs.declared.Checked.the-variants as checking
 use Rattle.matrices.specs.Places.{width}
 use Rattle.matrices.specs.Running as interleaver
 use Rattle.frames.specs.Contents.{
@@ -28,6 +31,7 @@ use Rattle.frames.specs.Contents.{
   payloadLimit,
   plainLimit,
   rawLimit,
+  packed,
   withCheck,
   contents,
 }
@@ -37,11 +41,11 @@ use Rattle.frames.specs.Port.{class, barred}
 use Rattle.frames.specs.Sender.{refusing}
 use Rattle.frames.specs.declared.Judged.the-variants.{Packet as Delivered, Refused as Denied, Broken}
 use Rattle.stream.specs.Reader.{waiting, reads}
-use Rattle.stream.specs.Called.{placeLimit}
+use Rattle.stream.specs.Called.{fresh, placeLimit}
 use Rattle.blocks.specs.Sender.{marker, messageBytes, parityBytes, wordBytes, blockBytes}
-use Rattle.blocks.specs.Channel.{Event, said, block, lost}
+use Rattle.blocks.specs.Channel.{Event, said, block, lost, zeros}
 use Rattle.blocks.specs.declared.Condition.the-variants.{Clean, Repaired, Beyond}
-use Rattle.channel.specs.Called.{freshReceiver}
+use Rattle.channel.specs.Called.{board, counts, freshReceiver, hearCall}
 use Rattle.channel.specs.declared.answer.Answer.the-variants.{Said, Block, LockLost}
 use Rattle.listed.specs.Apart as listed
 use Rattle.bid.specs.Line.{lineLimit}
@@ -49,7 +53,8 @@ use Rattle.office.specs.Called.{heldLimit, holdLimit, outLimit}
 use Rattle.tape.specs.Called.{far}
 use Rattle.listed.specs.Lines.{longest, decimal, decimalBy, letter, told, line, lines, count, endLine, wrongLine}
 use Rattle.listed.specs.Listing.{heard as heardAs, totalLine, lastLine, listed as listedAs, listing}
-use Rattle.listed.specs.declared.Place.the-variants.{Mark}
+use Rattle.listed.specs.declared.Place.the-variants.{Mark, Inside}
+use Rattle.listed.specs.declared.Spot.{Spot}
 use Rattle.recording.specs.declared.recording.Recording.{Recording}
 use Rattle.recording.specs.Printed.{lastOf}
 use Rattle.lines.specs.Noted.{notedLine}
@@ -138,6 +143,50 @@ toldOf (NotNoted n) = n ∷ []
 abbrev unforgottenOf : Forgot → List ℕ
 unforgottenOf Forgotten = []
 unforgottenOf (Unforgotten n) = n ∷ []
+
+-- the number by which raw bytes are refused; 0 where they are a packet
+abbrev judgedBy : List ℕ → ℕ
+judgedBy raw = toldNumber (judge raw)
+
+-- .. and format byte to last payload byte of a packet, on reading
+abbrev unreadBy : Packet → ℕ
+unreadBy p = toldNumber (judgeBody (packed p))
+
+-- a port, with a payload of one byte
+abbrev portOf : ℕ → Packet
+portOf port = plainPacket port 0 (0x41 ∷ [])
+
+-- the number by which making parity is refused, with R, a message of n bytes and an output of m; 0 where it is made
+abbrev unmadeBy : ℕ → ℕ → ℕ → ℕ
+unmadeBy r n m = numberOf (parity.made r (replicate n 0) (replicate m 0) .answer)
+
+-- .. and the check of a word; 0 where it is clean or damaged
+abbrev checkNumber : Checked → ℕ
+checkNumber checking.Clean = 0
+checkNumber checking.Damaged = 0
+checkNumber (checking.Refused n) = n
+
+-- .. with R, of n zeros and 01
+abbrev uncheckedBy : ℕ → ℕ → ℕ
+uncheckedBy r n = checkNumber (parity.checked r (replicate n 0 ++ 0x01 ∷ []))
+
+-- the number by which an answer of the channel refuses; 0 where more is wanted
+abbrev hearNumber : Option Event → ℕ
+hearNumber none = 0
+hearNumber (some (said t)) = toldNumber t
+hearNumber (some (block c)) = 0
+hearNumber (some lost) = 0
+
+-- .. a call of no bytes, with bytes of a word, message bytes handed on, marker bytes, and a receive buffer and a word buffer of so many bytes
+abbrev unheardBy : ℕ → ℕ → ℕ → ℕ → ℕ → ℕ
+unheardBy w h m n k =
+    hearNumber (hearCall (board (record { locked = true; hunting = zeros; lock = counts w h m; frame = fresh }) (replicate n 0) (replicate k 0)) [] .0)
+
+-- the bytes 41 42 in a record behind so many stream bytes, at offset 7: the stream bytes among them, and the last line
+abbrev behindStream : ℕ → List ℕ
+behindStream n =
+    let r : List ℕ × Spot = listed.apart (record { place = Inside 5; offset = 7; count = n }) (0x41 ∷ 0x42 ∷ []) in
+    r .0 ++ lastLine (r .1) (length (r .0)) []
 
 -- so many ports, all held
 abbrev tableOf : ℕ → List Entry
@@ -300,5 +349,68 @@ printed =
       joined (map (notedLine 1 2) (Missing 32766 ∷ NotNoted 40 ∷ [])),
       49 ∷ 32 ∷ 50 ∷ 32 ∷ 109 ∷ 105 ∷ 115 ∷ 115 ∷ 105 ∷ 110 ∷ 103 ∷ 32 ∷ 51 ∷ 50 ∷ 55 ∷ 54 ∷ 54 ∷ 10 ∷
           49 ∷ 32 ∷ 50 ∷ 32 ∷ 114 ∷ 101 ∷ 102 ∷ 117 ∷ 115 ∷ 101 ∷ 100 ∷ 32 ∷ 52 ∷ 48 ∷ 10 ∷ [],
+    ) ∷
+    -- 5: check differs, in either byte; behind 4, before 6
+    (
+      49,
+      map judgedBy (
+          (0x21 ∷ 0x00 ∷ 0x51 ∷ 0x00 ∷ 0x00 ∷ 0x41 ∷ 0xE4 ∷ 0xEC ∷ []) ∷ (0x21 ∷ 0x00 ∷ 0x51 ∷ 0x00 ∷ 0x00 ∷ 0x41 ∷ 0xE5 ∷ 0xEC ∷ [])
+          ∷ (0x21 ∷ 0x00 ∷ 0x51 ∷ 0x00 ∷ 0x00 ∷ 0x41 ∷ 0xE4 ∷ 0xED ∷ []) ∷ (0x22 ∷ 0x00 ∷ 0x51 ∷ 0x00 ∷ 0x00 ∷ 0x41 ∷ 0xE4 ∷ 0xEC ∷ [])
+          ∷ (0x21 ∷ 0x00 ∷ 0x51 ∷ 0x00 ∷ 0x00 ∷ 0xE4 ∷ 0xEC ∷ []) ∷ []),
+      0 ∷ 5 ∷ 5 ∷ 5 ∷ 4 ∷ [],
+    ) ∷
+    -- 7 on reading and 22 on writing: port 7D00-7EFF
+    (
+      50,
+      map (λ p. unreadBy (portOf p)) (0x7CFF ∷ 0x7D00 ∷ 0x7EFF ∷ 0x7F00 ∷ []) ++ map (λ p. refusalOf (portOf p)) (0x7CFF ∷ 0x7D00 ∷ 0x7EFF ∷ 0x7F00 ∷ []),
+      0 ∷ 7 ∷ 7 ∷ 0 ∷ 0 ∷ 22 ∷ 22 ∷ 0 ∷ [],
+    ) ∷
+    -- 8: payload above 8,192 bytes as escaped; behind 7
+    (
+      51,
+      map (λ l. unreadBy (paying l)) (replicate 8192 0 ∷ replicate 8193 0 ∷ replicate 4096 0x7E ∷ replicate 4097 0x7E ∷ [])
+          ++ unreadBy (plainPacket 0x7D00 0 (replicate 8193 0)) ∷ [],
+      0 ∷ 8 ∷ 0 ∷ 8 ∷ 7 ∷ [],
+    ) ∷
+    -- 20: payload empty; before 22, and so is 21
+    (52, map refusalOf (paying [] ∷ plainPacket 0x7D00 0 [] ∷ plainPacket 0x7D00 0 (replicate 8193 0) ∷ []), 20 ∷ 20 ∷ 21 ∷ []) ∷
+    -- R 64 passes, 30: R above 64; 31: message not 255 - R bytes; then 23
+    (
+      53,
+      unmadeBy 64 191 64 ∷ unmadeBy 65 190 65 ∷ unmadeBy 65 191 0 ∷ unmadeBy 64 190 0 ∷ unmadeBy 64 192 64 ∷ unmadeBy 2 253 1 ∷ unmadeBy 0 255 0 ∷ [],
+      0 ∷ 30 ∷ 30 ∷ 31 ∷ 31 ∷ 23 ∷ 0 ∷ [],
+    ) ∷
+    -- .. 31: word not 255
+    (
+      54,
+      uncheckedBy 64 254 ∷ uncheckedBy 65 254 ∷ uncheckedBy 65 253 ∷ uncheckedBy 64 253 ∷ uncheckedBy 64 255 ∷ uncheckedBy 0 254 ∷ [],
+      0 ∷ 30 ∷ 30 ∷ 31 ∷ 31 ∷ 0 ∷ [],
+    ) ∷
+    -- 10: bytes of a word above 255, message bytes handed on above 223, marker bytes above 3
+    (
+      55,
+      unheardBy 255 223 3 8272 255 ∷ unheardBy 256 223 3 8272 255 ∷ unheardBy 255 224 3 8272 255 ∷ unheardBy 255 223 4 8272 255 ∷ [],
+      0 ∷ 10 ∷ 10 ∷ 10 ∷ [],
+    ) ∷
+    -- 11, behind 10: receive buffer under 8,272 bytes, word buffer under 255
+    (56, unheardBy 255 223 3 8272 254 ∷ unheardBy 255 223 3 8271 255 ∷ unheardBy 256 223 3 8271 254 ∷ [], 11 ∷ 11 ∷ 10 ∷ []) ∷
+    -- 0x4F opportunistic: the bytes of the paper's case, hunted, give E 10 0 0 0 0; any other first byte gives X 0
+    (
+      57,
+      listing (0x4F ∷ 0xF5 ∷ 0x5F ∷ 0x0A ∷ 0x00 ∷ 0x7E ∷ 0x21 ∷ 0x00 ∷ 0x51 ∷ 0x00 ∷ 0x00 ∷ 0x41 ∷ 0xE4 ∷ 0xEC ∷ 0x7E ∷ []) ++ listing (0x51 ∷ []),
+      69 ∷ 32 ∷ 49 ∷ 48 ∷ 32 ∷ 48 ∷ 32 ∷ 48 ∷ 32 ∷ 48 ∷ 32 ∷ 48 ∷ 10 ∷ 88 ∷ 32 ∷ 48 ∷ 10 ∷ [],
+    ) ∷
+    -- no F5 where a mark should stand, no 5F behind it, a record cut short behind a frame: X 1, X 2, R 4 and X 8
+    (
+      58,
+      joined (map listing (
+          (0x50 ∷ 0xF4 ∷ 0x5F ∷ []) ∷ (0x50 ∷ 0xF5 ∷ 0x5E ∷ []) ∷ (0x50 ∷ 0xF5 ∷ 0x5F ∷ 0x09 ∷ 0x00 ∷ 0x7E ∷ 0x00 ∷ 0x7E ∷ []) ∷ [])),
+      88 ∷ 32 ∷ 49 ∷ 10 ∷ 88 ∷ 32 ∷ 50 ∷ 10 ∷ 82 ∷ 32 ∷ 52 ∷ 10 ∷ 88 ∷ 32 ∷ 56 ∷ 10 ∷ [],
+    ) ∷
+    -- the byte with which the stream would pass 4,294,967,295 bytes: at 7, at 8, and none, where the record breaks off at 9
+    (
+      59,
+      joined (map behindStream (4294967295 ∷ 4294967294 ∷ 4294967293 ∷ [])),
+      88 ∷ 32 ∷ 55 ∷ 10 ∷ 0x41 ∷ 88 ∷ 32 ∷ 56 ∷ 10 ∷ 0x41 ∷ 0x42 ∷ 88 ∷ 32 ∷ 57 ∷ 10 ∷ [],
     ) ∷
     []

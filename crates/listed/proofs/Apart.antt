@@ -1,4 +1,5 @@
 -- What a recording is made of.
+-- one-in, record-apart    a stream byte, and a record
 -- records-apart       a recording of pieces: its stream is the pieces joined, and it ends well
 -- records-channel     the same on the opportunistic channel
 use Prim.Native.Nat.{ℕ, suc, _+_, _-_, _*_, _/_, _%_, _≤_}
@@ -15,14 +16,14 @@ use Rattle.listed.specs.declared.Place.the-variants.{Mark, Inside}
 use Rattle.listed.specs.declared.Spot.{Spot}
 use Rattle.listed.specs.Apart.{most, wrong, left, through, nextAt, inStream, keep, apart, freshSpot, recordOf, records}
 
-abbrev at : Place → ℕ → ℕ → Spot
+abbrev pub at : Place → ℕ → ℕ → Spot
 at q o c = record { place = q; offset = o; count = c }
 
-abbrev before : List ℕ → List ℕ × Spot → List ℕ × Spot
+abbrev pub before : List ℕ → List ℕ × Spot → List ℕ × Spot
 before xs r = (xs ++ r .0, r .1)
 
 -- a stream byte that the limit leaves
-one-in : (k o c b : ℕ) (bs : List ℕ) → suc c ≤ most → apart (at (Inside k) o c) (b ∷ bs) ≡ before (b ∷ []) (apart (at (left k) (o + 1) (c + 1)) bs)
+pub one-in : (k o c b : ℕ) (bs : List ℕ) → suc c ≤ most → apart (at (Inside k) o c) (b ∷ bs) ≡ before (b ∷ []) (apart (at (left k) (o + 1) (c + 1)) bs)
 unfolding apart inStream nextAt
 one-in k o c b bs h = ap (λ t. keep t b (apart (pick t (through k (at (Inside k) o c)) (wrong (at (Inside k) o c))) bs)) (lt-ltb c most h)
 
@@ -40,14 +41,14 @@ body-apart (b ∷ p) ys o c h =
     ∙ ap (before (b ∷ [])) (body-apart p ys (o + 1) (c + 1) (omega arith))
     ∙ (λ i. before (b ∷ p) (apart (at Mark (f i) (g i)) ys))
 
-record-apart : (p ys : List ℕ) (o c : ℕ) → c + length p ≤ most
+pub record-apart : (p ys : List ℕ) (o c : ℕ) → c + length p ≤ most
     → apart (at Mark o c) (recordOf p ++ ys) ≡ before p (apart (at Mark (o + 1 + 1 + 1 + 1 + length p) (c + length p)) ys)
 unfolding apart inStream nextAt
 record-apart p ys o c h =
     let e : length p % 256 + 256 * (length p / 256) ≡ length p = omega arith in
     ap (λ n. apart (at (left n) (o + 1 + 1 + 1 + 1) c) (p ++ ys)) e ∙ body-apart p ys (o + 1 + 1 + 1 + 1) c h
 
-none-apart : (p : Spot) → apart p [] ≡ ([], p)
+pub none-apart : (p : Spot) → apart p [] ≡ ([], p)
 unfolding apart
 none-apart p = refl
 

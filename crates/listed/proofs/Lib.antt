@@ -2,4 +2,5 @@ pub mod Apart
 pub mod Totals
 pub mod Numbers
 pub mod Offsets
+pub mod Described
 pub mod Digits

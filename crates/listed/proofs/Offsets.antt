@@ -18,7 +18,7 @@ use Rattle.listed.specs.Apart.{most, freshSpot, on, wrong, left, through
 
 -- ---- places
 -- the place is Wrong
-abbrev isWrong : Place → Bool
+abbrev pub isWrong : Place → Bool
 isWrong Mode = false
 isWrong Mark = false
 isWrong Second = false
@@ -96,12 +96,12 @@ stays-at q p b e = ap (λ r. nextAt r p b) (is-wrong q e)
 
 -- ---- all bytes
 -- where they end
-abbrev ended : Spot → List ℕ → Spot
+abbrev pub ended : Spot → List ℕ → Spot
 ended p [] = p
 ended p (b ∷ bs) = ended (next p b) bs
 
 -- .. as taking them apart says
-ended-is : (bs : List ℕ) (p : Spot) → apart p bs .1 ≡ ended p bs
+pub ended-is : (bs : List ℕ) (p : Spot) → apart p bs .1 ≡ ended p bs
 unfolding apart
 ended-is [] p = refl
 ended-is (b ∷ bs) p = kept (inStream (p .place) (p .count)) (apart (next p b) bs) ∙ ended-is bs (next p b)
@@ -111,7 +111,7 @@ ended-is (b ∷ bs) p = kept (inStream (p .place) (p .count)) (apart (next p b) 
     kept false r = refl
 
 -- behind a wrong byte nothing moves
-stays : (bs : List ℕ) (p : Spot) → isWrong (p .place) ≡ true → ended p bs ≡ p
+pub stays : (bs : List ℕ) (p : Spot) → isWrong (p .place) ≡ true → ended p bs ≡ p
 stays [] p e = refl
 stays (b ∷ bs) p e = ap (λ q. ended q bs) (stays-at (p .place) p b e) ∙ stays bs p e
 

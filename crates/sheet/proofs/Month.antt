@@ -1,7 +1,7 @@
 -- The calls keep the sheet of the month.
 -- tidy-sheet       a month's sheet has no recording to forget
 -- recorded-is      a recording's packets, and its end: what the definition says, and the sheet of the month then
--- refused-keeps    a recording that does not count leaves the sheet as it was, whatever sheet it is
+-- refused-keeps, closing-keeps    a recording that does not count leaves the sheet as it was, whatever sheet and draft it is
 use Prim.Native.Nat.{ℕ, _≤_}
 use native.Mathlib.Omega.{arith}
 use mathlib.Core.Path.{_≡_, refl, sym, ap, subst, _∙_}
@@ -121,7 +121,8 @@ kept-old counts x y n = absurd (n refl)
 kept-old wrong x y n = refl
 kept-old (refuses k) x y n = refl
 
-closing-keeps : (d : Draft) (well : Bool) → closing d well .counted ≢ Counts → closing d well .sheet ≡ d .before
+-- a draft whose recording does not count
+pub closing-keeps : (d : Draft) (well : Bool) → closing d well .counted ≢ Counts → closing d well .sheet ≡ d .before
 unfolding closing
 closing-keeps d well = go (beyond d)
   where
