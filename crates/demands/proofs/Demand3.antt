@@ -14,7 +14,7 @@
 -- remembered, remembered-told, plain-remembered-told   the place of a broken escape, in the final state
 -- whole-stream, plain-stream                           a sender's whole stream
 -- words-in-order, lock-kept, lock-lost                 any words behind a marker, and the bytes behind the last
--- earlier-blocks, behind-flag, opened, other-blocks    one block altered at will
+-- earlier-blocks, behind-flag, opened, opened-fill, other-blocks   one block altered at will
 use Prim.Native.Nat.{ℕ, _≤_, _<_}
 use native.Mathlib.Omega.{arith}
 use mathlib.Core.Path.{_≡_, sym, _∙_, ap, subst}
@@ -40,7 +40,7 @@ use Rattle.stream.proofs.Cutting.{every-cut-reads}
 use Rattle.stream.proofs.Shown.{shown-plain, held-use, held-st}
 use Rattle.stream.proofs.Remembered as plain
 use Rattle.stream.proofs.Delivery.{payload-held}
-use Rattle.stream.proofs.Streaming.{ignored, stream-read, opened-behind}
+use Rattle.stream.proofs.Streaming.{ignored, stream-read, opened-behind, none-opened}
 use Rattle.blocks.specs.Sender.{marker, wordBytes, framed, sentWords, sent}
 use Rattle.blocks.specs.Channel.{condition, Event, lost, frames, blocks, losses, freshChannel, hears, answers, IsWord, carried, wordsGive, FirstMarker}
 use Rattle.blocks.specs.declared.Condition.the-variants.{Clean as clean}
@@ -167,3 +167,7 @@ opened ps a xs ys e = opened-behind ps (all-clear ps a) xs ys e
     all-clear : (ps : List Packet) → Each Accepted ps → Each (λ (p : Packet). NoFlag (rawOf p)) ps
     all-clear [] a = tt
     all-clear (p ∷ ps) a = (clear p (a .0), all-clear ps (a .1))
+
+-- .. and from a flag behind the stream on, as those are that fill the last word, none is opened
+pub opened-fill : (ps : List Packet) (n : ℕ) → length (stream ps) ≤ n → openedFrom ps n ≡ []
+opened-fill = none-opened
