@@ -21,7 +21,7 @@
 -- block-answer, block-only           a block's answer and the word that is read are what repair promises
 -- plain-listing, channel-listing, totals, sent-totals   the listing's lines and totals
 -- x-offset, decimal-value                               the offset that `X` prints, and numbers as they are printed
--- recorded-by-calls                                     a recording's answers by calls, and where it ends
+-- recorded-by-calls, next-payload                       a recording's answers by calls, where it ends, and where a payload stands
 -- listed-by-calls, listed-at-last, finished-at-last     the listing by calls
 -- line-number, close-number                             the number of a line that the office tells of
 use Prim.Native.Nat.{ℕ, suc, _+_, _-_, _%_, _≤_, _<_}
@@ -68,8 +68,9 @@ use Rattle.frames.proofs.Only.{judge-only}
 use Rattle.base.specs.Choice.{pick}
 use Rattle.blocks.specs.Sender.{wordBytes}
 use Rattle.tape.specs.Deck.{Deck, fresh}
-use Rattle.tape.specs.Called.{far, deckOf, EveryCut}
+use Rattle.tape.specs.Called.{far, deckOf, tapeCall, EveryCut, ThereDeck}
 use Rattle.tape.proofs.Demands.{taken-apart}
+use Rattle.tape.proofs.Delivery.{payload-next}
 use Rattle.recording.specs.declared.recording.Totals.{Totals}
 use Rattle.recording.specs.declared.recording.Recording.{Recording}
 use Rattle.recording.specs.Printed.{noTotals, lastOf, recorded, finishing, freshRecording}
@@ -241,6 +242,10 @@ decimal-value = decimal-digits
 pub recorded-by-calls : (file : List ℕ) → length file ≤ far
     → EveryCut file λ es m. (es ≡ heard (onChannel file) (apart freshSpot file .0)) × (m .spot ≡ apart freshSpot file .1)
 recorded-by-calls = taken-apart
+
+-- .. and behind the call that delivers a packet, its payload bytes and its key are the parts of the receive buffer that calls of their own hand out
+pub next-payload : (m : Deck) (bs : List ℕ) → With ThereDeck (tapeCall m bs .0) (tapeCall m bs .2)
+next-payload = payload-next
 
 -- ---- the listing by calls: a recording cut in any way, each piece handed in until more is wanted, by calls with any room each, and then the
 -- finishing call: the bytes printed in all are its listing, whatever the lent buffers held ..
