@@ -1,22 +1,51 @@
--- In which order answers come: those of whole words, and of the bytes behind the last.
+-- In which order answers come: those of whole words, and of the bytes before the first and behind the last.
+-- none-given   where no marker stands, none comes, and it hunts on
+-- first-given  a first word that is not whole gives none
 -- few-given    each word gives its block answer, and then the answers of its message bytes; up to three bytes behind it give none
+-- begun-given  nor does a further word that is not whole
 -- lost-given   four that are not the marker give "lock lost"; then all is as a fresh receiver hears it that begins with these four
-use Prim.Native.Nat.{ℕ, _<_}
+use Prim.Native.Nat.{ℕ, suc, _+_, _<_}
 use native.Mathlib.Omega.{arith}
 use mathlib.Core.Path.{_≡_, refl, sym, _∙_, ap}
 use mathlib.Core.Bool.{Bool, true, false, _&&_}
 use mathlib.Core.Logic.{_≢_}
 use mathlib.Core.List.{List, [], _∷_, _++_, map, append-nil}
 use lib.Dec.{eqb}
-use lib.ListN.{length}
+use lib.ListN.{length, length-append}
+use borrow.Author.Tests.{lt-ltb}
 use Rattle.base.specs.Bytes.{Each}
 use Rattle.base.specs.Calls.{andThen}
 use Rattle.stream.specs.Reader.{Reading, waiting, reads}
 use Rattle.blocks.specs.declared.Hunting.{Hunting}
-use Rattle.blocks.specs.Sender.{marker, framed}
-use Rattle.blocks.specs.Channel.{condition, mend, Event, said, block, lost, message, shift, isMarker, zeros, Chan, hunting, inMark, freshChannel, hunt, whole, compared, hears, answers}
+use Rattle.blocks.specs.Sender.{marker, wordBytes, framed}
+use Rattle.blocks.specs.Channel.{condition, mend, Event, said, block, lost, message, shift, isMarker, zeros, Chan, hunting, inWord, inMark, freshChannel, hunt, whole, grow, compared, hears, answers}
 use Rattle.blocks.specs.Channel.{IsWord, wordsGive, FirstMarker}
-use Rattle.blocks.proofs.Streaming.{hears-append, theMarker, wholes, behindWords, is-marker, received}
+use Rattle.blocks.proofs.Streaming.{hears-append, bytesOf, theMarker, wholes, behindWords, is-marker, no-match, past-zeros, from-start, received}
+
+-- ---- before the first marker, with f the last four: it hunts on
+hunts-on : (bs : List ℕ) (f : Hunting) → ((xs ys : List ℕ) → bytesOf f ++ bs ≡ xs ++ (marker ++ ys) → ⊥)
+    → (g : Hunting) × (hears (hunting f) bs ≡ ([], hunting g))
+hunts-on [] f h = (f, refl)
+hunts-on (b ∷ bs) f h =
+    let r = hunts-on bs (shift f b) (λ xs ys q. h (f .a ∷ xs) ys (ap (λ x. f .a ∷ x) q)) in
+    let n = no-match (isMarker (shift f b)) (shift f b) refl (λ q. h (f .a ∷ []) bs (ap (λ x. f .a ∷ (x ++ bs)) q)) in
+    (r .0, ap (λ t. hears (hunt t (shift f b)) bs) n ∙ r .1)
+
+pub none-given : (bs : List ℕ) → ((xs ys : List ℕ) → bs ≡ xs ++ (marker ++ ys) → ⊥) → (g : Hunting) × (hears freshChannel bs ≡ ([], hunting g))
+none-given bs h = hunts-on bs zeros λ xs ys e. let r = past-zeros bs xs ys e in h (r .0) ys (r .2)
+
+-- ---- a word that is not whole
+part-word : (bs w : List ℕ) (f : Hunting) (r : Reading) → length w + length bs < wordBytes → hears (inWord f w r) bs .0 ≡ []
+part-word [] w f r h = refl
+part-word (b ∷ bs) w f r h =
+    let l : length (w ++ b ∷ []) ≡ length w + 1 = length-append w (b ∷ []) in
+    ap (λ t. andThen (grow t f (w ++ b ∷ []) r) (λ t. hears t bs) .0) (lt-ltb (suc (length w)) wordBytes (omega arith))
+    ∙ part-word bs (w ++ b ∷ []) f r (omega arith)
+
+pub first-given : (stray bs : List ℕ) → FirstMarker stray (marker ++ bs) → length bs < wordBytes → answers (stray ++ (marker ++ bs)) ≡ []
+first-given stray bs m h = ap (λ (x : List Event × Chan). x .0) (from-start stray bs m) ∙ part-word bs [] theMarker waiting (omega arith)
+
+-- ---- behind words
 
 wholes-give : (ws : List (List ℕ)) (r : Reading) → wholes ws r .0 ≡ wordsGive ws r
 wholes-give [] r = refl
@@ -93,6 +122,13 @@ module _ (stray : List ℕ) (ws : List (List ℕ)) (some : ws ≢ []) (words : E
   few-given bs h =
       let m = behind-words in
       ap (λ (x : List Event × Chan). x .0) (m .3 bs) ∙ ap (λ (l : List Event). wordsGive ws waiting ++ l) (few (m .0) (m .1) (m .2) bs h)
+      ∙ append-nil (wordsGive ws waiting)
+
+  pub begun-given : (bs : List ℕ) → length bs < wordBytes → answers ((stray ++ framed ws) ++ (marker ++ bs)) ≡ wordsGive ws waiting
+  begun-given bs h =
+      let m = behind-words in
+      ap (λ (x : List Event × Chan). x .0) (m .3 (marker ++ bs))
+      ∙ ap (λ (l : List Event). wordsGive ws waiting ++ l) (part-word bs [] theMarker (m .2) (omega arith))
       ∙ append-nil (wordsGive ws waiting)
 
   pub lost-given : (bs cs : List ℕ) → length bs ≡ 4 → bs ≢ marker

@@ -1,4 +1,6 @@
 -- Laws of the receiver without a limit: a sender's whole marked stream gives its packets, and one altered block harms no other.
+-- past-zeros                               a marker behind a fresh receiver's four zeros stands in what it hears
+-- from-start                               behind the first marker a word is read
 -- received                                 after stray bytes, the answers are those of the words, and so is the state behind them
 -- whole-stream                             a whole marked stream gives its packets, once each, in order, and nothing else
 -- earlier-same, later-exact, others-clean  one block altered: the answers of the earlier ones, those behind a flag of a later one,
@@ -147,16 +149,20 @@ hunted (s ∷ stray) cs f h =
     (λ q. let l = h (f .a ∷ []) (stray ++ (marker ++ cs)) (ap (λ x. f .a ∷ (x ++ (stray ++ (marker ++ cs)))) q) in omega arith))
     ∙ hunted stray cs (shift f s) (λ xs ys q. let l = h (f .a ∷ xs) ys (ap (λ x. f .a ∷ x) q) in omega arith)
 
-from-start : (stray cs : List ℕ) → FirstMarker stray (marker ++ cs) → hears freshChannel (stray ++ (marker ++ cs)) ≡ hears (inWord theMarker [] waiting) cs
-from-start stray cs h = hunted stray cs zeros go
-  where
-    go : (xs ys : List ℕ) → bytesOf zeros ++ (stray ++ (marker ++ cs)) ≡ xs ++ (marker ++ ys) → 4 + length stray ≤ length xs
-    go [] ys e = absurd (not-first (omega arith) (head-eq-of-cons-eq e))
-    go (x ∷ []) ys e = absurd (not-first (omega arith) (head-eq-of-cons-eq (tail-eq-of-cons-eq e)))
-    go (x ∷ y ∷ []) ys e = absurd (not-first (omega arith) (head-eq-of-cons-eq (tail-eq-of-cons-eq (tail-eq-of-cons-eq e))))
-    go (x ∷ y ∷ z ∷ []) ys e = absurd (not-first (omega arith) (head-eq-of-cons-eq (tail-eq-of-cons-eq (tail-eq-of-cons-eq (tail-eq-of-cons-eq e)))))
-    go (x ∷ y ∷ z ∷ t ∷ xs) ys e =
-        let l = h xs ys (tail-eq-of-cons-eq (tail-eq-of-cons-eq (tail-eq-of-cons-eq (tail-eq-of-cons-eq e)))) in omega arith
+pub past-zeros : (bs xs ys : List ℕ) → bytesOf zeros ++ bs ≡ xs ++ (marker ++ ys)
+    → (zs : List ℕ) × (length xs ≡ 4 + length zs) × (bs ≡ zs ++ (marker ++ ys))
+past-zeros bs [] ys e = absurd (not-first (omega arith) (head-eq-of-cons-eq e))
+past-zeros bs (x ∷ []) ys e = absurd (not-first (omega arith) (head-eq-of-cons-eq (tail-eq-of-cons-eq e)))
+past-zeros bs (x ∷ y ∷ []) ys e = absurd (not-first (omega arith) (head-eq-of-cons-eq (tail-eq-of-cons-eq (tail-eq-of-cons-eq e))))
+past-zeros bs (x ∷ y ∷ z ∷ []) ys e =
+    absurd (not-first (omega arith) (head-eq-of-cons-eq (tail-eq-of-cons-eq (tail-eq-of-cons-eq (tail-eq-of-cons-eq e)))))
+past-zeros bs (x ∷ y ∷ z ∷ t ∷ xs) ys e = (xs, omega arith, tail-eq-of-cons-eq (tail-eq-of-cons-eq (tail-eq-of-cons-eq (tail-eq-of-cons-eq e))))
+
+pub from-start : (stray cs : List ℕ) → FirstMarker stray (marker ++ cs) → hears freshChannel (stray ++ (marker ++ cs)) ≡ hears (inWord theMarker [] waiting) cs
+from-start stray cs h = hunted stray cs zeros λ xs ys e.
+    let r = past-zeros (stray ++ (marker ++ cs)) xs ys e in
+    let l = h (r .0) ys (r .2) in
+    omega (arith, l, r .1)
 
 -- a fresh receiver that hears stray bytes and then words, each with the marker before it: the answers are those of the words
 pub received : (stray : List ℕ) (ws : List (List ℕ)) → ws ≢ [] → Each IsWord ws → FirstMarker stray (framed ws)

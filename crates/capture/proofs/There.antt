@@ -1,6 +1,7 @@
 -- A packet's bytes are where they are fetched from.
 -- packed-there   at the start of a list, a packet's own bytes: payload, key, and format byte to last payload byte are its parts
--- export-there   behind a frame that is judged to be a packet, in the receive buffer
+-- export-own     behind a frame that is judged to be a packet, in the receive buffer, and then the sender accepts it
+-- export-there   .. so what is fetched is its own bytes
 -- read-there     behind an import's delivery, in the store
 use mathlib.Core.Path.{_≡_, refl, sym, ap, subst, _∙_}
 use mathlib.Core.Bool.{Bool, true, false}
@@ -20,7 +21,7 @@ use Rattle.base.proofs.Calls.{none-owed, with-hear}
 use Rattle.fcs.specs.Fcs.{fcs}
 use Rattle.frames.specs.Contents.{Packet, plainPacket, keyFormat, rawLimit, two, opening, packed, keyAt, payloadAt, wordAt, body}
 use Rattle.frames.specs.Escape.{plain, scan}
-use Rattle.frames.specs.Frame.{Told, packet, refusal, broken, judged, delivery, judgeBody, judgeContents, kept, closedBy, closed, part, There}
+use Rattle.frames.specs.Frame.{Told, packet, refusal, broken, Closed, judged, delivery, judgeBody, judgeContents, kept, closedBy, closed, part, There}
 use Rattle.frames.specs.Sender.{Accepted}
 use Rattle.frames.specs.declared.Escapes.{Escapes}
 use Rattle.frames.specs.declared.Escapes.the-variants.{Right, Unfinished, Wrong}
@@ -70,34 +71,51 @@ module _ (p : Packet) (a : Accepted p) (t : List ℕ) where
       )
 
 -- ---- in the receive buffer, behind a frame
-contents-there : (cs t : List ℕ) → Fetched (judgeContents cs) (cs ++ t)
+-- of a packet, they are its own, and the sender accepts it
+abbrev pub Own : Told → List ℕ → Type 0
+Own (packet p) recv = (packedPart (delivery p) recv ≡ packed p) × Accepted p
+Own (refusal n) recv = Unit {0}
+Own (broken n) recv = Unit {0}
+
+contents-own : (cs t : List ℕ) → Bytes (cs ++ t) → Own (judgeContents cs) (cs ++ t)
 unfolding judgeContents
-contents-there cs t = go (ltb (length cs) 8) refl (eqb (fcs (body cs)) (wordAt cs (length cs - 2)))
+contents-own cs t h = go (ltb (length cs) 8) refl (eqb (fcs (body cs)) (wordAt cs (length cs - 2)))
   where
-    told : 8 ≤ length cs → (j : Told) → judgeBody (body cs) ≡ j → Fetched j (cs ++ t)
+    told : 8 ≤ length cs → (j : Told) → judgeBody (body cs) ≡ j → Own j (cs ++ t)
     told l (refusal n) e = tt
     told l (broken n) e = tt
-    told l (packet p) e = λ h.
+    told l (packet p) e =
         let n = length cs - 2 in
         let o = body-only (body cs) (each-take IsByte n cs (each-append-left IsByte cs t h)) (omega (arith, length-take-le n cs (omega arith), l)) p e in
         let s : cs ++ t ≡ packed p ++ (drop n cs ++ t) =
         ap (λ (x : List ℕ). x ++ t) (sym (ap (λ (x : List ℕ). x ++ drop n cs) (o .0) ∙ take-append-drop n cs)) ∙ append-assoc (packed p) (drop n cs) t in
-        ap (packedPart (delivery p)) s ∙ packed-there p (o .1) (drop n cs ++ t) .1
+        (ap (packedPart (delivery p)) s ∙ packed-there p (o .1) (drop n cs ++ t) .1, o .1)
 
-    go : (short : Bool) → ltb (length cs) 8 ≡ short → (right : Bool) → Fetched (pick short (refusal 4) (pick right (judgeBody (body cs)) (refusal 5))) (cs ++ t)
+    go : (short : Bool) → ltb (length cs) 8 ≡ short → (right : Bool) → Own (pick short (refusal 4) (pick right (judgeBody (body cs)) (refusal 5))) (cs ++ t)
     go true e r = tt
     go false e false = tt
     go false e true = told (ltb-false _ _ e) (judgeBody (body cs)) refl
 
-pub export-there : (recv : List ℕ) (n : ℕ) → Fetched (closed recv n .told) (closed recv n .recv)
+pub export-own : (recv : List ℕ) (n : ℕ) → Bytes (closed recv n .recv) → Own (closed recv n .told) (closed recv n .recv)
 unfolding closed closedBy
-export-there recv n = go (ltb rawLimit n) (scan (take n recv))
+export-own recv n = go (ltb rawLimit n) (scan (take n recv))
   where
-    go : (t : Bool) (s : Escapes) → Fetched (pick t (kept 1 recv) (closedBy s (take n recv) recv) .told) (pick t (kept 1 recv) (closedBy s (take n recv) recv) .recv)
-    go true s = tt
-    go false Unfinished = tt
-    go false (Wrong i) = tt
-    go false Right = contents-there (plain (take n recv)) (drop (length (plain (take n recv))) recv)
+    left : Bool → Escapes → Closed
+    left t s = pick t (kept 1 recv) (closedBy s (take n recv) recv)
+
+    go : (t : Bool) (s : Escapes) → Bytes (left t s .recv) → Own (left t s .told) (left t s .recv)
+    go true s h = tt
+    go false Unfinished h = tt
+    go false (Wrong i) h = tt
+    go false Right h = contents-own (plain (take n recv)) (drop (length (plain (take n recv))) recv) h
+
+pub own-fetched : (t : Told) (recv : List ℕ) → (Bytes recv → Own t recv) → Fetched t recv
+own-fetched (packet p) recv f = λ h. f h .0
+own-fetched (refusal n) recv f = tt
+own-fetched (broken n) recv f = tt
+
+pub export-there : (recv : List ℕ) (n : ℕ) → Fetched (closed recv n .told) (closed recv n .recv)
+export-there recv n = own-fetched (closed recv n .told) (closed recv n .recv) (export-own recv n)
 
 -- ---- in the store, behind an import's delivery
 told-there : (n : ℕ) (st : List ℕ) (c : Capture) → Stands (entry (take n st)) (held c st)

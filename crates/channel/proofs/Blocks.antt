@@ -1,20 +1,35 @@
--- In which order answers come, for every way of cutting: those of whole words, and of the bytes behind the last.
--- words-given   each word gives its block answer, and then the answers of its message bytes
--- lock-kept     up to three bytes behind a word give no answer, whatever they are
--- lock-lost     four that are not the marker give "lock lost"; then all is as a fresh receiver hears it that begins with these four
+-- In which order answers come, for every way of cutting: those of whole words, and of the bytes before the first and behind the last.
+-- hunting-silent   where no marker stands, none comes, and it hunts on
+-- first-begun      a first word that is not whole gives none
+-- words-given      each word gives its block answer, and then the answers of its message bytes
+-- lock-kept        up to three bytes behind a word give no answer, whatever they are
+-- word-begun       nor does a further word that is not whole
+-- lock-lost        four that are not the marker give "lock lost"; then all is as a fresh receiver hears it that begins with these four
 use Prim.Native.Nat.{ℕ, _<_}
 use native.Mathlib.Omega.{arith}
 use mathlib.Core.Path.{_≡_, sym, _∙_, ap}
+use mathlib.Core.Bool.{false}
 use mathlib.Core.Logic.{_≢_}
 use mathlib.Core.List.{List, [], _∷_, _++_, append-nil}
 use lib.ListN.{length}
 use Rattle.base.specs.Bytes.{Each}
 use Rattle.stream.specs.Reader.{waiting}
-use Rattle.blocks.specs.Sender.{marker, framed}
+use Rattle.blocks.specs.Sender.{marker, wordBytes, framed}
 use Rattle.blocks.specs.Channel.{Event, lost, Chan, freshChannel, hears, answers, IsWord, wordsGive, FirstMarker}
-use Rattle.blocks.proofs.Order.{few-given, lost-given}
+use Rattle.blocks.proofs.Order.{none-given, first-given, few-given, begun-given, lost-given}
 use Rattle.channel.specs.Called.{EveryCut, boardOf, inUse}
 use Rattle.channel.proofs.Demands.{cut-so, every-cut}
+
+pub hunting-silent : (bs : List ℕ) → ((xs ys : List ℕ) → bs ≡ xs ++ (marker ++ ys) → ⊥) → EveryCut bs λ es d. (es ≡ []) × (d .st .locked ≡ false)
+hunting-silent bs h =
+    let n = none-given bs h .1 in
+    cut-so (every-cut bs) λ es d e. (
+      e .0 ∙ ap (λ (x : List Event × Chan). x .0) n,
+      ap (λ x. x .0 .locked) (e .1 ∙ ap (λ (x : List Event × Chan). inUse (boardOf (x .1) [] [])) n),
+    )
+
+pub first-begun : (stray bs : List ℕ) → FirstMarker stray (marker ++ bs) → length bs < wordBytes → EveryCut (stray ++ (marker ++ bs)) λ es _. es ≡ []
+first-begun stray bs m h = cut-so (every-cut (stray ++ (marker ++ bs))) λ es _ e. e .0 ∙ first-given stray bs m h
 
 module _ (stray : List ℕ) (ws : List (List ℕ)) (some : ws ≢ []) (words : Each IsWord ws) (first : FirstMarker stray (framed ws)) where
   pub words-given : EveryCut (stray ++ framed ws) λ es _. es ≡ wordsGive ws waiting
@@ -24,6 +39,9 @@ module _ (stray : List ℕ) (ws : List (List ℕ)) (some : ws ≢ []) (words : E
 
   pub lock-kept : (bs : List ℕ) → length bs < 4 → EveryCut ((stray ++ framed ws) ++ bs) λ es _. es ≡ wordsGive ws waiting
   lock-kept bs h = cut-so (every-cut ((stray ++ framed ws) ++ bs)) λ es _ e. e .0 ∙ few-given stray ws some words first bs h
+
+  pub word-begun : (bs : List ℕ) → length bs < wordBytes → EveryCut ((stray ++ framed ws) ++ (marker ++ bs)) λ es _. es ≡ wordsGive ws waiting
+  word-begun bs h = cut-so (every-cut ((stray ++ framed ws) ++ (marker ++ bs))) λ es _ e. e .0 ∙ begun-given stray ws some words first bs h
 
   pub lock-lost : (bs cs : List ℕ) → length bs ≡ 4 → bs ≢ marker → EveryCut ((stray ++ framed ws) ++ (bs ++ cs))
       λ es d. (es ≡ wordsGive ws waiting ++ lost ∷ answers (bs ++ cs)) × (inUse d ≡ inUse (boardOf (hears freshChannel (bs ++ cs) .1) [] []))

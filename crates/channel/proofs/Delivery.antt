@@ -1,3 +1,4 @@
+-- there-as                what the frame reader says of a byte, as the channel's answer
 -- hand-there, eat-there   a delivered payload is the part of the receive buffer that a call of its own hands out: behind one move ..
 -- payload-there           .. and behind a call
 use Prim.Native.Nat.{ℕ, suc}
@@ -18,7 +19,7 @@ use Rattle.channel.specs.Called.{Board, heldIn, wordOn, compareOn, markO
 use Rattle.channel.specs.Called.{sound, roomy, hearBy, hearCall, ThereEvent}
 use Rattle.channel.proofs.Cutting.{hand-one}
 
-there-as : (o : Option Told) (d : Board) → ThereIf o (d .recv) → With ThereEvent (asEvent o) d
+pub there-as : (o : Option Told) (d : Board) → ThereIf o (d .recv) → With ThereEvent (asEvent o) d
 there-as none d t = tt
 there-as (some a) d t = t
 

@@ -1,6 +1,6 @@
 -- Request W11, sentence by sentence. What the calls promise stands in Promises.
 -- begins-with, record-holds, ..fetched           "Export delivered packets as a classic little-endian pcap file .."
--- entered, delivered-entered, file-by-calls      .. record by record, by calls
+-- entered, ..-entered, file-by-calls             .. record by record, by calls
 -- times-aside                                    "Import ignores the records' times"
 -- same-packets, stands                           ".. and gives the same packets back"
 -- nothing-else                                   .. and of nothing but a capture of them
@@ -11,7 +11,7 @@ use native.Mathlib.Omega.{arith}
 use mathlib.Core.Path.{_≡_, refl, ap, subst, _∙_}
 use mathlib.Core.Logic.{_↔_}
 use mathlib.Core.List.{List, [], _∷_, _++_, map}
-use mathlib.Core.Option.{some}
+use mathlib.Core.Option.{Option, some}
 use lib.ListN.{length, take, drop}
 use lib.Seq.{take-append-seam}
 use borrow.Author.Tests.{le-ltb}
@@ -27,6 +27,7 @@ use Rattle.frames.specs.Frame.{Told, packet, refusal, broken, delivery, closed}
 use Rattle.frames.specs.Sender.{Accepted}
 use Rattle.stream.specs.Called as plain
 use Rattle.stream.specs.Called.{Held as FrameHeld}
+use Rattle.blocks.specs.Channel.{Event, said}
 use Rattle.channel.specs.Called.{Board, hearCall}
 use Rattle.subchannel.specs.Called as fixed
 use Rattle.tape.specs.Deck.{Deck}
@@ -42,12 +43,13 @@ use Rattle.capture.specs.Export.{packedPart, Fetched, enteringBy, entering}
 use Rattle.capture.specs.Called.{Held, Fine, readAll, readCall, finishing, endedAs, EveryCut, Stands}
 use Rattle.capture.specs.declared.reader.Capture.{Capture}
 use Rattle.capture.proofs.Cutting.{read-yields, every-cut}
-use Rattle.capture.proofs.There.{export-there, read-there}
+use Rattle.capture.proofs.There.{Own, export-there, read-there}
 use Rattle.demands.specs.Table.{Exact}
 use Rattle.demands.specs.Refusals.{ByCall, ByRead}
 use Rattle.demands.specs.Captures.{CaptureBeyond, NoPacket, HeaderMissed, RecordCut, FaultBefore, ByEnd, FetchedHeld, FetchedBoard, FetchedSub, FetchedDeck}
 use Rattle.demands.specs.Captures.{put, entriesBy}
-use Rattle.demands.proofs.Fetching.{Enters, packet-there, plain-fetched, board-fetched, sub-fetched, deck-fetched}
+use Rattle.demands.proofs.Fetching.{packet-there, plain-fetched, board-fetched, sub-fetched, deck-fetched}
+use Rattle.demands.proofs.Fetching.{OwnHeld, OwnBoard, OwnSub, OwnDeck, plain-own, board-own, sub-own, deck-own}
 use Rattle.demands.proofs.Rows.{wrote}
 use Rattle.demands.proofs.Capturing.{enter-exact, import-exact, import-same, end-exact}
 
@@ -80,12 +82,36 @@ next-fetched = deck-fetched
 pub entered : (i : ℕ) (p : Packet) → Accepted p → (out : List ℕ) → entering i (packed p) out ≡ write (recordOf i (packed p)) out
 entered i p a out = ap (λ (t : Told). enteringBy t i (packed p) out) (entry-packed p a)
 
--- .. so is that of a delivered one: what is fetched behind the delivery is never refused with 62
+own-entered : (p : Packet) (recv : List ℕ) → Own (packet p) recv → (i : ℕ) (out : List ℕ)
+    → entering i (packedPart (delivery p) recv) out ≡ write (recordOf i (packed p)) out
+own-entered p recv t i out = ap (λ (bs : List ℕ). entering i bs out) (t .0) ∙ entered i p (t .1) out
+
+-- .. so is that of a delivered one: what is fetched behind the delivery is never refused with 62, of a closed frame ..
 pub delivered-entered : (recv : List ℕ) (m : ℕ) (p : Packet) → Bytes recv → closed recv m .told ≡ packet p → (i : ℕ) (out : List ℕ)
     → entering i (packedPart (delivery p) (closed recv m .recv)) out ≡ write (recordOf i (packed p)) out
 delivered-entered recv m p b e i out =
-    let t : Enters (packet p) (closed recv m .recv) = subst (λ (x : Told). Enters x (closed recv m .recv)) e (packet-there recv m b) in
-    ap (λ (bs : List ℕ). entering i bs out) (t .0) ∙ entered i p (t .1) out
+    own-entered p (closed recv m .recv) (subst (λ (x : Told). Own x (closed recv m .recv)) e (packet-there recv m b)) i out
+
+-- .. and of every call that delivers one, where what comes back in the receive buffer is bytes: of the plain stream, of the channel, of a fixed
+-- sub-channel, of a recording
+pub read-entered : (h : FrameHeld) (bs : List ℕ) (p : Packet) → let recv = plain.readCall h bs .2 .recv in plain.readCall h bs .0 ≡ some (packet p)
+    → Bytes recv → (i : ℕ) (out : List ℕ) → entering i (packedPart (delivery p) recv) out ≡ write (recordOf i (packed p)) out
+read-entered h bs p e b =
+    let x = plain.readCall h bs in own-entered p (x .2 .recv) (subst (λ (o : Option Told). With OwnHeld o (x .2)) e (plain-own h bs) b)
+
+pub hear-entered : (c : Board) (bs : List ℕ) (p : Packet) → let recv = hearCall c bs .2 .recv in hearCall c bs .0 ≡ some (said (packet p))
+    → Bytes recv → (i : ℕ) (out : List ℕ) → entering i (packedPart (delivery p) recv) out ≡ write (recordOf i (packed p)) out
+hear-entered c bs p e b = let x = hearCall c bs in own-entered p (x .2 .recv) (subst (λ (o : Option Event). With OwnBoard o (x .2)) e (board-own c bs) b)
+
+pub fixed-entered : (c : fixed.Board) (bs : List ℕ) (p : Packet) → let recv = fixed.hearCall c bs .2 .recv in fixed.hearCall c bs .0 ≡ some (said (packet p))
+    → Bytes recv → (i : ℕ) (out : List ℕ) → entering i (packedPart (delivery p) recv) out ≡ write (recordOf i (packed p)) out
+fixed-entered c bs p e b =
+    let x = fixed.hearCall c bs in own-entered p (x .2 .recv) (subst (λ (o : Option Event). With OwnSub o (x .2)) e (sub-own c bs) b)
+
+pub next-entered : (m : Deck) (bs : List ℕ) (p : Packet) → let recv = tapeCall m bs .2 .ear .board .recv in tapeCall m bs .0 ≡ some (said (packet p))
+    → Bytes recv → (i : ℕ) (out : List ℕ) → entering i (packedPart (delivery p) recv) out ≡ write (recordOf i (packed p)) out
+next-entered m bs p e b =
+    let x = tapeCall m bs in own-entered p (x .2 .ear .board .recv) (subst (λ (o : Option Event). With OwnDeck o (x .2)) e (deck-own m bs) b)
 
 -- what is written with room is the result
 put-fits : (bs out : List ℕ) → length bs ≤ length out → put (write bs out) ≡ bs

@@ -14,6 +14,7 @@
 -- round-trip, round-answer, delivered-only   a packet written and read back, and a packet read is one that could be written
 -- part-short, part-long, payload-place   the part of the receive buffer that is handed out
 -- broken-place, place-told           the place that refusal 3 tells
+-- before-flag, between-flags, no-flag   what is read of any byte string, flag by flag
 -- stream-trip, stream-begun, stream-appended, stream-sent, stream-filled, words-carry   a whole stream, and the calls that make it
 -- word-clean, word-only, clean-at    parity words
 -- class-letters                      classes of ports
@@ -22,7 +23,7 @@
 -- described, e-or-x                                     recordings as described, and no others, print `E`
 -- cut-short, wrong-first, wrong-mark, wrong-second, limit-passed   what others print
 -- x-offset, decimal-value                               the offset that `X` prints, and numbers as they are printed
--- recorded-by-calls                                     a recording's answers by calls, and where it ends
+-- recorded-by-calls, next-payload                       a recording's answers by calls, where it ends, and where a payload stands
 -- listed-by-calls, listed-at-last, finished-at-last     the listing by calls
 -- line-number, close-number                             the number of a line that the office tells of
 use Prim.Native.Nat.{ℕ, suc, _+_, _-_, _*_, _%_, _≤_, _<_}
@@ -34,7 +35,7 @@ use mathlib.Core.List.{List, [], _∷_, _++_, map, append-nil}
 use lib.ListN.{length, take, drop, getD, replicate}
 use borrow.Author.Tests.{ne-eqb, lt-ltb, le-ltb}
 use Rattle.base.specs.Bytes.{Each, Bytes}
-use Rattle.base.specs.Calls.{joined, With}
+use Rattle.base.specs.Calls.{joined, tell, With}
 use Rattle.base.specs.Written.{write}
 use Rattle.base.proofs.Writing.{write-is}
 use Rattle.base.specs.declared.Written.the-variants.{Wrote}
@@ -42,7 +43,7 @@ use Rattle.words.specs.Word.{clean, remainder, Zero}
 use Rattle.repair.specs.declared.Mended.{Mended}
 use Rattle.repair.specs.Promise.{Promised}
 use Rattle.words.proofs.Clean.{clean-roots, roots-clean, parity-clean, clean-is}
-use Rattle.frames.specs.Escape.{flag, plain, last, BrokenAt}
+use Rattle.frames.specs.Escape.{flag, plain, last, BrokenAt, NoFlag}
 use Rattle.frames.specs.Port.{class}
 use Rattle.frames.specs.declared.Class.the-variants.{Barred}
 use Rattle.frames.proofs.Classes.{from-0000, from-0401, from-5100, from-5101, from-5201, from-5208, from-5300, from-7D00, from-7F00, from-FF00}
@@ -50,9 +51,9 @@ use Rattle.frames.specs.Frame.{packet, broken, delivery, judged, closed, judge,
 use Rattle.frames.proofs.Faults.{closed-broken, judge-broken}
 use Rattle.frames.specs.Sender.{Accepted, writing}
 use Rattle.frames.specs.declared.Judged.the-variants.{Packet as Delivered}
-use Rattle.stream.specs.Reader.{waiting, inside, reads}
+use Rattle.stream.specs.Reader.{waiting, inside, closing, reads}
 use Rattle.stream.specs.Sender.{rawOf, stream, delivered, appending}
-use Rattle.stream.proofs.Streaming.{stream-read}
+use Rattle.stream.proofs.Streaming.{ignored, unclosed, between-flags as flag-to-flag, stream-read}
 use Rattle.stream.proofs.Sending.{begin-stream, append-stream}
 use Rattle.blocks.specs.Sender.{parityBytes, wordOf, fillers, filled, messagesOf, sending, sent}
 use Rattle.blocks.specs.Channel.{conditionBy, condition, mend, carried, IsWord, Event, frames, blocks, losses, asMended}
@@ -72,8 +73,9 @@ use Rattle.frames.proofs.Only.{judge-only}
 use Rattle.base.specs.Choice.{pick}
 use Rattle.blocks.specs.Sender.{wordBytes}
 use Rattle.tape.specs.Deck.{Deck, fresh}
-use Rattle.tape.specs.Called.{far, deckOf, EveryCut}
+use Rattle.tape.specs.Called.{far, deckOf, tapeCall, EveryCut, ThereDeck}
 use Rattle.tape.proofs.Demands.{taken-apart}
+use Rattle.tape.proofs.Delivery.{payload-next}
 use Rattle.recording.specs.declared.recording.Totals.{Totals}
 use Rattle.recording.specs.declared.recording.Recording.{Recording}
 use Rattle.recording.specs.Printed.{noTotals, lastOf, recorded, finishing, freshRecording}
@@ -125,6 +127,19 @@ broken-place = judge-broken
 pub place-told : (recv : List ℕ) (m n : ℕ)
     → closed recv m .told ≡ broken n ↔ (m ≤ rawLimit) × (last 0 (take m recv) ≢ 0x7D) × BrokenAt (take m recv) n
 place-told = closed-broken
+
+-- ---- "Reader: bytes before the first flag are ignored." (paper 01), of every byte string: behind the flag all is as behind any other ..
+pub before-flag : (bs : List ℕ) → NoFlag bs → (cs : List ℕ) → reads waiting (bs ++ flag ∷ cs) ≡ reads (inside []) cs
+before-flag bs h cs = ignored bs h (flag ∷ cs)
+
+-- .. "A raw 0x7E is always a flag, also behind 0x7D. Nothing between two flags: no answer.": what stands between two flags, whatever it is, is told
+-- at the second (`closing`, which tells nothing of nothing), and then what stands behind that ..
+pub between-flags : (rs : List ℕ) → NoFlag rs → (cs : List ℕ) → reads (inside []) (rs ++ flag ∷ cs) ≡ tell (closing rs) (reads (inside []) cs)
+between-flags = flag-to-flag
+
+-- .. and bytes with no flag among them give no answer: before the first flag they leave nothing, behind one they are the raw bytes so far
+pub no-flag : (bs : List ℕ) → NoFlag bs → (reads waiting bs ≡ ([], waiting)) × (reads (inside []) bs ≡ ([], inside bs))
+no-flag bs h = (ap (reads waiting) (sym (append-nil bs)) ∙ ignored bs h [], unclosed bs h)
 
 -- a whole stream of packets that the sender accepts is read as these packets, once each, in order, and nothing else
 pub stream-trip : (ps : List Packet) → Each Accepted ps → reads waiting (stream ps) ≡ (map delivered ps, inside [])
@@ -273,6 +288,10 @@ decimal-value = decimal-digits
 pub recorded-by-calls : (file : List ℕ) → length file ≤ far
     → EveryCut file λ es m. (es ≡ heard (onChannel file) (apart freshSpot file .0)) × (m .spot ≡ apart freshSpot file .1)
 recorded-by-calls = taken-apart
+
+-- .. and behind the call that delivers a packet, its payload bytes and its key are the parts of the receive buffer that calls of their own hand out
+pub next-payload : (m : Deck) (bs : List ℕ) → With ThereDeck (tapeCall m bs .0) (tapeCall m bs .2)
+next-payload = payload-next
 
 -- ---- the listing by calls: a recording cut in any way, each piece handed in until more is wanted, by calls with any room each, and then the
 -- finishing call: the bytes printed in all are its listing, whatever the lent buffers held ..

@@ -13,11 +13,13 @@
 -- plain-cut, plain-payload                             .. and on the plain stream
 -- remembered, remembered-told, plain-remembered-told   the place of a broken escape, in the final state
 -- whole-stream, plain-stream                           a sender's whole stream
--- words-in-order, lock-kept, lock-lost                 any words behind a marker, and the bytes behind the last
--- earlier-blocks, behind-flag, opened, other-blocks    one block altered at will
+-- hunting-silent, first-begun                          no marker at all, and a first word that is not whole
+-- words-in-order, word-begun, lock-kept, lock-lost     any words behind a marker, and the bytes behind the last
+-- earlier-blocks, behind-flag, opened, opened-fill, other-blocks   one block altered at will
 use Prim.Native.Nat.{ℕ, _≤_, _<_}
 use native.Mathlib.Omega.{arith}
 use mathlib.Core.Path.{_≡_, sym, _∙_, ap, subst}
+use mathlib.Core.Bool.{false}
 use mathlib.Core.Logic.{_≢_, _↔_}
 use mathlib.Core.List.{List, [], _∷_, _++_, map, append-nil}
 use mathlib.Core.Option.{Option, some, Option·none-ne-some}
@@ -40,7 +42,7 @@ use Rattle.stream.proofs.Cutting.{every-cut-reads}
 use Rattle.stream.proofs.Shown.{shown-plain, held-use, held-st}
 use Rattle.stream.proofs.Remembered as plain
 use Rattle.stream.proofs.Delivery.{payload-held}
-use Rattle.stream.proofs.Streaming.{ignored, stream-read, opened-behind}
+use Rattle.stream.proofs.Streaming.{ignored, stream-read, opened-behind, none-opened}
 use Rattle.blocks.specs.Sender.{marker, wordBytes, framed, sentWords, sent}
 use Rattle.blocks.specs.Channel.{condition, Event, lost, frames, blocks, losses, freshChannel, hears, answers, IsWord, carried, wordsGive, FirstMarker}
 use Rattle.blocks.specs.declared.Condition.the-variants.{Clean as clean}
@@ -119,11 +121,23 @@ plain-stream stray n ps a recv room pieces cut =
     yields-so (plain-cut (stray ++ stream ps) recv room pieces cut) λ ts d e.
     e .0 ∙ ap (λ x. x .0) (ignored stray n (stream ps) ∙ ap (reads waiting) (sym (append-nil (stream ps))) ∙ stream-read ps a 0)
 
+-- ---- "hunting, it compares the last four bytes with the marker" (paper 01): where no marker stands no answer comes, and it hunts on
+pub hunting-silent : (bs : List ℕ) → ((xs ys : List ℕ) → bs ≡ xs ++ (marker ++ ys) → ⊥) → EveryCut bs λ es d. (es ≡ []) × (d .st .locked ≡ false)
+hunting-silent = blocks-law.hunting-silent
+
+-- "On a match it is locked: the next 255 bytes are a word" (paper 01): before they are all there no answer comes
+pub first-begun : (stray bs : List ℕ) → FirstMarker stray (marker ++ bs) → length bs < 255 → EveryCut (stray ++ (marker ++ bs)) λ es _. es ≡ []
+first-begun = blocks-law.first-begun
+
 -- ---- any words, each with the marker before it, behind stray bytes: in which order the answers come
 module _ (stray : List ℕ) (ws : List (List ℕ)) (some-word : ws ≢ []) (words : Each IsWord ws) (first : FirstMarker stray (framed ws)) where
   -- "Each whole word gives first a block answer, clean or damaged, then the answers of its 223 message bytes" (paper 01)
   pub words-in-order : EveryCut (stray ++ framed ws) λ es _. es ≡ wordsGive ws waiting
   words-in-order = blocks-law.words-given stray ws some-word words first
+
+  -- .. and one that is not whole, behind the marker before it, gives none yet
+  pub word-begun : (bs : List ℕ) → length bs < 255 → EveryCut ((stray ++ framed ws) ++ (marker ++ bs)) λ es _. es ≡ wordsGive ws waiting
+  word-begun = blocks-law.word-begun stray ws some-word words first
 
   -- "When all four are read and differ, it answers "lock lost"" (paper 01): not before ..
   pub lock-kept : (bs : List ℕ) → length bs < 4 → EveryCut ((stray ++ framed ws) ++ bs) λ es _. es ≡ wordsGive ws waiting
@@ -167,3 +181,7 @@ opened ps a xs ys e = opened-behind ps (all-clear ps a) xs ys e
     all-clear : (ps : List Packet) → Each Accepted ps → Each (λ (p : Packet). NoFlag (rawOf p)) ps
     all-clear [] a = tt
     all-clear (p ∷ ps) a = (clear p (a .0), all-clear ps (a .1))
+
+-- .. and from a flag behind the stream on, as those are that fill the last word, none is opened
+pub opened-fill : (ps : List Packet) (n : ℕ) → length (stream ps) ≤ n → openedFrom ps n ≡ []
+opened-fill = none-opened

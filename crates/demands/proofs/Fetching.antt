@@ -1,7 +1,8 @@
--- What is fetched behind a delivery is the packet's own bytes, whichever receiver delivers it.
--- packet-there                                 behind a frame in the receive buffer, and then the sender accepts the packet
--- plain-fetched, board-fetched, deck-fetched   behind a call: of the plain stream, of the channel, of a recording
--- sub-fetched                                  .. of a fixed sub-channel
+-- What is fetched behind a delivery is the packet's own bytes, and the sender accepts it, whichever receiver delivers it.
+-- packet-there                   behind a frame of bytes in the receive buffer
+-- plain-own, board-own           behind a call that leaves bytes there: of the plain stream, of the channel ..
+-- sub-own, deck-own              .. of a fixed sub-channel, of a recording
+-- plain-fetched, board-fetched, sub-fetched, deck-fetched   what is fetched alone
 use Prim.Native.Nat.{ℕ, suc, _≤_}
 use native.Mathlib.Omega.{arith}
 use mathlib.Core.Path.{_≡_, refl, sym, ap, _∙_, subst}
@@ -21,7 +22,6 @@ use Rattle.fcs.specs.Fcs.{fcs}
 use Rattle.frames.specs.Contents.{rawLimit, two, packed, withCheck, contents}
 use Rattle.frames.specs.Escape.{flag, plain, scan}
 use Rattle.frames.specs.Frame.{Told, packet, refusal, broken, Closed, delivery, kept, judgeContents, closedBy, closed, judge}
-use Rattle.frames.specs.Sender.{Accepted}
 use Rattle.frames.specs.declared.Escapes.{Escapes}
 use Rattle.frames.specs.declared.Escapes.the-variants.{Right, Unfinished, Wrong}
 use Rattle.frames.proofs.Judging.{closed-as}
@@ -29,7 +29,7 @@ use Rattle.frames.proofs.Only.{judge-only}
 use Rattle.stream.specs.Called.{Held, shut, takeBy, takeByte, sound as soundFrame, readBy, readCall}
 use Rattle.blocks.specs.declared.Hunting.{Hunting}
 use Rattle.blocks.specs.Sender.{wordBytes}
-use Rattle.blocks.specs.Channel.{Event, isMarker, shift}
+use Rattle.blocks.specs.Channel.{Event, said, block, lost, isMarker, shift}
 use Rattle.channel.specs.Called.{Board, heldIn, wordOn, compareOn, markOn, eatBy, eatByte, owed, asEvent, handOn, sound, roomy, hearBy, hearCall}
 use Rattle.channel.proofs.Cutting.{hand-one}
 use Rattle.matrices.specs.Running.{pull}
@@ -42,30 +42,25 @@ use Rattle.listed.specs.Apart.{inStream}
 use Rattle.tape.specs.Deck.{withHeld, eatBy as eatEar, earHand, earEat, Deck, deckOwes, deckHand, byteBy, deckEat}
 use Rattle.tape.specs.Called.{nearSpot, tapeBy, tapeCall}
 use Rattle.tape.proofs.Ears.{deck-hand-one}
-use Rattle.capture.specs.Export.{packedPart, Fetched}
-use Rattle.capture.proofs.There.{packed-there, export-there}
-use Rattle.demands.specs.Captures.{FetchedHeld, FetchedBoard, FetchedSub, FetchedDeck}
+use Rattle.capture.specs.Export.{packedPart}
+use Rattle.capture.proofs.There.{Own, packed-there, export-own, own-fetched}
+use Rattle.demands.specs.Captures.{FetchedEvent, FetchedHeld, FetchedBoard, FetchedSub, FetchedDeck}
 
 -- ---- a frame of m raw bytes
-abbrev pub Enters : Told → List ℕ → Type 0
-Enters (packet p) recv = (packedPart (delivery p) recv ≡ packed p) × Accepted p
-Enters (refusal n) recv = Unit {0}
-Enters (broken n) recv = Unit {0}
-
 judge-right : (raw : List ℕ) → length raw ≤ rawLimit → scan raw ≡ Right → judge raw ≡ judgeContents (plain raw)
 unfolding judge closedBy
 judge-right raw h e =
     let all : take (length raw) raw ≡ raw = take-all (length raw) raw (omega arith) in
     ap (λ (c : Closed). c .told) (closed-as raw (length raw) h Right (ap scan all ∙ e)) ∙ ap (λ (l : List ℕ). judgeContents (plain l)) all
 
-pub packet-there : (recv : List ℕ) (m : ℕ) → Bytes recv → Enters (closed recv m .told) (closed recv m .recv)
+pub packet-there : (recv : List ℕ) (m : ℕ) → Bytes recv → Own (closed recv m .told) (closed recv m .recv)
 unfolding closed closedBy contents withCheck
 packet-there recv m b = go (ltb rawLimit m) refl (scan raw) refl
   where
     raw : List ℕ
     raw = take m recv
 
-    told : m ≤ rawLimit → scan raw ≡ Right → (j : Told) → judgeContents (plain raw) ≡ j → Enters j (plain raw ++ drop (length (plain raw)) recv)
+    told : m ≤ rawLimit → scan raw ≡ Right → (j : Told) → judgeContents (plain raw) ≡ j → Own j (plain raw ++ drop (length (plain raw)) recv)
     told h f (refusal n) q = tt
     told h f (broken n) q = tt
     told h f (packet p) q =
@@ -76,145 +71,185 @@ packet-there recv m b = go (ltb rawLimit m) refl (scan raw) refl
         (ap (packedPart (delivery p)) s ∙ packed-there p (o .1) (two (fcs (packed p)) ++ r) .1, o .1)
 
     go : (t : Bool) → ltb rawLimit m ≡ t → (s : Escapes) → scan raw ≡ s
-        → Enters (pick t (kept 1 recv) (closedBy s raw recv) .told) (pick t (kept 1 recv) (closedBy s raw recv) .recv)
+        → Own (pick t (kept 1 recv) (closedBy s raw recv) .told) (pick t (kept 1 recv) (closedBy s raw recv) .recv)
     go true e s f = tt
     go false e Unfinished f = tt
     go false e (Wrong n) f = tt
     go false e Right f = told (ltb-false _ _ e) f (judgeContents (plain raw)) refl
 
+-- ---- of an answer and the buffer that comes with it
+abbrev pub OwnHeld : Told → Held → Type 0
+OwnHeld t h = Bytes (h .recv) → Own t (h .recv)
+
+abbrev OwnEvent : Event → List ℕ → Type 0
+OwnEvent (said t) recv = Bytes recv → Own t recv
+OwnEvent (block c) recv = Unit {0}
+OwnEvent lost recv = Unit {0}
+
+abbrev pub OwnBoard : Event → Board → Type 0
+OwnBoard e c = OwnEvent e (c .recv)
+
+abbrev pub OwnSub : Event → fixed.Board → Type 0
+OwnSub e c = OwnEvent e (c .recv)
+
+abbrev pub OwnDeck : Event → Deck → Type 0
+OwnDeck e m = OwnEvent e (m .ear .board .recv)
+
 -- ---- the plain stream
-shut-fetched : (z : Bool) (h : Held) → With FetchedHeld (shut z h .0) (shut z h .1)
-shut-fetched true h = tt
-shut-fetched false h = export-there (h .recv) (h .st .raw)
+shut-own : (z : Bool) (h : Held) → With OwnHeld (shut z h .0) (shut z h .1)
+shut-own true h = tt
+shut-own false h = export-own (h .recv) (h .st .raw)
 
-by-fetched : (t o : Bool) (h : Held) (b : ℕ) → With FetchedHeld (takeBy t o h b .0) (takeBy t o h b .1)
-by-fetched false false h b = tt
-by-fetched true false h b = tt
-by-fetched false true h b = tt
-by-fetched true true h b = shut-fetched (eqb (h .st .raw) 0) h
+by-own : (t o : Bool) (h : Held) (b : ℕ) → With OwnHeld (takeBy t o h b .0) (takeBy t o h b .1)
+by-own false false h b = tt
+by-own true false h b = tt
+by-own false true h b = tt
+by-own true true h b = shut-own (eqb (h .st .raw) 0) h
 
-byte-fetched : (h : Held) (b : ℕ) → With FetchedHeld (takeByte h b .0) (takeByte h b .1)
-byte-fetched h b = by-fetched (eqb b flag) (h .st .opened) h b
+byte-own : (h : Held) (b : ℕ) → With OwnHeld (takeByte h b .0) (takeByte h b .1)
+byte-own h b = by-own (eqb b flag) (h .st .opened) h b
 
-pub plain-fetched : (h : Held) (bs : List ℕ) → With FetchedHeld (readCall h bs .0) (readCall h bs .2)
-plain-fetched h bs = go (soundFrame (h .st)) (leb rawLimit (length (h .recv)))
+pub plain-own : (h : Held) (bs : List ℕ) → With OwnHeld (readCall h bs .0) (readCall h bs .2)
+plain-own h bs = go (soundFrame (h .st)) (leb rawLimit (length (h .recv)))
   where
-    go : (s r : Bool) → With FetchedHeld (readBy s r h bs .0) (readBy s r h bs .2)
-    go false r = tt
-    go true false = tt
-    go true true = with-hear owesNone handsNone takeByte none-owed FetchedHeld (λ g. tt) byte-fetched h bs
+    go : (s r : Bool) → With OwnHeld (readBy s r h bs .0) (readBy s r h bs .2)
+    go false r = λ b. tt
+    go true false = λ b. tt
+    go true true = with-hear owesNone handsNone takeByte none-owed OwnHeld (λ g. tt) byte-own h bs
 
 -- ---- the channel: the frame reader's answers are passed on with the buffer
-word-fetched : (t : Bool) (c : Board) (k : List ℕ) → With FetchedBoard (wordOn t c k .0) (wordOn t c k .1)
-word-fetched true c k = tt
-word-fetched false c k = tt
+word-own : (t : Bool) (c : Board) (k : List ℕ) → With OwnBoard (wordOn t c k .0) (wordOn t c k .1)
+word-own true c k = tt
+word-own false c k = tt
 
-compare-fetched : (t : Bool) (f : Hunting) (c : Board) → With FetchedBoard (compareOn t f c .0) (compareOn t f c .1)
-compare-fetched true f c = tt
-compare-fetched false f c = tt
+compare-own : (t : Bool) (f : Hunting) (c : Board) → With OwnBoard (compareOn t f c .0) (compareOn t f c .1)
+compare-own true f c = tt
+compare-own false f c = tt
 
-mark-fetched : (t : Bool) (f : Hunting) (c : Board) → With FetchedBoard (markOn t f c .0) (markOn t f c .1)
-mark-fetched true f c = tt
-mark-fetched false f c = compare-fetched (isMarker f) f c
+mark-own : (t : Bool) (f : Hunting) (c : Board) → With OwnBoard (markOn t f c .0) (markOn t f c .1)
+mark-own true f c = tt
+mark-own false f c = compare-own (isMarker f) f c
 
-eat-by : (l t : Bool) (c : Board) (b : ℕ) → With FetchedBoard (eatBy l t c b .0) (eatBy l t c b .1)
+eat-by : (l t : Bool) (c : Board) (b : ℕ) → With OwnBoard (eatBy l t c b .0) (eatBy l t c b .1)
 eat-by false t c b = tt
-eat-by true true c b = word-fetched (ltb (suc (c .st .lock .word)) wordBytes) c (set (c .word) (c .st .lock .word) b)
-eat-by true false c b = mark-fetched (ltb (suc (c .st .lock .marker)) 4) (shift (c .st .hunting) b) c
+eat-by true true c b = word-own (ltb (suc (c .st .lock .word)) wordBytes) c (set (c .word) (c .st .lock .word) b)
+eat-by true false c b = mark-own (ltb (suc (c .st .lock .marker)) 4) (shift (c .st .hunting) b) c
 
-eat-fetched : (c : Board) (b : ℕ) → With FetchedBoard (eatByte c b .0) (eatByte c b .1)
-eat-fetched c b = eat-by (c .st .locked) (ltb (c .st .lock .word) wordBytes) c b
+eat-own : (c : Board) (b : ℕ) → With OwnBoard (eatByte c b .0) (eatByte c b .1)
+eat-own c b = eat-by (c .st .locked) (ltb (c .st .lock .word) wordBytes) c b
 
-passed-on : (o : Option Told) (h : Held) (d : Board) → With FetchedHeld o h → d .recv ≡ h .recv → With FetchedBoard (asEvent o) d
+passed-on : (o : Option Told) (h : Held) (d : Board) → With OwnHeld o h → d .recv ≡ h .recv → With OwnBoard (asEvent o) d
 passed-on none h d w e = tt
-passed-on (some a) h d w e = subst (Fetched a) (sym e) w
+passed-on (some a) h d w e = subst (λ (l : List ℕ). Bytes l → Own a l) (sym e) w
 
-hand-fetched : (c : Board) → With FetchedBoard (handOn c .0) (handOn c .1)
-hand-fetched c =
+hand-own : (c : Board) → With OwnBoard (handOn c .0) (handOn c .1)
+hand-own c =
     let b = getD (c .word) (c .st .lock .handed) 0 in
-    passed-on (takeByte (heldIn c) b .0) (takeByte (heldIn c) b .1) (handOn c .1) (byte-fetched (heldIn c) b) refl
+    passed-on (takeByte (heldIn c) b .0) (takeByte (heldIn c) b .1) (handOn c .1) (byte-own (heldIn c) b) refl
 
-pub board-fetched : (c : Board) (bs : List ℕ) → With FetchedBoard (hearCall c bs .0) (hearCall c bs .2)
-board-fetched c bs = go (sound (c .st)) (roomy (c .recv) (c .word))
+pub board-own : (c : Board) (bs : List ℕ) → With OwnBoard (hearCall c bs .0) (hearCall c bs .2)
+board-own c bs = go (sound (c .st)) (roomy (c .recv) (c .word))
   where
-    go : (s r : Bool) → With FetchedBoard (hearBy s r c bs .0) (hearBy s r c bs .2)
-    go false r = tt
-    go true false = tt
-    go true true = with-hear owed handOn eatByte hand-one FetchedBoard hand-fetched eat-fetched c bs
+    go : (s r : Bool) → With OwnBoard (hearBy s r c bs .0) (hearBy s r c bs .2)
+    go false r = λ b. tt
+    go true false = λ b. tt
+    go true true = with-hear owed handOn eatByte hand-one OwnBoard hand-own eat-own c bs
 
 -- ---- a fixed sub-channel: a new byte delivers nothing, and the frame reader's answers are passed on
 module _ (c : fixed.Board) where
-  sub-word : (t : Bool) (s : Lane) (w : ℕ) (l : List ℕ) → With FetchedSub (fixed.wordOn t s w l .0) c
+  sub-word : (t : Bool) (s : Lane) (w : ℕ) (l : List ℕ) → With OwnSub (fixed.wordOn t s w l .0) c
   sub-word true s w l = tt
   sub-word false s w l = tt
 
-  sub-group : (o : Option ℕ) (s : Lane) (l : List ℕ) → With FetchedSub (fixed.groupOn o s l .0) c
+  sub-group : (o : Option ℕ) (s : Lane) (l : List ℕ) → With OwnSub (fixed.groupOn o s l .0) c
   sub-group none s l = tt
   sub-group (some y) s l = let w : ℕ = fixed.wordAt (s .counts .word) in sub-word (ltb (suc w) wordBytes) s w (set l w y)
 
-  sub-compare : (t : Bool) (f : Hunting) (s : Lane) → With FetchedSub (fixed.compareOn t f s .0) c
+  sub-compare : (t : Bool) (f : Hunting) (s : Lane) → With OwnSub (fixed.compareOn t f s .0) c
   sub-compare true f s = tt
   sub-compare false f s = tt
 
-  sub-mark : (t : Bool) (f : Hunting) (s : Lane) → With FetchedSub (fixed.markOn t f s .0) c
+  sub-mark : (t : Bool) (f : Hunting) (s : Lane) → With OwnSub (fixed.markOn t f s .0) c
   sub-mark true f s = tt
   sub-mark false f s = sub-compare (isMarker f) f s
 
-  sub-eat : (o l t : Bool) (s : Lane) (k : Back) (w : List ℕ) (b : ℕ) → With FetchedSub (fixed.eatBy o l t s k w b .0) c
+  sub-eat : (o l t : Bool) (s : Lane) (k : Back) (w : List ℕ) (b : ℕ) → With OwnSub (fixed.eatBy o l t s k w b .0) c
   sub-eat true l t s k w b = tt
   sub-eat false false t s k w b = tt
   sub-eat false true true s k w b = sub-group (pull (s .settings .depth) k b .0) s w
   sub-eat false true false s k w b = sub-mark (ltb (suc (s .counts .marker)) 4) (shift (s .hunting) b) s
 
-sub-passed : (o : Option Told) (h : Held) (d : fixed.Board) → With FetchedHeld o h → d .recv ≡ h .recv → With FetchedSub (asEvent o) d
+sub-passed : (o : Option Told) (h : Held) (d : fixed.Board) → With OwnHeld o h → d .recv ≡ h .recv → With OwnSub (asEvent o) d
 sub-passed none h d w e = tt
-sub-passed (some a) h d w e = subst (Fetched a) (sym e) w
+sub-passed (some a) h d w e = subst (λ (l : List ℕ). Bytes l → Own a l) (sym e) w
 
-sub-hand : (c : fixed.Board) → With FetchedSub (fixed.handOn c .0) (fixed.handOn c .1)
+sub-hand : (c : fixed.Board) → With OwnSub (fixed.handOn c .0) (fixed.handOn c .1)
 sub-hand c =
     let h : Held = fixed.heldIn c in
     let b : ℕ = getD (c .word) (c .st .lane .counts .handed) 0 in
-    sub-passed (takeByte h b .0) (takeByte h b .1) (fixed.handOn c .1) (byte-fetched h b) refl
+    sub-passed (takeByte h b .0) (takeByte h b .1) (fixed.handOn c .1) (byte-own h b) refl
 
-sub-byte : (c : fixed.Board) (b : ℕ) → With FetchedSub (fixed.eatByte c b .0) (fixed.eatByte c b .1)
+sub-byte : (c : fixed.Board) (b : ℕ) → With OwnSub (fixed.eatByte c b .0) (fixed.eatByte c b .1)
 sub-byte c b =
     let s : Lane = c .st .lane in
     sub-eat (fixed.eatByte c b .1) (s .lost) (s .locked) (ltb (s .counts .group) groupBytes) s (c .st .back) (c .word) b
 
-pub sub-fetched : (c : fixed.Board) (bs : List ℕ) → With FetchedSub (fixed.hearCall c bs .0) (fixed.hearCall c bs .2)
-sub-fetched c bs = go (fixed.sound (c .st)) (roomy (c .recv) (c .word))
+pub sub-own : (c : fixed.Board) (bs : List ℕ) → With OwnSub (fixed.hearCall c bs .0) (fixed.hearCall c bs .2)
+sub-own c bs = go (fixed.sound (c .st)) (roomy (c .recv) (c .word))
   where
-    go : (s r : Bool) → With FetchedSub (fixed.hearBy s r c bs .0) (fixed.hearBy s r c bs .2)
-    go false r = tt
-    go true false = tt
-    go true true = with-hear fixed.owed fixed.handOn fixed.eatByte cutting.hand-one FetchedSub sub-hand sub-byte c bs
+    go : (s r : Bool) → With OwnSub (fixed.hearBy s r c bs .0) (fixed.hearBy s r c bs .2)
+    go false r = λ b. tt
+    go true false = λ b. tt
+    go true true = with-hear fixed.owed fixed.handOn fixed.eatByte cutting.hand-one OwnSub sub-hand sub-byte c bs
 
 -- ---- a recording: the plain stream or the channel
-in-deck : (o : Option Event) (c : Board) (m : Deck) → m .ear .board ≡ c → With FetchedBoard o c → With FetchedDeck o m
+in-deck : (o : Option Event) (c : Board) (m : Deck) → m .ear .board ≡ c → With OwnBoard o c → With OwnDeck o m
 in-deck none c m e w = tt
-in-deck (some a) c m e w = subst (λ (x : Board). FetchedBoard a x) (sym e) w
+in-deck (some a) c m e w = subst (OwnBoard a) (sym e) w
 
-byte-by : (t : Bool) (m : Deck) (b : ℕ) → With FetchedBoard (eatEar t (m .ear .board) b .0) (eatEar t (m .ear .board) b .1 .board)
-byte-by true m b = eat-fetched (m .ear .board) b
+byte-by : (t : Bool) (m : Deck) (b : ℕ) → With OwnBoard (eatEar t (m .ear .board) b .0) (eatEar t (m .ear .board) b .1 .board)
+byte-by true m b = eat-own (m .ear .board) b
 byte-by false m b =
     let h = heldIn (m .ear .board) in
-    passed-on (takeByte h b .0) (takeByte h b .1) (withHeld (m .ear .board) (takeByte h b .1)) (byte-fetched h b) refl
+    passed-on (takeByte h b .0) (takeByte h b .1) (withHeld (m .ear .board) (takeByte h b .1)) (byte-own h b) refl
 
-deck-byte : (t : Bool) (m : Deck) (b : ℕ) → With FetchedDeck (byteBy t m b .0) (byteBy t m b .1)
+deck-byte : (t : Bool) (m : Deck) (b : ℕ) → With OwnDeck (byteBy t m b .0) (byteBy t m b .1)
 unfolding earEat
 deck-byte true m b = in-deck (eatEar (m .ear .channel) (m .ear .board) b .0) (eatEar (m .ear .channel) (m .ear .board) b .1 .board) (byteBy true m b .1) refl (byte-by (m .ear .channel) m b)
 deck-byte false m b = tt
 
-deck-hand : (m : Deck) → With FetchedDeck (deckHand m .0) (deckHand m .1)
+deck-hand : (m : Deck) → With OwnDeck (deckHand m .0) (deckHand m .1)
 unfolding earHand
-deck-hand m = in-deck (handOn (m .ear .board) .0) (handOn (m .ear .board) .1) (deckHand m .1) refl (hand-fetched (m .ear .board))
+deck-hand m = in-deck (handOn (m .ear .board) .0) (handOn (m .ear .board) .1) (deckHand m .1) refl (hand-own (m .ear .board))
+
+pub deck-own : (m : Deck) (bs : List ℕ) → With OwnDeck (tapeCall m bs .0) (tapeCall m bs .2)
+deck-own m bs = go (sound (m .ear .board .st)) (nearSpot (m .spot) (length bs)) (roomy (m .ear .board .recv) (m .ear .board .word))
+  where
+    go : (s n r : Bool) → With OwnDeck (tapeBy s n r m bs .0) (tapeBy s n r m bs .2)
+    go false n r = λ b. tt
+    go true false r = λ b. tt
+    go true true false = λ b. tt
+    go true true true =
+        with-hear deckOwes deckHand deckEat deck-hand-one OwnDeck deck-hand (λ d b. deck-byte (inStream (d .spot .place) (d .spot .count)) d b) m bs
+
+-- ---- what is fetched alone
+with-so : {S A : Type 0} (Q R : A → S → Type 0) (o : Option A) (s : S) → ((a : A) → Q a s → R a s) → With Q o s → With R o s
+with-so Q R none s f w = tt
+with-so Q R (some a) s f w = f a w
+
+event-fetched : (e : Event) (recv : List ℕ) → OwnEvent e recv → FetchedEvent e recv
+event-fetched (said t) recv w = own-fetched t recv w
+event-fetched (block c) recv w = tt
+event-fetched lost recv w = tt
+
+pub plain-fetched : (h : Held) (bs : List ℕ) → With FetchedHeld (readCall h bs .0) (readCall h bs .2)
+plain-fetched h bs = let x = readCall h bs in with-so OwnHeld FetchedHeld (x .0) (x .2) (λ t. own-fetched t (x .2 .recv)) (plain-own h bs)
+
+pub board-fetched : (c : Board) (bs : List ℕ) → With FetchedBoard (hearCall c bs .0) (hearCall c bs .2)
+board-fetched c bs = let x = hearCall c bs in with-so OwnBoard FetchedBoard (x .0) (x .2) (λ e. event-fetched e (x .2 .recv)) (board-own c bs)
+
+pub sub-fetched : (c : fixed.Board) (bs : List ℕ) → With FetchedSub (fixed.hearCall c bs .0) (fixed.hearCall c bs .2)
+sub-fetched c bs = let x = fixed.hearCall c bs in with-so OwnSub FetchedSub (x .0) (x .2) (λ e. event-fetched e (x .2 .recv)) (sub-own c bs)
 
 pub deck-fetched : (m : Deck) (bs : List ℕ) → With FetchedDeck (tapeCall m bs .0) (tapeCall m bs .2)
-deck-fetched m bs = go (sound (m .ear .board .st)) (nearSpot (m .spot) (length bs)) (roomy (m .ear .board .recv) (m .ear .board .word))
-  where
-    go : (s n r : Bool) → With FetchedDeck (tapeBy s n r m bs .0) (tapeBy s n r m bs .2)
-    go false n r = tt
-    go true false r = tt
-    go true true false = tt
-    go true true true =
-        with-hear deckOwes deckHand deckEat deck-hand-one FetchedDeck deck-hand (λ d b. deck-byte (inStream (d .spot .place) (d .spot .count)) d b) m bs
+deck-fetched m bs = let x = tapeCall m bs in with-so OwnDeck FetchedDeck (x .0) (x .2) (λ e. event-fetched e (x .2 .ear .board .recv)) (deck-own m bs)

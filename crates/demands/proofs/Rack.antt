@@ -5,6 +5,7 @@
 -- these are the landed definitions with each case told by its number.
 -- ..-refusals   the paper's table, row by row; ..-keeps, what a refused call leaves
 -- rack-read-numbers, rack-hear-numbers   the numbers that the receiving calls give; never-nine, of both
+-- rack-packet, rack-channel-packet   256 is told of a packet alone
 -- mends-as-promised   a repair's number and word are those of every answer that repair promises
 -- zeros-..      a state of zeros is a fresh one
 -- ..-back       a state handed back as it was received is the same state
@@ -22,7 +23,7 @@ use borrow.Author.Tests.{ne-eqb}
 use Rattle.base.specs.Bytes.{Bytes}
 use Rattle.base.specs.declared.Written.{Written}
 use Rattle.base.specs.declared.Written.the-variants as written
-use Rattle.frames.specs.Contents.{rawLimit}
+use Rattle.frames.specs.Contents.{rawLimit, Packet}
 use Rattle.frames.specs.Frame.{Told, packet, refusal, broken}
 use Rattle.parity.specs.Calls.{made, checked}
 use Rattle.parity.specs.declared.Checked.{Checked}
@@ -47,7 +48,7 @@ use Rattle.rack.specs.Told as told
 use Rattle.rack.specs.Calls.{readBy, reading, heardBy, hearing}
 use Rattle.demands.specs.Table.{Exact}
 use Rattle.demands.specs.Refusals.{FrameBeyond, Beyond as BeyondState, Short, OfFrame, OfCall, ByFrame}
-use Rattle.demands.specs.Rack.{ByWord, ByCalled, OfReading, OfHearing}
+use Rattle.demands.specs.Rack.{ByWord, ByCalled, OfReading, OfHearing, heldBy, boardBy}
 use Rattle.demands.proofs.Rows.{first-each}
 use Rattle.demands.proofs.Demand1.{make-refusals, make-keeps-out, check-refusals, repair-refusals, repair-keeps, read-refusals, read-keeps-all, hear-refusals, hear-keeps-all}
 use Rattle.demands.proofs.Demand1.{read-numbers, hear-numbers}
@@ -244,6 +245,36 @@ none-nine n (inr h) k = omega (arith, h .0, k)
 
 pub never-nine : (s recv word bs : List ℕ) → (reading s recv bs .0 ≢ 9) × (hearing s recv word bs .0 ≢ 9)
 never-nine s recv word bs = (no-nine _ (rack-read-numbers s recv bs), none-nine _ (rack-hear-numbers s recv word bs))
+
+-- 256 is no refusal's number: where it is told, the receiver has delivered a packet
+no-packet : (n : ℕ) → OfFrame n ⊎ OfCall n → n ≢ 256
+no-packet n (inl (inl h)) k = omega (arith, h .1, k)
+no-packet n (inl (inr e)) k = omega (arith, e, k)
+no-packet n (inr h) k = no-call n 256 h (sym k) (omega arith, omega arith)
+
+told-packet : (o : Option Told) → Numbered (λ t. o ≡ some t) → told.ofHeard (plain.answered o) .number ≡ 256 → (p : Packet) × (o ≡ some (packet p))
+told-packet none h k = absurd (omega (arith, k))
+told-packet (some (packet p)) h k = (p, refl)
+told-packet (some (refusal m)) h k = absurd (no-packet m (h (refusal m) m refl refl) k)
+told-packet (some (broken i)) h k = absurd (omega (arith, k))
+
+event-packet : (o : Option Event) → Numbered (λ t. o ≡ some (said t)) → told.ofAnswer (answered o) .number ≡ 256
+    → (p : Packet) × (o ≡ some (said (packet p)))
+event-packet none h k = absurd (omega (arith, k))
+event-packet (some (said (packet p))) h k = (p, refl)
+event-packet (some (said (refusal m))) h k = absurd (no-packet m (h (refusal m) m refl refl) k)
+event-packet (some (said (broken i))) h k = absurd (omega (arith, k))
+event-packet (some (block Clean)) h k = absurd (omega (arith, k))
+event-packet (some (block (Repaired i))) h k = absurd (omega (arith, k))
+event-packet (some (block Beyond)) h k = absurd (omega (arith, k))
+event-packet (some lost) h k = absurd (omega (arith, k))
+
+pub rack-packet : (s recv bs : List ℕ) → reading s recv bs .0 ≡ 256 → (p : Packet) × (plain.readCall (heldBy (s, recv)) bs .0 ≡ some (packet p))
+rack-packet s recv bs k = let h = heldBy (s, recv) in told-packet (plain.readCall h bs .0) (read-numbers h bs) k
+
+pub rack-channel-packet : (s recv word bs : List ℕ) → hearing s recv word bs .0 ≡ 256
+    → (p : Packet) × (hearCall (boardBy (s, recv, word)) bs .0 ≡ some (said (packet p)))
+rack-channel-packet s recv word bs k = let c = boardBy (s, recv, word) in event-packet (hearCall c bs .0) (hear-numbers c bs) k
 
 -- ---- states as numbers: zeros are fresh
 pub zeros-fresh : (told.frameOf (replicate 12 0) ≡ plain.fresh) × (told.receiverOf (replicate 21 0) ≡ freshReceiver)

@@ -1,8 +1,10 @@
--- The rack's calls one behind the other: what they yield is what the receivers' laws of cutting say (proofs/Demand3), by numbers.
+-- The rack's calls: what the receivers' laws of payloads and of cutting (proofs/Demand3) say of them, by numbers.
+-- rack-payload       where payload and key stand behind a call, on the plain stream
+-- rack-channel-payload   .. and on the channel
 -- runs               calls that follow others, answer by answer and state by state, yield what those yield
 -- rack-cut           every way of cutting, from a state of zeros, on the plain stream
 -- rack-channel-cut   .. and on the channel
-use Prim.Native.Nat.{ℕ, suc, _≤_}
+use Prim.Native.Nat.{ℕ, suc, _+_, _≤_}
 use native.Mathlib.Omega.{arith}
 use mathlib.Core.Path.{_≡_, refl, sym, ap, subst, _∙_}
 use mathlib.Core.Bool.{Bool, true, false}
@@ -11,18 +13,19 @@ use mathlib.Core.Logic._⊎_.{inl, inr}
 use mathlib.Core.List.{List, [], _∷_, _++_, map, map-append}
 use mathlib.Core.Option.{Option, some, none, Option·none-ne-some}
 use lib.Dec.{ltb}
-use lib.ListN.{length, set, replicate}
+use lib.ListN.{length, take, drop, set, replicate}
 use borrow.Author.Tests.{ne-eqb}
 use Rattle.base.specs.Bytes.{Each, IsByte, Bytes}
-use Rattle.base.specs.Calls.{joined, unless, oneMore, Reads, ReadsAll, Yields}
+use Rattle.base.specs.Calls.{joined, unless, oneMore, With, Reads, ReadsAll, Yields}
 use Rattle.base.specs.Calls.Reads.{more, answer}
 use Rattle.base.specs.Calls.ReadsAll.{done, piece}
+use Rattle.base.specs.Choice.{pick}
 use Rattle.base.proofs.Bytes.{each-append-left, each-append-right, each-drop}
 use Rattle.base.proofs.Calls.{hear-by, yields-so}
-use Rattle.frames.specs.Contents.{rawLimit}
-use Rattle.frames.specs.Frame.{Told, packet, refusal, broken}
+use Rattle.frames.specs.Contents.{rawLimit, Packet}
+use Rattle.frames.specs.Frame.{Told, packet, refusal, broken, part}
 use Rattle.stream.specs.Reader.{waiting, reads}
-use Rattle.stream.specs.Called.{Held, held, readCall, answered, heldOf, inUse}
+use Rattle.stream.specs.Called.{Held, held, readCall, answered, heldOf, inUse, ThereHeld}
 use Rattle.blocks.specs.Sender.{wordBytes}
 use Rattle.blocks.specs.declared.Hunting.{Hunting}
 use Rattle.blocks.specs.Channel.{Event, said, block, lost, shift, isMarker, freshChannel, hears, answers}
@@ -31,11 +34,11 @@ use Rattle.channel.specs.Called as channel
 use Rattle.channel.specs.Called.{Board, board, huntOn, wordOn, compareOn, markOn, eatBy, eatByte, owed, handOn, hearOn, hearBy, hearCall, boardOf}
 use Rattle.channel.proofs.Cutting.{hand-one}
 use Rattle.rack.specs.Told.{ofAnswer, receiverOf, channelNumbers}
-use Rattle.rack.specs.Calls.{readBy, heardBy}
+use Rattle.rack.specs.Calls.{readBy, reading, heardBy, hearing}
 use Rattle.demands.specs.Refusals.{OfFrame, OfCall, ByFrame}
-use Rattle.demands.specs.Rack.{calledBy, readCalled, toldAs, heldBy, channelBy, heardCalled, eventAs, boardBy}
+use Rattle.demands.specs.Rack.{StandsBy, calledBy, readCalled, toldAs, heldBy, channelBy, heardCalled, eventAs, boardBy}
 use Rattle.demands.proofs.Demand1.{read-numbers, read-keeps-all, hear-numbers, hear-keeps-all}
-use Rattle.demands.proofs.Demand3.{plain-cut, every-cut}
+use Rattle.demands.proofs.Demand3.{plain-cut, plain-payload, every-cut, every-payload}
 use Rattle.demands.proofs.Rack.{stream-back, channel-back}
 
 -- an answer in other words
@@ -112,6 +115,32 @@ module _ {S T A B : Type 0} (f : T → S) (g : A → B) (call : S → List ℕ �
         ends = (map g (e .0), j .0, j .2);
         always = λ ys v r. let b = back-all q r in (b .0, b .1, y .always (b .0) (f v) (b .2));
       }
+
+-- ---- behind a call that tells of a packet (256: `rack-packet`, `rack-channel-packet`) payload and key stand in the receive buffer where its numbers
+-- say, on the plain stream ..
+part-is : (at : ℕ) (bs recv : List ℕ) → part at (length bs) recv ≡ bs → take (length bs) (drop at recv) ≡ bs
+part-is at bs recv = go (ltb (length recv) (at + length bs))
+  where
+    go : (t : Bool) → pick t [] (take (length bs) (drop at recv)) ≡ bs → take (length bs) (drop at recv) ≡ bs
+    go true e = subst (λ (l : List ℕ). take (length l) (drop at recv) ≡ l) e refl
+    go false e = e
+
+pub rack-payload : (s recv bs : List ℕ) (p : Packet) → readCall (heldBy (s, recv)) bs .0 ≡ some (packet p)
+    → let x = reading s recv bs in StandsBy p (x .1) (x .2)
+rack-payload s recv bs p e =
+    let q = readCall (heldBy (s, recv)) bs in
+    let t = subst (λ (o : Option Told). With ThereHeld o (q .2)) e (plain-payload (heldBy (s, recv)) bs) in
+    subst (λ (o : Option Told). let x = readBy s (o, q .1, q .2) in StandsBy p (x .1) (x .2)) (sym e)
+    (part-is _ _ (q .2 .recv) (t .0), part-is _ _ (q .2 .recv) (t .1))
+
+-- .. and on the channel
+pub rack-channel-payload : (s recv word bs : List ℕ) (p : Packet) → hearCall (boardBy (s, recv, word)) bs .0 ≡ some (said (packet p))
+    → let x = hearing s recv word bs in StandsBy p (x .1) (x .2)
+rack-channel-payload s recv word bs p e =
+    let q = hearCall (boardBy (s, recv, word)) bs in
+    let t = subst (λ (o : Option Event). With channel.ThereEvent o (q .2)) e (every-payload (boardBy (s, recv, word)) bs) in
+    subst (λ (o : Option Event). let x = heardBy s (o, q .1, q .2) in StandsBy p (x .1) (x .2)) (sym e)
+    (part-is _ _ (q .2 .recv) (t .0), part-is _ _ (q .2 .recv) (t .1))
 
 -- ---- on the plain stream one call of the rack follows the receiver's
 module _ (s recv : List ℕ) where

@@ -2,6 +2,7 @@
 -- ByWord     that a call on a word refuses by a number
 -- ByCalled   that a receiving call does
 -- OfReading, OfHearing   the numbers that the two receiving calls give
+-- StandsBy   that a packet's payload and key stand where the numbers say
 -- readCalled, toldAs, heldBy   calls on the plain stream one behind the other, by numbers
 -- heardCalled, eventAs, boardBy   .. on the channel
 use Prim.Native.Nat.{ℕ, _≤_, _<_}
@@ -12,6 +13,7 @@ use mathlib.Core.Option.{Option, some, none}
 use lib.Dec.{eqb}
 use lib.ListN.{take, drop, getD}
 use Rattle.base.specs.Choice.{pick}
+use Rattle.frames.specs.Contents.{Packet}
 use Rattle.frames.specs.Frame.{Told, judged}
 use Rattle.stream.specs.Called.{Held, held}
 use Rattle.blocks.specs.Channel.{Event}
@@ -35,6 +37,11 @@ OfReading n = (n ≡ 0) ⊎ (n ≡ 256) ⊎ OfFrame n ⊎ OfCall n
 -- .. on the channel: also lock lost, and blocks
 abbrev pub OfHearing : ℕ → Type 0
 OfHearing n = OfReading n ⊎ ((257 ≤ n) × (n ≤ 260))
+
+-- in the receive buffer, by the state's numbers: as many bytes as number 6 says, from the place of number 7 on, are the payload; as many as
+-- number 3 says, from 3 on, are the key
+abbrev pub StandsBy : Packet → List ℕ → List ℕ → Type 0
+StandsBy p state recv = (take (getD state 6 0) (drop (getD state 7 0) recv) ≡ p .payload) × (take (getD state 3 0) (drop 3 recv) ≡ p .key)
 
 -- ---- calls one behind the other, as C makes them on the plain stream
 -- what is told beside a number: format, key number, key length, port, sequence, payload length, place; a refused call tells nothing

@@ -11,16 +11,13 @@ use mathlib.Core.Option.{Option, some, none}
 use Rattle.base.specs.Calls.{With}
 use Rattle.base.proofs.Calls.{with-hear}
 use Rattle.base.proofs.Above.{hear-seen, all-seen}
-use Rattle.frames.specs.Frame.{Told}
-use Rattle.stream.specs.Called.{takeByte}
-use Rattle.stream.proofs.Delivery.{ThereIf, there-byte}
 use Rattle.blocks.specs.Channel.{Event}
-use Rattle.channel.specs.Called.{Board, heldIn, owed, handOn, eatByte, asEvent, hearOn, hearAll, ThereEvent}
+use Rattle.channel.specs.Called.{Board, owed, handOn, eatByte, hearOn, hearAll, ThereEvent}
 use Rattle.channel.proofs.Cutting.{hand-one}
 use Rattle.channel.proofs.Delivery.{hand-there, eat-there}
-use Rattle.listed.specs.Apart.{inStream}
-use Rattle.tape.specs.Deck.{withHeld, eatBy as eatEar, earHand, earEat, Deck, deckOwes, deckHand, byteBy, deckEat, deckAll, deckHear}
+use Rattle.tape.specs.Deck.{Deck, deckOwes, deckHand, deckEat, deckAll, deckHear}
 use Rattle.tape.proofs.Ears.{deck-hand-one}
+use Rattle.tape.proofs.Delivery.{deck-hand-there, deck-eat-there}
 use Rattle.readout.specs.Source.{Source, source, boardIn, withBoard, owesBy, handBy, eatBy, sourceOwes, sourceHand, sourceEat, sourceAll, sourceHear}
 
 one-by : (b : Bool) (m : Deck) (n : ℕ) → owesBy b m ≡ suc n → sourceOwes (handBy b m .1) ≡ n
@@ -64,31 +61,17 @@ all-taped =
 abbrev pub ThereIn : Event → Source → Type 0
 ThereIn e s = ThereEvent e (boardIn (s .deck))
 
-plain-there : (o : Option Told) (d : Board) → ThereIf o (d .recv) → With ThereEvent (asEvent o) d
-plain-there none d t = tt
-plain-there (some a) d t = t
-
 with-source : (o : Option Event) (s : Source) → With ThereEvent o (boardIn (s .deck)) → With ThereIn o s
 with-source none s t = tt
 with-source (some e) s t = t
 
-ear-there : (t : Bool) (c : Board) (b : ℕ) → With ThereEvent (eatEar t c b .0) (eatEar t c b .1 .board)
-ear-there true c b = eat-there c b
-ear-there false c b = plain-there (takeByte (heldIn c) b .0) (withHeld c (takeByte (heldIn c) b .1)) (there-byte (heldIn c) b)
-
-byte-there : (t : Bool) (m : Deck) (b : ℕ) → With ThereEvent (byteBy t m b .0) (boardIn (byteBy t m b .1))
-unfolding earEat
-byte-there true m b = ear-there (m .ear .channel) (boardIn m) b
-byte-there false m b = tt
-
 hand-by : (b : Bool) (m : Deck) → With ThereIn (handBy b m .0) (handBy b m .1)
-unfolding earHand
 hand-by true m = with-source (handOn (boardIn m) .0) (handBy true m .1) (hand-there (boardIn m))
-hand-by false m = with-source (handOn (boardIn m) .0) (handBy false m .1) (hand-there (boardIn m))
+hand-by false m = with-source (deckHand m .0) (handBy false m .1) (deck-hand-there m)
 
 eat-by : (t : Bool) (m : Deck) (b : ℕ) → With ThereIn (eatBy t m b .0) (eatBy t m b .1)
 eat-by true m b = with-source (eatByte (boardIn m) b .0) (eatBy true m b .1) (eat-there (boardIn m) b)
-eat-by false m b = with-source (deckEat m b .0) (eatBy false m b .1) (byte-there (inStream (m .spot .place) (m .spot .count)) m b)
+eat-by false m b = with-source (deckEat m b .0) (eatBy false m b .1) (deck-eat-there m b)
 
 pub source-there : (s : Source) (bs : List ℕ) → With ThereIn (sourceHear s bs .0) (sourceHear s bs .2)
 unfolding sourceHand sourceEat

@@ -1,10 +1,12 @@
 -- Laws of the reader without a limit.
 -- opened-last, opened-behind   the packets opened from a flag on are the last of the stream, and what stands behind the flag
+-- none-opened                  from a place behind the stream on none is opened
 -- synchronised                 behind a flag the state is the same, whatever came before
 -- ignored                      bytes before the first flag are ignored
+-- unclosed, between-flags      bytes behind a flag that no flag follows are kept, and what stands between two flags is told at the second
 -- stream-read                  a whole stream, filled with flags, gives its packets, once each, in order, and nothing else
 -- from-flag                    and so does its rest from any flag on
-use Prim.Native.Nat.{ℕ, zero, suc, _+_, _-_}
+use Prim.Native.Nat.{ℕ, zero, suc, _+_, _-_, _≤_}
 use native.Mathlib.Omega.{arith}
 use mathlib.Core.Path.{_≡_, refl, sym, _∙_, ap}
 use mathlib.Core.Logic.{_≢_}
@@ -51,6 +53,12 @@ opened-behind (p ∷ ps) h (x ∷ xs) ys e =
     let n : length xs - length (rawOf p) ≡ length (s .0) = omega (arith, ap length (s .1) ∙ length-append (rawOf p) (s .0)) in
     opened-behind ps (h .1) (s .0) ys (s .2) ∙ ap (λ m. framesOf (openedFrom ps m)) (sym n)
 
+-- a flag behind the stream, as fill is, opens none
+pub none-opened : (ps : List Packet) (n : ℕ) → length (stream ps) ≤ n → openedFrom ps n ≡ []
+none-opened [] n h = refl
+none-opened (p ∷ ps) zero h = absurd (omega (arith, h))
+none-opened (p ∷ ps) (suc n) h = none-opened ps (n - length (rawOf p)) (omega (arith, h, length-append (rawOf p) (flag ∷ framesOf ps)))
+
 pub synchronised : (s : Reading) (bs : List ℕ) → reads s (bs ++ flag ∷ []) .1 ≡ inside []
 synchronised s bs = ap (λ r. r .1) (run-append read s bs (flag ∷ [])) ∙ go (reads s bs .1)
   where
@@ -68,6 +76,13 @@ pub ignored : (bs : List ℕ) → NoFlag bs → (cs : List ℕ) → reads waitin
 ignored [] h cs = refl
 ignored (b ∷ bs) h cs = rw (ne-eqb b flag (h .0)) (ignored bs (h .1) cs)
 
+pub unclosed : (rs : List ℕ) → NoFlag rs → reads (inside []) rs ≡ ([], inside rs)
+unclosed rs h = ap (reads (inside [])) (sym (append-nil rs)) ∙ kept rs h [] []
+
+-- whatever stands between two flags
+pub between-flags : (rs : List ℕ) → NoFlag rs → (cs : List ℕ) → reads (inside []) (rs ++ flag ∷ cs) ≡ tell (closing rs) (reads (inside []) cs)
+between-flags rs h cs = kept rs h [] (flag ∷ cs)
+
 -- fill: flags alone give no answer
 flags : (k : ℕ) → reads (inside []) (replicate k flag) ≡ ([], inside [])
 flags zero = refl
@@ -80,7 +95,7 @@ closing-some (r ∷ rs) h = refl
 -- ---- packets that the sender takes
 one-frame : (p : Packet) → Accepted p → (cs : List ℕ) → reads (inside []) (rawOf p ++ flag ∷ cs) ≡ tell (some (delivered p)) (reads (inside []) cs)
 one-frame p a cs =
-    kept (rawOf p) (clear p a) [] (flag ∷ cs)
+    between-flags (rawOf p) (clear p a) cs
     ∙ ap (λ o. tell o (reads (inside []) cs)) (closing-some (rawOf p) (some-raw p a) ∙ ap some (judged-is p a))
 
 pub behind-read : (ps : List Packet) → Each Accepted ps → (k : ℕ) → reads (inside []) (framesOf ps ++ replicate k flag) ≡ (map delivered ps, inside [])

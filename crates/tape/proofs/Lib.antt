@@ -1,4 +1,5 @@
 pub mod Ears
+pub mod Delivery
 pub mod Spots
 pub mod Run
 pub mod Turn

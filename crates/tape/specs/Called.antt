@@ -5,6 +5,7 @@
 -- isMore               that an answer is "more wanted"
 -- tapeCall, NextIs     one call, and that the code's results are those
 -- EveryCut             a recording, cut in every way
+-- ThereDeck            that a delivered payload stands in the receive buffer
 use Prim.Native.Nat.{ℕ, _-_, _≤_}
 use mathlib.Core.Path.{_≡_}
 use mathlib.Core.Bool.{Bool, true, false}
@@ -17,7 +18,7 @@ use Rattle.frames.specs.Contents.{rawLimit}
 use Rattle.frames.specs.Frame.{refusal}
 use Rattle.blocks.specs.Sender.{wordBytes}
 use Rattle.blocks.specs.Channel.{Event, said}
-use Rattle.channel.specs.Called.{board, sound, roomy, freshReceiver, answered}
+use Rattle.channel.specs.Called.{board, sound, roomy, freshReceiver, ThereEvent, answered}
 use Rattle.channel.specs.declared.answer.Answer.{Answer}
 use Rattle.channel.specs.declared.answer.Answer.the-variants.{More, Said, Block, LockLost}
 use Rattle.listed.specs.declared.Spot.{Spot}
@@ -79,3 +80,7 @@ abbrev pub EveryCut : List ℕ → (List Event → Deck → Type 0) → Type 0
 EveryCut file P =
     (recv word : List ℕ) → rawLimit ≤ length recv → wordBytes ≤ length word →
     (pieces : List (List ℕ)) → joined pieces ≡ file → Yields tapeCall (fresh recv word) pieces P
+
+-- a delivered payload stands in the receive buffer that comes back
+abbrev pub ThereDeck : Event → Deck → Type 0
+ThereDeck e m = ThereEvent e (m .ear .board)
