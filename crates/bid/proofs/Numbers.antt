@@ -1,5 +1,6 @@
 -- Inputs of the office, computed.
--- table   inputs, the stream of what is sent, and the complaints
+-- table          inputs, the stream of what is sent, and the complaints
+-- highest-line   the number of the last line that has one of its own, and of those behind it
 use Prim.Native.Nat.{ℕ}
 use mathlib.Core.Path.{_≡_, refl}
 use mathlib.Core.List.{List, [], _∷_, map}
@@ -9,7 +10,7 @@ use Rattle.frames.specs.Contents.{contents, withCheck}
 use Rattle.stream.specs.Sender.{stream}
 use Rattle.base.specs.UpTo.{upTo}
 use Rattle.bid.specs.Line.{digits, value, numberFrom, number, judged, verdict}
-use Rattle.bid.specs.Input.{linesFrom, packets, packetsOf, complaintsFrom, complaints}
+use Rattle.bid.specs.Input.{linesFrom, packets, packetsOf, numbered, complaintsFrom, complaints}
 
 -- an input, the stream of what is sent, the complaints
 abbrev rows : List (List ℕ × List ℕ × List (ℕ × ℕ))
@@ -124,3 +125,7 @@ gives = map (λ r. (r .0, stream (packetsOf (r .0)), complaints (r .0))) rows
 pub table : gives ≡ rows
 unfolding fcs register entered escape escapeByte contents withCheck upTo digits value numberFrom number judged verdict linesFrom packets complaintsFrom
 table = refl
+
+-- lines are numbered from 1 to 2^64 - 1, and every line behind that one has its number
+pub highest-line : map numbered (0 ∷ 18446744073709551614 ∷ 18446744073709551615 ∷ []) ≡ 1 ∷ 18446744073709551615 ∷ 18446744073709551615 ∷ []
+highest-line = refl

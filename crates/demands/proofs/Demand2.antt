@@ -26,23 +26,27 @@
 -- recorded-by-calls, next-payload                       a recording's answers by calls, where it ends, and where a payload stands
 -- listed-by-calls, listed-at-last, finished-at-last     the listing by calls
 -- line-number, close-number                             the number of a line that the office tells of
+-- bytes-behind, mark-is, make-is                        what a call that writes leaves in the output; a block's, and parity's
 use Prim.Native.Nat.{ℕ, suc, _+_, _-_, _*_, _%_, _≤_, _<_}
 use native.Mathlib.Omega.{arith}
 use mathlib.Core.Path.{_≡_, refl, sym, _∙_, ap}
 use mathlib.Core.Bool.{Bool, true, false}
 use mathlib.Core.Logic.{_↔_, _≢_}
 use mathlib.Core.List.{List, [], _∷_, _++_, map, append-nil}
+use lib.Dec.{eqb}
 use lib.ListN.{length, take, drop, getD, replicate}
-use borrow.Author.Tests.{ne-eqb, lt-ltb, le-ltb}
+use borrow.Author.Tests.{eq-eqb, ne-eqb, lt-ltb, le-ltb}
 use Rattle.base.specs.Bytes.{Each, Bytes}
 use Rattle.base.specs.Calls.{joined, tell, With}
-use Rattle.base.specs.Written.{write}
-use Rattle.base.proofs.Writing.{write-is}
-use Rattle.base.specs.declared.Written.the-variants.{Wrote}
+use Rattle.base.specs.Written.{Outcome, refused, write}
+use Rattle.base.proofs.Writing.{write-is, write-short, room-wrote}
+use Rattle.base.proofs.Tests.{by-le}
+use Rattle.base.specs.declared.Written.the-variants.{Wrote, Refused}
 use Rattle.words.specs.Word.{clean, remainder, Zero}
 use Rattle.repair.specs.declared.Mended.{Mended}
 use Rattle.repair.specs.Promise.{Promised}
 use Rattle.words.proofs.Clean.{clean-roots, roots-clean, parity-clean, clean-is}
+use Rattle.parity.specs.Calls.{made}
 use Rattle.frames.specs.Escape.{flag, plain, last, BrokenAt, NoFlag}
 use Rattle.frames.specs.Port.{class}
 use Rattle.frames.specs.declared.Class.the-variants.{Barred}
@@ -55,7 +59,7 @@ use Rattle.stream.specs.Reader.{waiting, inside, closing, reads}
 use Rattle.stream.specs.Sender.{rawOf, stream, delivered, appending}
 use Rattle.stream.proofs.Streaming.{ignored, unclosed, between-flags as flag-to-flag, stream-read}
 use Rattle.stream.proofs.Sending.{begin-stream, append-stream}
-use Rattle.blocks.specs.Sender.{parityBytes, wordOf, fillers, filled, messagesOf, sending, sent}
+use Rattle.blocks.specs.Sender.{marker, parityBytes, wordOf, fillers, filled, messagesOf, marking, sending, sent}
 use Rattle.blocks.specs.Channel.{conditionBy, condition, mend, carried, IsWord, Event, frames, blocks, losses, asMended}
 use Rattle.blocks.proofs.Streaming as streaming
 use Rattle.blocks.proofs.Words.{block-promised, block-determined}
@@ -321,3 +325,24 @@ line-number = office-line-number
 -- .. and at the end of the input
 pub close-number : (room : ℕ) (d : Desk) → With (λ (x : Said) (e : Desk). x .0 ≡ e .st .lines) (closeCall room d .0) (closeCall room d .2)
 close-number = office-close-number
+
+-- ---- calls that write: "output shorter than the result; bytes behind the result stay". Where n bytes are written they are the result, and what stood
+-- behind them stays ..
+pub bytes-behind : (bs out : List ℕ) (n : ℕ) → write bs out .answer ≡ Wrote n → (n ≡ length bs) × (write bs out .output ≡ bs ++ drop (length bs) out)
+bytes-behind bs out n = by-le (length bs) (length out) (λ h e. room-wrote bs out h refl e) λ h e. absurd (short h e)
+  where
+    short : length out < length bs → write bs out .answer ≡ Wrote n → ⊥
+    short h e =
+        let k : Refused 23 ≡ Wrote n = sym (ap (λ (o : Outcome). o .answer) (write-short bs out h)) ∙ e in
+        let z : _≡_ {A = ℕ} 0 1 = cc in
+        omega arith
+
+-- .. of a block, "one operation that turns 223 bytes into 259" (request W6): marker, message, parity ..
+pub mark-is : (m out : List ℕ) → length m ≡ 223 → marking m out ≡ write (0x7D ∷ 0x3A ∷ 0xE2 ∷ 0x42 ∷ (m ++ remainder 32 m)) out
+mark-is m out e = ap (λ (t : Bool). pick t (write (marker ++ wordOf m) out) (refused 31 out)) (eq-eqb (length m) 223 e)
+
+-- .. and of parity alone, for every R
+pub make-is : (r : ℕ) (m out : List ℕ) → r ≤ 64 → length m ≡ 255 - r → made r m out ≡ write (remainder r m) out
+make-is r m out h e =
+    ap (λ (t : Bool). pick t (refused 30 out) (pick (eqb (length m) (255 - r)) (write (remainder r m) out) (refused 31 out))) (le-ltb 64 r h)
+    ∙ ap (λ (t : Bool). pick t (write (remainder r m) out) (refused 31 out)) (eq-eqb (length m) (255 - r) e)

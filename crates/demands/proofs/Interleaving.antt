@@ -6,6 +6,7 @@
 -- closing-zeros, there-and-back                   .. behind the closing push
 -- push-cut, pull-cut, push-goes, pull-goes        pieces, by the calls of either side
 -- pieces-late, pieces-back                        .. and by both
+-- push-is, closing-is, pull-is                    what each call writes, and the bytes behind it
 use Prim.Native.Nat.{ℕ, _+_, _-_, _*_, _/_, _%_, _≤_, _<_}
 use native.Mathlib.Omega.{arith}
 use mathlib.Core.Path.{_≡_, refl, ap, _∙_}
@@ -16,7 +17,7 @@ use lib.ListN.{length, take, getD, replicate, length-replicate}
 use borrow.Author.Tests.{lt-ltb, le-ltb}
 use Rattle.base.specs.Calls.{joined, run}
 use Rattle.base.specs.Choice.{pick}
-use Rattle.base.specs.Written.{outcome}
+use Rattle.base.specs.Written.{outcome, write}
 use Rattle.base.specs.declared.Written.the-variants.{Wrote}
 use Rattle.matrices.specs.Places.{cell}
 use Rattle.matrices.specs.Running.{fresh, sent, push, freshBack, gave, pull, beyond, pushing, closingBytes, zeros, closing, pulling}
@@ -29,6 +30,7 @@ use Rattle.matrices.proofs.Pushing.{sent-place}
 use Rattle.matrices.proofs.Numbers.{first-outputs}
 use Rattle.matrices.proofs.Round.{output-told, returned-told, returned-length, delayed, there-and-back as round}
 use Rattle.matrices.proofs.Cutting as cutting
+use Rattle.demands.proofs.Rows.{calling-is}
 
 -- ---- the equations: "column 53i mod 255 and row (i - 254·INT(i/255)) mod D", cells numbered row by row ..
 pub cell-is : (d i : ℕ) → cell d i ≡ (i - 254 * (i / 255)) % d * 255 + 53 * i % 255
@@ -108,3 +110,18 @@ pub pieces-back : (d : ℕ) → d ≤ 64 → (ps rs : List (List ℕ)) {xs ys : 
     → (n : ℕ) (out after : List ℕ) (l : Matrix) → closing d m out ≡ (outcome (Wrote n) after, l) → joined rs ≡ xs ++ take n after
     → Goes (pulling d) freshBack rs ys k → ys ≡ joined ps
 pieces-back = cutting.returned-all
+
+-- ---- "output shorter than the result; bytes behind the result stay" (paper 01): a call that is not refused writes its result at the start of the
+-- output (`write` (crates/base/specs/Written.antt)), the sender's ..
+pub push-is : (d : ℕ) (m : Matrix) (bs out : List ℕ) (n : ℕ) → pushing d m bs out .0 .answer ≡ Wrote n
+    → pushing d m bs out .0 ≡ write (run (push d) m bs .0) out
+push-is d m bs out n = calling-is d (m .place) m (run (push d) m bs) out n
+
+-- .. its closing push ..
+pub closing-is : (d : ℕ) (m : Matrix) (out : List ℕ) (n : ℕ) → closing d m out .0 .answer ≡ Wrote n → closing d m out .0 ≡ write (run (push d) m (zeros d) .0) out
+closing-is d m out n = push-is d m (zeros d) out n
+
+-- .. and the receiving side's
+pub pull-is : (d : ℕ) (k : Back) (bs out : List ℕ) (n : ℕ) → pulling d k bs out .0 .answer ≡ Wrote n
+    → pulling d k bs out .0 ≡ write (run (pull d) k bs .0) out
+pull-is d k bs out n = calling-is d (k .matrix .place) k (run (pull d) k bs) out n

@@ -4,7 +4,7 @@
 -- CRATE-FUNCTION-means   of each public function of each library crate; `cases` and `deliveries`, parts of the comparison programs, promise nothing
 -- judged-is, ..          what the code's answers are, case by case
 use Prim.Native.Nat.{ℕ, _+_, _-_, _≤_, min}
-use mathlib.Core.Path.{_≡_, refl}
+use mathlib.Core.Path.{_≡_, refl, ap}
 use mathlib.Core.Option.{some, none}
 use mathlib.Core.Bool.{true, false, not, _&&_}
 use mathlib.Core.List.{List, [], _∷_, _++_}
@@ -53,6 +53,7 @@ use Rattle.capture.specs.declared.reader.Capture.the-variants.{Header}
 use Rattle.multiplex.specs.Unit as units
 use Rattle.multiplex.specs.Reading as unit-reading
 use Rattle.readout.specs.Called as readout
+use Rattle.readout.specs.declared.readout.Readout.{Readout}
 use Rattle.recording.specs.Printed as recording
 use Rattle.bid.specs.Line.{reading}
 use Rattle.office.specs.Desk.{desk, blocks, unread, refusal as denied}
@@ -63,7 +64,7 @@ use Rattle.office.specs.Called as office
 use Rattle.lines.specs.Noted.{notedLine}
 use Rattle.lines.specs.Piece.{pieceOf}
 use Rattle.shown.specs.Text.{shownByte}
-use Rattle.shown.specs.Board.{wrongAt, written, writtenAll}
+use Rattle.shown.specs.Board.{wrongAt, written, writtenAll, ending}
 use Rattle.shown.specs.Parts.{lead, remark}
 use Rattle.sequences.specs.declared.Entry.{Entry}
 use Rattle.sequences.specs.declared.Noted.{Noted}
@@ -71,8 +72,10 @@ use Rattle.sequences.specs.declared.Forgot.{Forgot}
 use Rattle.sequences.specs.Distance.{ruled}
 use Rattle.sequences.specs.Ports.{unfit, noting, forgetting}
 use Rattle.lines.specs.Row.{rowLine}
+use Rattle.sheets.specs.Month.{counts, wrong, refuses}
 use Rattle.sheets.specs.Rows.{paddedTo}
-use Rattle.sheet.specs.Called.{beginning, noting as counted, closing as settling, printing}
+use Rattle.sheet.specs.Called.{beginning, noting as counted, closing as settling, answerOf, printing}
+use Rattle.sheet.specs.declared.Counted.the-variants as sheet-answer
 use Rattle.rack.specs.Words.{making, checking, mending}
 use Rattle.rack.specs.Calls as rack
 use Rattle.demands.specs.Means.{Means, MeansByHand}
@@ -569,6 +572,11 @@ pub readout-finish-means : Means readout-finish.Statement.statement readout-fini
     λ κs self r. r ≡ pieceOf (writtenAll (readout.lastLines self))
 readout-finish-means = (λ M. readout-finish.Met.met, λ κs a. tt, λ κs a z ws. (λ p. p, λ p. p))
 
+-- what is still to be said behind the last byte: of bare bytes nothing, they end anywhere; of a recording that it is wrong, where it is
+pub readout-last-is : (r : Readout)
+    → (r .bare ≡ true → readout.lastLines r ≡ []) × (r .bare ≡ false → readout.lastLines r ≡ ending (r .tape .spot))
+readout-last-is r = (λ e. ap (λ t. readout.lastBy t (r .tape .spot)) e, λ e. ap (λ t. readout.lastBy t (r .tape .spot)) e)
+
 -- ---- its lines
 pub lines-print-means : Means lines-print.Statement.statement lines-print.Kinds.ps lines-print.Kinds.r lines-print.Reads.Asked lines-print.Reads.Learnt
     λ κs answer out w. outcome w (now (out .exit)) ≡ write (line answer) (now (out .entry))
@@ -639,6 +647,10 @@ sheet-note-means = (λ M. sheet-note.Met.met, λ κs a. tt, λ κs a z ws. (λ p
 pub sheet-close-means : Means sheet-close.Statement.statement sheet-close.Kinds.ps sheet-close.Kinds.r sheet-close.Reads.Asked sheet-close.Reads.Learnt
     λ κs self well r. r ≡ settling self well
 sheet-close-means = (λ M. sheet-close.Met.met, λ κs a. tt, λ κs a z ws. (λ p. p, λ p. p))
+
+-- what becomes of a recording, in the code's words
+pub sheet-answered-is : (n : ℕ) → (answerOf counts ≡ sheet-answer.Counts) × (answerOf wrong ≡ sheet-answer.Wrong) × (answerOf (refuses n) ≡ sheet-answer.Refused n)
+sheet-answered-is n = (refl, refl, refl)
 
 -- ---- a table of ports: by value ..
 pub ports-rule-means : Means ports-rule.Statement.statement ports-rule.Kinds.ps ports-rule.Kinds.r ports-rule.Reads.Asked ports-rule.Reads.Learnt

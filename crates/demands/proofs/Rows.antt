@@ -4,7 +4,7 @@
 -- passed          what is no refusal
 -- wrote           a call that writes: 23 is its only row
 -- not-both        two tests in one
--- calling-exact, calling-same   a call of the interleaver: its rows; refused, it leaves output and state
+-- calling-exact, calling-same, calling-is   a call of the interleaver: its rows; refused, it leaves output and state; not refused, what it writes
 -- first-each      what a table gives is one of its numbers
 use Prim.Native.Nat.{ℕ, _*_, _<_, _≤_}
 use native.Mathlib.Omega.{arith}
@@ -131,6 +131,20 @@ module _ {S : Type 0} (d p : ℕ) (s : S) (r : List ℕ × S) (out : List ℕ) w
           let a : Wrote m ≡ Refused n = ap (λ (x : Outcome × S). x .0 .answer) e ∙ q in
           let z : _≡_ {A = ℕ} 0 1 = cc in
           omega arith
+
+  pub calling-is : (n : ℕ) → calling d p s r out .0 .answer ≡ Wrote n → calling d p s r out .0 ≡ write (r .0) out
+  calling-is n = go (beyond d p) (ltb 64 d)
+    where
+      never : (m : ℕ) → Refused m ≡ Wrote n → ⊥
+      never m e = let z : _≡_ {A = ℕ} 0 1 = cc in omega arith
+
+      go : (b l : Bool) →
+          let x : Outcome × S =
+          pick b (refused 10 out, s) (pick l (refused 32 out, s) (write (r .0) out, pick (ltb (length out) (length (r .0))) s (r .1))) in
+          x .0 .answer ≡ Wrote n → x .0 ≡ write (r .0) out
+      go true l e = absurd (never 10 e)
+      go false true e = absurd (never 32 e)
+      go false false e = refl
 
 -- ---- a table's numbers
 pub first-each : (P : ℕ → Type 0) (rows : List Row) → Each (λ (r : Row). P (r .0)) rows → (n : ℕ) → First rows n → P n

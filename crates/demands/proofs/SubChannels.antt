@@ -11,7 +11,8 @@
 -- own-settings, others-settings                        the sender of four
 -- whole-messages, closing-push, complete, flags-alone, marked-last   what is sent
 -- told-anew, told-hears, row-zero                      the receiver is told, also again
--- lock-lost, lost-silent                               lock lost
+-- lock-lost, lost-silent, lost-state                   lock lost
+-- words-in-order, lock-kept                            any bytes behind a marker: the order of the answers
 -- call-apart, call-alone                               one sub-channel and another's, call by call
 -- stands-alone, others-kept, schedules-end             .. and by pieces
 -- every-cut, same-cut, every-payload, whole-stream     demand 3's cutting and its delivery
@@ -19,20 +20,22 @@
 -- repaired-as-sent, -there, -where, -flat              request W12, of a fixed sub-channel: h bytes of each word altered
 -- ..-refusals, ..-keeps-..                             the refusals, row by row, and what a refused call leaves
 -- ..-hear-numbers                                      the numbers that are given: 9 is not among them
+-- sub-send-is                                          what a call that sends writes
 use Prim.Native.Nat.{ℕ, suc, _+_, _-_, _*_, _/_, _%_, _≤_, _<_}
 use native.Mathlib.Omega.{arith}
 use mathlib.Core.Path.{_≡_, refl, sym, _∙_, ap, subst}
+use mathlib.Core.Bool.{Bool, true, false}
 use mathlib.Core.Logic.{_≢_, _⊎_}
-use mathlib.Core.List.{List, [], _∷_, _++_, map}
+use mathlib.Core.List.{List, [], _∷_, _++_, map, append-nil}
 use mathlib.Core.Option.{Option, some}
 use lib.Dec.{ltb}
 use lib.ListN.{length, take, getD, replicate}
 use lib.Seq.{take-all}
-use borrow.Author.Tests.{lt-ltb, ltb-true}
+use borrow.Author.Tests.{lt-ltb, le-ltb, ltb-true}
 use Rattle.base.specs.Bytes.{Each, Bytes}
 use Rattle.base.specs.Calls.{With, joined, run, ReadsAll, Yields}
 use Rattle.base.specs.Choice.{pick}
-use Rattle.base.specs.Written.{write, Keeps}
+use Rattle.base.specs.Written.{refused, write, Keeps}
 use Rattle.frames.specs.Contents.{Packet, rawLimit}
 use Rattle.frames.specs.Escape.{flag}
 use Rattle.frames.specs.Frame.{Told as FrameTold, refusal}
@@ -58,6 +61,7 @@ use Rattle.groups.proofs.Received.{joined-length}
 use Rattle.groups.proofs.Sent as laid
 use Rattle.groups.proofs.Flags.{flag-word}
 use Rattle.groups.proofs.Lost as losing
+use Rattle.groups.proofs.Order.{few-given}
 use Rattle.groups.proofs.Numbers.{begins}
 use Rattle.groups.proofs.Returned.{back-is, returned, unaltered as came-unaltered, flat-back, word-place}
 use Rattle.subchannel.specs.Called.{Board, board, toldSub, hearCall, EveryCut, ThereEvent, boardOf, inUse}
@@ -147,6 +151,35 @@ module _ (r d : ℕ) (hr : r ≤ 64) (hd : d ≤ 64) where
   -- from wherever it is lost on
   pub lost-silent : (bs cs : List ℕ) (f : Hunting) (k : Back) → hears r d start bs .1 ≡ silent f k → EveryCut r d (bs ++ cs) λ es c. es ≡ answers r d bs
   lost-silent = one.stays-silent r d hr hd
+
+  -- .. its state then: its settings, not locked, counts zero, and "drops any open packet and waits for a flag" (paper 01)
+  pub lost-state : (stray rs : List ℕ) (g : ℕ) → length rs ≡ suc g * (4 * 255) → FirstMarker stray (grouped (suc g) rs)
+      → (bs cs : List ℕ) → length bs ≡ 4 → bs ≢ marker
+      → EveryCut r d ((stray ++ grouped (suc g) rs) ++ (bs ++ cs)) λ _ c. (f : Hunting) × (c .st .lane ≡ record {
+        settings = record { told = true; parity = r; depth = d };
+        locked = false;
+        lost = true;
+        hunting = f;
+        counts = record { group = 0; marker = 0; word = 0; handed = 0 };
+        frame = record { opened = false; raw = 0; stored = 0; place = 0 };
+      })
+  lost-state stray rs g l f bs cs h n =
+      let x = losing.lock-lost r d stray rs g l f bs cs h n in
+      one.cut-so (one.every-cut r d hr hd ((stray ++ grouped (suc g) rs) ++ (bs ++ cs))) λ es c e.
+      (x .0, ap (λ y. y .0 .lane) (e .1) ∙ ap (λ y. boardOf r d (y .1) [] [] .st .lane) (x .2))
+
+  -- ---- whole groups of any bytes behind stray bytes, in which order the answers come, of the words as they come out of the receiving side of the
+  -- interleaver: "Each whole word gives first a block answer, .. then the answers of its .. message bytes" (paper 01)
+  module _ (stray rs : List ℕ) (g : ℕ) (whole : length rs ≡ suc g * (4 * 255)) (first : FirstMarker stray (grouped (suc g) rs)) where
+    pub words-in-order : EveryCut r d (stray ++ grouped (suc g) rs) λ es _. es ≡ wordsGive r (cameBack d (suc g * 4 - closingWords d) rs) waiting .0
+    words-in-order =
+        one.cut-so (one.every-cut r d hr hd (stray ++ grouped (suc g) rs)) λ es _ e.
+        e .0 ∙ ap (answers r d) (sym (append-nil (stray ++ grouped (suc g) rs))) ∙ few-given r d hd stray rs g whole first [] (omega arith)
+
+    -- "When all four are read and differ, it answers "lock lost"" (paper 01): not before
+    pub lock-kept : (bs : List ℕ) → length bs < 4
+        → EveryCut r d ((stray ++ grouped (suc g) rs) ++ bs) λ es _. es ≡ wordsGive r (cameBack d (suc g * 4 - closingWords d) rs) waiting .0
+    lock-kept bs h = one.cut-so (one.every-cut r d hr hd ((stray ++ grouped (suc g) rs) ++ bs)) λ es _ e. e .0 ∙ few-given r d hd stray rs g whole first bs h
 
 -- ---- "Bytes of one sub-channel never affect another's answers": a call on another one leaves a configured sub-channel's state and buffers, call by
 -- call, answered or refused, in the middle of a piece too, and leaves it configured. Such a call is the one that the code makes, `hearFour` with
@@ -317,6 +350,12 @@ pub sub-send-refusals : (r d : ℕ) (bs out : List ℕ) → Exact ByCall (sendin
 sub-send-refusals r d bs out =
     row ByCall (ltb 64 r) (refuses 30 out) (ltb-true _ _) (not-less _ _)
     (row ByCall (ltb 64 d) (refuses 32 out) (ltb-true _ _) (not-less _ _) (wrote (sent r d bs) out _ refl))
+
+-- .. where none of these applies, the stream as it is sent is written, "bytes behind the result stay" (paper 01)
+pub sub-send-is : (r d : ℕ) (bs out : List ℕ) → r ≤ 64 → d ≤ 64 → sending r d bs out ≡ write (sent r d bs) out
+sub-send-is r d bs out hr hd =
+    ap (λ (t : Bool). pick t (refused 30 out) (pick (ltb 64 d) (refused 32 out) (write (sent r d bs) out))) (le-ltb 64 r hr)
+    ∙ ap (λ (t : Bool). pick t (refused 32 out) (write (sent r d bs) out)) (le-ltb 64 d hd)
 
 -- "then 42 for a sub-channel number above 3 or, outside configuring, one not configured; then 11 for its two buffers": by number
 pub number-hear-refusals : (s : Receiver) (n : ℕ) (recv word bs : List ℕ) → Exact ByNumbered (hearFour s n recv word bs)

@@ -7,3 +7,4 @@ pub mod Altered
 pub mod Lost
 pub mod Numbers
 pub mod Returned
+pub mod Order

@@ -1,5 +1,6 @@
 -- Groups of any bytes, in place of those of a sent stream, and no marker altered: the answers are those of the words as they come out of the
 -- receiving side of the interleaver. So a law of words, of what repair puts right, is one of the air at every depth.
+-- back-length    how many bytes come back
 -- back-is        of a sent stream, the words that come back are the answered ones
 -- returned       the answers
 -- unaltered      of the bytes as sent, the words that come back are those sent
@@ -67,7 +68,7 @@ word-place d deep h n rs room j i k l =
     (w .0, w .1, w .2, w .3, cut-place n j i (run (pull d) freshBack rs .0) k l ∙ w .4)
 
 -- of n words' bytes, as many come back as those of n words less the closing push have, and at most one more
-back-length : (d n : ℕ) → d ≤ depthLimit → closingWords d ≤ n → (rs : List ℕ) → length rs ≡ n * wordBytes
+pub back-length : (d n : ℕ) → d ≤ depthLimit → closingWords d ≤ n → (rs : List ℕ) → length rs ≡ n * wordBytes
     → let k : ℕ = length (run (pull d) freshBack rs .0) in ((n - closingWords d) * wordBytes ≤ k) × (k ≤ 1 + (n - closingWords d) * wordBytes)
 back-length d n h c rs e =
     by-le 2 d

@@ -12,6 +12,7 @@ use lib.Dec.{ltb}
 use lib.ListN.{length}
 use Rattle.base.specs.Calls.{andThen}
 use Rattle.base.specs.Choice.{pick}
+use Rattle.frames.specs.Frame.{Told}
 use Rattle.stream.specs.Reader.{Reading, waiting, reads}
 use Rattle.matrices.specs.Running.{freshBack, pull}
 use Rattle.matrices.specs.declared.Back.{Back}
@@ -91,7 +92,9 @@ start = hunting zeros
 abbrev pub answers : ℕ → ℕ → List ℕ → List Event
 answers r d bs = hears r d start bs .0
 
--- what words give, one after the other, and the frame reader behind them
+-- what words give, one after the other, and the frame reader behind them: each a block answer, and then the answers of its message bytes
 abbrev pub wordsGive : ℕ → List (List ℕ) → Reading → List Event × Reading
 wordsGive r [] q = ([], q)
-wordsGive r (w ∷ ws) q = (whole r w q .0 ++ wordsGive r ws (whole r w q .2) .0, wordsGive r ws (whole r w q .2) .1)
+wordsGive r (w ∷ ws) q =
+    let x : List Told × Reading = reads q (message r w) in
+    (block (condition r w) ∷ (map said (x .0) ++ wordsGive r ws (x .1) .0), wordsGive r ws (x .1) .1)

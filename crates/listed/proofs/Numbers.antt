@@ -1,6 +1,8 @@
 -- The paper's case and its edges, computed: recordings, and what is printed of each.
 -- table    recordings
 -- letters  each kind of line, and the letter of each class
+-- barred   the letter of a port that may not be used
+-- unsaid   "more wanted" has no line
 -- limit    the byte with which the stream would pass 4,294,967,295 bytes is wrong; the one before is read
 -- digits   numbers at the edges of their widths
 use Prim.Native.Nat.{ℕ}
@@ -8,11 +10,11 @@ use mathlib.Core.Path.{_≡_, refl}
 use mathlib.Core.List.{List, [], _∷_, map}
 use Rattle.fcs.specs.Fcs.{fcs, register, entered}
 use Rattle.frames.specs.Port.{class}
-use Rattle.frames.specs.declared.Class.the-variants.{System, Applications, M, D, Future}
+use Rattle.frames.specs.declared.Class.the-variants.{System, Applications, M, D, Future, Barred}
 use Rattle.frames.specs.declared.Judged.the-variants.{Packet, Refused, Broken}
 use Rattle.frames.specs.Escape.{escape, escapeByte, plain, wrongFrom, right, last, scan}
 use Rattle.frames.specs.Frame.{judgeContents, closedBy, closed, judge, judgeBody}
-use Rattle.channel.specs.declared.answer.Answer.the-variants.{Said, Block, LockLost}
+use Rattle.channel.specs.declared.answer.Answer.the-variants.{More, Said, Block, LockLost}
 use Rattle.blocks.specs.declared.Condition.the-variants.{Clean, Repaired, Beyond}
 use Rattle.listed.specs.declared.Place.the-variants.{Inside, Wrong}
 use Rattle.listed.specs.Apart.{nextAt, inStream, apart}
@@ -131,6 +133,13 @@ pub letters : _≡_ {A = List (List ℕ)}
     ∷ (69 ∷ 32 ∷ 53 ∷ 32 ∷ 49 ∷ 32 ∷ 50 ∷ 32 ∷ 51 ∷ 32 ∷ 52 ∷ 10 ∷ []) ∷ (88 ∷ 32 ∷ 55 ∷ 10 ∷ []) ∷ (83 ∷ 65 ∷ 77 ∷ 68 ∷ 70 ∷ []) ∷ [])
 unfolding told endLine wrongLine decimal decimalBy class
 letters = refl
+
+-- F, as of every port whose use is still to be told; no packet has such a port
+pub barred : letter Barred ≡ 70
+barred = refl
+
+pub unsaid : line More ≡ []
+unsaid = refl
 
 pub limit :
     apart (record { place = Inside 2; offset = 100; count = 4294967294 }) (1 ∷ 2 ∷ 3 ∷ [])

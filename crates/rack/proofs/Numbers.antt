@@ -1,11 +1,12 @@
 -- The numbers that C sees, said a second time and computed: a slip in a definition is seen here.
 -- answers, words            each answer's number, of a receiver and of a word
--- stream-told, channel-told, block-told   which number of the state stands where behind a call
--- frame-read, receiver-read   .. and before one
+-- stream-told, plain-told, channel-told, block-told, lost-told   which number of the state stands where behind a call
+-- frame-read, receiver-read, hunted-read   .. and before one
 use Prim.Native.Nat.{ℕ}
 use mathlib.Core.Path.{_≡_, refl}
 use mathlib.Core.Bool.{true, false}
-use mathlib.Core.List.{List, [], _∷_}
+use mathlib.Core.List.{List, [], _∷_, _++_}
+use lib.ListN.{replicate}
 use Rattle.base.specs.declared.Written.the-variants as written
 use Rattle.frames.specs.declared.Delivery.{Delivery}
 use Rattle.frames.specs.declared.Judged.the-variants.{Packet, Refused, Broken}
@@ -53,6 +54,14 @@ pub stream-told : streamNumbers 100 (ofHeard (plain.Said (Packet sent))) reader
     ≡ 100 ∷ 0x26 ∷ 102 ∷ 3 ∷ 104 ∷ 105 ∷ 106 ∷ 10 ∷ 1 ∷ 109 ∷ 110 ∷ 111 ∷ []
 stream-told = refl
 
+-- .. and of a packet that everybody may read, without a key, at 5
+abbrev everybody : Delivery
+everybody = record { format = 0x21; number = 0; key = 0; port = 104; sequence = 105; length = 106 }
+
+pub plain-told : streamNumbers 100 (ofHeard (plain.Said (Packet everybody))) reader
+    ≡ 100 ∷ 0x21 ∷ 0 ∷ 0 ∷ 104 ∷ 105 ∷ 106 ∷ 5 ∷ 1 ∷ 109 ∷ 110 ∷ 111 ∷ []
+plain-told = refl
+
 -- a broken escape tells its place, a repaired block in how many places
 pub channel-told : channelNumbers 100 (ofAnswer (Said (Broken 7))) receiver
     ≡ 100 ∷ 0 ∷ 0 ∷ 0 ∷ 0 ∷ 0 ∷ 0 ∷ 7 ∷ 1 ∷ 109 ∷ 110 ∷ 111 ∷ 0 ∷ 1 ∷ 114 ∷ 115 ∷ 116 ∷ 117 ∷ 118 ∷ 119 ∷ 120 ∷ []
@@ -61,6 +70,11 @@ channel-told = refl
 pub block-told : channelNumbers 100 (ofAnswer (Block (Repaired 16))) receiver
     ≡ 100 ∷ 0 ∷ 0 ∷ 0 ∷ 0 ∷ 0 ∷ 0 ∷ 0 ∷ 1 ∷ 109 ∷ 110 ∷ 111 ∷ 16 ∷ 1 ∷ 114 ∷ 115 ∷ 116 ∷ 117 ∷ 118 ∷ 119 ∷ 120 ∷ []
 block-told = refl
+
+-- an answer that tells nothing besides writes zeros
+pub lost-told : channelNumbers 100 (ofAnswer LockLost) receiver
+    ≡ 100 ∷ 0 ∷ 0 ∷ 0 ∷ 0 ∷ 0 ∷ 0 ∷ 0 ∷ 1 ∷ 109 ∷ 110 ∷ 111 ∷ 0 ∷ 1 ∷ 114 ∷ 115 ∷ 116 ∷ 117 ∷ 118 ∷ 119 ∷ 120 ∷ []
+lost-told = refl
 
 -- a state's numbers, whatever stands in those that are only written
 abbrev lent : List ℕ
@@ -71,3 +85,7 @@ frame-read = refl
 
 pub receiver-read : receiverOf lent ≡ receiver
 receiver-read = refl
+
+-- of a hunted byte's number the lowest byte counts
+pub hunted-read : receiverOf (replicate 17 0 ++ 0x17D ∷ 0x23A ∷ 0x3E2 ∷ 0x442 ∷ []) .hunting ≡ record { a = 0x7D; b = 0x3A; c = 0xE2; d = 0x42 }
+hunted-read = refl
