@@ -1,8 +1,9 @@
 -- Laws of a block's answer and of the word as repair leaves it.
 -- mend-length                   no byte comes or goes
 -- condition-clean, mend-clean   a clean word is clean, and stays
+-- promised-by                   of a word with any number of parity bytes: what is answered for repair's answer meets repair's promise
 -- block-promised, -determined   the answer and the word left meet the promise of repair, and nothing else does
-use Prim.Native.Nat.{ℕ}
+use Prim.Native.Nat.{ℕ, _≤_}
 use native.Mathlib.Omega.{arith}
 use mathlib.Core.Path.{_≡_, sym, _∙_, ap}
 use mathlib.Core.Bool.{Bool, true, false}
@@ -11,6 +12,7 @@ use lib.ListN.{length}
 use Rattle.base.specs.Bytes.{Bytes}
 use Rattle.base.specs.Choice.{pick}
 use Rattle.words.specs.Word.{clean}
+use Rattle.parity.specs.Calls.{rootLimit}
 use Rattle.parity.specs.declared.Checked.the-variants as check
 use Rattle.repair.specs.declared.Mended.{Mended}
 use Rattle.repair.specs.declared.Mended.the-variants.{Clean, Repaired, Beyond, Refused}
@@ -40,15 +42,16 @@ module _ (w : List ℕ) (h : IsWord w) where
   never-refused n true e = let z : _≡_ {A = ℕ} 0 1 = cc in omega arith
   never-refused n false e = let z : _≡_ {A = ℕ} 0 1 = cc in omega arith
 
-  promised-by : (a : Mended) (o : List ℕ) → Promised parityBytes w a o → Promised parityBytes w (asMended (conditionBy a)) o
-  promised-by Clean o p = p
-  promised-by (Repaired n) o p = p
-  promised-by Beyond o p = p
-  promised-by (Refused n) o p = absurd (never-refused n (clean parityBytes w) (sym (checked-is parityBytes w (omega arith) h) ∙ p .0))
+  -- with r parity bytes: a word of 255 bytes is not refused
+  pub promised-by : (r : ℕ) → r ≤ rootLimit → (a : Mended) (o : List ℕ) → Promised r w a o → Promised r w (asMended (conditionBy a)) o
+  promised-by r hr Clean o p = p
+  promised-by r hr (Repaired n) o p = p
+  promised-by r hr Beyond o p = p
+  promised-by r hr (Refused n) o p = absurd (never-refused n (clean r w) (sym (checked-is r w hr h) ∙ p .0))
 
   -- .. and the word left: they meet the promise of repair ..
   pub block-promised : Bytes w → Promised parityBytes w (asMended (condition w)) (mend w)
-  block-promised b = promised-by (repaired parityBytes w .0) (mend w) (repaired-promised parityBytes w b)
+  block-promised b = promised-by parityBytes (omega arith) (repaired parityBytes w .0) (mend w) (repaired-promised parityBytes w b)
 
   -- .. and what meets it is they
   pub block-determined : Bytes w → (a : Mended) (o : List ℕ) → Promised parityBytes w a o → (conditionBy a ≡ condition w) × (o ≡ mend w)

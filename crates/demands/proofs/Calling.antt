@@ -2,6 +2,10 @@
 -- no byte behind the one that caused the answer, and the rest of a stored word is handed on before any new byte is taken. It says "more
 -- wanted" exactly when all bytes are taken, a stored word is handed on whole and no answer is owed."
 -- That a call gives at most one answer is its type (`Option Event`); with the answers of `hearAll` it is tied by `hear-first`.
+-- hear-..    on the channel
+-- fixed-..   on a fixed sub-channel (request W7); that its calls end
+-- read-..    on the plain stream
+-- next-..    on a recording's bytes
 use Prim.Native.Nat.{ℕ, suc, _+_, _≤_}
 use native.Mathlib.Omega.{arith}
 use mathlib.Core.Path.{_≡_, refl, sym, _∙_, ap}
@@ -12,7 +16,7 @@ use mathlib.Core.Option.{Option, some, none}
 use lib.ListN.{length, take, drop}
 use lib.Dec.{leb}
 use borrow.Author.Tests.{leb-true}
-use Rattle.base.specs.Calls.{owesNone, handsNone, unless, told}
+use Rattle.base.specs.Calls.{joined, Yields, owesNone, handsNone, unless, told}
 use Rattle.base.proofs.Calls.{none-owed, law, inv-hear}
 use Rattle.frames.specs.Contents.{rawLimit}
 use Rattle.frames.specs.Frame.{Told}
@@ -22,6 +26,9 @@ use Rattle.blocks.specs.Channel.{Event}
 use Rattle.channel.specs.Called.{Board, owed, handOn, eatByte, sound, roomy, hearAll, hearOn, hearBy, hearCall, Fine}
 use Rattle.channel.proofs.Fine.{fine-of, fine-hand, fine-eat}
 use Rattle.channel.proofs.Cutting.{hand-one, hear-agrees, hear-law}
+use Rattle.subchannel.specs.Called as fixed
+use Rattle.subchannel.proofs.Fine as fixed-fine
+use Rattle.subchannel.proofs.Cutting as fixed-cut
 use Rattle.base.proofs.Stopping.{stops, blind, owed-first, wanting}
 use Rattle.tape.specs.Deck.{Deck, deckOwes, deckHand, deckEat, deckAll, deckHear}
 use Rattle.tape.specs.Called.{far, tapeCall}
@@ -78,6 +85,57 @@ hear-owed c bs = go (sound (c .st)) (roomy (c .recv) (c .word)) refl refl
 pub hear-wanting : (c : Board) → Fine c → (bs : List ℕ)
     → (hearCall c bs .0 ≡ none) ↔ ((hearCall c bs .1 ≡ length bs) × (owed (hearCall c bs .2) ≡ 0) × (hearAll c bs .0 ≡ []))
 hear-wanting c f bs = rw (hear-agrees c bs f) (wanting owed handOn eatByte hand-one c bs)
+
+-- ---- on a fixed sub-channel, of any R and depth that pass 10
+pub fixed-first : (c : fixed.Board) → fixed.Fine c → (bs : List ℕ) (e : Event) (n : ℕ) (d : fixed.Board) → fixed.hearCall c bs ≡ (some e, n, d)
+    → (fixed.hearAll c bs .0 ≡ e ∷ fixed.hearAll d (drop n bs) .0) × (fixed.hearAll c bs .1 ≡ fixed.hearAll d (drop n bs) .1)
+fixed-first c f bs e n d h =
+    let l = fixed-cut.hear-law c bs f ∙ ap (λ r. told fixed.owed fixed.handOn fixed.eatByte r bs) h in
+    (ap (λ (x : List Event × fixed.Board). x .0) l, ap (λ (x : List Event × fixed.Board). x .1) l)
+
+pub fixed-stops : (c : fixed.Board) (bs : List ℕ) (e : Event) (n : ℕ) (d : fixed.Board) → fixed.hearCall c bs ≡ (some e, suc n, d)
+    → fixed.hearAll c (take n bs) .0 ≡ []
+fixed-stops c bs e n d = go (fixed.sound (c .st)) (roomy (c .recv) (c .word))
+  where
+    go : (s r : Bool) → fixed.hearBy s r c bs ≡ (some e, suc n, d) → fixed.hearAll c (take n bs) .0 ≡ []
+    go false r h = absurd (none-behind _ e n c d h)
+    go true false h = absurd (none-behind _ e n c d h)
+    go true true h = stops fixed.owed fixed.handOn fixed.eatByte fixed-cut.hand-one c bs e n d h
+
+pub fixed-blind : (c : fixed.Board) (bs : List ℕ) (e : Event) (n : ℕ) (d : fixed.Board) → fixed.hearCall c bs ≡ (some e, n, d)
+    → (cs : List ℕ) → fixed.hearCall c (take n bs ++ cs) ≡ (some e, n, d)
+fixed-blind c bs e n d h cs = go (fixed.sound (c .st)) (roomy (c .recv) (c .word)) h
+  where
+    go : (s r : Bool) → fixed.hearBy s r c bs ≡ (some e, n, d) → fixed.hearBy s r c (take n bs ++ cs) ≡ (some e, n, d)
+    go false r h = h
+    go true false h = h
+    go true true h = blind fixed.owed fixed.handOn fixed.eatByte fixed-cut.hand-one cs c bs e n d h
+
+pub fixed-owed : (c : fixed.Board) (bs : List ℕ)
+    → fixed.hearCall c bs ≡ unless (fixed.hearCall c [] .0) 0 (fixed.hearCall c [] .2) (fixed.hearCall (fixed.hearCall c [] .2) bs)
+fixed-owed c bs = go (fixed.sound (c .st)) (roomy (c .recv) (c .word)) refl refl
+  where
+    go : (s r : Bool) → fixed.sound (c .st) ≡ s → roomy (c .recv) (c .word) ≡ r
+        → fixed.hearBy s r c bs ≡ unless (fixed.hearBy s r c [] .0) 0 (fixed.hearBy s r c [] .2) (fixed.hearCall (fixed.hearBy s r c [] .2) bs)
+    go false r e f = refl
+    go true false e f = refl
+    go true true e f =
+        owed-first fixed.owed fixed.handOn fixed.eatByte fixed-cut.hand-one c bs
+        ∙ ap (unless (fixed.hearOn c [] .0) 0 (fixed.hearOn c [] .2))
+        (sym
+        (fixed-cut.hear-agrees (fixed.hearOn c [] .2) bs
+        (inv-hear fixed.owed fixed.handOn fixed.eatByte fixed-cut.hand-one fixed.Fine fixed-fine.fine-hand fixed-fine.fine-eat c [] (fixed-fine.fine-of c e f))))
+
+pub fixed-wanting : (c : fixed.Board) → fixed.Fine c → (bs : List ℕ)
+    → (fixed.hearCall c bs .0 ≡ none)
+    ↔ ((fixed.hearCall c bs .1 ≡ length bs) × (fixed.owed (fixed.hearCall c bs .2) ≡ 0) × (fixed.hearAll c bs .0 ≡ []))
+fixed-wanting c f bs = rw (fixed-cut.hear-agrees c bs f) (wanting fixed.owed fixed.handOn fixed.eatByte fixed-cut.hand-one c bs)
+
+-- "A piece counts as read when its rest has been handed in until then": the calls come to their end, from every state and buffers that pass 10 and 11,
+-- with a word half handed on too, and their answers are those of the uncut string
+pub fixed-ends : (c : fixed.Board) → fixed.Fine c → (p : List ℕ) (ps : List (List ℕ))
+    → Yields fixed.hearCall c (p ∷ ps) λ es d. (es, d) ≡ fixed.hearAll c (joined (p ∷ ps))
+fixed-ends = fixed-cut.hear-yields
 
 -- ---- on the plain stream
 pub read-first : (h : Held) → FineFrame h → (bs : List ℕ) (t : Told) (n : ℕ) (g : Held) → readCall h bs ≡ (some t, n, g)

@@ -3,29 +3,38 @@
 -- count-refusals               the call that says how many groups a stream has
 -- group-called                 a call with room writes the next group, and the next call is not refused with 10
 -- group-by-group               the groups of a stream, call by call, are what one call on the whole stream sends
+-- sent-by-calls                .. so are the bytes that the calls write, one behind the other
 -- groups-counted, groups-left  as many as the count says; behind whole groups as many as it says of the rest
 -- group-handed                 a call may be handed four messages, or more of the stream: it is the same group
 use Prim.Native.Nat.{ℕ, _+_, _*_, _≤_, _<_, min}
-use mathlib.Core.Path.{_≡_, sym, _∙_, ap, subst}
+use mathlib.Core.Path.{_≡_, refl, sym, _∙_, ap, subst}
 use mathlib.Core.Bool.{Bool, false}
 use mathlib.Core.Logic.{_↔_}
-use mathlib.Core.List.{List, [], _∷_}
+use mathlib.Core.List.{List, [], _∷_, _++_}
 use lib.Dec.{ltb}
-use lib.ListN.{length, take}
+use lib.ListN.{length, take, drop}
+use lib.Seq.{take-at}
 use borrow.Author.Tests.{ltb-true, lt-ltb}
 use native.Mathlib.Omega.{arith}
+use Rattle.base.specs.Bytes.{Each}
 use Rattle.base.specs.Choice.{pick}
 use Rattle.base.specs.Written.{Outcome, outcome, refused, copied}
 use Rattle.base.specs.declared.Written.the-variants.{Wrote, Refused}
+use Rattle.base.proofs.Lists.{over}
 use Rattle.base.proofs.Tests.{by-le, by-test}
+use Rattle.base.proofs.Writing.{copied-fits}
 use Rattle.matrices.specs.Running.{fresh, beyond}
 use Rattle.matrices.specs.declared.Matrix.{Matrix}
 use Rattle.groups.specs.Sender.{sent}
 use Rattle.subsender.specs.Sending.{groupStream, groupNext, groupSending, groupWritten, groupCount, counting, groupsBy}
 use Rattle.subsender.specs.declared.Counted.the-variants.{Groups, Refused as CountRefused}
 use Rattle.subsender.proofs.Running.{group-state, group-roots, group-depth, group-short, group-long, group-goes, group-placed, groups-sent, sent-long, count-rest, group-first}
+use Rattle.subsender.proofs.Running.{count-are}
+use Rattle.subchannel.proofs.Fine.{zero-placed}
 use Rattle.demands.specs.Table.{Exact}
 use Rattle.demands.specs.Refusals.{PlaceBeyond, ByGroup, ByCount}
+use Rattle.demands.specs.SubChannels.{groupsPut}
+use Rattle.demands.specs.Captures.{put}
 use Rattle.demands.proofs.Rows.{applies, row, passed, not-less, refuses, wrote, place-beyond, place-within}
 
 -- ---- the calls' refusals
@@ -94,6 +103,38 @@ module _ (r d : ℕ) (hr : r ≤ 64) (hd : d ≤ 64) where
 
   pub group-by-group : (bs : List ℕ) → groupsBy r d (groupCount r d (length bs)) fresh bs ≡ sent r d bs
   group-by-group = groups-sent r d hr hd
+
+  -- what a call with room writes is the group, and the rest of the stream begins behind four messages
+  group-put : (m : Matrix) (bs out : List ℕ) → 1024 ≤ length out → take 1024 (copied (groupNext r d m bs .0) out) ≡ groupNext r d m bs .0
+  group-put m bs out h =
+      let x : List ℕ = groupNext r d m bs .0 in
+      let l : length x ≡ 1024 = group-long r d hr m bs in
+      ap (take 1024) (copied-fits x out (omega arith)) ∙ take-at x (drop (length x) out) 1024 l
+
+  group-rest : (bs : List ℕ) → drop (min (groupStream r) (length bs)) bs ≡ drop (groupStream r) bs
+  group-rest bs =
+      by-le (groupStream r) (length bs)
+      (λ h. let e : min (groupStream r) (length bs) ≡ groupStream r = omega arith in ap (λ n. drop n bs) e)
+      (λ h. over bs (min (groupStream r) (length bs)) (omega arith) ∙ sym (over bs (groupStream r) (omega arith)))
+
+  each-put : (outs : List (List ℕ)) → Each (λ (out : List ℕ). 1024 ≤ length out) outs → (m : Matrix) (bs : List ℕ) → beyond d (m .place) ≡ false
+      → groupsPut r d m bs outs ≡ groupsBy r d (length outs) m bs
+  each-put [] h m bs b = refl
+  each-put (out ∷ outs) h m bs b =
+      let c = group-called m bs out b (h .0) in
+      let x : List ℕ × Matrix = groupNext r d m bs in
+      ap (λ (y : Outcome × ℕ × Matrix). put (y .0) ++ groupsPut r d (y .2) (drop (y .1) bs) outs) (c .0)
+      ∙ (λ i. group-put m bs out (h .0) i ++ groupsPut r d (x .1) (group-rest bs i) outs)
+      ∙ ap (λ l. x .0 ++ l) (each-put outs (h .1) (x .1) (drop (groupStream r) bs) (c .1))
+
+  -- from fresh cells as many calls as the count says, each with room for a group: each begins with the cells and the rest of the stream that the one
+  -- before left, and what they write, one behind the other, is what is sent
+  pub sent-by-calls : (bs : List ℕ) (outs : List (List ℕ)) → counting r d (length bs) ≡ Groups (length outs)
+      → Each (λ (out : List ℕ). 1024 ≤ length out) outs → groupsPut r d fresh bs outs ≡ sent r d bs
+  sent-by-calls bs outs e h =
+      let c : Groups (groupCount r d (length bs)) ≡ Groups (length outs) = count-are r d (length bs) hr hd ∙ e in
+      let n : groupCount r d (length bs) ≡ length outs = cc in
+      each-put outs h fresh bs (zero-placed d) ∙ ap (λ g. groupsBy r d g fresh bs) (sym n) ∙ groups-sent r d hr hd bs
 
   pub groups-counted : (bs : List ℕ) → length (sent r d bs) ≡ groupCount r d (length bs) * 1024
   groups-counted = sent-long r d hr hd

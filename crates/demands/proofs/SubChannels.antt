@@ -13,10 +13,14 @@
 -- told-anew, told-hears, row-zero                      the receiver is told, also again
 -- lock-lost, lost-silent, lost-state                   lock lost
 -- words-in-order, lock-kept                            any bytes behind a marker: the order of the answers
--- call-apart, call-alone                               one sub-channel and another's, call by call
+-- hear-others, call-is                                 one sub-channel and another's, by the call that the code makes
+-- call-apart, call-alone                               .. call by call
 -- stands-alone, others-kept, schedules-end             .. and by pieces
+-- fresh-told, told-live, live-kept, told-ready         what these laws ask can be met
 -- every-cut, same-cut, every-payload, whole-stream     demand 3's cutting and its delivery
+-- four-delivers                                        .. among the four, in every schedule
 -- earlier-blocks, behind-flag, other-blocks            .. and its recovery
+-- sub-block-answer, sub-block-only                     request W5, of a fixed sub-channel: a word's answer, at every R
 -- repaired-as-sent, -there, -where, -flat              request W12, of a fixed sub-channel: h bytes of each word altered
 -- ..-refusals, ..-keeps-..                             the refusals, row by row, and what a refused call leaves
 -- ..-hear-numbers                                      the numbers that are given: 9 is not among them
@@ -47,15 +51,17 @@ use Rattle.matrices.specs.Places.{cell}
 use Rattle.matrices.specs.Running.{fresh, freshBack, sent as turned, push}
 use Rattle.matrices.specs.declared.Back.{Back}
 use Rattle.matrices.proofs.Calling.{passes}
-use Rattle.repair.specs.Promise.{CleanWord}
+use Rattle.repair.specs.declared.Mended.{Mended}
+use Rattle.repair.specs.Promise.{CleanWord, Promised}
 use Rattle.blocks.specs.Sender.{marker, wordBytes}
-use Rattle.blocks.specs.Channel.{Event, said, lost, frames, blocks, losses, IsWord, FirstMarker}
+use Rattle.blocks.specs.Channel.{Event, said, lost, frames, blocks, losses, IsWord, FirstMarker, conditionBy, asMended}
 use Rattle.blocks.specs.declared.Condition.the-variants.{Clean as clean}
 use Rattle.blocks.specs.declared.Hunting.{Hunting}
 use Rattle.blocks.proofs.Streaming.{theMarker, stream-bytes}
 use Rattle.groups.specs.Sender.{wordOf, messagesOf, flagWord, closingWords, pushed, wordsOf, wordsBack, grouped, marked, sent}
-use Rattle.groups.specs.Word.{condition, carried, cameBack}
+use Rattle.groups.specs.Word.{condition, mend, carried, cameBack}
 use Rattle.groups.specs.Sub.{inGroup, silent, hears, start, answers, wordsGive}
+use Rattle.groups.proofs.Words.{word-promised, word-determined}
 use Rattle.groups.proofs.Streaming.{messages, messages-each, carries, frames-given, blocks-given, losses-given}
 use Rattle.groups.proofs.Received.{joined-length}
 use Rattle.groups.proofs.Sent as laid
@@ -69,8 +75,11 @@ use Rattle.subchannel.proofs.Demands as one
 use Rattle.subchannel.proofs.Delivery.{payload-there}
 use Rattle.subchannels.specs.declared.Configured.the-variants.{Told, Refused}
 use Rattle.subchannels.specs.declared.Receiver.{Receiver}
-use Rattle.subchannels.specs.Four.{Boards, boardAt, exchanged, callOn, Scheduled, ofOne, get, configuring, hearFour}
+use Rattle.subchannels.specs.Four.{freshReceiver, Boards, boardAt, exchanged, callOn, Scheduled, ofOne, get, configuring, hearFour}
+use Rattle.subchannels.proofs.Calling as made
+use Rattle.subchannels.proofs.Ending as ending
 use Rattle.subchannels.proofs.Ending.{Ready, schedule-ends}
+use Rattle.subchannels.proofs.Apart as apart-four
 use Rattle.subchannels.proofs.Apart.{Live, board-own, call-other, call-own, live-own, alone, configure-own, configure-others, told-means}
 use Rattle.subsender.specs.Sending.{sending}
 use Rattle.subsender.proofs.Determined.{sending-keeps}
@@ -181,9 +190,20 @@ module _ (r d : ℕ) (hr : r ≤ 64) (hd : d ≤ 64) where
         → EveryCut r d ((stray ++ grouped (suc g) rs) ++ bs) λ es _. es ≡ wordsGive r (cameBack d (suc g * 4 - closingWords d) rs) waiting .0
     lock-kept bs h = one.cut-so (one.every-cut r d hr hd ((stray ++ grouped (suc g) rs) ++ bs)) λ es _ e. e .0 ∙ few-given r d hd stray rs g whole first bs h
 
--- ---- "Bytes of one sub-channel never affect another's answers": a call on another one leaves a configured sub-channel's state and buffers, call by
--- call, answered or refused, in the middle of a piece too, and leaves it configured. Such a call is the one that the code makes, `hearFour` with
--- that sub-channel's buffers (`call-is` (crates/subchannels/proofs/Calling.antt))
+-- ---- "Bytes of one sub-channel never affect another's answers": the call that the code makes, by any number, leaves the state of the sub-channels of
+-- the other numbers, whatever it answers ..
+pub hear-others : (s : Receiver) (n k : ℕ) (recv word bs : List ℕ) → k ≤ 3 → n ≢ k → get (hearFour s n recv word bs .2) k ≡ get s k
+hear-others = apart-four.hear-others
+
+-- .. and among the buffers of all four a call on sub-channel n, `callOn`, is that call with that one's two: answer, bytes taken, state, both buffers
+pub call-is : (n : ℕ) (s : Boards) (bs : List ℕ) →
+    let x = hearFour (s .st) n (s .recv n) (s .word n) bs in
+    let y = callOn n s bs in
+    (y .0 ≡ x .0) × (y .1 ≡ x .1) × (y .2 .st ≡ x .2) × (y .2 .recv n ≡ x .3) × (y .2 .word n ≡ x .4)
+call-is = made.call-is
+
+-- .. so it leaves another's state and buffers where that one is configured, call by call, answered or refused, in the middle of a piece too, and
+-- leaves it configured
 pub call-apart : (k n : ℕ) (s : Boards) (bs : List ℕ) → n ≢ k → Live k s
     → (boardAt (callOn n s bs .2) k ≡ boardAt s k) × Live k (callOn n s bs .2)
 call-apart = call-other
@@ -213,6 +233,24 @@ pub schedules-end : (ps : List (ℕ × List ℕ)) (s : Boards) → Each (λ (x :
     → (es : List (ℕ × Event)) × (t : Boards) × Scheduled s ps es t
 schedules-end = schedule-ends
 
+-- what these laws ask can be met: a fresh receiver may be told the settings of each, with every R and depth to 64 ..
+pub fresh-told : (n r d : ℕ) → n ≤ 3 → r ≤ 64 → d ≤ 64 → configuring freshReceiver n r d .0 ≡ Told
+fresh-told = apart-four.fresh-told
+
+-- .. one that is told is configured, in a state that passes 10 ..
+pub told-live : (k r d : ℕ) (s : Boards) → configuring (s .st) k r d .0 ≡ Told
+    → Live k (record { st = configuring (s .st) k r d .1; recv = s .recv; word = s .word })
+told-live = apart-four.told-live
+
+-- .. stays so while another is told ..
+pub live-kept : (k n r d : ℕ) (s : Boards) → n ≢ k → Live k s → Live k (record { st = configuring (s .st) n r d .1; recv = s .recv; word = s .word })
+live-kept = apart-four.live-kept
+
+-- .. and with buffers that pass 11 its calls are not refused
+pub told-ready : (k r d : ℕ) (s : Boards) → configuring (s .st) k r d .0 ≡ Told → rawLimit ≤ length (s .recv k) → wordBytes ≤ length (s .word k)
+    → Ready (record { st = configuring (s .st) k r d .1; recv = s .recv; word = s .word }) k
+told-ready = ending.told-ready
+
 module _ (r d : ℕ) (hr : r ≤ 64) (hd : d ≤ 64) where
   -- ---- "Demand 3's cutting .. hold for each": every way of cutting yields the answers and the final state of the uncut string ..
   pub every-cut : (bs : List ℕ) → EveryCut r d bs λ es c. (es ≡ answers r d bs) × (inUse c ≡ inUse (boardOf r d (hears r d start bs .1) [] []))
@@ -230,6 +268,20 @@ module _ (r d : ℕ) (hr : r ≤ 64) (hd : d ≤ 64) where
       → EveryCut r d (stray ++ sent r d (stream ps))
       λ es c. (frames es ≡ map delivered ps) × (blocks es ≡ replicate (length (wordsOf r d (stream ps)) - closingWords d) clean) × (losses es ≡ 0)
   whole-stream = one.delivers r d hr hd
+
+-- .. "hold for each": so it is of each of the four, told, in every schedule of pieces over them (these come to their end: schedules-end): where its
+-- own pieces are together stray bytes and then a sender's whole stream, its answers deliver just the sent packets, whatever the others hear
+pub four-delivers : (k r d : ℕ) (s : Boards) → configuring (s .st) k r d .0 ≡ Told → rawLimit ≤ length (s .recv k) → wordBytes ≤ length (s .word k)
+    → (stray : List ℕ) (ps : List Packet) → Each Accepted ps → FirstMarker stray (sent r d (stream ps))
+    → {t : Boards} {pieces : List (ℕ × List ℕ)} {es : List (ℕ × Event)} → joined (ofOne k pieces) ≡ stray ++ sent r d (stream ps)
+    → Scheduled (record { st = configuring (s .st) k r d .1; recv = s .recv; word = s .word }) pieces es t
+    → (frames (ofOne k es) ≡ map delivered ps)
+    × (blocks (ofOne k es) ≡ replicate (length (wordsOf r d (stream ps)) - closingWords d) clean) × (losses (ofOne k es) ≡ 0)
+four-delivers k r d s e a b stray ps accepted first {t} {pieces} {es} cut c =
+    let o = configure-own (s .st) k r d e in
+    whole-stream r d (o .0) (o .1) stray ps accepted first (s .recv k) (s .word k) a b (ofOne k pieces) cut .always (ofOne k es) (boardAt t k)
+    (subst (λ x. ReadsAll hearCall (board x (s .recv k) (s .word k)) (ofOne k pieces) (ofOne k es) (boardAt t k)) (o .4)
+    (stands-alone k (told-live k r d s e) c))
 
 -- a delivery counts with its payload bytes and its key: they stand in the receive buffer
 pub every-payload : (c : Board) (bs : List ℕ) → With ThereEvent (hearCall c bs .0) (hearCall c bs .2)
@@ -258,6 +310,17 @@ module _ (r d : ℕ) (hr : r ≤ 64) (flat : d < 2) (stray : List ℕ) (ps : Lis
   pub other-blocks : EveryCut r d (stray ++ marked d (earlier ++ (vs ++ later)))
       λ es _. (blocks es ≡ replicate (length earlier) clean ++ (map (condition r) vs ++ replicate (length later) clean)) × (losses es ≡ 0)
   other-blocks = one.other-blocks r d hr flat stray ps accepted first earlier us vs later some-words any many
+
+-- ---- request W5, of a word of a fixed sub-channel: "For R parity bytes and h = INT(R/2), a word has one of three answers: clean; repaired, with the
+-- count of changed places from 1 to h; beyond repair." "The word buffer then holds the repaired word, or one beyond repair as it came, and the receiver
+-- reads that." Answer and word meet the promise of repair ..
+pub sub-block-answer : (r : ℕ) → r ≤ 64 → (w : List ℕ) → IsWord w → Bytes w → Promised r w (asMended (condition r w)) (mend r w)
+sub-block-answer = word-promised
+
+-- .. and no other answer and word meet it
+pub sub-block-only : (r : ℕ) → r ≤ 64 → (w : List ℕ) → IsWord w → Bytes w
+    → (a : Mended) (o : List ℕ) → Promised r w a o → (conditionBy a ≡ condition r w) × (o ≡ mend r w)
+sub-block-only = word-determined
 
 -- ---- request W12, of a fixed sub-channel: "if at most .. bytes of each .. word are altered and no marker is, the receiver delivers just what was
 -- sent", for every R and depth, h = INT(R/2) bytes of each word. In place of a sent stream's bytes come rs, as many, behind the same markers;

@@ -1,16 +1,20 @@
--- Rows of the refusals of fixed sub-channels (request W7).
+-- Fixed sub-channels (request W7): rows of their refusals, and what their calls write.
 -- SettingsBeyond, CountsBeyond, SubBeyond   10: of one sub-channel
 -- ReceiverBeyond, SenderBeyond              .. of the state, which is all four
 -- Unknown                                   42, outside configuring
 -- OfNumbered                                the numbers of receiving calls by number
 -- ByConfigure, ByNumbered                   that configuring, and a receiving call by number, refuses by a number
+-- groupsPut                                 what the calls that send groups write, one behind the other
 use Prim.Native.Nat.{ℕ, _<_}
 use mathlib.Core.Path.{_≡_}
 use mathlib.Core.Bool.{false}
 use mathlib.Core.Logic.{_⊎_}
-use mathlib.Core.List.{List}
+use mathlib.Core.List.{List, [], _∷_, _++_}
 use mathlib.Core.Option.{Option, some}
+use lib.ListN.{drop}
+use Rattle.base.specs.Written.{Outcome}
 use Rattle.frames.specs.Frame.{refusal}
+use Rattle.matrices.specs.declared.Matrix.{Matrix}
 use Rattle.blocks.specs.Sender.{wordBytes}
 use Rattle.blocks.specs.Channel.{Event, said}
 use Rattle.groups.specs.Sender.{messageBytes, groupBytes}
@@ -20,7 +24,9 @@ use Rattle.subchannel.specs.declared.sub.Sub.{Sub}
 use Rattle.subchannels.specs.declared.Configured.{Configured}
 use Rattle.subchannels.specs.declared.Configured.the-variants.{Refused}
 use Rattle.subchannels.specs.declared.Receiver.{Receiver}
+use Rattle.subsender.specs.Sending.{groupSending}
 use Rattle.subsenders.specs.declared.Sender.{Sender}
+use Rattle.demands.specs.Captures.{put}
 use Rattle.demands.specs.Refusals.{PlaceBeyond, FrameBeyond, OfCall}
 
 -- 10: settings that no configuring takes
@@ -60,3 +66,10 @@ ByConfigure x n = x .0 ≡ Refused n
 -- a receiving call by number is
 abbrev pub ByNumbered : Option Event × ℕ × Receiver × List ℕ × List ℕ → ℕ → Type 0
 ByNumbered x n = OfNumbered n × (x .0 ≡ some (said (refusal n)))
+
+-- calls that send groups, each with an output of its own, each with the cells and the rest of the stream that the one before left: the bytes that they
+-- write, one behind the other
+abbrev pub groupsPut : ℕ → ℕ → Matrix → List ℕ → List (List ℕ) → List ℕ
+groupsPut r d m bs [] = []
+groupsPut r d m bs (out ∷ outs) =
+    let x : Outcome × ℕ × Matrix = groupSending r d m bs out in put (x .0) ++ groupsPut r d (x .2) (drop (x .1) bs) outs

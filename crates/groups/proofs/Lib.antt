@@ -1,3 +1,4 @@
+pub mod Words
 pub mod Groups
 pub mod Received
 pub mod Streaming

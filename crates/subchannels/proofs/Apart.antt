@@ -3,8 +3,11 @@
 -- kept-hear, kept-call     a call keeps the settings told, and what passes 10
 -- sound-at                 10 of the four is 10 of each
 -- call-other, call-own     a call on another sub-channel, and on this one
+-- hear-others              a call on one leaves the others, whatever it answers
 -- configure-others         configuring one leaves the others
 -- configure-own, told-means   .. and that one is as just told, also told again, and what it then hears means that
+-- told-live, live-kept     .. and is configured, in a state that passes 10, also while others are told
+-- fresh-told               the fresh receiver may be told
 -- alone, alone-means       whatever is scheduled, a sub-channel's answers, final state and buffers are those of its own pieces
 use Prim.Native.Nat.{ℕ, zero, suc, _≤_}
 use native.Mathlib.Omega.{arith}
@@ -15,7 +18,7 @@ use mathlib.Core.List.{List, [], _∷_, _++_, map}
 use mathlib.Core.Option.{Option, some, none}
 use lib.Dec.{eqb, ltb, leb}
 use lib.ListN.{length, set}
-use borrow.Author.Tests.{eq-eqb, ne-eqb, le-leb, leb-true, ltb-false}
+use borrow.Author.Tests.{eq-eqb, ne-eqb, le-leb, le-ltb, leb-true, ltb-false}
 use Rattle.base.specs.Calls.{joined, Reads, ReadsAll}
 use Rattle.base.specs.Calls.Reads.{more, answer}
 use Rattle.base.specs.Calls.ReadsAll.{done, piece}
@@ -44,6 +47,7 @@ use Rattle.subchannels.specs.declared.Receiver.{Receiver}
 use Rattle.subchannels.specs.declared.Configured.{Configured}
 use Rattle.subchannels.specs.declared.Configured.the-variants.{Told, Refused}
 use Rattle.subchannels.specs.Four.{get, put, soundFour, known, configuring, Boards, boardAt, exchanged, callBy, callOn, Scheduled, ofOne}
+use Rattle.subchannels.specs.Four.{freshReceiver, heardBy, hearFour}
 use Rattle.subchannels.specs.Four.Scheduled.{done as first, next}
 
 pub got-put : (s : Receiver) (n : ℕ) (x : Sub) → get (put s n x) n ≡ x
@@ -257,6 +261,15 @@ alone-means k r d hr hd {s} {t} {ps} {es} l e a b c =
     every-cut r d hr hd (joined (ofOne k ps)) (s .recv k) (s .word k) a b (ofOne k ps) refl .always (ofOne k es) (boardAt t k)
     (subst (λ x. ReadsAll hearCall (board x (s .recv k) (s .word k)) (ofOne k ps) (ofOne k es) (boardAt t k)) e (alone k l c))
 
+-- a call by any number leaves the sub-channels of the other numbers, whatever it answers
+pub hear-others : (s : Receiver) (n k : ℕ) (recv word bs : List ℕ) → k ≤ 3 → n ≢ k → get (hearFour s n recv word bs .2) k ≡ get s k
+hear-others s n k recv word bs i e = go (soundFour s) (known s n) refl
+  where
+    go : (a b : Bool) → known s n ≡ b → get (heardBy a b s n recv word bs .2) k ≡ get s k
+    go false b q = refl
+    go true false q = refl
+    go true true q = got-other s n k (hearCall (board (get s n) recv word) bs .2 .st) (within k s n q .0) i e
+
 -- configuring one sub-channel leaves the others
 pub configure-others : (s : Receiver) (n k r d : ℕ) → n ≤ 3 → k ≤ 3 → n ≢ k → get (configuring s n r d .1) k ≡ get s k
 configure-others s n k r d h i e = go (soundFour s) (ltb 3 n) (ltb rootLimit r) (ltb depthLimit d)
@@ -303,3 +316,29 @@ pub told-means : (k r d : ℕ) (s : Boards) → configuring (s .st) k r d .0 ≡
     → Scheduled (record { st = configuring (s .st) k r d .1; recv = s .recv; word = s .word }) ps es t
     → (ofOne k es ≡ answers r d (joined (ofOne k ps))) × (inUse (boardAt t k) ≡ inUse (boardOf r d (hears r d start (joined (ofOne k ps)) .1) [] []))
 told-means k r d s e a b c = let o = configure-own (s .st) k r d e in alone-means k r d (o .0) (o .1) (o .2, o .3) (o .4) a b c
+
+-- .. it is configured then, in a state that passes 10 ..
+pub told-live : (k r d : ℕ) (s : Boards) → configuring (s .st) k r d .0 ≡ Told
+    → Live k (record { st = configuring (s .st) k r d .1; recv = s .recv; word = s .word })
+told-live k r d s e = let o = configure-own (s .st) k r d e in (o .2, o .3)
+
+-- .. and so it is while another is told, or is refused that
+pub live-kept : (k n r d : ℕ) (s : Boards) → n ≢ k → Live k s → Live k (record { st = configuring (s .st) n r d .1; recv = s .recv; word = s .word })
+live-kept k n r d s e l = go (s .st) l (soundFour (s .st)) (ltb 3 n) (ltb rootLimit r) (ltb depthLimit d) refl refl refl
+  where
+    go : (t : Receiver) → (soundFour t ≡ true) × (known t k ≡ true) → (a b c f : Bool) → ltb 3 n ≡ b → ltb rootLimit r ≡ c → ltb depthLimit d ≡ f →
+        let x : Configured × Receiver =
+        pick a (pick b (Refused 42, t) (pick c (Refused 30, t) (pick f (Refused 32, t) (Told, put t n (toldSub r d))))) (Refused 10, t) in
+        (soundFour (x .1) ≡ true) × (known (x .1) k ≡ true)
+    go t l false b c f g h i = l
+    go t l true true c f g h i = l
+    go t l true false true f g h i = l
+    go t l true false false true g h i = l
+    go t l true false false false g h i = (
+      sound-put t n (toldSub r d) (l .0) (told-sound r d (ltb-false _ _ h) (ltb-false _ _ i)),
+      ap (λ (x : Sub). leb k 3 && (x .lane .settings .told)) (got-other t n k (toldSub r d) (ltb-false _ _ g) (within k t k (l .1) .0) e) ∙ l .1,
+    )
+
+-- each of the four may be told, with every R and depth to 64
+pub fresh-told : (n r d : ℕ) → n ≤ 3 → r ≤ rootLimit → d ≤ depthLimit → configuring freshReceiver n r d .0 ≡ Told
+fresh-told n r d h i j = rw (le-ltb 3 n h, le-ltb rootLimit r i, le-ltb depthLimit d j) refl

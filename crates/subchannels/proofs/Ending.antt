@@ -1,31 +1,42 @@
 -- A schedule comes to its end: pieces for configured sub-channels, each with its two buffers, are all read.
 -- Ready          what a sub-channel's calls ask: the state passes 10, it is configured, its buffers pass 11
+-- told-ready     .. met by one that was told its settings
 -- lifted         the calls on one sub-channel, made among the four
 -- ready-kept     a piece for any of them keeps what another's calls ask
 -- schedule-ends  every schedule
-use Prim.Native.Nat.{ℕ}
+use Prim.Native.Nat.{ℕ, _≤_}
 use mathlib.Core.Path.{_≡_, refl, sym, _∙_, ap, subst}
 use mathlib.Core.Bool.{true}
 use mathlib.Core.List.{List, [], _∷_, _++_, map}
 use mathlib.Core.Option.{Option}
+use lib.ListN.{length}
+use borrow.Author.Tests.{le-leb}
 use Rattle.base.specs.Bytes.{Each}
 use Rattle.base.specs.Calls.{Reads, ReadsAll}
 use Rattle.base.specs.Calls.Reads.{more, answer}
 use Rattle.base.specs.Calls.ReadsAll.{piece}
 use Rattle.base.proofs.Calls.{inv-hear}
 use Rattle.base.proofs.Tests.{by-eq}
+use Rattle.frames.specs.Contents.{rawLimit}
+use Rattle.blocks.specs.Sender.{wordBytes}
 use Rattle.blocks.specs.Channel.{Event}
 use Rattle.channel.specs.Called.{roomy}
 use Rattle.subchannel.specs.Called.{Board, eatByte, owed, handOn, hearCall, Fine}
 use Rattle.subchannel.proofs.Fine.{fine-of, fine-roomy, fine-hand, fine-eat}
 use Rattle.subchannel.proofs.Cutting.{hand-one, hear-agrees, hear-yields}
-use Rattle.subchannels.specs.Four.{Boards, boardAt, exchanged, callOn, Scheduled}
+use Rattle.subchannels.specs.declared.Configured.the-variants.{Told}
+use Rattle.subchannels.specs.Four.{configuring, Boards, boardAt, exchanged, callOn, Scheduled}
 use Rattle.subchannels.specs.Four.Scheduled.{done, next}
-use Rattle.subchannels.proofs.Apart.{board-own, sound-at, Live, call-own, live-own, reads-own, reads-other}
+use Rattle.subchannels.proofs.Apart.{board-own, sound-at, Live, call-own, live-own, reads-own, reads-other, told-live}
 
 -- sub-channel k's calls are not refused
 abbrev pub Ready : Boards → ℕ → Type 0
 Ready s k = Live k s × (roomy (s .recv k) (s .word k) ≡ true)
+
+-- that can be met: by a sub-channel that was told its settings, with buffers that pass 11
+pub told-ready : (k r d : ℕ) (s : Boards) → configuring (s .st) k r d .0 ≡ Told → rawLimit ≤ length (s .recv k) → wordBytes ≤ length (s .word k)
+    → Ready (record { st = configuring (s .st) k r d .1; recv = s .recv; word = s .word }) k
+told-ready k r d s e a b = (told-live k r d s e, rw (le-leb _ _ a, le-leb _ _ b) refl)
 
 ready-fine : (s : Boards) (k : ℕ) → Ready s k → Fine (boardAt s k)
 ready-fine s k h = fine-of (boardAt s k) (sound-at (s .st) k (h .0 .0)) (h .1)
