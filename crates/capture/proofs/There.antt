@@ -1,8 +1,8 @@
 -- A packet's bytes are where they are fetched from.
--- packed-there   at the start of a list, a packet's own bytes: payload, key, and format byte to last payload byte are its parts
--- export-own     behind a frame that is judged to be a packet, in the receive buffer, and then the sender accepts it
--- export-there   .. so what is fetched is its own bytes
--- read-there     behind an import's delivery, in the store
+-- packed-there                at the start of a list, a packet's own bytes: payload, key, and format byte to last payload byte are its parts
+-- Own, export-own             behind a frame that is judged to be a packet, in the receive buffer, and then the sender accepts it
+-- own-fetched, export-there   .. so what is fetched is its own bytes
+-- read-there                  behind an import's delivery, in the store
 use mathlib.Core.Path.{_≡_, refl, sym, ap, subst, _∙_}
 use mathlib.Core.Bool.{Bool, true, false}
 use mathlib.Core.List.{List, [], _∷_, _++_, append-assoc}

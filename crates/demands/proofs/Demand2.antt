@@ -222,7 +222,7 @@ pub channel-listing : (pieces : List (List ℕ)) → length (joined pieces) ≤ 
 channel-listing = channel-listed
 
 -- "Standard input: one byte, 0x50 plain stream or 0x4F opportunistic; then records: mark F5 5F, length (two bytes, low first, 0 allowed), that many
--- stream bytes.": of bytes, where taking a recording apart ends it may end exactly where it is such, within the limit ..
+-- stream bytes.": of bytes: taken apart, a file ends where a recording may end exactly when it is such, within the limit ..
 pub described : (file : List ℕ) → Bytes file → well (apart freshSpot file .1 .place) ≡ true ↔ Described file
 described = recordings.described
 

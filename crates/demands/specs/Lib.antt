@@ -6,6 +6,7 @@ pub mod SubChannels
 pub mod Guarantee
 pub mod Way
 pub mod Numbers
+pub mod Telling
 pub mod Printed
 pub mod Requested
 pub mod Missed

@@ -38,8 +38,7 @@ OfReading n = (n ≡ 0) ⊎ (n ≡ 256) ⊎ OfFrame n ⊎ OfCall n
 abbrev pub OfHearing : ℕ → Type 0
 OfHearing n = OfReading n ⊎ ((257 ≤ n) × (n ≤ 260))
 
--- in the receive buffer, by the state's numbers: as many bytes as number 6 says, from the place of number 7 on, are the payload; as many as
--- number 3 says, from 3 on, are the key
+-- in the receive buffer: as many bytes as number 6 says, from number 7 on, are the payload; as many as number 3 says, from 3 on, are the key
 abbrev pub StandsBy : Packet → List ℕ → List ℕ → Type 0
 StandsBy p state recv = (take (getD state 6 0) (drop (getD state 7 0) recv) ≡ p .payload) × (take (getD state 3 0) (drop 3 recv) ≡ p .key)
 

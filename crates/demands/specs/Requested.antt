@@ -39,7 +39,7 @@ use Rattle.sheets.specs.Tally.{far, wide}
 use Rattle.sheets.specs.Recording.{marks}
 use Rattle.sheets.specs.Month.{Mark, portLimit, Counting, counts, wrong, refuses, ruling, rulingOf}
 use Rattle.demands.specs.Numbers.{Line}
-use Rattle.demands.specs.Printed.{toldNumber, numberOf}
+use Rattle.demands.specs.Telling.{toldNumber, numberOf}
 
 -- ---- W3 to W8
 -- how many bytes the receiving side gives back at depth 2, of so many taken in

@@ -67,8 +67,7 @@ ByConfigure x n = x .0 ≡ Refused n
 abbrev pub ByNumbered : Option Event × ℕ × Receiver × List ℕ × List ℕ → ℕ → Type 0
 ByNumbered x n = OfNumbered n × (x .0 ≡ some (said (refusal n)))
 
--- calls that send groups, each with an output of its own, each with the cells and the rest of the stream that the one before left: the bytes that they
--- write, one behind the other
+-- what calls that send groups write, one behind the other: each with its own output, and with the cells and the rest of the stream left by the one before
 abbrev pub groupsPut : ℕ → ℕ → Matrix → List ℕ → List (List ℕ) → List ℕ
 groupsPut r d m bs [] = []
 groupsPut r d m bs (out ∷ outs) =

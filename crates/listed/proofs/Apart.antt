@@ -1,7 +1,8 @@
 -- What a recording is made of.
--- one-in, record-apart    a stream byte, and a record
--- records-apart       a recording of pieces: its stream is the pieces joined, and it ends well
--- records-channel     the same on the opportunistic channel
+-- at, before                         a place in a recording, and stream bytes before what is left
+-- one-in, record-apart, none-apart   a stream byte, a record, and no byte
+-- records-apart                      a recording of pieces: its stream is the pieces joined, and it ends well
+-- records-channel                    the same on the opportunistic channel
 use Prim.Native.Nat.{ℕ, suc, _+_, _-_, _*_, _/_, _%_, _≤_}
 use native.Mathlib.Omega.{arith}
 use native.Mathlib.Nat.{add-zero}

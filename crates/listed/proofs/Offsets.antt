@@ -1,5 +1,6 @@
 -- The offset that `X` prints.
 -- isWrong, IsMoved, ended           a wrong place, where some bytes end, and what one byte does
+-- ended-is, stays                   taking them apart says so; behind a wrong byte nothing moves
 -- offset-right                      where no byte is wrong, it is the length of all
 -- offset-wrong                      where one is, it is the offset of the first wrong byte
 use Prim.Native.Nat.{ℕ, suc, _+_, _-_, _*_, _<_}

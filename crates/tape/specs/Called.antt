@@ -5,7 +5,7 @@
 -- isMore               that an answer is "more wanted"
 -- tapeCall, NextIs     one call, and that the code's results are those
 -- EveryCut             a recording, cut in every way
--- ThereDeck            that a delivered payload stands in the receive buffer
+-- ThereDeck            that a delivered payload and its key stand in the receive buffer
 use Prim.Native.Nat.{ℕ, _-_, _≤_}
 use mathlib.Core.Path.{_≡_}
 use mathlib.Core.Bool.{Bool, true, false}
@@ -81,6 +81,6 @@ EveryCut file P =
     (recv word : List ℕ) → rawLimit ≤ length recv → wordBytes ≤ length word →
     (pieces : List (List ℕ)) → joined pieces ≡ file → Yields tapeCall (fresh recv word) pieces P
 
--- a delivered payload stands in the receive buffer that comes back
+-- a delivered payload and its key stand in the receive buffer that comes back
 abbrev pub ThereDeck : Event → Deck → Type 0
 ThereDeck e m = ThereEvent e (m .ear .board)
