@@ -6,20 +6,24 @@
 -- fixed-..   on a fixed sub-channel (request W7); that its calls end
 -- read-..    on the plain stream
 -- next-..    on a recording's bytes
-use Prim.Native.Nat.{ℕ, suc, _+_, _≤_}
+-- take-wanting, show-wanting   where a recording is listed, where a board is written
+-- desk-..    on the office's input
+-- import-..  on a capture (request W11); behind a fault all bytes are taken
+use Prim.Native.Nat.{ℕ, zero, suc, _+_, _-_, _≤_}
 use native.Mathlib.Omega.{arith}
-use mathlib.Core.Path.{_≡_, refl, sym, _∙_, ap}
+use mathlib.Core.Path.{_≡_, refl, sym, _∙_, ap, subst}
 use mathlib.Core.Bool.{Bool, true, false}
 use mathlib.Core.Logic.{_↔_}
 use mathlib.Core.List.{List, [], _∷_, _++_}
-use mathlib.Core.Option.{Option, some, none}
-use lib.ListN.{length, take, drop}
-use lib.Dec.{leb}
-use borrow.Author.Tests.{leb-true}
-use Rattle.base.specs.Calls.{joined, Yields, owesNone, handsNone, unless, told}
-use Rattle.base.proofs.Calls.{none-owed, law, inv-hear}
+use mathlib.Core.Option.{Option, some, none, Option·none-ne-some}
+use lib.ListN.{length, getD, take, drop, set, length-append, length-drop, length-take}
+use lib.Dec.{eqb, ltb, leb}
+use borrow.Author.Tests.{ltb-true, ltb-false, le-leb}
+use Rattle.base.specs.Calls.{joined, Yields, With, owesNone, handsNone, unless, told, oneMore}
+use Rattle.base.specs.Choice.{pick}
+use Rattle.base.proofs.Calls.{none-owed, law, fits, FitsBy, more-iff, with-hear, inv-hear}
 use Rattle.frames.specs.Contents.{rawLimit}
-use Rattle.frames.specs.Frame.{Told}
+use Rattle.frames.specs.Frame.{Told, packet, refusal, broken}
 use Rattle.stream.specs.Called.{Held, takeByte, readAll, readOn, readBy, readCall, sound as soundFrame, Fine as FineFrame}
 use Rattle.stream.proofs.Cutting.{read-agrees, read-law}
 use Rattle.blocks.specs.Channel.{Event}
@@ -35,6 +39,32 @@ use Rattle.tape.specs.Called.{far, tapeCall}
 use Rattle.tape.proofs.Ears.{deck-hand-one}
 use Rattle.tape.proofs.Kept.{hear-kept}
 use Rattle.tape.proofs.Next.{tape-agrees}
+use Rattle.channel.specs.declared.answer.Answer.{Answer}
+use Rattle.listed.specs.Lines.{line, given, longest}
+use Rattle.lines.proofs.Short.{line-some}
+use Rattle.recording.specs.declared.recording.Totals.{Totals}
+use Rattle.recording.specs.declared.recording.Wants.the-variants.{More, Room}
+use Rattle.recording.specs.Printed as listing
+use Rattle.recording.specs.Printed.{Printed, printed, further, onAnswer, counted, print, near}
+use Rattle.recording.proofs.Tags.{wantsTag}
+use Rattle.readout.specs.declared.readout.Wants as showing
+use Rattle.readout.specs.declared.readout.Wants.the-variants as shows
+use Rattle.readout.specs.Source.{Source, boardIn, sourceOwes, sourceHand, sourceEat, sourceAll, sourceHear}
+use Rattle.readout.specs.Owed.{nothing}
+use Rattle.readout.specs.Called.{Screen, readoutOf, recvOn, owedOn, Part, partly, heardBy, takesOn, soundState}
+use Rattle.readout.specs.Called as screen
+use Rattle.readout.proofs.Sources.{source-hand-one}
+use Rattle.readout.proofs.Left.{left-none}
+use Rattle.office.specs.Desk.{Said, Desk, eat, deskAll}
+use Rattle.office.specs.Called as office
+use Rattle.office.proofs.Hearing as office-hearing
+use Rattle.office.proofs.Sent as office-sent
+use Rattle.captures.specs.File.{header}
+use Rattle.captures.specs.Import.{entry, entryLimit, fourAt}
+use Rattle.capture.specs.declared.reader.Capture.{Capture}
+use Rattle.capture.specs.declared.reader.Capture.the-variants.{Header, Head, Record, Behind}
+use Rattle.capture.specs.Called as capture
+use Rattle.capture.proofs.Hearing.{fine-take}
 
 none-behind : {A S : Type 0} (a b : A) (n : ℕ) (s t : S) → _≡_ {A = Option A × ℕ × S} (some a, 0, s) (some b, suc n, t) → ⊥
 none-behind {A} {S} a b n s t e = let z : 0 ≡ suc n = ap (λ (q : Option A × ℕ × S). q .1) e in omega arith
@@ -192,3 +222,200 @@ module _ (m : Deck) (f : Fine (m .ear .board)) (bs : List ℕ) (o : m .spot .off
 
   pub next-wanting : (tapeCall m bs .0 ≡ none) ↔ ((tapeCall m bs .1 ≡ length bs) × (deckOwes (tapeCall m bs .2) ≡ 0) × (deckAll m bs .0 ≡ []))
   next-wanting = rw (tape-agrees m bs f o) (wanting deckOwes deckHand deckEat deck-hand-one m bs)
+
+-- ---- where a recording is listed, by a call that is not refused: "more" exactly when all bytes are taken, a stored word is handed on whole, and any
+-- line would still have room (an answer is asked for only where it has)
+abbrev Listed : ℕ → List ℕ → Printed → Type 0
+Listed room bs r = (r .taken ≡ length bs) × (deckOwes (r .deck) ≡ 0) × (longest ≤ room - length (r .text))
+
+print-wanting : (f room : ℕ) (m : Deck) (t : Totals) (bs : List ℕ) → room ≤ f
+    → (print f room m t bs .wants ≡ More) ↔ Listed room bs (print f room m t bs)
+unfolding print
+print-wanting zero room m t bs l = (λ e. absurd (omega (arith, ap wantsTag e)), λ p. absurd (omega (arith, l, p .2)))
+print-wanting (suc f) room m t bs l =
+    let x = deckHear m bs in
+    go (λ v. print-wanting f (room - length (line (given v))) (x .2) (counted t (given v)) (drop (x .1) bs) (omega (arith, l, line-some v)))
+    (ltb room longest) (x .0) refl refl
+  where
+    x : Option Event × ℕ × Deck
+    x = deckHear m bs
+
+    rest : Answer → Printed
+    rest a = print f (room - length (line a)) (x .2) (counted t a) (drop (x .1) bs)
+
+    within : (o : Option Event) → FitsBy deckOwes deckHand deckEat deck-hand-one o (x .1) (x .2) bs → x .1 ≤ length bs
+    within none p = omega (arith, p .0)
+    within (some e) p = p
+
+    go : ((v : Event) → (rest (given v) .wants ≡ More) ↔ Listed (room - length (line (given v))) (drop (x .1) bs) (rest (given v)))
+        → (full : Bool) (o : Option Event) → ltb room longest ≡ full → x .0 ≡ o
+        → let r = pick full (printed Room m t) (onAnswer o (further (x .1) [] (printed More (x .2) t)) (λ a. further (x .1) (line a) (rest a))) in
+        (r .wants ≡ More) ↔ Listed room bs r
+    go k true o h q = (λ e. absurd (omega (arith, ap wantsTag e)), λ p. absurd (omega (arith, ltb-true room longest h, p .2)))
+    go k false none h q =
+        let w = wanting deckOwes deckHand deckEat deck-hand-one m bs .0 q in
+        ((λ e. (omega (arith, w .0), w .1, omega (arith, ltb-false room longest h))), (λ p. refl))
+    go k false (some v) h q =
+        let a = length-append (line (given v)) (rest (given v) .text) in
+        let d = length-drop (x .1) bs in
+        let n = within (x .0) (fits deckOwes deckHand deckEat deck-hand-one m bs) in (
+          (λ e. let r = k v .0 e in (omega (arith, r .0, d, n), r .1, omega (arith, r .2, a))),
+          (λ p. k v .1 (omega (arith, p .0, d, n), p .1, omega (arith, p .2, a))),
+        )
+
+pub take-wanting : (m : Deck) (t : Totals) (room : ℕ) (bs : List ℕ) → sound (m .ear .board .st) ≡ true
+    → near (m .spot) t (length bs) room ≡ true → roomy (m .ear .board .recv) (m .ear .board .word) ≡ true
+    → let r = listing.takes m t room bs in
+    (r .wants ≡ More) ↔ ((r .taken ≡ length bs) × (deckOwes (r .deck) ≡ 0) × (longest ≤ room - length (r .text)))
+take-wanting m t room bs e f g = rw (e, f, g) (print-wanting room room m t bs (omega arith))
+
+-- ---- where a board is written, by a call that is not refused: "more" exactly when all bytes are taken and give no answer, and all text that was owed
+-- is written; then no text and no move is owed
+abbrev showsTag : showing.Wants → ℕ
+showsTag shows.More = 0
+showsTag shows.Again = 1
+showsTag (shows.Refused n) = 2
+
+module _ (room : ℕ) (s : Screen) (bs : List ℕ) where
+  abbrev pub Written : Part → Type 0
+  Written p =
+      (p .taken ≡ length bs) × (p .text ≡ owedOn s) × (owedOn (p .screen) ≡ []) × (sourceOwes (p .screen .source) ≡ 0)
+      × (sourceAll (s .source) bs .0 ≡ [])
+
+  heard-wanting : (x : Option Event × ℕ × Source) → sourceHear (s .source) bs ≡ x → (heardBy s x .wants ≡ shows.More) ↔ Written (heardBy s x)
+  heard-wanting (none, n, y) q =
+      let w = wanting sourceOwes sourceHand sourceEat source-hand-one (s .source) bs .0 (ap (λ (r : Option Event × ℕ × Source). r .0) q) in
+      let taken : n ≡ length bs = sym (ap (λ (r : Option Event × ℕ × Source). r .1) q) ∙ w .0 in
+      let left : sourceOwes y ≡ 0 = sym (ap (λ (r : Option Event × ℕ × Source). sourceOwes (r .2)) q) ∙ w .1 in
+      ((λ e. (taken, refl, left-none nothing (boardIn (y .deck) .recv) refl, left, w .2)), (λ p. refl))
+  heard-wanting (some v, n, y) q = (
+    (λ e. absurd (omega (arith, ap showsTag e))),
+    (λ p.
+        let o = more-iff sourceOwes sourceHand sourceEat source-hand-one (s .source) bs .1 (p .4) in
+        absurd (Option·none-ne-some v (sym o ∙ ap (λ (r : Option Event × ℕ × Source). r .0) q))),
+  )
+
+  on-wanting : (takesOn room s bs .wants ≡ shows.More) ↔ Written (takesOn room s bs)
+  unfolding takesOn
+  on-wanting = go (ltb room (length (owedOn s))) refl
+    where
+      go : (t : Bool) → ltb room (length (owedOn s)) ≡ t
+          → let p = pick t (partly room s) (heardBy s (sourceHear (s .source) bs)) in (p .wants ≡ shows.More) ↔ Written p
+      go true q = (
+        (λ e. absurd (omega (arith, ap showsTag e))),
+        (λ p. let l = ltb-true room (length (owedOn s)) q in absurd (omega (arith, l, sym (length-take room (owedOn s)) ∙ ap length (p .1)))),
+      )
+      go false q = heard-wanting (sourceHear (s .source) bs) refl
+
+  pub show-wanting : soundState (readoutOf s) (length bs) ≡ true → roomy (recvOn s) (boardIn (s .source .deck) .word) ≡ true
+      → (screen.takes room s bs .wants ≡ shows.More) ↔ Written (screen.takes room s bs)
+  show-wanting e f = rw (e, f) on-wanting
+
+-- ---- on the office's input, by a call that is not refused: state and buffers pass, and there is room for any line's blocks
+module _ (room : ℕ) (enough : office.outLimit ≤ room) (d : Desk) (f : office.Fine d) (bs : List ℕ) where
+  desk-agrees : (cs : List ℕ) → office.hearCall room d cs ≡ office.hearOn d cs
+  desk-agrees cs = office-hearing.call-on room d cs (office-sent.fine-sound d f) (office-sent.fine-roomy d f) enough
+
+  pub desk-first : (x : Said) (n : ℕ) (g : Desk) → office.hearCall room d bs ≡ (some x, n, g)
+      → (deskAll d bs .0 ≡ x ∷ deskAll g (drop n bs) .0) × (deskAll d bs .1 ≡ deskAll g (drop n bs) .1)
+  desk-first x n g h =
+      let l = law owesNone handsNone eat none-owed d bs ∙ ap (λ r. told owesNone handsNone eat r bs) (sym (desk-agrees bs) ∙ h) in
+      (ap (λ (y : List Said × Desk). y .0) l, ap (λ (y : List Said × Desk). y .1) l)
+
+  pub desk-stops : (x : Said) (n : ℕ) (g : Desk) → office.hearCall room d bs ≡ (some x, suc n, g) → deskAll d (take n bs) .0 ≡ []
+  desk-stops x n g h = stops owesNone handsNone eat none-owed d bs x n g (sym (desk-agrees bs) ∙ h)
+
+  pub desk-blind : (x : Said) (n : ℕ) (g : Desk) → office.hearCall room d bs ≡ (some x, n, g)
+      → (cs : List ℕ) → office.hearCall room d (take n bs ++ cs) ≡ (some x, n, g)
+  desk-blind x n g h cs = desk-agrees (take n bs ++ cs) ∙ blind owesNone handsNone eat none-owed cs d bs x n g (sym (desk-agrees bs) ∙ h)
+
+  pub desk-wanting : (office.hearCall room d bs .0 ≡ none) ↔ ((office.hearCall room d bs .1 ≡ length bs) × (deskAll d bs .0 ≡ []))
+  desk-wanting =
+      let w = wanting owesNone handsNone eat none-owed d bs in
+      rw (desk-agrees bs) (λ e. (w .0 e .0, w .0 e .2), λ p. w .1 (p .0, refl, p .1))
+
+-- ---- on a capture, by a call that is not refused
+import-agrees : (h : capture.Held) (bs : List ℕ) → capture.Fine h → capture.readCall h bs ≡ capture.readOn h bs
+import-agrees h bs f = rw (f .counts, le-leb entryLimit (length (h .store)) (f .room)) refl
+
+module _ (h : capture.Held) (f : capture.Fine h) (bs : List ℕ) where
+  pub import-first : (t : Told) (n : ℕ) (g : capture.Held) → capture.readCall h bs ≡ (some t, n, g)
+      → (capture.readAll h bs .0 ≡ t ∷ capture.readAll g (drop n bs) .0) × (capture.readAll h bs .1 ≡ capture.readAll g (drop n bs) .1)
+  import-first t n g e =
+      let q = sym (import-agrees h bs f) ∙ e in
+      let l = law owesNone handsNone capture.takeByte none-owed h bs ∙ ap (λ r. told owesNone handsNone capture.takeByte r bs) q in
+      (ap (λ (x : List Told × capture.Held). x .0) l, ap (λ (x : List Told × capture.Held). x .1) l)
+
+  pub import-stops : (t : Told) (n : ℕ) (g : capture.Held) → capture.readCall h bs ≡ (some t, suc n, g) → capture.readAll h (take n bs) .0 ≡ []
+  import-stops t n g e = stops owesNone handsNone capture.takeByte none-owed h bs t n g (sym (import-agrees h bs f) ∙ e)
+
+  pub import-blind : (t : Told) (n : ℕ) (g : capture.Held) → capture.readCall h bs ≡ (some t, n, g)
+      → (cs : List ℕ) → capture.readCall h (take n bs ++ cs) ≡ (some t, n, g)
+  import-blind t n g e cs =
+      import-agrees h (take n bs ++ cs) f ∙ blind owesNone handsNone capture.takeByte none-owed cs h bs t n g (sym (import-agrees h bs f) ∙ e)
+
+  pub import-wanting : (capture.readCall h bs .0 ≡ none) ↔ ((capture.readCall h bs .1 ≡ length bs) × (capture.readAll h bs .0 ≡ []))
+  import-wanting =
+      let w = wanting owesNone handsNone capture.takeByte none-owed h bs in
+      rw (import-agrees h bs f) (λ e. (w .0 e .0, w .0 e .2), λ p. w .1 (p .0, refl, p .1))
+
+-- W11: "60 ..; 61 ..; 62 ..; first found in file order": behind one of these all further bytes are taken, there is no other answer, and state and
+-- store stay as they are
+abbrev Dead : Told → capture.Held → Type 0
+Dead (packet p) h = Unit {0}
+Dead (refusal n) h = h .st ≡ Behind n
+Dead (broken n) h = Unit {0}
+
+dead-take : (c : Capture) (st : List ℕ) (b : ℕ) → With Dead (capture.takeBy c st b .0) (capture.takeBy c st b .1)
+dead-take (Header k) st b = go (eqb b (getD header k 0))
+  where
+    ways : Bool → Option Told × Capture
+    ways t = pick t (none, pick (eqb (k + 1) 24) (Head 0) (Header (k + 1))) (capture.says (refusal 60))
+
+    go : (t : Bool) → With Dead (ways t .0) (capture.held (ways t .1) st)
+    go true = tt
+    go false = refl
+dead-take (Head k) st b = go (eqb (k + 1) 16) (eqb (fourAt l 8) (fourAt l 12)) (eqb (fourAt l 8) 0)
+  where
+    l : List ℕ
+    l = set st k b
+
+    ways : Bool → Bool → Bool → Option Told × Capture
+    ways t u v = pick t (pick u (pick v (capture.says (refusal 62)) (none, Record (fourAt l 8) 0)) (capture.says (refusal 61))) (none, Head (k + 1))
+
+    go : (t u v : Bool) → With Dead (ways t u v .0) (capture.held (ways t u v .1) l)
+    go false u v = tt
+    go true false v = refl
+    go true true false = tt
+    go true true true = refl
+dead-take (Record n d) st b = go (eqb (d + 1) n)
+  where
+    l : List ℕ
+    l = set st d b
+
+    said-dead : (t : Told) → With Dead (capture.says t .0) (capture.held (capture.says t .1) l)
+    said-dead (packet p) = tt
+    said-dead (refusal m) = refl
+    said-dead (broken m) = tt
+
+    go : (t : Bool) → let r = pick t (capture.wholeBy n l) (none, Record n (d + 1)) in With Dead (r .0) (capture.held (r .1) l)
+    go false = tt
+    go true = said-dead (pick (ltb entryLimit n) (refusal 62) (entry (take n l)))
+dead-take (Behind m) st b = tt
+
+dead-on : (n : ℕ) (st bs : List ℕ) → capture.readOn (capture.held (Behind n) st) bs ≡ (none, length bs, capture.held (Behind n) st)
+dead-on n st [] = refl
+dead-on n st (b ∷ bs) = ap oneMore (dead-on n st bs)
+
+pub import-behind : (h : capture.Held) → capture.Fine h → (bs : List ℕ) (n k : ℕ) (g : capture.Held)
+    → capture.readCall h bs ≡ (some (refusal n), k, g) → (cs : List ℕ) → capture.readCall g cs ≡ (none, length cs, g)
+import-behind h f bs n k g e cs =
+    let q = sym (import-agrees h bs f) ∙ e in
+    let dead : g .st ≡ Behind n =
+    subst (λ (r : Option Told × ℕ × capture.Held). With Dead (r .0) (r .2)) q
+    (with-hear owesNone handsNone capture.takeByte none-owed Dead (λ g. tt) (λ g b. dead-take (g .st) (g .store) b) h bs) in
+    let fine : capture.Fine g =
+    subst (λ (r : Option Told × ℕ × capture.Held). capture.Fine (r .2)) q
+    (inv-hear owesNone handsNone capture.takeByte none-owed capture.Fine (λ g n e i. i) (λ g b e i. fine-take g b i) h bs f) in
+    let is : g ≡ capture.held (Behind n) (g .store) = λ i. capture.held (dead i) (g .store) in
+    import-agrees g cs fine ∙ ap (λ (x : capture.Held). capture.readOn x cs) is ∙ dead-on n (g .store) cs ∙ (λ i. (none, length cs, sym is i))

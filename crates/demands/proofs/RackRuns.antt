@@ -1,6 +1,8 @@
 -- The rack's calls: what the receivers' laws of payloads and of cutting (proofs/Demand3) say of them, by numbers.
 -- rack-payload       where payload and key stand behind a call, on the plain stream
 -- rack-channel-payload   .. and on the channel
+-- rack-wanting       when a call wants more, on the plain stream
+-- rack-channel-wanting   .. and on the channel
 -- runs               calls that follow others, answer by answer and state by state, yield what those yield
 -- rack-cut           every way of cutting, from a state of zeros, on the plain stream
 -- rack-channel-cut   .. and on the channel
@@ -8,38 +10,40 @@ use Prim.Native.Nat.{ℕ, suc, _+_, _≤_}
 use native.Mathlib.Omega.{arith}
 use mathlib.Core.Path.{_≡_, refl, sym, ap, subst, _∙_}
 use mathlib.Core.Bool.{Bool, true, false}
-use mathlib.Core.Logic.{_⊎_, _≢_}
+use mathlib.Core.Logic.{_⊎_, _≢_, _↔_}
 use mathlib.Core.Logic._⊎_.{inl, inr}
 use mathlib.Core.List.{List, [], _∷_, _++_, map, map-append}
 use mathlib.Core.Option.{Option, some, none, Option·none-ne-some}
 use lib.Dec.{ltb}
-use lib.ListN.{length, take, drop, set, replicate}
+use lib.ListN.{length, take, drop, set, replicate, getD}
 use borrow.Author.Tests.{ne-eqb}
 use Rattle.base.specs.Bytes.{Each, IsByte, Bytes}
-use Rattle.base.specs.Calls.{joined, unless, oneMore, With, Reads, ReadsAll, Yields}
+use Rattle.base.specs.Calls.{joined, owesNone, handsNone, unless, oneMore, With, Reads, ReadsAll, Yields}
 use Rattle.base.specs.Calls.Reads.{more, answer}
 use Rattle.base.specs.Calls.ReadsAll.{done, piece}
 use Rattle.base.specs.Choice.{pick}
 use Rattle.base.proofs.Bytes.{each-append-left, each-append-right, each-drop}
-use Rattle.base.proofs.Calls.{hear-by, yields-so}
+use Rattle.base.proofs.Calls.{hear-by, yields-so, none-owed, more-iff}
 use Rattle.frames.specs.Contents.{rawLimit, Packet}
 use Rattle.frames.specs.Frame.{Told, packet, refusal, broken, part}
 use Rattle.stream.specs.Reader.{waiting, reads}
-use Rattle.stream.specs.Called.{Held, held, readCall, answered, heldOf, inUse, ThereHeld}
+use Rattle.stream.specs.Called.{Held, held, takeByte, readAll, readCall, answered, heldOf, inUse, ThereHeld, Fine}
+use Rattle.stream.proofs.Cutting.{read-agrees}
 use Rattle.blocks.specs.Sender.{wordBytes}
 use Rattle.blocks.specs.declared.Hunting.{Hunting}
 use Rattle.blocks.specs.Channel.{Event, said, block, lost, shift, isMarker, freshChannel, hears, answers}
 use Rattle.blocks.specs.declared.Condition.the-variants.{Clean, Repaired, Beyond}
 use Rattle.channel.specs.Called as channel
 use Rattle.channel.specs.Called.{Board, board, huntOn, wordOn, compareOn, markOn, eatBy, eatByte, owed, handOn, hearOn, hearBy, hearCall, boardOf}
-use Rattle.channel.proofs.Cutting.{hand-one}
+use Rattle.channel.proofs.Cutting.{hand-one, hear-agrees}
 use Rattle.rack.specs.Told.{ofAnswer, receiverOf, channelNumbers}
 use Rattle.rack.specs.Calls.{readBy, reading, heardBy, hearing}
 use Rattle.demands.specs.Refusals.{OfFrame, OfCall, ByFrame}
-use Rattle.demands.specs.Rack.{StandsBy, calledBy, readCalled, toldAs, heldBy, channelBy, heardCalled, eventAs, boardBy}
+use Rattle.demands.specs.Rack.{StandsBy, saidBy, calledBy, readCalled, toldAs, heldBy, channelBy, heardCalled, eventAs, boardBy}
 use Rattle.demands.proofs.Demand1.{read-numbers, read-keeps-all, hear-numbers, hear-keeps-all}
 use Rattle.demands.proofs.Demand3.{plain-cut, plain-payload, every-cut, every-payload}
 use Rattle.demands.proofs.Rack.{stream-back, channel-back}
+use Rattle.demands.proofs.Calling.{read-wanting, hear-wanting}
 
 -- an answer in other words
 abbrev each : {A B : Type 0} → (A → B) → Option A → Option B
@@ -184,6 +188,24 @@ call-follows x bs _ =
     let q = readCall (heldBy x) bs in
     by-answer (x .0) (x .1) (q .0) (q .1) (q .2) (read-numbers (heldBy x) bs) (λ n c e. read-keeps-all (heldBy x) bs n (c, e))
 
+-- "It says "more wanted" exactly when all bytes are taken .. and no answer is owed": 0 says so, and the state's first number how many are taken
+pub rack-wanting : (s recv bs : List ℕ) → Fine (heldBy (s, recv))
+    → let x = reading s recv bs in (x .0 ≡ 0) ↔ ((getD (x .1) 0 0 ≡ length bs) × (readAll (heldBy (s, recv)) bs .0 ≡ []))
+rack-wanting s recv bs f =
+    let x = reading s recv bs in
+    let h = heldBy (s, recv) in
+    let q = readCall h bs in
+    let w = read-wanting h f bs in
+    let none-said : x .0 ≡ 0 → q .0 ≡ none =
+    λ e. none-back toldAs (q .0) (sym (call-follows (s, recv) bs (each-any bs) .0) ∙ ap (λ (n : ℕ). saidBy n (take 7 (drop 1 (x .1)))) e) in
+    let of-none : (g : ℕ × List ℕ × List ℕ → ℕ) → q .0 ≡ none → g x ≡ g (readBy s (none, q .1, q .2)) =
+    λ g e. ap (λ (o : Option Told). g (readBy s (o, q .1, q .2))) e in (
+      (λ e. let o = none-said e in (of-none (λ r. getD (r .1) 0 0) o ∙ w .0 o .0, w .0 o .1)),
+      (λ p.
+          of-none (λ r. r .0)
+          (ap (λ (r : Option Told × ℕ × Held). r .0) (read-agrees h bs f) ∙ more-iff owesNone handsNone takeByte none-owed h bs .1 (p .1))),
+    )
+
 -- a byte string, cut in every way, from a state of zeros and with every receive buffer that passes 11: the calls come to their end, and yield the
 -- numbers of its answers; the state's numbers behind them, and the bytes in use, are those of the uncut string
 pub rack-cut : (bs recv : List ℕ) → rawLimit ≤ length recv → (pieces : List (List ℕ)) → joined pieces ≡ bs
@@ -286,6 +308,26 @@ channel-follows x bs k =
     let q = hearCall c bs in
     event-alike (x .0) (x .1) (x .2) (q .0) (q .1) (q .2) (hunted-call c bs k (omega arith, (omega arith, (omega arith, (omega arith, tt)))))
     (hear-numbers c bs) (λ n o e. hear-keeps-all c bs n (o, e))
+
+-- .. "a stored word is handed on whole" too
+pub rack-channel-wanting : (s recv word bs : List ℕ) → Bytes bs → channel.Fine (boardBy (s, recv, word))
+    → let x = hearing s recv word bs in
+    (x .0 ≡ 0) ↔ ((getD (x .1) 0 0 ≡ length bs) × (owed (boardBy (x .1, x .2, x .3)) ≡ 0) × (channel.hearAll (boardBy (s, recv, word)) bs .0 ≡ []))
+rack-channel-wanting s recv word bs k f =
+    let x = hearing s recv word bs in
+    let c = boardBy (s, recv, word) in
+    let q = hearCall c bs in
+    let m = channel-follows (s, recv, word) bs k in
+    let w = hear-wanting c f bs in
+    let none-said : x .0 ≡ 0 → q .0 ≡ none =
+    λ e. none-back eventAs (q .0) (sym (m .0) ∙ ap (λ (n : ℕ). saidBy n (take 7 (drop 1 (x .1)) ++ (getD (x .1) 12 0 ∷ []))) e) in
+    let of-none : (g : ℕ × List ℕ × List ℕ × List ℕ → ℕ) → q .0 ≡ none → g x ≡ g (heardBy s (none, q .1, q .2)) =
+    λ g e. ap (λ (o : Option Event). g (heardBy s (o, q .1, q .2))) e in (
+      (λ e. let o = none-said e in (of-none (λ r. getD (r .1) 0 0) o ∙ w .0 o .0, ap owed (m .2) ∙ w .0 o .1, w .0 o .2)),
+      (λ p.
+          of-none (λ r. r .0)
+          (ap (λ (r : Option Event × ℕ × Board). r .0) (hear-agrees c bs f) ∙ more-iff owed handOn eatByte hand-one c bs .1 (p .2))),
+    )
 
 pub rack-channel-cut : (bs recv word : List ℕ) → Bytes bs → rawLimit ≤ length recv → wordBytes ≤ length word → (pieces : List (List ℕ)) → joined pieces ≡ bs
     → Yields heardCalled (replicate 21 0, recv, word) pieces
