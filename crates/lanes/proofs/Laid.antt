@@ -1,8 +1,8 @@
 -- Four numbers as 32 bytes: what each function of `Lanes` leaves, and a turn of each loop.
 -- laid-plus, laid-doubled, laid-shifted, laid-first, laid-zero   sum, double, shift, the first byte, the test
 -- doubles-are, Rows, rows-are   the products with 2, 4 and 8, and with each of 0, 1, .. 15
--- tables-are, divisor-is, tables-both, product-turn, beyond-is, twice-turn   the products of a byte's halves; a byte's product by its halves; two bytes more of a division
--- pair-.., next-fits   the bytes left are pairs
+-- tables-are, divisor-is, tables-own, tables-both, product-turn, once-turn, twice-turn   the products of a byte's halves; a byte's product by its halves; a byte more of a division, and two
+-- pair-.., one-next, next-fits   the bytes left are pairs, or one by one
 -- low-.., high-..  a byte's halves are places in a table
 -- left-..          the bytes handed out
 -- eight-.., head-laid   eight bytes as a number; a word's first 31 bytes laid down
@@ -343,7 +343,10 @@ tables-are g k e s t low high ek hs he ht hl hh = (λ i h. hl i h ∙ ap (scale 
 pub divisor-is : (g : Lanes) (low high : List Lanes) → Tables low high (laid g) → divisor low ≡ laid g
 divisor-is g low high tables = tables .0 1 (omega arith) ∙ scale-one (laid g) (bytes-laid g)
 
--- the tables of g and of a step behind it, by the first one's own product with 1
+-- the tables of g, by the first one's own product with 1, and those of a step behind it
+pub tables-own : (g : Lanes) (low high : List Lanes) → Tables low high (laid g) → Tables low high (divisor low)
+tables-own g low high one = subst (Tables low high) (sym (divisor-is g low high one)) one
+
 pub tables-both : (g : Lanes) (low high low2 high2 : List Lanes) → Tables low high (laid g) → Tables low2 high2 (fed (laid g) (laid g) 0)
     → Tables low high (divisor low) × Tables low2 high2 (fed (divisor low) (divisor low) 0)
 tables-both g low high low2 high2 one two =
@@ -385,9 +388,10 @@ product-turn g low high n tables s t u f hf et eu = eu ∙ ap₂ onto (et ∙ ap
 pub length-beyond : (g : Lanes) → length (fed (laid g) (laid g) 0) ≡ laneRoots
 length-beyond g = length-fed (laid g) (laid g) 0 refl (omega (arith, length-laid g)) ∙ length-laid g
 
-pub beyond-is : (g s u : Lanes) (f : ℕ) → f ≡ getD (laid g) 0 0 → laid s ≡ drop 1 (laid g) ++ 0 ∷ [] → laid u ≡ onto (scale f (laid g)) (laid s) → laid u ≡ fed (laid g) (laid g) 0
+-- one byte more of a division
+pub once-turn : (g xs : List ℕ) (f x : ℕ) {v ys : List ℕ} → f ≡ getD xs 0 0 → v ≡ drop 1 xs ++ x ∷ [] → ys ≡ onto (scale f g) v → ys ≡ fed g xs x
 unfolding fed
-beyond-is g s u f ef es eu = eu ∙ ap₂ (λ (n : ℕ) (v : List ℕ). onto (scale n (laid g)) v) ef es
+once-turn g xs f x ef ev ey = ey ∙ ap₂ (λ (n : ℕ) (w : List ℕ). onto (scale n g) w) ef ev
 
 -- two bytes more of a division
 pub twice-turn : (g xs : List ℕ) (f s x y : ℕ) {v ys : List ℕ} → length g ≡ laneRoots → length xs ≡ laneRoots → f ≡ getD xs 0 0 → s ≡ getD xs 1 0
@@ -402,6 +406,9 @@ twice-turn (a ∷ g) (c ∷ d ∷ xs) f s x y n m ef es ev ey =
 -- ---- pairs: one is left, and behind it pairs again
 pub pair-next : (i n : ℕ) → i < n → (n - i) % 2 ≡ 0 → (i + 1 < n) × (i + 2 ≤ n) × ((n - (i + 2)) % 2 ≡ 0) × (n - (i + 2) < n - i)
 pair-next i n h e = (omega arith, omega arith, omega arith, omega arith)
+
+pub one-next : (i n : ℕ) → i < n → (i + 1 ≤ n) × (n - (i + 1) < n - i)
+one-next i n h = (omega arith, omega arith)
 
 pub pair-fits : (i n : ℕ) → i + 2 ≤ n → n < eight → Fits w64 (i + 2)
 pair-fits i n h k = record { fits = omega arith }

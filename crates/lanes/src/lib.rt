@@ -334,7 +334,25 @@ fn residue(bytes: &[u8]) -> Lanes
     divided(low, high, low2, high2, bytes)
 }
 
-// .. and by the product for the next 32 roots: apart, so that the compiler knows the divisor here too, and makes the tables.
+// The same, a byte a turn: the other divisor has a loop of its own, so that each of the two loops stands in its caller, and no table is copied.
+fn divided_singly(low: [Lanes; 16], high: [Lanes; 16], bytes: &[u8]) -> Lanes
+    requires { ⌜ Tables low high (divisor low) ⌝ }
+    ensures { λ l. ⌜ laid l ≡ fedAll (divisor low) (replicate laneRoots 0) (now (bytes .entry)) ⌝ }
+{
+    let mut i: usize = 0;
+    let mut l = Lanes::none();
+    while i < bytes.len() {
+        let f = l.first();
+        let a = low[f % 16];
+        let b = high[f / 16];
+        let e = l.shifted(bytes[i]);
+        l = e.plus(a).plus(b);
+        i += 1;
+    }
+    l
+}
+
+// What is left when they are divided by the product for the next 32 roots: apart, so that the compiler knows the divisor here too, and makes the tables.
 fn residue_above(bytes: &[u8]) -> Lanes
     ensures { λ l. ⌜ laid l ≡ residueFrom nextRoot laneRoots (now (bytes .entry)) ⌝ }
 {
@@ -344,12 +362,7 @@ fn residue_above(bytes: &[u8]) -> Lanes
     let t = steps(eighth.doubled());
     let low = rows(s);
     let high = rows(t);
-    let s2 = steps(beyond(g, low, high));
-    let eighth2 = s2.eight;
-    let t2 = steps(eighth2.doubled());
-    let low2 = rows(s2);
-    let high2 = rows(t2);
-    divided(low, high, low2, high2, bytes)
+    divided_singly(low, high, bytes)
 }
 
 // The bytes, one by one.

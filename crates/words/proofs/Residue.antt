@@ -78,7 +78,7 @@ fed-begun g k (suc n) w h l =
     more : k - n ≡ suc (k - suc n)
     more = omega arith
 
--- a turn of the loop over the bytes w, two of them, and its end
+-- a turn of the loop over the bytes w, two of them or one, and its end
 module _ (g xs w : List ℕ) (i : ℕ) {t : List ℕ} (inv : fedAll g xs (drop i w) ≡ t) where
   pub fed-next : i + 1 < length w → {ys : List ℕ} → ys ≡ fed g (fed g xs (getD w i 0)) (getD w (i + 1) 0) → fedAll g ys (drop (i + 2) w) ≡ t
   unfolding fedAll
@@ -89,6 +89,10 @@ module _ (g xs w : List ℕ) (i : ℕ) {t : List ℕ} (inv : fedAll g xs (drop i
     where
       more : i + 1 + 1 ≡ i + 2
       more = omega arith
+
+  pub fed-one : i < length w → {ys : List ℕ} → ys ≡ fed g xs (getD w i 0) → fedAll g ys (drop (i + 1) w) ≡ t
+  unfolding fedAll
+  fed-one h e = ap (λ (zs : List ℕ). fedAll g zs (drop (i + 1) w)) e ∙ sym (ap (fedAll g xs) (next w i h)) ∙ inv
 
   pub fed-done : length w ≤ i → xs ≡ t
   unfolding fedAll

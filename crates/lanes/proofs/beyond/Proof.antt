@@ -1,6 +1,6 @@
 -- `lanes::beyond` meets its contract: a step of the division, with the divisor in the lanes.
 use Rattle.lanes.specs.Private.{laid}
-use Rattle.lanes.proofs.Laid.{length-laid, product-turn, beyond-is, low-place, low-fits, high-place, high-fits}
+use Rattle.lanes.proofs.Laid.{length-laid, product-turn, once-turn, low-place, low-fits, high-place, high-fits}
 use Rattle.lanes.proofs.beyond.Statement.{statement}
 use Rattle.lanes.proofs.beyond.Tie as tie
 
@@ -20,6 +20,6 @@ beyond-spec =
     let first = c .before .before .before .before .before in
     let start = first .before in
     let g = start .args .g in
-    beyond-is g (c .before .before .shifted .result) (c .plus2 .result) _ (first .first .ensures .0) (c .before .before .shifted .ensures)
+    once-turn (laid g) (laid g) _ 0 (first .first .ensures .0) (c .before .before .shifted .ensures)
     (product-turn (laid g) (start .args .t2) (start .args .t3) (length-laid g) (start .pre) (c .before .before .shifted .result) (c .before .plus .result) (c .plus2 .result) _
     (first .first .ensures .1) (c .before .plus .ensures) (c .plus2 .ensures))))
