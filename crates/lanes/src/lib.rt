@@ -1,5 +1,5 @@
-//! Division by the generator for 32 roots, and by the product for the 32 roots behind them: what is left lies in four numbers of eight bytes,
-//! and two bytes go in at a turn.
+//! Division by the generator for 32 roots, two bytes a turn, and by the product for the 32 roots behind them, a byte a turn: what is left lies in
+//! four numbers of eight bytes.
 ghost use mathlib.Core.Path.{_≡_};
 ghost use mathlib.Core.List.{[], _∷_, _++_, map};
 ghost use Prim.Native.Nat.{_+_, _-_, _%_, _≤_, _<_};
