@@ -46,7 +46,6 @@ pub first-given : (stray bs : List ℕ) → FirstMarker stray (marker ++ bs) →
 first-given stray bs m h = ap (λ (x : List Event × Chan). x .0) (from-start stray bs m) ∙ part-word bs [] theMarker waiting (omega arith)
 
 -- ---- behind words
-
 wholes-give : (ws : List (List ℕ)) (r : Reading) → wholes ws r .0 ≡ wordsGive ws r
 wholes-give [] r = refl
 wholes-give (w ∷ ws) r = ap (λ l. block (condition w) ∷ (map said (reads r (message w) .0) ++ l)) (wholes-give ws (reads r (message w) .1))

@@ -135,7 +135,7 @@ abbrev pub unmadeBy : ℕ → ℕ → ℕ → ℕ
 unmadeBy r n m = numberOf (parity.made r (replicate n 0) (replicate m 0) .answer)
 
 -- .. and the check of a word; 0 where it is clean or damaged
-abbrev pub checkNumber : Checked → ℕ
+abbrev checkNumber : Checked → ℕ
 checkNumber checking.Clean = 0
 checkNumber checking.Damaged = 0
 checkNumber (checking.Refused n) = n
@@ -145,7 +145,7 @@ abbrev pub uncheckedBy : ℕ → ℕ → ℕ
 uncheckedBy r n = checkNumber (parity.checked r (replicate n 0 ++ 0x01 ∷ []))
 
 -- the number by which an answer of the channel refuses; 0 where more is wanted
-abbrev pub hearNumber : Option Event → ℕ
+abbrev hearNumber : Option Event → ℕ
 hearNumber none = 0
 hearNumber (some (said t)) = toldNumber t
 hearNumber (some (block c)) = 0

@@ -30,7 +30,7 @@ use Rattle.words.specs.Word.{scale, onto}
 use Rattle.words.specs.Residue.{laneRoots}
 use Rattle.words.specs.Private.{bytesOf, isZero, fed}
 use Rattle.lanes.specs.Private.{laid, nothing, divisor, Doubles, Multiples, Tables}
-use Rattle.lanes.specs.declared.Lanes.{Lanes}
+use Rattle.lanes.specs.declared.coefficients.Lanes.{Lanes}
 use Rattle.lanes.specs.declared.Doublings.{Doublings}
 use Rattle.words.proofs.Sums.{length-scale, length-onto, onto-append, onto-comm, onto-assoc}
 use Rattle.words.proofs.Packed.{length-bytes, bytes-bytes, bytes-xor, bytes-behind, bytes-first, bytes-zero, zero-append, size}

@@ -9,7 +9,7 @@ use Prim.Native.Nat.{ℕ, _<_}
 use lib.ListN.{getD}
 use Rattle.words.specs.Word.{scale}
 use Rattle.words.specs.Private.{bytesOf}
-use Rattle.lanes.specs.declared.Lanes.{Lanes}
+use Rattle.lanes.specs.declared.coefficients.Lanes.{Lanes}
 use Rattle.lanes.specs.declared.Doublings.{Doublings}
 
 -- the bytes of four numbers

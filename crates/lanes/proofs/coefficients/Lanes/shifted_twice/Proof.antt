@@ -1,10 +1,10 @@
--- `lanes::Lanes::shifted_twice` meets its contract, by the law of the shift.
+-- `lanes::coefficients::Lanes::shifted_twice` meets its contract, by the law of the shift.
 use mathlib.Core.Path.{ap₂}
 use Prim.Native.Nat.{ℕ, _+_, _*_}
 use borrow.Author.Needs.{needs}
 use Rattle.lanes.proofs.Laid.{laid-twice, joins-two}
-use Rattle.lanes.proofs.Lanes.shifted_twice.Statement.{statement}
-use Rattle.lanes.proofs.Lanes.shifted_twice.Tie as tie
+use Rattle.lanes.proofs.coefficients.Lanes.shifted_twice.Statement.{statement}
+use Rattle.lanes.proofs.coefficients.Lanes.shifted_twice.Tie as tie
 
 pub shifted-twice-spec : {M : Type 1} → statement M
 shifted-twice-spec =

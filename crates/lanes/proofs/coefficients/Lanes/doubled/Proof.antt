@@ -1,8 +1,8 @@
--- `lanes::Lanes::doubled` meets its contract, lane by lane.
+-- `lanes::coefficients::Lanes::doubled` meets its contract, lane by lane.
 use borrow.Author.Needs.{needs}
 use Rattle.lanes.proofs.Laid.{laid-doubled}
-use Rattle.lanes.proofs.Lanes.doubled.Statement.{statement}
-use Rattle.lanes.proofs.Lanes.doubled.Tie as tie
+use Rattle.lanes.proofs.coefficients.Lanes.doubled.Statement.{statement}
+use Rattle.lanes.proofs.coefficients.Lanes.doubled.Tie as tie
 
 pub doubled-spec : {M : Type 1} → statement M
 doubled-spec =

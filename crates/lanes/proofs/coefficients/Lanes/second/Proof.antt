@@ -1,8 +1,8 @@
--- `lanes::Lanes::second` meets its contract, by the law of the second byte.
+-- `lanes::coefficients::Lanes::second` meets its contract, by the law of the second byte.
 use native.Mathlib.Omega.{arith}
 use Rattle.lanes.proofs.Laid.{laid-second}
-use Rattle.lanes.proofs.Lanes.second.Statement.{statement}
-use Rattle.lanes.proofs.Lanes.second.Tie as tie
+use Rattle.lanes.proofs.coefficients.Lanes.second.Statement.{statement}
+use Rattle.lanes.proofs.coefficients.Lanes.second.Tie as tie
 
 pub second-spec : {M : Type 1} → statement M
 second-spec = tie.close (tie.spec (λ c. (laid-second (c .before .args .self) (omega arith) (omega arith) (omega arith) (omega arith), omega arith)))
