@@ -2,6 +2,7 @@
 -- no byte behind the one that caused the answer, and the rest of a stored word is handed on before any new byte is taken. It says "more
 -- wanted" exactly when all bytes are taken, a stored word is handed on whole and no answer is owed."
 -- That a call gives at most one answer is its type (`Option Event`); with the answers of `hearAll` it is tied by `hear-first`.
+-- both, none-owing, past-both, as-before   what the laws of all of them share
 -- hear-..    on the channel
 -- fixed-..   on a fixed sub-channel (request W7); that its calls end
 -- read-..    on the plain stream
@@ -66,36 +67,45 @@ use Rattle.capture.specs.declared.reader.Capture.the-variants.{Header, Head, Re
 use Rattle.capture.specs.Called as capture
 use Rattle.capture.proofs.Hearing.{fine-take}
 
-none-behind : {A S : Type 0} (a b : A) (n : ℕ) (s t : S) → _≡_ {A = Option A × ℕ × S} (some a, 0, s) (some b, suc n, t) → ⊥
-none-behind {A} {S} a b n s t e = let z : 0 ≡ suc n = ap (λ (q : Option A × ℕ × S). q .1) e in omega arith
+-- ---- for all of them: equal pairs have equal parts; where a reader owes no move, that of `wanting` which says so goes without saying
+both : {A B : Type 0} {x y : A × B} → x ≡ y → (x .0 ≡ y .0) × (x .1 ≡ y .1)
+both {A} {B} e = (ap (λ (q : A × B). q .0) e, ap (λ (q : A × B). q .1) e)
+
+none-owing : {P Q R : Type 0} {n : ℕ} → P ↔ (Q × (n ≡ n) × R) → P ↔ (Q × R)
+none-owing w = (λ e. (w .0 e .0, w .0 e .2), λ p. w .1 (p .0, refl, p .1))
+
+-- a call by two tests that takes nothing where one fails: where it took a byte both hold; and two such calls are equal where they are behind both
+module _ {A S : Type 0} (call : Bool → Bool → Option A × ℕ × S) where
+  past-both : {x y : A} {c : S} → ((r : Bool) → call false r ≡ (some x, 0, c)) → call true false ≡ (some y, 0, c)
+      → (s r : Bool) {e : A} {n : ℕ} {d : S} → call s r ≡ (some e, suc n, d) → call true true ≡ (some e, suc n, d)
+  past-both p q false r {e} {n} {d} h = absurd (let z : 0 ≡ suc n = ap (λ (t : Option A × ℕ × S). t .1) (sym (p r) ∙ h) in omega arith)
+  past-both p q true false {e} {n} {d} h = absurd (let z : 0 ≡ suc n = ap (λ (t : Option A × ℕ × S). t .1) (sym q ∙ h) in omega arith)
+  past-both p q true true h = h
+
+  as-before : (other : Bool → Bool → Option A × ℕ × S) {z : Option A × ℕ × S} → ((r : Bool) → other false r ≡ call false r) → other true false ≡ call true false
+      → (call true true ≡ z → other true true ≡ z) → (s r : Bool) → call s r ≡ z → other s r ≡ z
+  as-before other p q k false r h = p r ∙ h
+  as-before other p q k true false h = q ∙ h
+  as-before other p q k true true h = k h
 
 -- ---- on the channel
 -- "with the number of bytes taken": the answer is the first of all, and the others are those of the state that it leaves and the bytes behind
 -- those taken
 pub hear-first : (c : Board) → Fine c → (bs : List ℕ) (e : Event) (n : ℕ) (d : Board) → hearCall c bs ≡ (some e, n, d)
     → (hearAll c bs .0 ≡ e ∷ hearAll d (drop n bs) .0) × (hearAll c bs .1 ≡ hearAll d (drop n bs) .1)
-hear-first c f bs e n d h =
-    let l = hear-law c bs f ∙ ap (λ r. told owed handOn eatByte r bs) h in
-    (ap (λ (x : List Event × Board). x .0) l, ap (λ (x : List Event × Board). x .1) l)
+hear-first c f bs e n d h = both (hear-law c bs f ∙ ap (λ r. told owed handOn eatByte r bs) h)
 
 -- "It takes no byte behind the one that caused the answer": before that one, byte n, there is no answer ..
 pub hear-stops : (c : Board) (bs : List ℕ) (e : Event) (n : ℕ) (d : Board) → hearCall c bs ≡ (some e, suc n, d) → hearAll c (take n bs) .0 ≡ []
-hear-stops c bs e n d = go (sound (c .st)) (roomy (c .recv) (c .word))
-  where
-    go : (s r : Bool) → hearBy s r c bs ≡ (some e, suc n, d) → hearAll c (take n bs) .0 ≡ []
-    go false r h = absurd (none-behind _ e n c d h)
-    go true false h = absurd (none-behind _ e n c d h)
-    go true true h = stops owed handOn eatByte hand-one c bs e n d h
+hear-stops c bs e n d h =
+    stops owed handOn eatByte hand-one c bs e n d (past-both (λ s r. hearBy s r c bs) (λ r. refl) refl (sound (c .st)) (roomy (c .recv) (c .word)) h)
 
 -- .. and whatever stands behind it makes no difference
 pub hear-blind : (c : Board) (bs : List ℕ) (e : Event) (n : ℕ) (d : Board) → hearCall c bs ≡ (some e, n, d)
     → (cs : List ℕ) → hearCall c (take n bs ++ cs) ≡ (some e, n, d)
-hear-blind c bs e n d h cs = go (sound (c .st)) (roomy (c .recv) (c .word)) h
-  where
-    go : (s r : Bool) → hearBy s r c bs ≡ (some e, n, d) → hearBy s r c (take n bs ++ cs) ≡ (some e, n, d)
-    go false r h = h
-    go true false h = h
-    go true true h = blind owed handOn eatByte hand-one cs c bs e n d h
+hear-blind c bs e n d h cs =
+    as-before (λ s r. hearBy s r c bs) (λ s r. hearBy s r c (take n bs ++ cs)) (λ r. refl) refl (blind owed handOn eatByte hand-one cs c bs e n d)
+    (sound (c .st)) (roomy (c .recv) (c .word)) h
 
 -- "the rest of a stored word is handed on before any new byte is taken": a call begins as a call on no bytes does, and goes on to the bytes
 -- where that gives no answer
@@ -119,27 +129,19 @@ hear-wanting c f bs = rw (hear-agrees c bs f) (wanting owed handOn eatByte hand-
 -- ---- on a fixed sub-channel, of any R and depth that pass 10
 pub fixed-first : (c : fixed.Board) → fixed.Fine c → (bs : List ℕ) (e : Event) (n : ℕ) (d : fixed.Board) → fixed.hearCall c bs ≡ (some e, n, d)
     → (fixed.hearAll c bs .0 ≡ e ∷ fixed.hearAll d (drop n bs) .0) × (fixed.hearAll c bs .1 ≡ fixed.hearAll d (drop n bs) .1)
-fixed-first c f bs e n d h =
-    let l = fixed-cut.hear-law c bs f ∙ ap (λ r. told fixed.owed fixed.handOn fixed.eatByte r bs) h in
-    (ap (λ (x : List Event × fixed.Board). x .0) l, ap (λ (x : List Event × fixed.Board). x .1) l)
+fixed-first c f bs e n d h = both (fixed-cut.hear-law c bs f ∙ ap (λ r. told fixed.owed fixed.handOn fixed.eatByte r bs) h)
 
 pub fixed-stops : (c : fixed.Board) (bs : List ℕ) (e : Event) (n : ℕ) (d : fixed.Board) → fixed.hearCall c bs ≡ (some e, suc n, d)
     → fixed.hearAll c (take n bs) .0 ≡ []
-fixed-stops c bs e n d = go (fixed.sound (c .st)) (roomy (c .recv) (c .word))
-  where
-    go : (s r : Bool) → fixed.hearBy s r c bs ≡ (some e, suc n, d) → fixed.hearAll c (take n bs) .0 ≡ []
-    go false r h = absurd (none-behind _ e n c d h)
-    go true false h = absurd (none-behind _ e n c d h)
-    go true true h = stops fixed.owed fixed.handOn fixed.eatByte fixed-cut.hand-one c bs e n d h
+fixed-stops c bs e n d h =
+    stops fixed.owed fixed.handOn fixed.eatByte fixed-cut.hand-one c bs e n d
+    (past-both (λ s r. fixed.hearBy s r c bs) (λ r. refl) refl (fixed.sound (c .st)) (roomy (c .recv) (c .word)) h)
 
 pub fixed-blind : (c : fixed.Board) (bs : List ℕ) (e : Event) (n : ℕ) (d : fixed.Board) → fixed.hearCall c bs ≡ (some e, n, d)
     → (cs : List ℕ) → fixed.hearCall c (take n bs ++ cs) ≡ (some e, n, d)
-fixed-blind c bs e n d h cs = go (fixed.sound (c .st)) (roomy (c .recv) (c .word)) h
-  where
-    go : (s r : Bool) → fixed.hearBy s r c bs ≡ (some e, n, d) → fixed.hearBy s r c (take n bs ++ cs) ≡ (some e, n, d)
-    go false r h = h
-    go true false h = h
-    go true true h = blind fixed.owed fixed.handOn fixed.eatByte fixed-cut.hand-one cs c bs e n d h
+fixed-blind c bs e n d h cs =
+    as-before (λ s r. fixed.hearBy s r c bs) (λ s r. fixed.hearBy s r c (take n bs ++ cs)) (λ r. refl) refl
+    (blind fixed.owed fixed.handOn fixed.eatByte fixed-cut.hand-one cs c bs e n d) (fixed.sound (c .st)) (roomy (c .recv) (c .word)) h
 
 pub fixed-owed : (c : fixed.Board) (bs : List ℕ)
     → fixed.hearCall c bs ≡ unless (fixed.hearCall c [] .0) 0 (fixed.hearCall c [] .2) (fixed.hearCall (fixed.hearCall c [] .2) bs)
@@ -170,39 +172,28 @@ fixed-ends = fixed-cut.hear-yields
 -- ---- on the plain stream
 pub read-first : (h : Held) → FineFrame h → (bs : List ℕ) (t : Told) (n : ℕ) (g : Held) → readCall h bs ≡ (some t, n, g)
     → (readAll h bs .0 ≡ t ∷ readAll g (drop n bs) .0) × (readAll h bs .1 ≡ readAll g (drop n bs) .1)
-read-first h f bs t n g e =
-    let l = read-law h bs f ∙ ap (λ r. told owesNone handsNone takeByte r bs) e in
-    (ap (λ (x : List Told × Held). x .0) l, ap (λ (x : List Told × Held). x .1) l)
+read-first h f bs t n g e = both (read-law h bs f ∙ ap (λ r. told owesNone handsNone takeByte r bs) e)
 
 pub read-stops : (h : Held) (bs : List ℕ) (t : Told) (n : ℕ) (g : Held) → readCall h bs ≡ (some t, suc n, g) → readAll h (take n bs) .0 ≡ []
-read-stops h bs t n g = go (soundFrame (h .st)) (leb rawLimit (length (h .recv)))
-  where
-    go : (s r : Bool) → readBy s r h bs ≡ (some t, suc n, g) → readAll h (take n bs) .0 ≡ []
-    go false r e = absurd (none-behind _ t n h g e)
-    go true false e = absurd (none-behind _ t n h g e)
-    go true true e = stops owesNone handsNone takeByte none-owed h bs t n g e
+read-stops h bs t n g e =
+    stops owesNone handsNone takeByte none-owed h bs t n g
+    (past-both (λ s r. readBy s r h bs) (λ r. refl) refl (soundFrame (h .st)) (leb rawLimit (length (h .recv))) e)
 
 pub read-blind : (h : Held) (bs : List ℕ) (t : Told) (n : ℕ) (g : Held) → readCall h bs ≡ (some t, n, g)
     → (cs : List ℕ) → readCall h (take n bs ++ cs) ≡ (some t, n, g)
-read-blind h bs t n g e cs = go (soundFrame (h .st)) (leb rawLimit (length (h .recv))) e
-  where
-    go : (s r : Bool) → readBy s r h bs ≡ (some t, n, g) → readBy s r h (take n bs ++ cs) ≡ (some t, n, g)
-    go false r e = e
-    go true false e = e
-    go true true e = blind owesNone handsNone takeByte none-owed cs h bs t n g e
+read-blind h bs t n g e cs =
+    as-before (λ s r. readBy s r h bs) (λ s r. readBy s r h (take n bs ++ cs)) (λ r. refl) refl (blind owesNone handsNone takeByte none-owed cs h bs t n g)
+    (soundFrame (h .st)) (leb rawLimit (length (h .recv))) e
 
 pub read-wanting : (h : Held) → FineFrame h → (bs : List ℕ) → (readCall h bs .0 ≡ none) ↔ ((readCall h bs .1 ≡ length bs) × (readAll h bs .0 ≡ []))
-read-wanting h f bs =
-    let w = wanting owesNone handsNone takeByte none-owed h bs in
-    rw (read-agrees h bs f) (λ e. (w .0 e .0, w .0 e .2), λ p. w .1 (p .0, refl, p .1))
+read-wanting h f bs = rw (read-agrees h bs f) (none-owing (wanting owesNone handsNone takeByte none-owed h bs))
 
 -- ---- on a recording's bytes, by a call that is not refused: the receiver and both buffers pass, and the offset stays below 2^64
 module _ (m : Deck) (f : Fine (m .ear .board)) (bs : List ℕ) (o : m .spot .offset + length bs ≤ far) where
   pub next-first : (e : Event) (n : ℕ) (d : Deck) → tapeCall m bs ≡ (some e, n, d)
       → (deckAll m bs .0 ≡ e ∷ deckAll d (drop n bs) .0) × (deckAll m bs .1 ≡ deckAll d (drop n bs) .1)
   next-first e n d h =
-      let l = law deckOwes deckHand deckEat deck-hand-one m bs ∙ ap (λ r. told deckOwes deckHand deckEat r bs) (sym (tape-agrees m bs f o) ∙ h) in
-      (ap (λ (x : List Event × Deck). x .0) l, ap (λ (x : List Event × Deck). x .1) l)
+      both (law deckOwes deckHand deckEat deck-hand-one m bs ∙ ap (λ r. told deckOwes deckHand deckEat r bs) (sym (tape-agrees m bs f o) ∙ h))
 
   pub next-stops : (e : Event) (n : ℕ) (d : Deck) → tapeCall m bs ≡ (some e, suc n, d) → deckAll m (take n bs) .0 ≡ []
   next-stops e n d h = stops deckOwes deckHand deckEat deck-hand-one m bs e n d (sym (tape-agrees m bs f o) ∙ h)
@@ -277,12 +268,12 @@ showsTag shows.Again = 1
 showsTag (shows.Refused n) = 2
 
 module _ (room : ℕ) (s : Screen) (bs : List ℕ) where
-  abbrev pub Written : Part → Type 0
-  Written p =
+  abbrev pub AllWritten : Part → Type 0
+  AllWritten p =
       (p .taken ≡ length bs) × (p .text ≡ owedOn s) × (owedOn (p .screen) ≡ []) × (sourceOwes (p .screen .source) ≡ 0)
       × (sourceAll (s .source) bs .0 ≡ [])
 
-  heard-wanting : (x : Option Event × ℕ × Source) → sourceHear (s .source) bs ≡ x → (heardBy s x .wants ≡ shows.More) ↔ Written (heardBy s x)
+  heard-wanting : (x : Option Event × ℕ × Source) → sourceHear (s .source) bs ≡ x → (heardBy s x .wants ≡ shows.More) ↔ AllWritten (heardBy s x)
   heard-wanting (none, n, y) q =
       let w = wanting sourceOwes sourceHand sourceEat source-hand-one (s .source) bs .0 (ap (λ (r : Option Event × ℕ × Source). r .0) q) in
       let taken : n ≡ length bs = sym (ap (λ (r : Option Event × ℕ × Source). r .1) q) ∙ w .0 in
@@ -295,12 +286,12 @@ module _ (room : ℕ) (s : Screen) (bs : List ℕ) where
         absurd (Option·none-ne-some v (sym o ∙ ap (λ (r : Option Event × ℕ × Source). r .0) q))),
   )
 
-  on-wanting : (takesOn room s bs .wants ≡ shows.More) ↔ Written (takesOn room s bs)
+  on-wanting : (takesOn room s bs .wants ≡ shows.More) ↔ AllWritten (takesOn room s bs)
   unfolding takesOn
   on-wanting = go (ltb room (length (owedOn s))) refl
     where
       go : (t : Bool) → ltb room (length (owedOn s)) ≡ t
-          → let p = pick t (partly room s) (heardBy s (sourceHear (s .source) bs)) in (p .wants ≡ shows.More) ↔ Written p
+          → let p = pick t (partly room s) (heardBy s (sourceHear (s .source) bs)) in (p .wants ≡ shows.More) ↔ AllWritten p
       go true q = (
         (λ e. absurd (omega (arith, ap showsTag e))),
         (λ p. let l = ltb-true room (length (owedOn s)) q in absurd (omega (arith, l, sym (length-take room (owedOn s)) ∙ ap length (p .1)))),
@@ -308,7 +299,7 @@ module _ (room : ℕ) (s : Screen) (bs : List ℕ) where
       go false q = heard-wanting (sourceHear (s .source) bs) refl
 
   pub show-wanting : soundState (readoutOf s) (length bs) ≡ true → roomy (recvOn s) (boardIn (s .source .deck) .word) ≡ true
-      → (screen.takes room s bs .wants ≡ shows.More) ↔ Written (screen.takes room s bs)
+      → (screen.takes room s bs .wants ≡ shows.More) ↔ AllWritten (screen.takes room s bs)
   show-wanting e f = rw (e, f) on-wanting
 
 -- ---- on the office's input, by a call that is not refused: state and buffers pass, and there is room for any line's blocks
@@ -318,9 +309,7 @@ module _ (room : ℕ) (enough : office.outLimit ≤ room) (d : Desk) (f : office
 
   pub desk-first : (x : Said) (n : ℕ) (g : Desk) → office.hearCall room d bs ≡ (some x, n, g)
       → (deskAll d bs .0 ≡ x ∷ deskAll g (drop n bs) .0) × (deskAll d bs .1 ≡ deskAll g (drop n bs) .1)
-  desk-first x n g h =
-      let l = law owesNone handsNone eat none-owed d bs ∙ ap (λ r. told owesNone handsNone eat r bs) (sym (desk-agrees bs) ∙ h) in
-      (ap (λ (y : List Said × Desk). y .0) l, ap (λ (y : List Said × Desk). y .1) l)
+  desk-first x n g h = both (law owesNone handsNone eat none-owed d bs ∙ ap (λ r. told owesNone handsNone eat r bs) (sym (desk-agrees bs) ∙ h))
 
   pub desk-stops : (x : Said) (n : ℕ) (g : Desk) → office.hearCall room d bs ≡ (some x, suc n, g) → deskAll d (take n bs) .0 ≡ []
   desk-stops x n g h = stops owesNone handsNone eat none-owed d bs x n g (sym (desk-agrees bs) ∙ h)
@@ -330,9 +319,7 @@ module _ (room : ℕ) (enough : office.outLimit ≤ room) (d : Desk) (f : office
   desk-blind x n g h cs = desk-agrees (take n bs ++ cs) ∙ blind owesNone handsNone eat none-owed cs d bs x n g (sym (desk-agrees bs) ∙ h)
 
   pub desk-wanting : (office.hearCall room d bs .0 ≡ none) ↔ ((office.hearCall room d bs .1 ≡ length bs) × (deskAll d bs .0 ≡ []))
-  desk-wanting =
-      let w = wanting owesNone handsNone eat none-owed d bs in
-      rw (desk-agrees bs) (λ e. (w .0 e .0, w .0 e .2), λ p. w .1 (p .0, refl, p .1))
+  desk-wanting = rw (desk-agrees bs) (none-owing (wanting owesNone handsNone eat none-owed d bs))
 
 -- ---- on a capture, by a call that is not refused
 import-agrees : (h : capture.Held) (bs : List ℕ) → capture.Fine h → capture.readCall h bs ≡ capture.readOn h bs
@@ -342,9 +329,7 @@ module _ (h : capture.Held) (f : capture.Fine h) (bs : List ℕ) where
   pub import-first : (t : Told) (n : ℕ) (g : capture.Held) → capture.readCall h bs ≡ (some t, n, g)
       → (capture.readAll h bs .0 ≡ t ∷ capture.readAll g (drop n bs) .0) × (capture.readAll h bs .1 ≡ capture.readAll g (drop n bs) .1)
   import-first t n g e =
-      let q = sym (import-agrees h bs f) ∙ e in
-      let l = law owesNone handsNone capture.takeByte none-owed h bs ∙ ap (λ r. told owesNone handsNone capture.takeByte r bs) q in
-      (ap (λ (x : List Told × capture.Held). x .0) l, ap (λ (x : List Told × capture.Held). x .1) l)
+      both (law owesNone handsNone capture.takeByte none-owed h bs ∙ ap (λ r. told owesNone handsNone capture.takeByte r bs) (sym (import-agrees h bs f) ∙ e))
 
   pub import-stops : (t : Told) (n : ℕ) (g : capture.Held) → capture.readCall h bs ≡ (some t, suc n, g) → capture.readAll h (take n bs) .0 ≡ []
   import-stops t n g e = stops owesNone handsNone capture.takeByte none-owed h bs t n g (sym (import-agrees h bs f) ∙ e)
@@ -355,9 +340,7 @@ module _ (h : capture.Held) (f : capture.Fine h) (bs : List ℕ) where
       import-agrees h (take n bs ++ cs) f ∙ blind owesNone handsNone capture.takeByte none-owed cs h bs t n g (sym (import-agrees h bs f) ∙ e)
 
   pub import-wanting : (capture.readCall h bs .0 ≡ none) ↔ ((capture.readCall h bs .1 ≡ length bs) × (capture.readAll h bs .0 ≡ []))
-  import-wanting =
-      let w = wanting owesNone handsNone capture.takeByte none-owed h bs in
-      rw (import-agrees h bs f) (λ e. (w .0 e .0, w .0 e .2), λ p. w .1 (p .0, refl, p .1))
+  import-wanting = rw (import-agrees h bs f) (none-owing (wanting owesNone handsNone capture.takeByte none-owed h bs))
 
 -- W11: "60 ..; 61 ..; 62 ..; first found in file order": behind one of these all further bytes are taken, there is no other answer, and state and
 -- store stay as they are
