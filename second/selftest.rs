@@ -1,5 +1,5 @@
 //! The second program held to the paper: its numbers, case, edges and slips, one by one. And where a thing is done here in two ways, the
-//! quick one of listing.rs and a plain one, both do the same.
+//! quick one of listing.rs or time.rs and a plain one, both do the same.
 
 use crate::cases::{self, Random};
 use crate::channel::{self, Answer, Receiver, BLOCK, MESSAGE, ROOTS};
@@ -11,6 +11,7 @@ use crate::key_cases::{self, checked, told_length, with_check, with_key};
 use crate::packet::{self, Fault, Packet, ESCAPE, FLAG, FORMAT, RAW_LIMIT, RESTRICTED};
 use crate::parity::{self, WORD};
 use crate::stream::{self, Reader};
+use crate::time::eights;
 use crate::{board, capture, fcs, fixed_cases, listing, noise, ports, repair, sheet, unit_cases, units};
 
 pub fn run(seed: u64) {
@@ -297,7 +298,8 @@ fn matrices(random: &mut Random) {
     }
 }
 
-/// Whether a word is clean, by division and at its roots: words as sent, altered, at random, and with a root less or more.
+/// Whether a word is clean, by two divisions and at its roots: words as sent, altered, in each place too, at random, and with a root less or more.
+/// And the parity of their messages.
 fn words(random: &mut Random) -> usize {
     let mut all = Vec::new();
     for places in 0..=40 {
@@ -306,8 +308,16 @@ fn words(random: &mut Random) -> usize {
     for roots in [0, 31, 33, 64] {
         all.extend((0..20).map(|_| repair::altered(random, roots, 0).1));
     }
+    for at in 0..WORD {
+        let mut word = all[0].clone();
+        word[at] ^= 1 << (at % 8);
+        all.push(word);
+    }
     for word in &all {
-        assert_eq!(Ok(listing::clean(word)), parity::check(ROOTS, word));
+        let message = &word[..MESSAGE];
+        let clean = parity::check(ROOTS, word).unwrap();
+        assert_eq!([listing::clean(word), eights::clean(word[..].try_into().unwrap())], [clean; 2]);
+        assert_eq!(Ok(eights::made(message).to_vec()), parity::make(ROOTS, message, WORD - MESSAGE));
     }
     all.len()
 }

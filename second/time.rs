@@ -37,65 +37,80 @@ const SECOND: Way = Way {
     },
 };
 
-/// An optimized program for this one job: what is left of a division stands in four numbers, and a byte costs one row of a table of 256, which
-/// is made once. One word a call. Its repair is the second program's.
-mod rows {
-    use super::{parity, Way, SECOND, R, WORD};
-    use std::sync::OnceLock;
+/// An optimized program for this one job, one word a call. A clean word turned round as a ring stays clean: so what eight bytes are worth can be put
+/// into the 32 places behind them, and also into the 32 before. From the message's middle one way goes down to the last byte, one up to the first,
+/// eight bytes a turn; neither waits for the other, and both end in the parity's places. Parity is the sum of the two. Its repair is the second
+/// program's.
+pub mod eights {
+    use super::{parity, Way, Word, R, SECOND, WORD};
+    use std::sync::LazyLock;
 
-    type Row = [u64; 4];
+    const MESSAGE: usize = WORD - R;
+    const TURNS: usize = MESSAGE.div_ceil(16);
+    /// This byte is in a number of both ways.
+    const MIDDLE: usize = MESSAGE - 8 * TURNS;
 
-    /// The multiples of the generator by every byte.
-    fn rows() -> &'static [Row; 256] {
-        static ROWS: OnceLock<Box<[Row; 256]>> = OnceLock::new();
-        ROWS.get_or_init(|| {
-            let mut message = [0; WORD - R];
-            let mut rows = Box::new([[0; 4]; 256]);
-            for f in 0..=255u8 {
-                message[WORD - R - 1] = f;
-                let parity = parity::make(R as u64, &message, R).unwrap();
-                for (lane, bytes) in rows[f as usize].iter_mut().zip(parity.chunks(8)) {
-                    *lane = u64::from_be_bytes(bytes.try_into().unwrap());
-                }
-            }
-            rows
-        })
+    /// Four numbers, the first byte highest.
+    type Lanes = [u64; 4];
+    /// Where two vectors of 16 bytes can be read.
+    #[derive(Clone, Copy)]
+    #[repr(align(32))]
+    struct Row(Lanes);
+    /// For each five bits of a number, the lowest first, 32 rows.
+    type Table = [[Row; 32]; 13];
+
+    /// Of the message's first eight bytes, and of its last. Made once.
+    static TABLES: LazyLock<[Table; 2]> = LazyLock::new(|| [0, MESSAGE - 8].map(table));
+
+    /// The parity of messages in which only a number at this place is not zero.
+    fn table(at: usize) -> Table {
+        let row = |number: u64| {
+            let mut message = [0; MESSAGE];
+            message[at..at + 8].copy_from_slice(&number.to_be_bytes());
+            let parity = parity::make(R as u64, &message, R).unwrap();
+            Row([0, 8, 16, 24].map(|lane| number_at(&parity, lane)))
+        };
+        std::array::from_fn(|group| std::array::from_fn(|bits| row((bits as u64) << (5 * group))))
     }
 
-    /// The first byte goes, x comes behind, and the row of f is added.
     #[inline(always)]
-    fn stepped(l: Row, x: u8, row: &Row) -> Row {
-        [
-            (l[0] << 8 | l[1] >> 56) ^ row[0],
-            (l[1] << 8 | l[2] >> 56) ^ row[1],
-            (l[2] << 8 | l[3] >> 56) ^ row[2],
-            (l[3] << 8 | x as u64) ^ row[3],
-        ]
+    fn number_at(bytes: &[u8], at: usize) -> u64 {
+        u64::from_be_bytes(bytes[at..at + 8].try_into().unwrap())
     }
 
-    /// What is left of bytes behind l.
     #[inline(always)]
-    fn left(mut l: Row, bytes: &[u8]) -> Row {
-        let rows = rows();
-        for &x in bytes {
-            l = stepped(l, x, &rows[(l[0] >> 56) as usize]);
+    fn plus(a: Lanes, b: Lanes) -> Lanes {
+        [a[0] ^ b[0], a[1] ^ b[1], a[2] ^ b[2], a[3] ^ b[3]]
+    }
+
+    /// A number has gone: its rows are added to the lanes that stay.
+    #[inline(always)]
+    fn turned(table: &Table, lanes: Lanes, number: u64) -> Lanes {
+        table.iter().enumerate().fold(lanes, |sum, (group, rows)| plus(sum, rows[(number >> (5 * group) & 31) as usize].0))
+    }
+
+    pub fn made(message: &[u8]) -> [u8; R] {
+        let message: &[u8; MESSAGE] = message.try_into().unwrap();
+        let [first, last] = &*TABLES;
+        // the middle byte goes down; on the way up it meets itself, and is gone
+        let (mut down, mut up) = ([0; 4], [0, 0, 0, message[MIDDLE] as u64]);
+        for i in 0..TURNS {
+            let ([a, b, c, d], [e, f, g, h]) = (down, up);
+            down = turned(last, [b, c, d, 0], a ^ number_at(message, MIDDLE + 8 * i));
+            up = turned(first, [0, e, f, g], h ^ number_at(message, MIDDLE - 7 - 8 * i));
         }
-        l
-    }
-
-    fn made(message: &[u8]) -> [u8; R] {
         let mut out = [0; R];
-        for (bytes, lane) in out.chunks_mut(8).zip(left(left([0; 4], message), &[0; R])) {
+        for (bytes, lane) in out.chunks_mut(8).zip(plus(down, up)) {
             bytes.copy_from_slice(&lane.to_be_bytes());
         }
         out
     }
 
-    fn clean(word: &[u8]) -> bool {
-        left([0; 4], word) == [0; 4]
+    pub fn clean(word: &Word) -> bool {
+        made(&word[..MESSAGE]) == word[MESSAGE..]
     }
 
-    pub const WAY: Way = Way { name: "rows", make: made, check: |word| clean(word), repair: SECOND.repair };
+    pub(super) const WAY: Way = Way { name: "eights", make: made, check: clean, repair: SECOND.repair };
 }
 
 #[cfg(any(proved, rack))]
@@ -172,7 +187,7 @@ fn ways() -> Vec<Way> {
     vec![
         #[cfg(any(proved, rack))]
         proved::WAY,
-        rows::WAY,
+        eights::WAY,
         #[cfg(not(rack))]
         SECOND,
         #[cfg(fec)]
