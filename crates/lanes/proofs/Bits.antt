@@ -2,7 +2,7 @@
 -- sums, sum-is, passed   some of five bits' rows added in one number: the arms of the `match`, and its last one
 -- adding-is              .. in four
 -- raised-..              a row doubled so many times
--- worths-are, further-is the eight worths, each from the one before it
+-- worths-are             the eight worths, each from the one before it
 -- group, turn-is         five bits more; thirteen times five of them are eight bytes more of a division
 use mathlib.Core.Path.{_≡_, refl, sym, ap, ap₂, _∙_, subst}
 use mathlib.Core.Bool.{Bool, true, false}
@@ -21,7 +21,7 @@ use Rattle.field.proofs.Sum.{zero-add, add-zero}
 use Rattle.words.specs.Word.{onto}
 use Rattle.words.specs.Residue.{laneRoots}
 use Rattle.words.specs.Private.{bytesOf, fed, fedAll, worth, spent, kept, summed, doublings, bitWorths}
-use Rattle.lanes.specs.Private.{laid, nothing, Worths, doubledBy, following, bits, five}
+use Rattle.lanes.specs.Private.{laid, rowOf, Further, Worths, doubledBy, following, bits, five}
 use Rattle.lanes.specs.declared.coefficients.Lanes.{Lanes}
 use Rattle.words.proofs.Sums.{onto-comm, zeros-onto}
 use Rattle.words.proofs.Packed.{length-bytes, bytes-xor}
@@ -337,41 +337,47 @@ unfolding doubledBy
 raised-done zero h e = e
 raised-done (suc n) h e = absurd (omega arith)
 
--- ---- eight worths: a place further up, what is left of the one before it with a zero behind it
-module _ (w0 w1 w2 w3 w4 w5 w6 w7 : Lanes) (e1 : laid w1 ≡ fed (laid w0) (laid w0) 0) (e2 : laid w2 ≡ fed (laid w0) (laid w1) 0) (e3 : laid w3 ≡ fed (laid w0) (laid w2) 0)
-    (e4 : laid w4 ≡ fed (laid w0) (laid w3) 0) (e5 : laid w5 ≡ fed (laid w0) (laid w4) 0) (e6 : laid w6 ≡ fed (laid w0) (laid w5) 0) (e7 : laid w7 ≡ fed (laid w0) (laid w6) 0) where
-  further : (i : ℕ) {p q : List ℕ} → p ≡ worth (laid w0) i → q ≡ fed (laid w0) p 0 → q ≡ worth (laid w0) (suc i)
+-- ---- eight worths
+module _ (w : List ℕ) where
+  nearest : rowOf w 0 ≡ worth (rowOf w 0) 0
   unfolding worth
-  further i ep eq = eq ∙ ap (λ (p : List ℕ). fed (laid w0) p 0) ep
+  nearest = refl
 
-  pub worths-are : {g : List ℕ} → laid w0 ≡ g → Worths (w0 ∷ w1 ∷ w2 ∷ w3 ∷ w4 ∷ w5 ∷ w6 ∷ w7 ∷ []) g
-  unfolding Rows worth
-  worths-are is = subst (Worths all) is (rows-from laid (worth (laid w0)) nothing all (refl, (h1, (h2, (h3, (h4, (h5, (h6, (further 6 h6 e7, tt)))))))))
+  further : (k : ℕ) → Further w k → rowOf w k ≡ worth (rowOf w 0) k → rowOf w (suc k) ≡ worth (rowOf w 0) (suc k)
+  unfolding worth
+  further k e h = e ∙ ap (λ (p : List ℕ). fed (rowOf w 0) p 0) h
+
+  pub worths-are : (g : List ℕ) → Worths w g → (k : ℕ) → k < 8 → rowOf w k ≡ worth g k
+  worths-are g e k l = among k l ∙ ap (λ (d : List ℕ). worth d k) (e .0)
     where
-      all : List Lanes
-      all = w0 ∷ w1 ∷ w2 ∷ w3 ∷ w4 ∷ w5 ∷ w6 ∷ w7 ∷ []
+      h1 : rowOf w 1 ≡ worth (rowOf w 0) 1
+      h1 = further 0 (e .1) nearest
 
-      h1 : laid w1 ≡ worth (laid w0) 1
-      h1 = further 0 refl e1
+      h2 : rowOf w 2 ≡ worth (rowOf w 0) 2
+      h2 = further 1 (e .2) h1
 
-      h2 : laid w2 ≡ worth (laid w0) 2
-      h2 = further 1 h1 e2
+      h3 : rowOf w 3 ≡ worth (rowOf w 0) 3
+      h3 = further 2 (e .3) h2
 
-      h3 : laid w3 ≡ worth (laid w0) 3
-      h3 = further 2 h2 e3
+      h4 : rowOf w 4 ≡ worth (rowOf w 0) 4
+      h4 = further 3 (e .4) h3
 
-      h4 : laid w4 ≡ worth (laid w0) 4
-      h4 = further 3 h3 e4
+      h5 : rowOf w 5 ≡ worth (rowOf w 0) 5
+      h5 = further 4 (e .5) h4
 
-      h5 : laid w5 ≡ worth (laid w0) 5
-      h5 = further 4 h4 e5
+      h6 : rowOf w 6 ≡ worth (rowOf w 0) 6
+      h6 = further 5 (e .6) h5
 
-      h6 : laid w6 ≡ worth (laid w0) 6
-      h6 = further 5 h5 e6
-
--- one of them, as it is written
-pub further-is : {g p q g′ p′ q′ : List ℕ} → g ≡ g′ → p ≡ p′ → q ≡ q′ → q′ ≡ fed g′ p′ 0 → q ≡ fed g p 0
-further-is eg ep eq e = eq ∙ e ∙ sym (ap₂ (λ (g p : List ℕ). fed g p 0) eg ep)
+      among : (k : ℕ) → k < 8 → rowOf w k ≡ worth (rowOf w 0) k
+      among zero l = nearest
+      among (suc zero) l = h1
+      among (suc (suc zero)) l = h2
+      among (suc (suc (suc zero))) l = h3
+      among (suc (suc (suc (suc zero)))) l = h4
+      among (suc (suc (suc (suc (suc zero))))) l = h5
+      among (suc (suc (suc (suc (suc (suc zero)))))) l = h6
+      among (suc (suc (suc (suc (suc (suc (suc zero))))))) l = further 6 (e .7) h6
+      among (suc (suc (suc (suc (suc (suc (suc (suc k)))))))) l = absurd (omega arith)
 
 -- ---- thirteen groups of five bits
 -- five bits more
