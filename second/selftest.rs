@@ -316,8 +316,10 @@ fn words(random: &mut Random) -> usize {
     for word in &all {
         let message = &word[..MESSAGE];
         let clean = parity::check(ROOTS, word).unwrap();
-        assert_eq!([listing::clean(word), eights::clean(word[..].try_into().unwrap())], [clean; 2]);
-        assert_eq!(Ok(eights::made(message).to_vec()), parity::make(ROOTS, message, WORD - MESSAGE));
+        let whole = word[..].try_into().unwrap();
+        assert_eq!([listing::clean(word), eights::clean(whole), eights::clean_down(whole)], [clean; 3]);
+        let made = parity::make(ROOTS, message, WORD - MESSAGE);
+        assert_eq!([Ok(eights::made(message).to_vec()), Ok(eights::made_down(message).to_vec())], [made.clone(), made]);
     }
     all.len()
 }

@@ -110,7 +110,28 @@ pub mod eights {
         made(&word[..MESSAGE]) == word[MESSAGE..]
     }
 
+    /// The same from the first byte down alone, behind a zero: each turn waits for the one before it.
+    pub fn made_down(message: &[u8]) -> [u8; R] {
+        let message: &[u8; MESSAGE] = message.try_into().unwrap();
+        let last = &TABLES[1];
+        let mut lanes = turned(last, [0; 4], number_at(message, 0) >> 8);
+        for i in 1..2 * TURNS {
+            let [a, b, c, d] = lanes;
+            lanes = turned(last, [b, c, d, 0], a ^ number_at(message, 8 * i - 1));
+        }
+        let mut out = [0; R];
+        for (bytes, lane) in out.chunks_mut(8).zip(lanes) {
+            bytes.copy_from_slice(&lane.to_be_bytes());
+        }
+        out
+    }
+
+    pub fn clean_down(word: &Word) -> bool {
+        made_down(&word[..MESSAGE]) == word[MESSAGE..]
+    }
+
     pub(super) const WAY: Way = Way { name: "eights", make: made, check: clean, repair: SECOND.repair };
+    pub(super) const DOWN: Way = Way { name: "down", make: made_down, check: clean_down, repair: SECOND.repair };
 }
 
 #[cfg(any(proved, rack))]
@@ -188,6 +209,7 @@ fn ways() -> Vec<Way> {
         #[cfg(any(proved, rack))]
         proved::WAY,
         eights::WAY,
+        eights::DOWN,
         #[cfg(not(rack))]
         SECOND,
         #[cfg(fec)]
