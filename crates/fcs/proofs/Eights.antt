@@ -27,10 +27,10 @@ use Rattle.fcs.proofs.Entering.{entered-sum}
 use Rattle.fcs.proofs.Laws.{register-append}
 
 -- ---- functions that go with sums
-abbrev Additive : (ℕ → ℕ) → Type 0
+abbrev pub Additive : (ℕ → ℕ) → Type 0
 Additive f = (a b : ℕ) → f (bitXor a b) ≡ bitXor (f a) (f b)
 
-xor-four : (a b c d : ℕ) → bitXor (bitXor a b) (bitXor c d) ≡ bitXor (bitXor a c) (bitXor b d)
+pub xor-four : (a b c d : ℕ) → bitXor (bitXor a b) (bitXor c d) ≡ bitXor (bitXor a c) (bitXor b d)
 xor-four a b c d = sym (xor-assoc (bitXor a b) c d) ∙ ap (λ (x : ℕ). bitXor x d) (xor-swap a b c) ∙ xor-assoc (bitXor a c) b d
 
 sum : (f g : ℕ → ℕ) → Additive f → Additive g → Additive (λ w. bitXor (f w) (g w))
@@ -40,7 +40,7 @@ at-zero : (f : ℕ → ℕ) → Additive f → f 0 ≡ 0
 at-zero f hf = hf 0 0 ∙ xor-self (f 0)
 
 -- two of them are equal below 2^k where they are at 1, 2, 4, .. 2^(k-1)
-agree : (f g : ℕ → ℕ) → Additive f → Additive g → (k : ℕ) → ((i : ℕ) → i < k → f (2 ^ i) ≡ g (2 ^ i)) → (n : ℕ) → n < 2 ^ k → f n ≡ g n
+pub agree : (f g : ℕ → ℕ) → Additive f → Additive g → (k : ℕ) → ((i : ℕ) → i < k → f (2 ^ i) ≡ g (2 ^ i)) → (n : ℕ) → n < 2 ^ k → f n ≡ g n
 agree f g hf hg zero h n l = rw (lt-one l) (at-zero f hf ∙ sym (at-zero g hg))
 agree f g hf hg (suc k) h n l =
     ap f (xor-parts n k) ∙ hf _ _ ∙ ap₂ bitXor top (agree f g hf hg k (λ i j. h i (omega arith)) (n % 2 ^ k) (mod-lt n (pow-pos k)))
@@ -68,16 +68,16 @@ shifted-sum a b =
     Same p d =
         pick (eqb (differ p d) 0) (bitXor h k) (bitXor (bitXor h k) polynomial) ≡ bitXor (pick (eqb p 0) h (bitXor h polynomial)) (pick (eqb d 0) k (bitXor k polynomial))
 
-entered-zeros : (n : ℕ) → Additive (λ r. entered n r 0)
+pub entered-zeros : (n : ℕ) → Additive (λ r. entered n r 0)
 unfolding entered
 entered-zeros zero a b = refl
 entered-zeros (suc n) a b = ap (λ (x : ℕ). entered n x 0) (shifted-sum a b) ∙ entered-zeros n (shifted a 0) (shifted b 0)
 
 -- ---- the code's four lines, and what it takes of the last
-abbrev left : ℕ → ℕ → ℕ
+abbrev pub left : ℕ → ℕ → ℕ
 left k w = w * 2 ^ k % 2 ^ 64
 
-left-sum : (k : ℕ) → Additive (left k)
+pub left-sum : (k : ℕ) → Additive (left k)
 left-sum k a b =
     ap (λ (x : ℕ). x % 2 ^ 64)
     (sym (add-zero (bitXor a b * 2 ^ k)) ∙ sym (xor-block k a b 0 0 (pow-pos k) (pow-pos k)) ∙ ap₂ bitXor (add-zero (a * 2 ^ k)) (add-zero (b * 2 ^ k)))
@@ -129,7 +129,7 @@ fourth-sum : Additive fourth
 unfolding fourth
 fourth-sum = two-sum 32
 
-right-sum : (k : ℕ) → Additive (λ y. y / 2 ^ k)
+pub right-sum : (k : ℕ) → Additive (λ y. y / 2 ^ k)
 right-sum k a b = xor-shr a b k
 
 low-sum : Additive low

@@ -3,7 +3,7 @@ ghost use mathlib.Core.Path.{_≡_};
 ghost use Prim.Native.Nat.{_+_, _≤_};
 ghost use lib.ListN.{length, take, drop};
 ghost use Rattle.fcs.specs.Fcs.{complement, entered, register, fcs, fresh, fed};
-ghost use Rattle.fcs.specs.Private.{little};
+ghost use Rattle.fcs.specs.Private.{little, behind};
 
 /// The check's register, for bytes that lie in several places.
 pub struct Register {
@@ -25,14 +25,9 @@ impl Register {
     pub fn feed(self, bytes: &[u8]) -> Self
         ensures { λ r. ⌜ r ≡ fed self (now (bytes .entry)) ⌝ }
     {
-        let mut bits = self.bits;
-        let mut i: usize = 0;
-        while 8 <= bytes.len() - i {
-            bits = enter_eight(bits, eight(bytes, i));
-            i += 8;
-        }
+        let bits = enter_eights(self.bits, bytes);
         Self {
-            bits: enter_each(bits, bytes, i),
+            bits: enter_each(bits, bytes, bytes.len() / 8 * 8),
         }
     }
 
@@ -92,6 +87,51 @@ fn enter(register: u16, byte: u8) -> u16
     let x = mixed % 256;
     let y = x ^ (x * 16 % 256);
     (mixed / 256) ^ ((y * 256) ^ (y * 8) ^ (y / 16))
+}
+
+// The bytes enter by eights, as long as there are eight, each falling out before the next.
+fn singly(bits: u16, bytes: &[u8]) -> u16
+    ensures { λ r. ⌜ register r (behind (now (bytes .entry))) ≡ register bits (now (bytes .entry)) ⌝ }
+{
+    let mut after = bits;
+    let mut i: usize = 0;
+    while 8 <= bytes.len() - i {
+        after = enter_eight(after, eight(bytes, i));
+        i += 8;
+    }
+    after
+}
+
+// The same, while four eights wait and fall out at the end alone. The polynomial's sixteenth power is x^256 + x^192 + x^80 + 1: instead of
+// falling out, the first eight is added 64, 176 and 256 bits behind its place.
+fn folded(bits: u16, bytes: &[u8]) -> u16
+    requires { ⌜ 32 ≤ length (now bytes) ⌝ }
+    ensures { λ r. ⌜ register r (behind (now (bytes .entry))) ≡ register bits (now (bytes .entry)) ⌝ }
+{
+    let mut a = eight(bytes, 0) ^ (bits as u64);
+    let mut b = eight(bytes, 8);
+    let mut c = eight(bytes, 16);
+    let mut d = eight(bytes, 24);
+    let mut i: usize = 32;
+    while 8 <= bytes.len() - i {
+        let first = a;
+        a = b ^ first;
+        b = c ^ (first << 48);
+        c = d ^ (first >> 16);
+        d = eight(bytes, i) ^ first;
+        i += 8;
+    }
+    enter_eight(enter_eight(enter_eight(fall(a), b), c), d)
+}
+
+// The same.
+fn enter_eights(bits: u16, bytes: &[u8]) -> u16
+    ensures { λ r. ⌜ register r (behind (now (bytes .entry))) ≡ register bits (now (bytes .entry)) ⌝ }
+{
+    if bytes.len() < 32 {
+        return singly(bits, bytes);
+    }
+    folded(bits, bytes)
 }
 
 // The bytes from a place on enter one by one.

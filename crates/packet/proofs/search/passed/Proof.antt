@@ -5,7 +5,7 @@ use borrow.Author.Needs.{needs}
 use lib.ListN.{length}
 use Rattle.base.specs.UpTo.{upTo}
 use Rattle.base.proofs.UpTo.{up-to-short}
-use Rattle.packet.proofs.Seeking.{passed-more}
+use Rattle.packet.proofs.Seeking.{passed-more, passed-found}
 use Rattle.packet.proofs.search.passed.Statement.{statement}
 use Rattle.packet.proofs.search.passed.Tie as tie
 
@@ -22,11 +22,14 @@ passed-spec =
     (λ c. (omega arith, omega arith, omega arith))
     (omega arith)
     (λ c κs. omega arith)
-    (omega arith)
+    (λ c.
+    let l = c .before .before .before in
+    let a = l .before .before .args in
+    (l .loop .inv .0, passed-found (a .c) (l .loop .i) (a .bytes .now) (l .loop .inv .0) (c .before .among .ensures) (c .if1 .taken)))
     (omega arith)
     (omega arith)
     (λ c.
     let l = c .before .before .before in
     let a = l .before .before .args in
     (passed-more (a .c) (l .loop .i) (a .bytes .now) (l .loop .inv .0) (c .before .among .ensures) (c .if1 .left), omega arith, l .loop .inv .2))
-    (omega arith))
+    (λ c. let a = c .before .before .before .args in (c .before .loop .inv .0, omega (arith, up-to-short (a .c) (a .bytes .now)))))

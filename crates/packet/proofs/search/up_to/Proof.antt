@@ -11,12 +11,18 @@ up-to-spec =
     tie.close
     (tie.spec
     (search needs)
-    (λ c. let a = c .before .before .args in omega (arith, c .passed .ensures, up-to-short (a .c) (a .bytes .now)))
-    (λ c. let a = c .before .before .args in omega (arith, c .passed .ensures, up-to-short (a .c) (a .bytes .now)))
     (search needs)
     (search needs)
+    (omega arith)
     (search needs)
+    (λ c κs. omega arith)
     (λ c.
-    let a = c .before .before .before .before .args in
-    let e = sought (a .c) (c .before .before .passed .result) (a .bytes .now) (c .before .before .passed .ensures) (c .up-to .ensures .0) in
-    (e, omega (arith, e, up-to-short (a .c) (a .bytes .now)))))
+    let a = c .before .before .before .before .before .args in
+    let short = up-to-short (a .c) (a .bytes .now) in
+    let e = sought (a .c) (c .before .least .result) (a .bytes .now) (omega arith) (omega (arith, short)) (c .within .ensures) in
+    omega (arith, e, short))
+    (λ c.
+    let a = c .before .before .before .before .before .args in
+    let short = up-to-short (a .c) (a .bytes .now) in
+    let e = sought (a .c) (c .before .least .result) (a .bytes .now) (omega arith) (omega (arith, short)) (c .within .ensures) in
+    (e, omega (arith, e, short))))
