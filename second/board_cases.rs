@@ -3,7 +3,7 @@
 //!
 //!   second boards DIR [SEED]   into a folder: streams and recordings, by name
 //!
-//! And as cases for the library, with every room for the text: crates/rooms/src/reading.rt has their form and that of an answer.
+//! And as cases for the library, with every room for the text: crates/cases_board/src/reading.rt has their form and that of an answer.
 
 use crate::board::{apart, last_line, Board};
 use crate::cases::{self, Case, Random};

@@ -1,5 +1,5 @@
 //! Captures by calls: a reader that is handed pieces and lent a store, single calls that write, and cases for the proved code.
-//! crates/imports/src/reading.rt has the form of a case and of its answer.
+//! crates/cases_capture/src/reading.rt has the form of a case and of its answer.
 
 use crate::capture::{header, packed, record, unpacked, Refusal};
 use crate::capture_cases;

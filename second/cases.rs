@@ -1,7 +1,7 @@
 //! Cases for the comparison: how they are written, which are asked, and what the second program answers.
-//! crates/answers/src/main.rt has the form of a case and of an answer, crates/pieces/src, crates/channels/src, crates/listings/src,
-//! crates/rooms/src and crates/imports/src that of an answer in pieces; crates/turns/src/main.rt what is asked of the interleaver and of a fixed
-//! sub-channel's sender, crates/schedules/src/main.rt of its receiver, whose states are carried over from case to case; crates/mixes/src/main.rt what
+//! crates/cases_calls/src/main.rt has the form of a case and of an answer, crates/cases_stream/src, crates/cases_channel/src, crates/cases_listing/src,
+//! crates/cases_board/src and crates/cases_capture/src that of an answer in pieces; crates/cases_interleaver/src/main.rt what is asked of the interleaver and of a fixed
+//! sub-channel's sender, crates/cases_four/src/main.rt of its receiver, whose states are carried over from case to case; crates/cases_unit/src/main.rt what
 //! is asked of Layer 2 units.
 
 use crate::interleaver::{Sender, Sides, CELLS};
@@ -40,19 +40,18 @@ impl Case {
         to.extend(&self.bytes);
     }
 
-    /// Which program answers it: `pieces` a stream, `channels` a channel, `listings` a recording, `rooms` a board, `imports` a capture, `mixes` a Layer 2
-    /// unit, `turns` the interleaver and a fixed sub-channel's sender, `schedules` a receiver of those, `calls` each other single call. A letter belongs
-    /// to one of them.
+    /// Which program answers it, cases_KIND: a stream, a channel, a recording's listing, a board, a capture, a Layer 2 unit, the interleaver and a fixed
+    /// sub-channel's sender, a receiver of four of those, and `calls`: each other single call. A letter belongs to one of them.
     pub fn kind(&self) -> &'static str {
         match self.asked {
-            b'S' => "pieces",
-            b'O' => "channels",
-            b'L' => "listings",
-            b'b' => "rooms",
-            b'U' | b'u' => "mixes",
-            b'r' | b'e' | b'f' | b'd' => "imports",
-            b'I' | b'J' | b'Z' | b'N' | b'X' | b'V' | b's' | b'g' | b'q' | b'p' | b'w' => "turns",
-            b'n' | b'c' | b'h' | b'x' | b'v' => "schedules",
+            b'S' => "stream",
+            b'O' => "channel",
+            b'L' => "listing",
+            b'b' => "board",
+            b'U' | b'u' => "unit",
+            b'r' | b'e' | b'f' | b'd' => "capture",
+            b'I' | b'J' | b'Z' | b'N' | b'X' | b'V' | b's' | b'g' | b'q' | b'p' | b'w' => "interleaver",
+            b'n' | b'c' | b'h' | b'x' | b'v' => "four",
             _ => "calls",
         }
     }
@@ -69,8 +68,8 @@ impl Case {
             b'Q' => self.closed_frame(&mut out),
             b's' | b'g' | b'q' => fixed_cases::sender_reply(self, &mut carried.sides.sender, &mut out),
             b'p' | b'w' => fixed_cases::four_reply(self, &mut out),
-            _ if self.kind() == "turns" => self.turn(&mut carried.sides, &mut out).to_le_bytes().to_vec(),
-            _ if self.kind() == "schedules" => carried.fixed.reply(self, &mut out),
+            _ if self.kind() == "interleaver" => self.turn(&mut carried.sides, &mut out).to_le_bytes().to_vec(),
+            _ if self.kind() == "four" => carried.fixed.reply(self, &mut out),
             _ => self.number_of_call(&mut out).to_le_bytes().to_vec(),
         };
         reply.extend(out);

@@ -1,5 +1,5 @@
 //! Cases for the opportunistic channel: blocks marked, streams sent, and what a receiver hears in pieces.
-//! crates/channels/src/hearing.rt has the form of a heard channel.
+//! crates/cases_channel/src/hearing.rt has the form of a heard channel.
 
 use crate::cases::{self, Case, Random};
 use crate::channel::{self, Answer, Receiver, BLOCK, MARKER, MESSAGE, ROOTS};

@@ -1,5 +1,5 @@
-//! Cases for fixed sub-channels, and the second program's own held to the request. crates/schedules/src/main.rt has what is asked of a receiver
-//! of four, which is carried over from case to case with its buffers; crates/turns/src/main.rt what is asked of a sender.
+//! Cases for fixed sub-channels, and the second program's own held to the request. crates/cases_four/src/main.rt has what is asked of a receiver
+//! of four, which is carried over from case to case with its buffers; crates/cases_interleaver/src/main.rt what is asked of a sender.
 
 use crate::cases::{self, Case, Random};
 use crate::channel::{Answer, MARKER};

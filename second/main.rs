@@ -34,7 +34,7 @@
 //!   second months DIR [SEED] groups of recordings to be counted, into a folder
 //!   second tallies CASES ANSWERS [SEED]
 //!                            recordings counted from rows of any numbers, and what becomes of them, into two files
-//!   second tables CASES ANSWERS [SEED]
+//!   second ports CASES ANSWERS [SEED]
 //!                            calls on tables of ports, and what they answer, into two files
 //!   second rack CASES ANSWERS [SEED]
 //!                            calls of the rack's functions, and what they answer and leave, into two files (rack.rs)
@@ -45,7 +45,7 @@
 //!                            a clean recording to be timed, to standard output
 //!   second samples DIR       the recordings of samples/ with their listings
 //!   second unit WORDS..      Layer 2 units, written and read (units.rs)
-//!   second cases calls|turns|pieces|channels|listings|rooms|schedules|mixes|imports [SEED]
+//!   second cases calls|interleaver|stream|channel|listing|board|four|unit|capture [SEED]
 //!                            cases for the proved code, to standard output: single calls, the interleaver, streams and channels in pieces,
 //!                            recordings, boards with any room for their text, fixed sub-channels, Layer 2 units, or captures
 //!   second words R PLACES N  N cases for repair: words altered in so many places
@@ -130,8 +130,8 @@ fn main() {
         ["months", dir, seed] => number(seed).map(|seed| sheet::write_months(dir, seed)),
         ["tallies", asked, told] => Some(sheet::write_calls(asked, told, 1)),
         ["tallies", asked, told, seed] => number(seed).map(|seed| sheet::write_calls(asked, told, seed)),
-        ["tables", asked, told] => Some(ports::write_cases(asked, told, 1)),
-        ["tables", asked, told, seed] => number(seed).map(|seed| ports::write_cases(asked, told, seed)),
+        ["ports", asked, told] => Some(ports::write_cases(asked, told, 1)),
+        ["ports", asked, told, seed] => number(seed).map(|seed| ports::write_cases(asked, told, seed)),
         ["rack", asked, told] => Some(rack::write(asked, told, 1)),
         ["rack", asked, told, seed] => number(seed).map(|seed| rack::write(asked, told, seed)),
         ["kinds", ref files @ ..] => std::process::exit(kinds::show(files)),
@@ -151,8 +151,8 @@ fn main() {
         eprintln!("usage: second bids WORDS.. | fcs HEX | parity R HEX | word R HEX | repair R HEX | interleave push|pull DEPTH | list | missed | kinds FILE..");
         eprintln!("  | fixed send|list R DEPTH | fixed steady R DEPTH PAYLOAD MIB | fixed streams DIR [SEED] | board [--recording|--stream] [--blocks] | boards DIR [SEED] | feed FIFO TEXT STREAM");
         eprintln!("  | capture | replay | captures DIR [SEED] | viewed");
-        eprintln!("  | recordings DIR [SEED] | steady plain|marked MIB | samples DIR | cases calls|turns|pieces|channels|listings|rooms|schedules|mixes|imports [SEED]");
-        eprintln!("  | compare CASES ANSWERS .. | test [SEED] | words R PLACES N | time N M | noise WORDS.. | numbered FILE [SEED] | tables CASES ANSWERS [SEED] | unit WORDS..");
+        eprintln!("  | recordings DIR [SEED] | steady plain|marked MIB | samples DIR | cases calls|interleaver|stream|channel|listing|board|four|unit|capture [SEED]");
+        eprintln!("  | compare CASES ANSWERS .. | test [SEED] | words R PLACES N | time N M | noise WORDS.. | numbered FILE [SEED] | ports CASES ANSWERS [SEED] | unit WORDS..");
         eprintln!("  | sheet FILE.. | months DIR [SEED] | tallies CASES ANSWERS [SEED] | rack CASES ANSWERS [SEED] | time-rack MIB");
         std::process::exit(2);
     }
@@ -247,11 +247,11 @@ fn write_steady(letter: u8, mib: u64) {
     std::io::stdout().write_all(&bytes).expect("standard output");
 }
 
-/// The programs that answer cases, `answers` the single calls.
-const KINDS: [&str; 9] = ["calls", "turns", "pieces", "channels", "listings", "rooms", "schedules", "mixes", "imports"];
+/// The kinds of cases; the program cases_KIND answers them.
+const KINDS: [&str; 9] = ["calls", "interleaver", "stream", "channel", "listing", "board", "four", "unit", "capture"];
 
 fn write_cases(kind: &str, seed: u64) {
-    let all = if kind == "mixes" { unit_cases::all(seed) } else { cases::all(seed) };
+    let all = if kind == "unit" { unit_cases::all(seed) } else { cases::all(seed) };
     write(all.into_iter().filter(|case| case.kind() == kind).collect());
 }
 

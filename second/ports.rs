@@ -128,7 +128,7 @@ pub fn write_numbered(path: &str, seed: u64) {
     std::fs::write(path, recorded(PLAIN, &stream, || 500)).expect(path);
 }
 
-// ---- cases for the proved calls on a table by value (crates/tables has their form)
+// ---- cases for the proved calls on a table by value (crates/cases_ports has their form)
 pub struct Case {
     asked: u8,
     port: u16,
@@ -164,7 +164,7 @@ fn write_table(table: &[Place], to: &mut Vec<u8>) {
     }
 }
 
-/// `second tables CASES ANSWERS [SEED]`: writes both.
+/// `second ports CASES ANSWERS [SEED]`: writes both.
 pub fn write_cases(asked: &str, told: &str, seed: u64) {
     let (mut asks, mut answers) = (Vec::new(), Vec::new());
     let all = cases(seed);

@@ -62,7 +62,7 @@ impl Reader {
     }
 }
 
-/// How a stream is cut (crates/pieces, crates/channels and crates/listings have the same): the length of the next piece, and the next seed.
+/// How a stream is cut (crates/cases_stream, crates/cases_channel and crates/cases_listing have the same): the length of the next piece, and the next seed.
 pub fn piece_length(seed: u64, left: usize) -> (usize, u64) {
     if seed == 0 {
         return (left, 0);

@@ -1,5 +1,5 @@
 //! Cases of Layer 2 units: every row of table 5-4 and its edges, every mix of content and every sequence, every refusal on both sides, outputs that are
-//! too short or longer than the result, units cut short or altered. crates/mixes/src/main.rt has the form of a case.
+//! too short or longer than the result, units cut short or altered. crates/cases_unit/src/main.rt has the form of a case.
 
 use crate::cases::{Case, Random};
 use crate::units::{self, MOST, SEQUENCES};

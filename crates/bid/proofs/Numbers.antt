@@ -5,8 +5,8 @@ use Prim.Native.Nat.{ℕ}
 use mathlib.Core.Path.{_≡_, refl}
 use mathlib.Core.List.{List, [], _∷_, map}
 use Rattle.fcs.specs.Fcs.{fcs, register, entered}
-use Rattle.frames.specs.Escape.{escape, escapeByte}
-use Rattle.frames.specs.Contents.{contents, withCheck}
+use Rattle.packet_spec.specs.Escape.{escape, escapeByte}
+use Rattle.packet_spec.specs.Contents.{contents, withCheck}
 use Rattle.stream.specs.Sender.{stream}
 use Rattle.base.specs.UpTo.{upTo}
 use Rattle.bid.specs.Line.{digits, value, numberFrom, number, judged, verdict}

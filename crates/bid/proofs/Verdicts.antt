@@ -19,13 +19,13 @@ use Rattle.base.specs.UpTo.{upTo}
 use Rattle.base.proofs.Lists.{drop-take}
 use Rattle.base.proofs.UpTo.{up-to-take, up-to-long}
 use Rattle.base.proofs.Tests.{by-eq, by-le, by-test}
-use Rattle.frames.specs.Port.{barred}
-use Rattle.frames.specs.Contents.{payloadLimit, Packet}
-use Rattle.frames.specs.Escape.{escape}
-use Rattle.frames.proofs.Escaping.{plain-short}
-use Rattle.frames.proofs.Round.{plain-undoes}
+use Rattle.packet_spec.specs.Port.{barred}
+use Rattle.packet_spec.specs.Contents.{payloadLimit, Packet}
+use Rattle.packet_spec.specs.Escape.{escape}
+use Rattle.packet_spec.proofs.Escaping.{plain-short}
+use Rattle.packet_spec.proofs.Round.{plain-undoes}
 use Rattle.packet.proofs.Sending.{refusing-empty, refusing-long, refusing-barred, refusing-none}
-use Rattle.frames.specs.Sender.{headFits, Accepted}
+use Rattle.packet_spec.specs.Sender.{headFits, Accepted}
 use Rattle.bid.specs.Line.{space, past, noNumber, number, port, sequence, text, isBid, lineLimit, Verdict, noBid, refused, accepted, judged, bidOf, verdict}
 use Rattle.bid.proofs.Decimal.{number-long}
 use Rattle.bid.proofs.Reading.{bid-no-port, bid-no-sequence, bid-both}

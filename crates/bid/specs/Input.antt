@@ -8,7 +8,7 @@ use mathlib.Core.List.{List, [], _∷_, _++_, map}
 use lib.Dec.{eqb, ltb}
 use lib.ListN.{length}
 use Rattle.base.specs.Choice.{pick}
-use Rattle.frames.specs.Contents.{Packet}
+use Rattle.packet_spec.specs.Contents.{Packet}
 use Rattle.bid.specs.Line.{feed, Verdict, noBid, refused, accepted, verdict}
 
 -- the lines of bytes behind a line begun: each ends at a line feed, the last also where the input ends

@@ -12,8 +12,8 @@ use lib.Dec.{ltb, leb}
 use lib.ListN.{length, drop}
 use Rattle.base.specs.Choice.{pick}
 use Rattle.base.specs.UpTo.{upTo}
-use Rattle.frames.specs.Sender.{refusing}
-use Rattle.frames.specs.Contents.{Packet, plainPacket, payloadLimit}
+use Rattle.packet_spec.specs.Sender.{refusing}
+use Rattle.packet_spec.specs.Contents.{Packet, plainPacket, payloadLimit}
 use Rattle.bid.specs.declared.Found.{Found}
 use Rattle.bid.specs.declared.Found.the-variants.{Bid, NoBid}
 

@@ -1,1 +1,9 @@
-pub mod Within
+pub mod Sources
+pub mod Left
+pub mod Means
+pub mod Ends
+pub mod Returns
+pub mod Putting
+pub mod Taking
+pub mod Demands
+pub mod Determined

@@ -17,15 +17,15 @@ use Rattle.base.specs.declared.Written.the-variants as written
 use Rattle.base.proofs.Parts.{tail-is}
 use Rattle.base.proofs.Tests.{by-test, and-false}
 use Rattle.base.proofs.Writing.{write-short}
-use Rattle.frames.specs.Contents.{Packet, packetOf, plainFormat, keyFormat, keySized, keyAt, keyLength, restLeast, payloadLimit, wordAt, contents, plainly, keyed, unpacked}
-use Rattle.frames.specs.Escape.{flag, escape}
-use Rattle.frames.specs.Frame.{Told, packet, refusal, judged, judgePacket, keyFits, judgeBody}
-use Rattle.frames.specs.Port.{barred}
-use Rattle.frames.specs.Sender.{flagged, frameOf, headFits, refusing, writing}
-use Rattle.frames.specs.declared.Judged.{Judged}
-use Rattle.frames.specs.declared.Judged.the-variants.{Packet as Delivered, Refused}
-use Rattle.frames.proofs.Judging.{body-format, body-plain, body-key, body-keyed}
-use Rattle.captures.specs.Import.{orNone, entry}
+use Rattle.packet_spec.specs.Contents.{Packet, packetOf, plainFormat, keyFormat, keySized, keyAt, keyLength, restLeast, payloadLimit, wordAt, contents, plainly, keyed, unpacked}
+use Rattle.packet_spec.specs.Escape.{flag, escape}
+use Rattle.packet_spec.specs.Frame.{Told, packet, refusal, judged, judgePacket, keyFits, judgeBody}
+use Rattle.packet_spec.specs.Port.{barred}
+use Rattle.packet_spec.specs.Sender.{flagged, frameOf, headFits, refusing, writing}
+use Rattle.packet_spec.specs.declared.Judged.{Judged}
+use Rattle.packet_spec.specs.declared.Judged.the-variants.{Packet as Delivered, Refused}
+use Rattle.packet_spec.proofs.Judging.{body-format, body-plain, body-key, body-keyed}
+use Rattle.capture_spec.specs.Import.{orNone, entry}
 use Rattle.capture.specs.Private.{asked}
 
 -- ---- the sender's answer, with no room for its output

@@ -18,14 +18,14 @@ use Rattle.base.specs.Written.{outcome, refused, write, copied}
 use Rattle.base.specs.declared.Written.the-variants as written
 use Rattle.base.proofs.Parts.{tail-is, tail-put}
 use Rattle.base.proofs.Writing.{write-fits, write-short, copied-fits}
-use Rattle.frames.specs.Contents.{Packet, payloadAt}
-use Rattle.frames.specs.Frame.{Told, packet, refusal, broken, judged}
-use Rattle.frames.specs.declared.Delivery.{Delivery}
-use Rattle.frames.specs.declared.Judged.{Judged}
-use Rattle.frames.specs.declared.Judged.the-variants.{Packet as Delivered, Refused, Broken}
-use Rattle.captures.specs.File.{recordOf}
-use Rattle.captures.specs.Import.{entry, entryLimit}
-use Rattle.captures.proofs.Entry.{entry-most}
+use Rattle.packet_spec.specs.Contents.{Packet, payloadAt}
+use Rattle.packet_spec.specs.Frame.{Told, packet, refusal, broken, judged}
+use Rattle.packet_spec.specs.declared.Delivery.{Delivery}
+use Rattle.packet_spec.specs.declared.Judged.{Judged}
+use Rattle.packet_spec.specs.declared.Judged.the-variants.{Packet as Delivered, Refused, Broken}
+use Rattle.capture_spec.specs.File.{recordOf}
+use Rattle.capture_spec.specs.Import.{entry, entryLimit}
+use Rattle.capture_spec.proofs.Entry.{entry-most}
 use Rattle.capture.specs.Export.{packedPart, enteringBy, entering}
 use Rattle.capture.specs.Private.{headOf}
 

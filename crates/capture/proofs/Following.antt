@@ -17,11 +17,11 @@ use lib.Seq.{take-suc-set, getD-take, length-take-le}
 use Rattle.base.specs.Choice.{pick}
 use Rattle.base.specs.Calls.{tell}
 use Rattle.base.proofs.Tests.{by-eq, by-le}
-use Rattle.frames.specs.Frame.{Told, refusal}
-use Rattle.captures.specs.File.{header}
-use Rattle.captures.specs.Import.{entry, entryLimit, Reading, inHeader, inHead, inRecord, behind, fourAt, headed, read, reads, ends}
-use Rattle.captures.specs.Import as import
-use Rattle.captures.proofs.Entry.{entry-ways, entry-long}
+use Rattle.packet_spec.specs.Frame.{Told, refusal}
+use Rattle.capture_spec.specs.File.{header}
+use Rattle.capture_spec.specs.Import.{entry, entryLimit, Reading, inHeader, inHead, inRecord, behind, fourAt, headed, read, reads, ends}
+use Rattle.capture_spec.specs.Import as import
+use Rattle.capture_spec.proofs.Entry.{entry-ways, entry-long}
 use Rattle.capture.specs.declared.reader.Capture.the-variants.{Header, Head, Record, Behind}
 use Rattle.capture.specs.Called.{Held, held, says, headedBy, with, takeBy, takeByte, readAll, ending, finishing, endedAs}
 use Rattle.capture.proofs.Hearing.{take-length}

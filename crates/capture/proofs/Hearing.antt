@@ -17,12 +17,12 @@ use Rattle.base.specs.Choice.{pick}
 use Rattle.base.proofs.Calls.{after-none, after-more}
 use Rattle.base.proofs.Lists.{next, over}
 use Rattle.base.proofs.Tests.{by-eq}
-use Rattle.frames.specs.Frame.{Told, refusal, judged}
-use Rattle.frames.specs.declared.Judged.the-variants.{Refused}
+use Rattle.packet_spec.specs.Frame.{Told, refusal, judged}
+use Rattle.packet_spec.specs.declared.Judged.the-variants.{Refused}
 use Rattle.stream.specs.declared.frame.Heard.the-variants.{More, Said}
-use Rattle.captures.specs.File.{header}
-use Rattle.captures.specs.Import.{entry, entryLimit, fourAt}
-use Rattle.captures.proofs.Entry.{entry-ways}
+use Rattle.capture_spec.specs.File.{header}
+use Rattle.capture_spec.specs.Import.{entry, entryLimit, fourAt}
+use Rattle.capture_spec.proofs.Entry.{entry-ways}
 use Rattle.capture.specs.declared.reader.Capture.{Capture}
 use Rattle.capture.specs.declared.reader.Capture.the-variants.{Header, Head, Record, Behind}
 use Rattle.capture.specs.declared.reader.Read.{Read}

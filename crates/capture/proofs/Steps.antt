@@ -13,11 +13,11 @@ use borrow.Author.Tests.{eq-eqb, ne-eqb, lt-ltb, le-ltb, le-leb, lt-leb, ltb-tru
 use lib.Dec.{eqb, leb}
 use lib.ListN.{length, getD, take, set, length-set}
 use Rattle.base.specs.Choice.{pick}
-use Rattle.frames.specs.Frame.{Told, refusal, judged}
-use Rattle.frames.specs.declared.Judged.{Judged}
+use Rattle.packet_spec.specs.Frame.{Told, refusal, judged}
+use Rattle.packet_spec.specs.declared.Judged.{Judged}
 use Rattle.stream.specs.declared.frame.Heard.the-variants.{Said}
-use Rattle.captures.specs.File.{header}
-use Rattle.captures.specs.Import.{entry, entryLimit, fourAt}
+use Rattle.capture_spec.specs.File.{header}
+use Rattle.capture_spec.specs.Import.{entry, entryLimit, fourAt}
 use Rattle.capture.specs.declared.reader.Capture.{Capture}
 use Rattle.capture.specs.declared.reader.Capture.the-variants.{Header, Head, Record, Behind}
 use Rattle.capture.specs.declared.reader.Step.{Step}

@@ -19,17 +19,17 @@ use Rattle.base.specs.Choice.{pick}
 use Rattle.base.proofs.Bytes.{each-take, each-append-left}
 use Rattle.base.proofs.Calls.{none-owed, with-hear}
 use Rattle.fcs.specs.Fcs.{fcs}
-use Rattle.frames.specs.Contents.{Packet, plainPacket, keyFormat, rawLimit, two, opening, packed, keyAt, payloadAt, wordAt, body}
-use Rattle.frames.specs.Escape.{plain, scan}
-use Rattle.frames.specs.Frame.{Told, packet, refusal, broken, Closed, judged, delivery, judgeBody, judgeContents, kept, closedBy, closed, part, There}
-use Rattle.frames.specs.Sender.{Accepted}
-use Rattle.frames.specs.declared.Escapes.{Escapes}
-use Rattle.frames.specs.declared.Escapes.the-variants.{Right, Unfinished, Wrong}
-use Rattle.frames.proofs.Only.{body-only}
-use Rattle.frames.proofs.Round.{by-format}
-use Rattle.captures.specs.File.{header}
-use Rattle.captures.specs.Import.{entry, entryLimit, fourAt}
-use Rattle.captures.proofs.Entry.{entry-ways}
+use Rattle.packet_spec.specs.Contents.{Packet, plainPacket, keyFormat, rawLimit, two, opening, packed, keyAt, payloadAt, wordAt, body}
+use Rattle.packet_spec.specs.Escape.{plain, scan}
+use Rattle.packet_spec.specs.Frame.{Told, packet, refusal, broken, Closed, judged, delivery, judgeBody, judgeContents, kept, closedBy, closed, part, There}
+use Rattle.packet_spec.specs.Sender.{Accepted}
+use Rattle.packet_spec.specs.declared.Escapes.{Escapes}
+use Rattle.packet_spec.specs.declared.Escapes.the-variants.{Right, Unfinished, Wrong}
+use Rattle.packet_spec.proofs.Only.{body-only}
+use Rattle.packet_spec.proofs.Round.{by-format}
+use Rattle.capture_spec.specs.File.{header}
+use Rattle.capture_spec.specs.Import.{entry, entryLimit, fourAt}
+use Rattle.capture_spec.proofs.Entry.{entry-ways}
 use Rattle.capture.specs.declared.reader.Capture.{Capture}
 use Rattle.capture.specs.declared.reader.Capture.the-variants.{Header, Head, Record, Behind}
 use Rattle.capture.specs.Called.{Held, held, next, says, with, takeBy, takeByte, sound, readBy, readCall, Stands}

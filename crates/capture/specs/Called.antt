@@ -17,12 +17,12 @@ use lib.ListN.{length, getD, take, set}
 use Rattle.base.specs.Bytes.{Bytes}
 use Rattle.base.specs.Calls.{joined, owesNone, handsNone, all, hear, Yields}
 use Rattle.base.specs.Choice.{pick}
-use Rattle.frames.specs.Frame.{Told, packet, refusal, broken, judged, There}
-use Rattle.frames.specs.declared.Judged.{Judged}
-use Rattle.frames.specs.declared.Judged.the-variants as judges
+use Rattle.packet_spec.specs.Frame.{Told, packet, refusal, broken, judged, There}
+use Rattle.packet_spec.specs.declared.Judged.{Judged}
+use Rattle.packet_spec.specs.declared.Judged.the-variants as judges
 use Rattle.stream.specs.Called.{answered}
-use Rattle.captures.specs.File.{header}
-use Rattle.captures.specs.Import.{entry, entryLimit, fourAt}
+use Rattle.capture_spec.specs.File.{header}
+use Rattle.capture_spec.specs.Import.{entry, entryLimit, fourAt}
 use Rattle.capture.specs.Export.{Fetched}
 use Rattle.capture.specs.declared.reader.Capture.{Capture}
 use Rattle.capture.specs.declared.reader.Capture.the-variants.{Header, Head, Record, Behind}

@@ -6,11 +6,11 @@ use mathlib.Core.Path.{_≡_}
 use mathlib.Core.List.{List}
 use Rattle.base.specs.Bytes.{Bytes}
 use Rattle.base.specs.Written.{Outcome, refused, write}
-use Rattle.frames.specs.Contents.{packed, payloadAt}
-use Rattle.frames.specs.Frame.{Told, packet, refusal, broken, delivery, part}
-use Rattle.frames.specs.declared.Delivery.{Delivery}
-use Rattle.captures.specs.File.{recordOf}
-use Rattle.captures.specs.Import.{entry}
+use Rattle.packet_spec.specs.Contents.{packed, payloadAt}
+use Rattle.packet_spec.specs.Frame.{Told, packet, refusal, broken, delivery, part}
+use Rattle.packet_spec.specs.declared.Delivery.{Delivery}
+use Rattle.capture_spec.specs.File.{recordOf}
+use Rattle.capture_spec.specs.Import.{entry}
 
 -- format byte to last payload byte are a part of the receive buffer, from its start
 abbrev pub packedPart : Delivery → List ℕ → List ℕ

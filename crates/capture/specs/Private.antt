@@ -7,11 +7,11 @@ use mathlib.Core.Path.{_≡_}
 use mathlib.Core.Bool.{Bool, true, false}
 use mathlib.Core.List.{List, _++_}
 use mathlib.Core.Option.{Option, some, none}
-use Rattle.frames.specs.Contents.{Packet}
-use Rattle.frames.specs.Frame.{Told, packet, refusal}
-use Rattle.frames.specs.Sender.{refusing}
+use Rattle.packet_spec.specs.Contents.{Packet}
+use Rattle.packet_spec.specs.Frame.{Told, packet, refusal}
+use Rattle.packet_spec.specs.Sender.{refusing}
 use Rattle.stream.specs.Called.{answered}
-use Rattle.captures.specs.File.{four}
+use Rattle.capture_spec.specs.File.{four}
 use Rattle.capture.specs.declared.reader.Capture.{Capture}
 use Rattle.capture.specs.declared.reader.Step.{Step}
 use Rattle.capture.specs.Called.{Held}

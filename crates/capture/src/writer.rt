@@ -4,7 +4,7 @@ ghost use Prim.Native.Nat.{_+_, _≤_, _<_};
 ghost use mathlib.Core.List.{_++_};
 ghost use lib.ListN.{length, drop};
 ghost use Rattle.base.specs.Written.{outcome, write};
-ghost use Rattle.captures.specs.File.{header, recordOf};
+ghost use Rattle.capture_spec.specs.File.{header, recordOf};
 ghost use Rattle.capture.specs.Export.{entering};
 ghost use Rattle.capture.specs.Private.{headOf};
 use crate::entry;

@@ -14,9 +14,9 @@ use mathlib.Core.List.{List, [], _∷_, _++_, append-nil}
 use lib.ListN.{length}
 use Rattle.base.specs.Bytes.{Each}
 use Rattle.stream.specs.Reader.{waiting}
-use Rattle.blocks.specs.Sender.{marker, wordBytes, framed}
-use Rattle.blocks.specs.Channel.{Event, lost, Chan, freshChannel, hears, answers, IsWord, wordsGive, FirstMarker}
-use Rattle.blocks.proofs.Order.{none-given, first-given, few-given, begun-given, lost-given}
+use Rattle.channel_spec.specs.Sender.{marker, wordBytes, framed}
+use Rattle.channel_spec.specs.Channel.{Event, lost, Chan, freshChannel, hears, answers, IsWord, wordsGive, FirstMarker}
+use Rattle.channel_spec.proofs.Order.{none-given, first-given, few-given, begun-given, lost-given}
 use Rattle.channel.specs.Called.{EveryCut, boardOf, inUse}
 use Rattle.channel.proofs.Demands.{cut-so, every-cut}
 

@@ -14,7 +14,7 @@ use borrow.Author.Tests.{eq-eqb, ne-eqb}
 use borrow.Rule.Slice.PartMut.{putMid}
 use Rattle.base.specs.Choice.{pick}
 use Rattle.base.specs.Bytes.{Bytes}
-use Rattle.words.specs.Word.{clean}
+use Rattle.word_spec.specs.Word.{clean}
 use Rattle.parity.specs.Calls.{checked}
 use Rattle.parity.specs.declared.Checked.{Checked}
 use Rattle.parity.specs.declared.Checked.the-variants as check
@@ -22,11 +22,11 @@ use Rattle.repair.specs.declared.Mended.{Mended}
 use Rattle.repair.specs.Promise.{Promised}
 use Rattle.repair.proofs.Apart.{checked-is}
 use Rattle.channel.specs.declared.receiver.Receiver.{Receiver}
-use Rattle.blocks.specs.declared.Condition.the-variants.{Clean}
-use Rattle.blocks.specs.Sender.{parityBytes, wordBytes, messageBytes}
-use Rattle.blocks.specs.Channel.{conditionBy, condition, mend}
+use Rattle.channel_spec.specs.declared.Condition.the-variants.{Clean}
+use Rattle.channel_spec.specs.Sender.{parityBytes, wordBytes, messageBytes}
+use Rattle.channel_spec.specs.Channel.{conditionBy, condition, mend}
 use Rattle.channel.specs.Called.{owedBy, owes, mendIn}
-use Rattle.blocks.proofs.Words.{condition-clean, mend-clean, never-refused, block-determined}
+use Rattle.channel_spec.proofs.Words.{condition-clean, mend-clean, never-refused, block-determined}
 
 module _ (s : Receiver) (o : s .locked ≡ true) where
   pub owes-some : s .lock .word ≡ wordBytes → messageBytes - s .lock .handed ≡ owes s

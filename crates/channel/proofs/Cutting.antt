@@ -8,8 +8,8 @@ use mathlib.Core.List.{List, _∷_}
 use lib.Dec.{eqb}
 use Rattle.base.specs.Calls.{joined, told, Yields}
 use Rattle.base.proofs.Calls.{law, yields-all, yields-first}
-use Rattle.blocks.specs.Sender.{wordBytes}
-use Rattle.blocks.specs.Channel.{Event}
+use Rattle.channel_spec.specs.Sender.{wordBytes}
+use Rattle.channel_spec.specs.Channel.{Event}
 use Rattle.channel.specs.Called.{Board, eatByte, owed, handOn, hearAll, hearOn, hearCall, Fine}
 use Rattle.channel.proofs.Fine.{fine-is, fine-roomy, fine-hand, fine-eat, owed-one}
 

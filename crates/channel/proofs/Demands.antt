@@ -14,22 +14,22 @@ use lib.ListN.{length, replicate}
 use Rattle.base.specs.Bytes.{Each}
 use Rattle.base.specs.Calls.{joined, Yields}
 use Rattle.base.proofs.Calls.{yields-so}
-use Rattle.frames.specs.Escape.{flag}
-use Rattle.frames.specs.Contents.{rawLimit, Packet}
-use Rattle.frames.specs.Frame.{broken}
+use Rattle.packet_spec.specs.Escape.{flag}
+use Rattle.packet_spec.specs.Contents.{rawLimit, Packet}
+use Rattle.packet_spec.specs.Frame.{broken}
 use Rattle.stream.specs.Reader.{waiting, reads}
 use Rattle.stream.specs.Called.{takeByte}
 use Rattle.stream.proofs.Remembered.{held-told}
-use Rattle.frames.specs.Sender.{Accepted}
+use Rattle.packet_spec.specs.Sender.{Accepted}
 use Rattle.stream.specs.Sender.{delivered, openedFrom}
-use Rattle.blocks.specs.Sender.{wordBytes, framed, sentWords, sent}
-use Rattle.blocks.specs.Channel.{condition, Event, Chan, hunting, inWord, inMark, frames, blocks, losses, freshChannel, hears, answers, IsWord, carried, FirstMarker}
-use Rattle.blocks.specs.declared.Condition.the-variants.{Clean as clean}
+use Rattle.channel_spec.specs.Sender.{wordBytes, framed, sentWords, sent}
+use Rattle.channel_spec.specs.Channel.{condition, Event, Chan, hunting, inWord, inMark, frames, blocks, losses, freshChannel, hears, answers, IsWord, carried, FirstMarker}
+use Rattle.channel_spec.specs.declared.Condition.the-variants.{Clean as clean}
 use Rattle.channel.specs.Called.{Board, board, heldIn, freshReceiver, hearCall, hearAll, EveryCut, boardOf, inUse}
 use Rattle.channel.proofs.Fine.{fine-fresh}
 use Rattle.channel.proofs.Cutting.{hear-settled}
 use Rattle.channel.proofs.Shown.{shown-all, in-use}
-use Rattle.blocks.proofs.Streaming.{whole-stream, earlier-same, later-exact, others-clean}
+use Rattle.channel_spec.proofs.Streaming.{whole-stream, earlier-same, later-exact, others-clean}
 
 -- what every way yields may be said in other words
 pub cut-so : {bs : List ℕ} {P Q : List Event → Board → Type 0} → EveryCut bs P → ((es : List Event) (d : Board) → P es d → Q es d) → EveryCut bs Q

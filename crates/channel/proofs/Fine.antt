@@ -12,12 +12,12 @@ use lib.ListN.{length, getD, set, length-set}
 use lib.Dec.{eqb, ltb, leb}
 use borrow.Author.Tests.{le-leb, ltb-true, leb-true}
 use Rattle.base.proofs.Tests.{and-parts}
-use Rattle.frames.specs.Contents.{rawLimit}
+use Rattle.packet_spec.specs.Contents.{rawLimit}
 use Rattle.stream.specs.Called.{Held, takeByte, Fine as FineFrame}
 use Rattle.stream.proofs.Fine.{fine-take, fine-of as frame-of, fine-is as frame-is}
-use Rattle.blocks.specs.declared.Hunting.{Hunting}
-use Rattle.blocks.specs.Sender.{messageBytes, wordBytes}
-use Rattle.blocks.specs.Channel.{shift, isMarker, zeros}
+use Rattle.channel_spec.specs.declared.Hunting.{Hunting}
+use Rattle.channel_spec.specs.Sender.{messageBytes, wordBytes}
+use Rattle.channel_spec.specs.Channel.{shift, isMarker, zeros}
 use Rattle.channel.specs.Called.{Board, board, heldIn, huntingWith, freshReceiver, lockedWith, sound, roomy}
 use Rattle.channel.specs.Called.{huntOn, mendIn, wordOn, compareOn, markOn, eatBy, eatByte, owedBy, owed, handOn, Fine}
 use Rattle.channel.proofs.Words.{mendIn-length}

@@ -25,16 +25,16 @@ use Rattle.base.specs.Written.{copied}
 use Rattle.base.proofs.Calls.{after-none, none-owed, FitsBy, fits}
 use Rattle.base.proofs.Writing.{copied-fits}
 use Rattle.base.proofs.Tests.{and-parts}
-use Rattle.frames.specs.Contents.{rawLimit}
-use Rattle.frames.specs.Frame.{Told, judged}
-use Rattle.frames.specs.declared.Judged.{Judged}
+use Rattle.packet_spec.specs.Contents.{rawLimit}
+use Rattle.packet_spec.specs.Frame.{Told, judged}
+use Rattle.packet_spec.specs.declared.Judged.{Judged}
 use Rattle.stream.specs.declared.frame.Frame.{Frame}
 use Rattle.stream.specs.declared.frame.Read.{Read}
 use Rattle.stream.specs.declared.frame.Heard.the-variants as heard
 use Rattle.stream.specs.Called.{Held, held, fresh, takeByte, readOn, readCall, ReadIs, sound as soundFrame, answered as frameAnswered}
 use Rattle.stream.proofs.Fine.{fine-of}
 use Rattle.stream.proofs.Cutting.{read-agrees}
-use Rattle.blocks.specs.declared.Hunting.{Hunting}
+use Rattle.channel_spec.specs.declared.Hunting.{Hunting}
 use Rattle.channel.specs.declared.locked.Locked.{Locked}
 use Rattle.channel.specs.declared.receiver.Receiver.{Receiver}
 use Rattle.channel.specs.declared.answer.Answer.{Answer}
@@ -42,14 +42,14 @@ use Rattle.channel.specs.declared.answer.Answer.the-variants.{More, Said
 use Rattle.channel.specs.declared.answer.Hearing.{Hearing}
 use Rattle.channel.specs.declared.answer.Phase.{Phase}
 use Rattle.channel.specs.declared.hunting.Found.{Found}
-use Rattle.blocks.specs.Channel.{condition, Event, block, shift, isMarker}
+use Rattle.channel_spec.specs.Channel.{condition, Event, block, shift, isMarker}
 use Rattle.channel.specs.Called.{Board, board, counts, lockedWith, owedBy, owes, asEvent, hearOn, soundLock, sound, roomy, hearBy, hearCall, mendIn, hearingOf, HearingIs}
 use Rattle.channel.specs.Private.{shifts, later, hunted, ended, PhaseBy, HandedIs, SoughtIs, FilledIs}
 use Rattle.channel.proofs.Sending.{lent, back}
 use Rattle.channel.proofs.Words.{mendIn-is}
 use Rattle.channel.proofs.Phases.{onward, hand-run, mark-part, comparedOn, behindFour, mark-four, huntedOn, hunt-run, word-part, word-whole}
-use Rattle.blocks.specs.declared.Condition.{Condition}
-use Rattle.blocks.specs.Sender.{wordBytes, messageBytes}
+use Rattle.channel_spec.specs.declared.Condition.{Condition}
+use Rattle.channel_spec.specs.Sender.{wordBytes, messageBytes}
 
 -- the lock of a phase's state, as it is counted
 pub lock-as : {t : Phase} {d : Bool} {a : Answer} {n : ℕ} {f : Hunting} {k j : Locked} {r : Frame} → k ≡ j

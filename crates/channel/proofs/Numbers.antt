@@ -7,8 +7,8 @@ use mathlib.Core.Bool.{false}
 use mathlib.Core.List.{List, []}
 use lib.ListN.{length}
 use Rattle.stream.specs.Reader.{Reading}
-use Rattle.blocks.specs.declared.Hunting.{Hunting}
-use Rattle.blocks.specs.Channel.{inWord, inMark}
+use Rattle.channel_spec.specs.declared.Hunting.{Hunting}
+use Rattle.channel_spec.specs.Channel.{inWord, inMark}
 use Rattle.channel.specs.Called.{freshReceiver, boardOf}
 
 pub fresh : freshReceiver ≡ record {

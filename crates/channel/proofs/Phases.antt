@@ -19,18 +19,18 @@ use Rattle.base.specs.Choice.{pick}
 use Rattle.base.specs.Calls.{unless, oneMore, after, owesNone, handsNone}
 use Rattle.base.proofs.Calls.{after-one, one-after, none-owed, hear-hand, hear-eat, hear-end}
 use Rattle.base.proofs.Above.{Along, above}
-use Rattle.frames.specs.Frame.{Told}
+use Rattle.packet_spec.specs.Frame.{Told}
 use Rattle.stream.specs.declared.frame.Frame.{Frame}
 use Rattle.stream.specs.Called.{Held, held, takeByte, readOn}
-use Rattle.blocks.specs.declared.Hunting.{Hunting}
+use Rattle.channel_spec.specs.declared.Hunting.{Hunting}
 use Rattle.channel.specs.declared.locked.Locked.{Locked}
 use Rattle.channel.specs.declared.hunting.Found.{Found}
-use Rattle.blocks.specs.Channel.{condition, mend, Event, block, lost, shift, isMarker}
+use Rattle.channel_spec.specs.Channel.{condition, mend, Event, block, lost, shift, isMarker}
 use Rattle.channel.specs.Called.{Board, board, huntingWith, lockedWith, huntOn, wordOn, compareOn, markOn, eatBy, eatByte, owed, asEvent, handOn, hearOn}
 use Rattle.channel.specs.Private.{shifts, later, hunted}
 use Rattle.channel.proofs.Words.{mendIn-is}
 use Rattle.channel.proofs.Cutting.{hand-one}
-use Rattle.blocks.specs.Sender.{wordBytes, messageBytes}
+use Rattle.channel_spec.specs.Sender.{wordBytes, messageBytes}
 
 -- one new byte, where nothing is owed
 eat-one : (c : Board) (b : ℕ) (bs : List ℕ) → owed c ≡ 0 → hearOn c (b ∷ bs) ≡ unless (eatByte c b .0) 1 (eatByte c b .1) (oneMore (hearOn (eatByte c b .1) bs))

@@ -23,11 +23,11 @@ use Rattle.base.proofs.Lists.{over}
 use Rattle.base.proofs.Parts.{tail-is, tail-put}
 use Rattle.base.proofs.Tests.{by-le}
 use Rattle.base.proofs.Writing.{write-fits, write-short, copied-fits, write-keeps, refused-keeps, pick-keeps}
-use Rattle.frames.specs.Escape.{flag}
-use Rattle.words.specs.Word.{remainder}
+use Rattle.packet_spec.specs.Escape.{flag}
+use Rattle.word_spec.specs.Word.{remainder}
 use Rattle.parity.specs.Calls.{made}
-use Rattle.words.proofs.Division.{length-remainder}
-use Rattle.blocks.specs.Sender.{marker, wordOf, framed, fillers, filled, cutUp, marked, marking, sending, blockBytes, wordBytes, messageBytes, parityBytes}
+use Rattle.word_spec.proofs.Division.{length-remainder}
+use Rattle.channel_spec.specs.Sender.{marker, wordOf, framed, fillers, filled, cutUp, marked, marking, sending, blockBytes, wordBytes, messageBytes, parityBytes}
 
 -- ---- the list p ++ rest, whose rest is lent and comes back as y
 module _ (p rest o : List ℕ) (s : ℕ) (e : o ≡ p ++ rest) (l : length p ≡ s) where

@@ -6,9 +6,9 @@ use mathlib.Core.Path.{_≡_, sym, _∙_, ap}
 use mathlib.Core.List.{List, _++_}
 use lib.ListN.{length, take, drop, length-append, take-append-drop}
 use lib.Seq.{take-at, drop-at}
-use Rattle.blocks.specs.Sender.{wordBytes}
-use Rattle.blocks.specs.Channel.{mend}
-use Rattle.blocks.proofs.Words.{mend-length}
+use Rattle.channel_spec.specs.Sender.{wordBytes}
+use Rattle.channel_spec.specs.Channel.{mend}
+use Rattle.channel_spec.proofs.Words.{mend-length}
 use Rattle.channel.specs.Called.{mendIn}
 
 pub mendIn-length : (k : List ℕ) → length (mendIn k) ≡ length k

@@ -17,18 +17,18 @@ use mathlib.Core.Option.{Option, some, none}
 use lib.ListN.{length, take, drop, getD, set}
 use lib.Dec.{eqb, ltb, leb}
 use Rattle.base.specs.Calls.{joined, all, hear, Yields}
-use Rattle.frames.specs.Contents.{rawLimit}
-use Rattle.frames.specs.Frame.{Told, refusal, judged, There}
+use Rattle.packet_spec.specs.Contents.{rawLimit}
+use Rattle.packet_spec.specs.Frame.{Told, refusal, judged, There}
 use Rattle.stream.specs.Called.{Held, held, fresh, takeByte, heldOf, sound as soundFrame, Fine as FineFrame}
-use Rattle.blocks.specs.declared.Hunting.{Hunting}
+use Rattle.channel_spec.specs.declared.Hunting.{Hunting}
 use Rattle.channel.specs.declared.locked.Locked.{Locked}
 use Rattle.channel.specs.declared.receiver.Receiver.{Receiver}
 use Rattle.channel.specs.declared.answer.Answer.{Answer}
 use Rattle.channel.specs.declared.answer.Answer.the-variants.{More, Said, Block, LockLost}
 use Rattle.channel.specs.declared.answer.Hearing.{Hearing}
-use Rattle.blocks.specs.Sender.{messageBytes, wordBytes}
-use Rattle.blocks.specs.Channel.{condition, mend}
-use Rattle.blocks.specs.Channel.{Event, said, block, lost, shift, isMarker, zeros, Chan, hunting, inWord, inMark}
+use Rattle.channel_spec.specs.Sender.{messageBytes, wordBytes}
+use Rattle.channel_spec.specs.Channel.{condition, mend}
+use Rattle.channel_spec.specs.Channel.{Event, said, block, lost, shift, isMarker, zeros, Chan, hunting, inWord, inMark}
 
 -- state, receive buffer and word buffer
 pub record Board : Type 0 where

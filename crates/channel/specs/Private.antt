@@ -9,13 +9,13 @@ use mathlib.Core.List.{List, [], _∷_}
 use lib.ListN.{length, drop}
 use Rattle.base.specs.Calls.{after}
 use Rattle.base.specs.Choice.{pick}
-use Rattle.blocks.specs.declared.Hunting.{Hunting}
+use Rattle.channel_spec.specs.declared.Hunting.{Hunting}
 use Rattle.channel.specs.declared.receiver.Receiver.{Receiver}
 use Rattle.channel.specs.declared.answer.Hearing.{Hearing}
 use Rattle.channel.specs.declared.answer.Phase.{Phase}
 use Rattle.channel.specs.declared.hunting.Found.{Found}
-use Rattle.blocks.specs.Sender.{wordBytes}
-use Rattle.blocks.specs.Channel.{shift, isMarker}
+use Rattle.channel_spec.specs.Sender.{wordBytes}
+use Rattle.channel_spec.specs.Channel.{shift, isMarker}
 use Rattle.channel.specs.Called.{Board, board, owes, soundLock, hearOn, HearingIs}
 
 -- all of some bytes among the last four

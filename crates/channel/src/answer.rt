@@ -3,7 +3,7 @@ ghost use mathlib.Core.Path.{_≡_};
 ghost use mathlib.Core.Bool.{true, false};
 ghost use Rattle.channel.specs.Private.{ended};
 use crate::receiver::Receiver;
-use blocks::Condition;
+use channel_spec::Condition;
 use packet::Judged;
 
 /// What a call answers.

@@ -1,7 +1,7 @@
 //! Hunting: bytes one by one until the last four are the marker.
 ghost use mathlib.Core.Path.{_≡_};
 ghost use Rattle.channel.specs.Private.{shifts, hunted};
-use blocks::Hunting;
+use channel_spec::Hunting;
 
 // What hunting finds.
 pub(crate) struct Found {

@@ -1,6 +1,6 @@
 //! Lock: how far a word, its handing on and the next marker are.
 ghost use mathlib.Core.Path.{_≡_};
-ghost use Rattle.blocks.specs.Sender.{wordBytes};
+ghost use Rattle.channel_spec.specs.Sender.{wordBytes};
 ghost use Rattle.channel.specs.Called.{counts, soundLock};
 use crate::block::Block;
 

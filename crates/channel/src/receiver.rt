@@ -3,7 +3,7 @@ ghost use mathlib.Core.Path.{_≡_};
 ghost use mathlib.Core.Bool.{true, false};
 ghost use Prim.Native.Nat.{_+_, _≤_, _<_};
 ghost use lib.ListN.{length, drop};
-ghost use Rattle.blocks.specs.Sender.{messageBytes, wordBytes};
+ghost use Rattle.channel_spec.specs.Sender.{messageBytes, wordBytes};
 ghost use Rattle.channel.specs.Called.{
   board,
   counts,
@@ -25,7 +25,7 @@ use crate::hunting;
 use crate::locked::Locked;
 use crate::word;
 use base::Refusal;
-use blocks::Hunting;
+use channel_spec::Hunting;
 use packet::Judged;
 use stream::Frame;
 use stream::Heard;

@@ -2,12 +2,12 @@
 ghost use mathlib.Core.Path.{_≡_};
 ghost use Prim.Native.Nat.{_+_, _≤_};
 ghost use lib.ListN.{length, take, drop};
-ghost use Rattle.words.specs.Word.{clean};
-ghost use Rattle.blocks.specs.Sender.{parityBytes, wordBytes};
-ghost use Rattle.blocks.specs.Channel.{condition, mend};
+ghost use Rattle.word_spec.specs.Word.{clean};
+ghost use Rattle.channel_spec.specs.Sender.{parityBytes, wordBytes};
+ghost use Rattle.channel_spec.specs.Channel.{condition, mend};
 ghost use Rattle.channel.specs.Called.{mendIn};
 use crate::block::Block;
-use blocks::Condition;
+use channel_spec::Condition;
 use parity::Checked;
 use repair::Mended;
 

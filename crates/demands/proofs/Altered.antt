@@ -16,11 +16,11 @@ use borrow.Author.Tests.{eq-eqb}
 use Rattle.base.specs.Choice.{pick}
 use Rattle.base.specs.Bytes.{Each, IsByte}
 use Rattle.base.proofs.Bytes.{each-append}
-use Rattle.words.specs.Word.{clean as cleanWord, remainder}
+use Rattle.word_spec.specs.Word.{clean as cleanWord, remainder}
 use Rattle.parity.specs.Calls.{rootLimit}
 use Rattle.parity.specs.declared.Checked.the-variants as check
-use Rattle.words.proofs.Division.{bytes-remainder}
-use Rattle.words.proofs.Clean.{parity-clean}
+use Rattle.word_spec.proofs.Division.{bytes-remainder}
+use Rattle.word_spec.proofs.Clean.{parity-clean}
 use Rattle.repair.specs.declared.Mended.the-variants.{Clean, Repaired}
 use Rattle.repair.specs.Promise.{distance, half, CleanWord}
 use Rattle.repair.specs.Way.{repaired as repairedWord}
@@ -28,13 +28,13 @@ use Rattle.repair.proofs.Apart.{distance-zero, checked-is, checked-clean}
 use Rattle.repair.proofs.Meeting.{repaired-promised}
 use Rattle.repair.proofs.Promising.{restored, brought-back, clean-left}
 use Rattle.stream.specs.Reader.{Reading, reads}
-use Rattle.blocks.specs.declared.Hunting.{Hunting}
-use Rattle.blocks.specs.Sender.{parityBytes, wordBytes}
-use Rattle.blocks.specs.Channel.{conditionBy, whole, IsWord}
-use Rattle.blocks.proofs.Streaming.{theMarker, behindWords}
-use Rattle.groups.specs.Sender.{messageBytes, wordOf}
-use Rattle.groups.specs.Word.{condition, mend, carried}
-use Rattle.groups.proofs.Streaming.{IsMessage, sent-word}
+use Rattle.channel_spec.specs.declared.Hunting.{Hunting}
+use Rattle.channel_spec.specs.Sender.{parityBytes, wordBytes}
+use Rattle.channel_spec.specs.Channel.{conditionBy, whole, IsWord}
+use Rattle.channel_spec.proofs.Streaming.{theMarker, behindWords}
+use Rattle.subchannel_spec.specs.Sender.{messageBytes, wordOf}
+use Rattle.subchannel_spec.specs.Word.{condition, mend, carried}
+use Rattle.subchannel_spec.proofs.Streaming.{IsMessage, sent-word}
 use Rattle.demands.specs.Guarantee.{alteredFrom, altered, Repairable, ReceivedFor, Received, answerFor, received}
 
 -- ---- places

@@ -18,15 +18,15 @@ use borrow.Author.Tests.{eqb-true, eqb-false, leb-true, leb-false}
 use Rattle.base.specs.Calls.{With, owesNone, handsNone}
 use Rattle.base.proofs.Calls.{none-owed, with-hear}
 use Rattle.base.proofs.Tests.{and-parts}
-use Rattle.frames.specs.Contents.{rawLimit}
-use Rattle.frames.specs.Escape.{flag}
-use Rattle.frames.specs.Frame.{Told, packet, refusal, broken}
+use Rattle.packet_spec.specs.Contents.{rawLimit}
+use Rattle.packet_spec.specs.Escape.{flag}
+use Rattle.packet_spec.specs.Frame.{Told, packet, refusal, broken}
 use Rattle.stream.specs.Called.{Held, placeLimit, shut, takeBy, takeByte, readOn, readBy, readCall, sound as soundFrame}
 use Rattle.stream.specs.declared.frame.Frame.{Frame}
-use Rattle.blocks.specs.Channel.{Event, said, block, lost, isMarker, shift}
+use Rattle.channel_spec.specs.Channel.{Event, said, block, lost, isMarker, shift}
 use Rattle.channel.specs.Called.{Board, heldIn, wordOn, compareOn, markOn, eatBy, eatByte, owed, asEvent, handOn, soundLock, sound, roomy, hearOn, hearBy, hearCall}
-use Rattle.blocks.specs.Sender.{messageBytes, wordBytes}
-use Rattle.blocks.specs.declared.Hunting.{Hunting}
+use Rattle.channel_spec.specs.Sender.{messageBytes, wordBytes}
+use Rattle.channel_spec.specs.declared.Hunting.{Hunting}
 use Rattle.channel.specs.declared.locked.Locked.{Locked}
 use Rattle.channel.specs.declared.receiver.Receiver.{Receiver}
 use Rattle.channel.proofs.Cutting.{hand-one}

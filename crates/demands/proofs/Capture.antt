@@ -22,23 +22,23 @@ use Rattle.base.specs.Written.{outcome, refused, write, Keeps}
 use Rattle.base.specs.declared.Written.the-variants.{Wrote}
 use Rattle.base.proofs.Calls.{yields-so}
 use Rattle.base.proofs.Writing.{write-keeps, refused-keeps}
-use Rattle.frames.specs.Contents.{Packet, packed}
-use Rattle.frames.specs.Frame.{Told, packet, refusal, broken, delivery, closed}
-use Rattle.frames.specs.Sender.{Accepted}
+use Rattle.packet_spec.specs.Contents.{Packet, packed}
+use Rattle.packet_spec.specs.Frame.{Told, packet, refusal, broken, delivery, closed}
+use Rattle.packet_spec.specs.Sender.{Accepted}
 use Rattle.stream.specs.Called as plain
 use Rattle.stream.specs.Called.{Held as FrameHeld}
-use Rattle.blocks.specs.Channel.{Event, said}
+use Rattle.channel_spec.specs.Channel.{Event, said}
 use Rattle.channel.specs.Called.{Board, hearCall}
 use Rattle.subchannel.specs.Called as fixed
-use Rattle.tape.specs.Deck.{Deck}
-use Rattle.tape.specs.Called.{tapeCall}
-use Rattle.captures.specs.File.{four, header, timed, recordOf, records, captured, CaptureOf}
-use Rattle.captures.specs.Import.{entry, entryLimit, Reading, inHead, inRecord, behind, fresh, fourAt, says, reads, ends, imported}
-use Rattle.captures.specs.Order.{headOf, Next}
-use Rattle.captures.proofs.Entry.{entry-packed, none-exactly}
-use Rattle.captures.proofs.Export.{say, seen, import-any, captured-is, times-ignored}
-use Rattle.captures.proofs.Faults.{faultOf, first-fault, sixty-exactly}
-use Rattle.captures.proofs.Order.{next, head-next, unequal-next, bytes-next, whole-next, long-next, import-only}
+use Rattle.recording.specs.Deck.{Deck}
+use Rattle.recording.specs.Called.{tapeCall}
+use Rattle.capture_spec.specs.File.{four, header, timed, recordOf, records, captured, CaptureOf}
+use Rattle.capture_spec.specs.Import.{entry, entryLimit, Reading, inHead, inRecord, behind, fresh, fourAt, says, reads, ends, imported}
+use Rattle.capture_spec.specs.Order.{headOf, Next}
+use Rattle.capture_spec.proofs.Entry.{entry-packed, none-exactly}
+use Rattle.capture_spec.proofs.Export.{say, seen, import-any, captured-is, times-ignored}
+use Rattle.capture_spec.proofs.Faults.{faultOf, first-fault, sixty-exactly}
+use Rattle.capture_spec.proofs.Order.{next, head-next, unequal-next, bytes-next, whole-next, long-next, import-only}
 use Rattle.capture.specs.Export.{packedPart, Fetched, enteringBy, entering}
 use Rattle.capture.specs.Called.{Held, Fine, readAll, readCall, finishing, endedAs, EveryCut, Stands}
 use Rattle.capture.specs.declared.reader.Capture.{Capture}

@@ -17,10 +17,10 @@ use Rattle.base.specs.Calls.{With, owesNone, handsNone}
 use Rattle.base.specs.Choice.{pick}
 use Rattle.base.proofs.Calls.{none-owed, with-hear}
 use Rattle.base.proofs.Tests.{by-eq, and-parts}
-use Rattle.frames.specs.Frame.{Told, packet, refusal, broken}
-use Rattle.captures.specs.File.{header, recordOf}
-use Rattle.captures.specs.Import.{entry, entryLimit, fourAt}
-use Rattle.captures.proofs.Entry.{entry-ways, entry-only, none-exactly}
+use Rattle.packet_spec.specs.Frame.{Told, packet, refusal, broken}
+use Rattle.capture_spec.specs.File.{header, recordOf}
+use Rattle.capture_spec.specs.Import.{entry, entryLimit, fourAt}
+use Rattle.capture_spec.proofs.Entry.{entry-ways, entry-only, none-exactly}
 use Rattle.capture.specs.Export.{enteringBy, entering}
 use Rattle.capture.specs.Called.{Held, held, says, takeBy, takeByte, readOn, readBy, readCall, sound, ending, finishing}
 use Rattle.capture.specs.declared.reader.Capture.{Capture}

@@ -18,44 +18,44 @@ use borrow.Author.Tests.{eqb-true, eqb-false, ltb-true}
 use Rattle.base.specs.Calls.{joined, run, Yields}
 use Rattle.base.specs.Written.{refused, write, Keeps}
 use Rattle.base.proofs.Writing.{write-keeps}
-use Rattle.words.specs.Word.{clean, remainder}
+use Rattle.word_spec.specs.Word.{clean, remainder}
 use Rattle.parity.specs.Calls.{checked, made}
-use Rattle.words.proofs.Division.{length-remainder}
+use Rattle.word_spec.proofs.Division.{length-remainder}
 use Rattle.parity.proofs.Refusing.{made-keeps}
 use Rattle.repair.specs.declared.Mended.{Mended}
 use Rattle.repair.specs.declared.Mended.the-variants.{Refused as RepairRefused}
 use Rattle.repair.specs.Promise.{Promised}
-use Rattle.matrices.specs.Running.{push, pull, pushing, zeros, closing, pulling}
-use Rattle.matrices.specs.declared.Matrix.{Matrix}
-use Rattle.matrices.specs.declared.Back.{Back}
-use Rattle.matrices.proofs.Pushing.{pushed-length}
-use Rattle.frames.specs.Contents.{Packet, payloadLimit, rawLimit}
-use Rattle.frames.specs.Escape.{flag, escape, plain}
-use Rattle.frames.specs.Port.{barred}
-use Rattle.frames.specs.Frame.{Told, refusal, closed, judging, judge}
-use Rattle.frames.specs.Sender.{frameOf, headFits, writing}
-use Rattle.frames.proofs.Judging.{closed-keeps}
+use Rattle.interleaver_spec.specs.Running.{push, pull, pushing, zeros, closing, pulling}
+use Rattle.interleaver_spec.specs.declared.Matrix.{Matrix}
+use Rattle.interleaver_spec.specs.declared.Back.{Back}
+use Rattle.interleaver_spec.proofs.Pushing.{pushed-length}
+use Rattle.packet_spec.specs.Contents.{Packet, payloadLimit, rawLimit}
+use Rattle.packet_spec.specs.Escape.{flag, escape, plain}
+use Rattle.packet_spec.specs.Port.{barred}
+use Rattle.packet_spec.specs.Frame.{Told, refusal, closed, judging, judge}
+use Rattle.packet_spec.specs.Sender.{frameOf, headFits, writing}
+use Rattle.packet_spec.proofs.Judging.{closed-keeps}
 use Rattle.packet.proofs.Sending.{writing-keeps}
 use Rattle.stream.specs.Called.{Held, begun, takeBy, takeByte, shut, readAll, readCall, Fine as FineFrame}
 use Rattle.stream.specs.Sender.{appending}
 use Rattle.stream.proofs.Cutting.{read-yields}
 use Rattle.stream.proofs.Sending.{appending-keeps}
-use Rattle.blocks.specs.Channel.{said}
+use Rattle.channel_spec.specs.Channel.{said}
 use Rattle.channel.specs.Called.{Board, hearAll, hearCall, Fine}
-use Rattle.blocks.specs.Sender.{marker, messageBytes, wordBytes, wordOf, marked, marking, sending}
+use Rattle.channel_spec.specs.Sender.{marker, messageBytes, wordBytes, wordOf, marked, marking, sending}
 use Rattle.channel.proofs.Cutting.{hear-yields}
 use Rattle.channel.proofs.Sending.{marking-keeps, sending-keeps}
-use Rattle.tape.specs.Deck.{Deck}
-use Rattle.tape.specs.Called.{tapeCall}
-use Rattle.readout.specs.declared.readout.Wants.the-variants.{Refused as ShowRefused}
-use Rattle.readout.specs.Source.{boardIn}
-use Rattle.readout.specs.Called.{Screen, readoutOf, recvOn, part, takes as shows}
-use Rattle.recording.specs.declared.recording.Totals.{Totals}
-use Rattle.recording.specs.declared.recording.Recording.{Recording}
-use Rattle.recording.specs.declared.recording.Wants.the-variants.{Refused}
-use Rattle.recording.specs.Printed.{printed, takes, lastOf, finishing}
+use Rattle.recording.specs.Deck.{Deck}
+use Rattle.recording.specs.Called.{tapeCall}
+use Rattle.board.specs.declared.readout.Wants.the-variants.{Refused as ShowRefused}
+use Rattle.board.specs.Source.{boardIn}
+use Rattle.board.specs.Called.{Screen, readoutOf, recvOn, part, takes as shows}
+use Rattle.listing.specs.declared.lister.Totals.{Totals}
+use Rattle.listing.specs.declared.lister.Recording.{Recording}
+use Rattle.listing.specs.declared.lister.Wants.the-variants.{Refused}
+use Rattle.listing.specs.Printed.{printed, takes, lastOf, finishing}
 use Rattle.channel.specs.declared.answer.Answer.{Answer}
-use Rattle.listed.specs.Lines.{line, endLine, wrongLine}
+use Rattle.listing_spec.specs.Lines.{line, endLine, wrongLine}
 use Rattle.bid.specs.Line.{verdict}
 use Rattle.office.specs.declared.Office.{Office}
 use Rattle.office.specs.declared.Started.the-variants.{Refused as StartRefused}

@@ -2,14 +2,14 @@
 --   "Packets, check values, escapes, parity words, interleaving and markers are exactly those of the NRSC-5 transport paper and RFC 1662 as
 --   document 01 condenses them, writing and reading; for each packet the sender accepts, a packet written and read back is the same packet."
 -- What they are is defined once, in the paper's words, and each function promises those definitions:
---   packets         `contents`, `class` (crates/frames/specs/Contents.antt, Port.antt), `stream` (crates/stream/specs/Sender.antt)
+--   packets         `contents`, `class` (crates/packet_spec/specs/Contents.antt, Port.antt), `stream` (crates/stream/specs/Sender.antt)
 --   check values    `fcs` (crates/fcs/specs/Fcs.antt)
---   escapes         `escape`, `plain`, `scan` (crates/frames/specs/Escape.antt), and `reads` (crates/stream/specs/Reader.antt)
---   parity words    `generator`, `remainder`, `clean` (crates/words/specs/Word.antt), over the field of crates/field/specs/Field.antt
---   interleaving    `cell` (crates/matrices/specs/Places.antt), `push`, `pull`, `pushing`, `closing`, `pulling` (crates/matrices/specs/Running.antt)
---   markers         `marked` (crates/blocks/specs/Sender.antt), and `answers` (crates/blocks/specs/Channel.antt)
---   block answers   `condition`, `mend` (crates/blocks/specs/Channel.antt), by repair's promise: `Promised` (crates/repair/specs/Promise.antt)
---   the listing     `listing` (crates/listed/specs/Listing.antt), of recordings taken apart: `apart` (crates/listed/specs/Apart.antt)
+--   escapes         `escape`, `plain`, `scan` (crates/packet_spec/specs/Escape.antt), and `reads` (crates/stream/specs/Reader.antt)
+--   parity words    `generator`, `remainder`, `clean` (crates/word_spec/specs/Word.antt), over the field of crates/field/specs/Field.antt
+--   interleaving    `cell` (crates/interleaver_spec/specs/Places.antt), `push`, `pull`, `pushing`, `closing`, `pulling` (crates/interleaver_spec/specs/Running.antt)
+--   markers         `marked` (crates/channel_spec/specs/Sender.antt), and `answers` (crates/channel_spec/specs/Channel.antt)
+--   block answers   `condition`, `mend` (crates/channel_spec/specs/Channel.antt), by repair's promise: `Promised` (crates/repair/specs/Promise.antt)
+--   the listing     `listing` (crates/listing_spec/specs/Listing.antt), of recordings taken apart: `apart` (crates/listing_spec/specs/Apart.antt)
 -- Here: that they hold together; of interleaving, in Interleaving. The paper's numbers are in Numbers, and what else it prints in Printed.
 -- round-trip, round-answer, delivered-only   a packet written and read back, and a packet read is one that could be written
 -- part-short, part-long, payload-place   the part of the receive buffer that is handed out
@@ -42,54 +42,54 @@ use Rattle.base.specs.Written.{Outcome, refused, write}
 use Rattle.base.proofs.Writing.{write-is, write-short, room-wrote}
 use Rattle.base.proofs.Tests.{by-le}
 use Rattle.base.specs.declared.Written.the-variants.{Wrote, Refused}
-use Rattle.words.specs.Word.{clean, remainder, Zero}
+use Rattle.word_spec.specs.Word.{clean, remainder, Zero}
 use Rattle.repair.specs.declared.Mended.{Mended}
 use Rattle.repair.specs.Promise.{Promised}
-use Rattle.words.proofs.Clean.{clean-roots, roots-clean, parity-clean, clean-is}
+use Rattle.word_spec.proofs.Clean.{clean-roots, roots-clean, parity-clean, clean-is}
 use Rattle.parity.specs.Calls.{made}
-use Rattle.frames.specs.Escape.{flag, plain, last, BrokenAt, NoFlag}
-use Rattle.frames.specs.Port.{class}
-use Rattle.frames.specs.declared.Class.the-variants.{Barred}
-use Rattle.frames.proofs.Classes.{from-0000, from-0401, from-5100, from-5101, from-5201, from-5208, from-5300, from-7D00, from-7F00, from-FF00}
-use Rattle.frames.specs.Frame.{packet, broken, delivery, judged, closed, judge, part}
-use Rattle.frames.proofs.Faults.{closed-broken, judge-broken}
-use Rattle.frames.specs.Sender.{Accepted, writing}
-use Rattle.frames.specs.declared.Judged.the-variants.{Packet as Delivered}
+use Rattle.packet_spec.specs.Escape.{flag, plain, last, BrokenAt, NoFlag}
+use Rattle.packet_spec.specs.Port.{class}
+use Rattle.packet_spec.specs.declared.Class.the-variants.{Barred}
+use Rattle.packet_spec.proofs.Classes.{from-0000, from-0401, from-5100, from-5101, from-5201, from-5208, from-5300, from-7D00, from-7F00, from-FF00}
+use Rattle.packet_spec.specs.Frame.{packet, broken, delivery, judged, closed, judge, part}
+use Rattle.packet_spec.proofs.Faults.{closed-broken, judge-broken}
+use Rattle.packet_spec.specs.Sender.{Accepted, writing}
+use Rattle.packet_spec.specs.declared.Judged.the-variants.{Packet as Delivered}
 use Rattle.stream.specs.Reader.{waiting, inside, closing, reads}
 use Rattle.stream.specs.Sender.{rawOf, stream, delivered, appending}
 use Rattle.stream.proofs.Streaming.{ignored, unclosed, between-flags as flag-to-flag, stream-read}
 use Rattle.stream.proofs.Sending.{begin-stream, append-stream}
-use Rattle.blocks.specs.Sender.{marker, parityBytes, wordOf, fillers, filled, messagesOf, marking, sending, sent}
-use Rattle.blocks.specs.Channel.{conditionBy, condition, mend, carried, IsWord, Event, frames, blocks, losses, asMended}
-use Rattle.blocks.proofs.Streaming as streaming
-use Rattle.blocks.proofs.Words.{block-promised, block-determined}
-use Rattle.listed.specs.Apart.{most, freshSpot, apart, well, onChannel, recordOf, records}
-use Rattle.listed.specs.Described.{firstByte, Described}
+use Rattle.channel_spec.specs.Sender.{marker, parityBytes, wordOf, fillers, filled, messagesOf, marking, sending, sent}
+use Rattle.channel_spec.specs.Channel.{conditionBy, condition, mend, carried, IsWord, Event, frames, blocks, losses, asMended}
+use Rattle.channel_spec.proofs.Streaming as streaming
+use Rattle.channel_spec.proofs.Words.{block-promised, block-determined}
+use Rattle.listing_spec.specs.Apart.{most, freshSpot, apart, well, onChannel, recordOf, records}
+use Rattle.listing_spec.specs.Described.{firstByte, Described}
 use Rattle.bid.specs.Line.{digits, value}
-use Rattle.listed.specs.Lines.{decimal, letter, lines, isPacket, isRefusal, isDamaged, isLost, count, packetsIn, refusalsIn, damagedIn, wrongLine, longest}
-use Rattle.listed.specs.Listing.{heard, totalLine, listing}
-use Rattle.listed.specs.declared.Place.the-variants.{Wrong}
-use Rattle.listed.proofs.Described as recordings
-use Rattle.listed.proofs.Offsets.{offset-right, offset-wrong}
-use Rattle.listed.proofs.Totals.{packets-counted, refusals-counted, damaged-counted, lost-counted, sent-counted}
-use Rattle.frames.specs.Contents.{rawLimit, Packet, contents, payloadAt}
-use Rattle.frames.proofs.Only.{judge-only}
+use Rattle.listing_spec.specs.Lines.{decimal, letter, lines, isPacket, isRefusal, isDamaged, isLost, count, packetsIn, refusalsIn, damagedIn, wrongLine, longest}
+use Rattle.listing_spec.specs.Listing.{heard, totalLine, listing}
+use Rattle.listing_spec.specs.declared.Place.the-variants.{Wrong}
+use Rattle.listing_spec.proofs.Described as recordings
+use Rattle.listing_spec.proofs.Offsets.{offset-right, offset-wrong}
+use Rattle.listing_spec.proofs.Totals.{packets-counted, refusals-counted, damaged-counted, lost-counted, sent-counted}
+use Rattle.packet_spec.specs.Contents.{rawLimit, Packet, contents, payloadAt}
+use Rattle.packet_spec.proofs.Only.{judge-only}
 use Rattle.base.specs.Choice.{pick}
-use Rattle.blocks.specs.Sender.{wordBytes}
-use Rattle.tape.specs.Deck.{Deck, fresh}
-use Rattle.tape.specs.Called.{far, deckOf, tapeCall, EveryCut, ThereDeck}
-use Rattle.tape.proofs.Demands.{taken-apart}
-use Rattle.tape.proofs.Delivery.{payload-next}
-use Rattle.recording.specs.declared.recording.Totals.{Totals}
-use Rattle.recording.specs.declared.recording.Recording.{Recording}
-use Rattle.recording.specs.Printed.{noTotals, lastOf, recorded, finishing, freshRecording}
-use Rattle.recording.specs.Runs.{ListsAll, Run, Fair}
-use Rattle.recording.proofs.Listing.{listing-printed}
-use Rattle.recording.proofs.Ends.{listing-ends, finish-ends}
+use Rattle.channel_spec.specs.Sender.{wordBytes}
+use Rattle.recording.specs.Deck.{Deck, fresh}
+use Rattle.recording.specs.Called.{far, deckOf, tapeCall, EveryCut, ThereDeck}
+use Rattle.recording.proofs.Demands.{taken-apart}
+use Rattle.recording.proofs.Delivery.{payload-next}
+use Rattle.listing.specs.declared.lister.Totals.{Totals}
+use Rattle.listing.specs.declared.lister.Recording.{Recording}
+use Rattle.listing.specs.Printed.{noTotals, lastOf, recorded, finishing, freshRecording}
+use Rattle.listing.specs.Runs.{ListsAll, Run, Fair}
+use Rattle.listing.proofs.Listing.{listing-printed}
+use Rattle.listing.proofs.Ends.{listing-ends, finish-ends}
 use Rattle.office.specs.Desk.{Said, Desk}
 use Rattle.office.specs.Called.{hearCall, closeCall}
 use Rattle.demands.proofs.Desk.{office-line-number, office-close-number}
-use Rattle.shown.proofs.Decimal.{decimal-digits}
+use Rattle.board_spec.proofs.Decimal.{decimal-digits}
 use Rattle.demands.proofs.Trips.{packet-back, judged-back, plain-listed, channel-listed}
 
 -- ---- "for each packet the sender accepts, a packet written and read back is the same packet.": where n bytes are written of a packet (a key

@@ -29,12 +29,12 @@ use Rattle.base.specs.Calls.{With, joined, Reads, ReadsAll, Yields}
 use Rattle.base.specs.Calls.Reads.{more, answer}
 use Rattle.base.specs.Calls.ReadsAll.{piece}
 use Rattle.base.proofs.Calls.{yields-so}
-use Rattle.frames.specs.Contents.{rawLimit, Packet}
-use Rattle.frames.specs.Escape.{flag, BrokenAt, NoFlag}
-use Rattle.frames.specs.Frame.{Told, broken}
-use Rattle.frames.proofs.Faults.{broken-there, broken-is}
+use Rattle.packet_spec.specs.Contents.{rawLimit, Packet}
+use Rattle.packet_spec.specs.Escape.{flag, BrokenAt, NoFlag}
+use Rattle.packet_spec.specs.Frame.{Told, broken}
+use Rattle.packet_spec.proofs.Faults.{broken-there, broken-is}
 use Rattle.stream.specs.Reader.{waiting, inside, reads}
-use Rattle.frames.specs.Sender.{Accepted}
+use Rattle.packet_spec.specs.Sender.{Accepted}
 use Rattle.stream.specs.Sender.{rawOf, framesOf, stream, delivered, openedFrom}
 use Rattle.stream.specs.Called.{Held, takeByte, readCall, heldOf, inUse as plainInUse, ThereHeld, EveryCut as EveryPlainCut}
 use Rattle.stream.proofs.Accepting.{clear}
@@ -43,9 +43,9 @@ use Rattle.stream.proofs.Shown.{shown-plain, held-use, held-st}
 use Rattle.stream.proofs.Remembered as plain
 use Rattle.stream.proofs.Delivery.{payload-held}
 use Rattle.stream.proofs.Streaming.{ignored, stream-read, opened-behind, none-opened}
-use Rattle.blocks.specs.Sender.{marker, wordBytes, framed, sentWords, sent}
-use Rattle.blocks.specs.Channel.{condition, Event, lost, frames, blocks, losses, freshChannel, hears, answers, IsWord, carried, wordsGive, FirstMarker}
-use Rattle.blocks.specs.declared.Condition.the-variants.{Clean as clean}
+use Rattle.channel_spec.specs.Sender.{marker, wordBytes, framed, sentWords, sent}
+use Rattle.channel_spec.specs.Channel.{condition, Event, lost, frames, blocks, losses, freshChannel, hears, answers, IsWord, carried, wordsGive, FirstMarker}
+use Rattle.channel_spec.specs.declared.Condition.the-variants.{Clean as clean}
 use Rattle.channel.specs.Called.{Board, board, heldIn, freshReceiver, hearCall, EveryCut, ThereEvent, boardOf, inUse}
 use Rattle.channel.proofs.Demands as channel
 use Rattle.channel.proofs.Blocks as blocks-law

@@ -20,12 +20,12 @@ use Rattle.base.specs.Written.{write, Keeps}
 use Rattle.base.proofs.Calls.{none-owed, with-hear}
 use Rattle.base.proofs.Tests.{and-parts}
 use Rattle.base.proofs.Writing.{write-keeps, refused-keeps}
-use Rattle.frames.specs.Contents.{payloadLimit}
-use Rattle.frames.specs.Escape.{flag, escape}
-use Rattle.frames.specs.Port.{barred}
-use Rattle.blocks.specs.Sender.{marked}
+use Rattle.packet_spec.specs.Contents.{payloadLimit}
+use Rattle.packet_spec.specs.Escape.{flag, escape}
+use Rattle.packet_spec.specs.Port.{barred}
+use Rattle.channel_spec.specs.Sender.{marked}
 use Rattle.channel.specs.declared.answer.Answer.{Answer}
-use Rattle.listed.specs.Lines.{line, endLine, wrongLine}
+use Rattle.listing_spec.specs.Lines.{line, endLine, wrongLine}
 use Rattle.bid.specs.Line.{feed, lineLimit, noNumber, port, sequence, text, Verdict, noBid, refused, accepted, judged, isBid, verdict, bidOf}
 use Rattle.office.specs.declared.Office.{Office}
 use Rattle.office.specs.declared.Started.{Started}

@@ -19,29 +19,29 @@ use Rattle.base.specs.Choice.{pick}
 use Rattle.base.proofs.Bytes.{each-take}
 use Rattle.base.proofs.Calls.{none-owed, with-hear}
 use Rattle.fcs.specs.Fcs.{fcs}
-use Rattle.frames.specs.Contents.{rawLimit, two, packed, withCheck, contents}
-use Rattle.frames.specs.Escape.{flag, plain, scan}
-use Rattle.frames.specs.Frame.{Told, packet, refusal, broken, Closed, delivery, kept, judgeContents, closedBy, closed, judge}
-use Rattle.frames.specs.declared.Escapes.{Escapes}
-use Rattle.frames.specs.declared.Escapes.the-variants.{Right, Unfinished, Wrong}
-use Rattle.frames.proofs.Judging.{closed-as}
-use Rattle.frames.proofs.Only.{judge-only}
+use Rattle.packet_spec.specs.Contents.{rawLimit, two, packed, withCheck, contents}
+use Rattle.packet_spec.specs.Escape.{flag, plain, scan}
+use Rattle.packet_spec.specs.Frame.{Told, packet, refusal, broken, Closed, delivery, kept, judgeContents, closedBy, closed, judge}
+use Rattle.packet_spec.specs.declared.Escapes.{Escapes}
+use Rattle.packet_spec.specs.declared.Escapes.the-variants.{Right, Unfinished, Wrong}
+use Rattle.packet_spec.proofs.Judging.{closed-as}
+use Rattle.packet_spec.proofs.Only.{judge-only}
 use Rattle.stream.specs.Called.{Held, shut, takeBy, takeByte, sound as soundFrame, readBy, readCall}
-use Rattle.blocks.specs.declared.Hunting.{Hunting}
-use Rattle.blocks.specs.Sender.{wordBytes}
-use Rattle.blocks.specs.Channel.{Event, said, block, lost, isMarker, shift}
+use Rattle.channel_spec.specs.declared.Hunting.{Hunting}
+use Rattle.channel_spec.specs.Sender.{wordBytes}
+use Rattle.channel_spec.specs.Channel.{Event, said, block, lost, isMarker, shift}
 use Rattle.channel.specs.Called.{Board, heldIn, wordOn, compareOn, markOn, eatBy, eatByte, owed, asEvent, handOn, sound, roomy, hearBy, hearCall}
 use Rattle.channel.proofs.Cutting.{hand-one}
-use Rattle.matrices.specs.Running.{pull}
-use Rattle.matrices.specs.declared.Back.{Back}
-use Rattle.groups.specs.Sender.{groupBytes}
+use Rattle.interleaver_spec.specs.Running.{pull}
+use Rattle.interleaver_spec.specs.declared.Back.{Back}
+use Rattle.subchannel_spec.specs.Sender.{groupBytes}
 use Rattle.subchannel.specs.declared.lane.Lane.{Lane}
 use Rattle.subchannel.specs.Called as fixed
 use Rattle.subchannel.proofs.Cutting as cutting
-use Rattle.listed.specs.Apart.{inStream}
-use Rattle.tape.specs.Deck.{withHeld, eatBy as eatEar, earHand, earEat, Deck, deckOwes, deckHand, byteBy, deckEat}
-use Rattle.tape.specs.Called.{nearSpot, tapeBy, tapeCall}
-use Rattle.tape.proofs.Ears.{deck-hand-one}
+use Rattle.listing_spec.specs.Apart.{inStream}
+use Rattle.recording.specs.Deck.{withHeld, eatBy as eatEar, earHand, earEat, Deck, deckOwes, deckHand, byteBy, deckEat}
+use Rattle.recording.specs.Called.{nearSpot, tapeBy, tapeCall}
+use Rattle.recording.proofs.Ears.{deck-hand-one}
 use Rattle.capture.specs.Export.{packedPart}
 use Rattle.capture.proofs.There.{Own, packed-there, export-own, own-fetched}
 use Rattle.demands.specs.Captures.{FetchedEvent, FetchedHeld, FetchedBoard, FetchedSub, FetchedDeck}

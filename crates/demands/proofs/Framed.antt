@@ -6,8 +6,8 @@ use mathlib.Core.List.{List, [], _∷_, _++_}
 use lib.ListN.{length, take, drop}
 use lib.Seq.{take-at, drop-at}
 use Rattle.base.specs.Bytes.{Each}
-use Rattle.blocks.specs.Sender.{wordBytes, framed}
-use Rattle.blocks.specs.Channel.{IsWord}
+use Rattle.channel_spec.specs.Sender.{wordBytes, framed}
+use Rattle.channel_spec.specs.Channel.{IsWord}
 
 some-framed : (w : List ℕ) (ws : List (List ℕ)) → [] ≡ framed (w ∷ ws) → ⊥
 some-framed w ws e = omega (arith, ap length e)

@@ -21,16 +21,16 @@ use Rattle.base.specs.Choice.{pick}
 use Rattle.base.proofs.Lists.{drop-take}
 use Rattle.base.proofs.Tests.{by-le, and-parts}
 use Rattle.fcs.specs.Fcs.{fcs}
-use Rattle.frames.specs.Port.{barred}
-use Rattle.frames.specs.Contents.{Packet, plainFormat, keyFormat, keyLeast, keyMost, keySized, keyAt, restLeast, keyLength, payloadLimit, rawLimit, word, wordAt, unpacked, plainly, keyed, body}
-use Rattle.frames.specs.Escape.{escape, plain, scan}
-use Rattle.frames.specs.Frame.{Told, packet, refusal, broken, number, kept, judgePacket, keyFits, judgeBody, judgeContents, closedBy, closed, judging, judge}
-use Rattle.frames.specs.declared.Escapes.{Escapes}
-use Rattle.frames.specs.declared.Escapes.the-variants.{Right, Unfinished, Wrong}
-use Rattle.frames.specs.Sender.{headFits}
-use Rattle.frames.proofs.Judging.{key-fits}
-use Rattle.frames.proofs.Round.{by-format}
-use Rattle.frames.proofs.Faults.{Scanned, scan-says, broken-followed}
+use Rattle.packet_spec.specs.Port.{barred}
+use Rattle.packet_spec.specs.Contents.{Packet, plainFormat, keyFormat, keyLeast, keyMost, keySized, keyAt, restLeast, keyLength, payloadLimit, rawLimit, word, wordAt, unpacked, plainly, keyed, body}
+use Rattle.packet_spec.specs.Escape.{escape, plain, scan}
+use Rattle.packet_spec.specs.Frame.{Told, packet, refusal, broken, number, kept, judgePacket, keyFits, judgeBody, judgeContents, closedBy, closed, judging, judge}
+use Rattle.packet_spec.specs.declared.Escapes.{Escapes}
+use Rattle.packet_spec.specs.declared.Escapes.the-variants.{Right, Unfinished, Wrong}
+use Rattle.packet_spec.specs.Sender.{headFits}
+use Rattle.packet_spec.proofs.Judging.{key-fits}
+use Rattle.packet_spec.proofs.Round.{by-format}
+use Rattle.packet_spec.proofs.Faults.{Scanned, scan-says, broken-followed}
 use Rattle.demands.specs.Table.{Row, Exact}
 use Rattle.demands.specs.Refusals.{Unusable, KeyBeyond, KeyWrong, portAt, payloadOf, bodyRows, contentsRows, frameRows, UnfitHead, OfFrame, OfCall, ByFrame}
 use Rattle.demands.proofs.Rows.{applies, over, row, row-not, passed, not-both, not-less, not-same, first-each}

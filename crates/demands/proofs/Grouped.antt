@@ -23,13 +23,13 @@ use Rattle.base.specs.declared.Written.the-variants.{Wrote, Refused}
 use Rattle.base.proofs.Lists.{over}
 use Rattle.base.proofs.Tests.{by-le, by-test}
 use Rattle.base.proofs.Writing.{copied-fits}
-use Rattle.matrices.specs.Running.{fresh, beyond}
-use Rattle.matrices.specs.declared.Matrix.{Matrix}
-use Rattle.groups.specs.Sender.{sent}
-use Rattle.subsender.specs.Sending.{groupStream, groupNext, groupSending, groupWritten, groupCount, counting, groupsBy}
-use Rattle.subsender.specs.declared.Counted.the-variants.{Groups, Refused as CountRefused}
-use Rattle.subsender.proofs.Running.{group-state, group-roots, group-depth, group-short, group-long, group-goes, group-placed, groups-sent, sent-long, count-rest, group-first}
-use Rattle.subsender.proofs.Running.{count-are}
+use Rattle.interleaver_spec.specs.Running.{fresh, beyond}
+use Rattle.interleaver_spec.specs.declared.Matrix.{Matrix}
+use Rattle.subchannel_spec.specs.Sender.{sent}
+use Rattle.subchannel_sender.specs.Sending.{groupStream, groupNext, groupSending, groupWritten, groupCount, counting, groupsBy}
+use Rattle.subchannel_sender.specs.declared.Counted.the-variants.{Groups, Refused as CountRefused}
+use Rattle.subchannel_sender.proofs.Running.{group-state, group-roots, group-depth, group-short, group-long, group-goes, group-placed, groups-sent, sent-long, count-rest, group-first}
+use Rattle.subchannel_sender.proofs.Running.{count-are}
 use Rattle.subchannel.proofs.Fine.{zero-placed}
 use Rattle.demands.specs.Table.{Exact}
 use Rattle.demands.specs.Refusals.{PlaceBeyond, ByGroup, ByCount}

@@ -23,15 +23,15 @@ use Rattle.repair.specs.Promise.{distance, half, CleanWord, Promised}
 use Rattle.repair.proofs.Apart.{checked-clean, altered-damaged}
 use Rattle.repair.proofs.Promising as promising
 use Rattle.stream.specs.Reader.{waiting, reads}
-use Rattle.frames.specs.Sender.{Accepted}
+use Rattle.packet_spec.specs.Sender.{Accepted}
 use Rattle.stream.specs.Sender.{stream, delivered}
-use Rattle.frames.specs.Contents.{Packet}
+use Rattle.packet_spec.specs.Contents.{Packet}
 use Rattle.stream.proofs.Streaming.{stream-read}
-use Rattle.blocks.specs.Sender.{parityBytes, framed, fillers, messagesOf, sentWords, sent}
-use Rattle.blocks.specs.Channel.{zeros, frames, blocks, losses, freshChannel, hears, IsWord, FirstMarker}
+use Rattle.channel_spec.specs.Sender.{parityBytes, framed, fillers, messagesOf, sentWords, sent}
+use Rattle.channel_spec.specs.Channel.{zeros, frames, blocks, losses, freshChannel, hears, IsWord, FirstMarker}
 use Rattle.channel.specs.Called.{EveryCut, boardOf, inUse}
-use Rattle.blocks.proofs.Streaming.{wholes, behindWords, frames-wholes, blocks-wholes, losses-wholes, first-markers, sent-messages, sent-each, sent-bytes, sent-some}
-use Rattle.blocks.proofs.Streaming.{received as heard-words}
+use Rattle.channel_spec.proofs.Streaming.{wholes, behindWords, frames-wholes, blocks-wholes, losses-wholes, first-markers, sent-messages, sent-each, sent-bytes, sent-some}
+use Rattle.channel_spec.proofs.Streaming.{received as heard-words}
 use Rattle.channel.proofs.Demands.{cut-so, every-cut}
 use Rattle.demands.specs.Guarantee.{altered, Repairable, Received, received}
 use Rattle.demands.proofs.Altered.{altered-is, repairable-half, half-repairable, sent-clean-words, carried-received, answers-received, behind-received, words-received, some-received}

@@ -19,17 +19,17 @@ use Rattle.base.specs.Calls.{joined, run}
 use Rattle.base.specs.Choice.{pick}
 use Rattle.base.specs.Written.{outcome, write}
 use Rattle.base.specs.declared.Written.the-variants.{Wrote}
-use Rattle.matrices.specs.Places.{cell}
-use Rattle.matrices.specs.Running.{fresh, sent, push, freshBack, gave, pull, beyond, pushing, closingBytes, zeros, closing, pulling}
-use Rattle.matrices.specs.Pieces.{Goes}
-use Rattle.matrices.specs.declared.Matrix.{Matrix}
-use Rattle.matrices.specs.declared.Back.{Back}
-use Rattle.matrices.proofs.Places.{cell-mod}
-use Rattle.matrices.proofs.Calling.{passes, deeper}
-use Rattle.matrices.proofs.Pushing.{sent-place}
-use Rattle.matrices.proofs.Numbers.{first-outputs}
-use Rattle.matrices.proofs.Round.{output-told, returned-told, returned-length, delayed, there-and-back as round}
-use Rattle.matrices.proofs.Cutting as cutting
+use Rattle.interleaver_spec.specs.Places.{cell}
+use Rattle.interleaver_spec.specs.Running.{fresh, sent, push, freshBack, gave, pull, beyond, pushing, closingBytes, zeros, closing, pulling}
+use Rattle.interleaver_spec.specs.Pieces.{Goes}
+use Rattle.interleaver_spec.specs.declared.Matrix.{Matrix}
+use Rattle.interleaver_spec.specs.declared.Back.{Back}
+use Rattle.interleaver_spec.proofs.Places.{cell-mod}
+use Rattle.interleaver_spec.proofs.Calling.{passes, deeper}
+use Rattle.interleaver_spec.proofs.Pushing.{sent-place}
+use Rattle.interleaver_spec.proofs.Numbers.{first-outputs}
+use Rattle.interleaver_spec.proofs.Round.{output-told, returned-told, returned-length, delayed, there-and-back as round}
+use Rattle.interleaver_spec.proofs.Cutting as cutting
 use Rattle.demands.proofs.Rows.{calling-is}
 
 -- ---- the equations: "column 53i mod 255 and row (i - 254·INT(i/255)) mod D", cells numbered row by row ..

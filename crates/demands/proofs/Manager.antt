@@ -18,30 +18,30 @@ use mathlib.Core.Bool.{Bool, true, false}
 use mathlib.Core.List.{List, [], _∷_, _++_, map, append-nil}
 use lib.ListN.{length, replicate, length-replicate}
 use Rattle.base.specs.Bytes.{Each, Bytes}
-use Rattle.frames.specs.Contents.{rawLimit, Packet}
-use Rattle.frames.specs.Frame.{Told}
-use Rattle.frames.specs.Sender.{Accepted}
+use Rattle.packet_spec.specs.Contents.{rawLimit, Packet}
+use Rattle.packet_spec.specs.Frame.{Told}
+use Rattle.packet_spec.specs.Sender.{Accepted}
 use Rattle.stream.specs.Sender.{delivered}
-use Rattle.blocks.specs.Sender.{parityBytes, wordBytes, sentWords}
-use Rattle.blocks.specs.Channel.{Event, frames, blocks, losses, answers, FirstMarker}
+use Rattle.channel_spec.specs.Sender.{parityBytes, wordBytes, sentWords}
+use Rattle.channel_spec.specs.Channel.{Event, frames, blocks, losses, answers, FirstMarker}
 use Rattle.channel.specs.Called.{EveryCut}
-use Rattle.blocks.proofs.Streaming.{sent-each}
+use Rattle.channel_spec.proofs.Streaming.{sent-each}
 use Rattle.channel.proofs.Demands.{every-cut}
 use Rattle.bid.specs.Line.{feed}
 use Rattle.bid.specs.Input.{linesOf, packetsOf, complaints}
 use Rattle.office.specs.Desk.{sentFor}
 use Rattle.office.proofs.Cutting.{bids-sent}
 use Rattle.office.proofs.Board.{packets-accepted}
-use Rattle.sequences.specs.Ports.{placeLimit}
-use Rattle.shown.specs.Board.{boardLines, writtenAll, freshTable, boardText}
-use Rattle.shown.specs.Typed.{acceptedLines, typed, asShown, Plainly, bidsAmong, packetsAmong, asBid, currentFrom, numbersOf, ByOne, Among}
-use Rattle.shown.proofs.Marks.{bids-current}
-use Rattle.shown.proofs.Typed.{bids-typed, packets-open, shown-typed, lines-typed, unnamed}
-use Rattle.shown.proofs.Ordered.{delivered-packets, bids-in-order}
-use Rattle.shown.proofs.Sixteen.{Good, only-bids}
-use Rattle.readout.specs.Called.{freshReadout}
-use Rattle.readout.specs.Runs.{EveryShow}
-use Rattle.readout.proofs.Demands.{shown-bare}
+use Rattle.ports_spec.specs.Ports.{placeLimit}
+use Rattle.board_spec.specs.Board.{boardLines, writtenAll, freshTable, boardText}
+use Rattle.board_spec.specs.Typed.{acceptedLines, typed, asShown, Plainly, bidsAmong, packetsAmong, asBid, currentFrom, numbersOf, ByOne, Among}
+use Rattle.board_spec.proofs.Marks.{bids-current}
+use Rattle.board_spec.proofs.Typed.{bids-typed, packets-open, shown-typed, lines-typed, unnamed}
+use Rattle.board_spec.proofs.Ordered.{delivered-packets, bids-in-order}
+use Rattle.board_spec.proofs.Sixteen.{Good, only-bids}
+use Rattle.board.specs.Called.{freshReadout}
+use Rattle.board.specs.Runs.{EveryShow}
+use Rattle.board.proofs.Demands.{shown-bare}
 use Rattle.demands.specs.Guarantee.{altered, answerFor, Received, received}
 use Rattle.demands.specs.Way.{Sends, Airs}
 use Rattle.demands.proofs.Framed.{framed-same}

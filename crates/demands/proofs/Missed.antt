@@ -14,19 +14,19 @@ use Rattle.base.specs.Choice.{pick}
 use Rattle.base.specs.Written.{write, Keeps}
 use Rattle.base.proofs.Writing.{write-keeps}
 use Rattle.lines.specs.Noted.{notedLine}
-use Rattle.sequences.specs.declared.Entry.{Entry}
-use Rattle.sequences.specs.declared.Noted.{Noted}
-use Rattle.sequences.specs.declared.Noted.the-variants.{First, Missing, Refused}
-use Rattle.sequences.specs.declared.Forgot.{Forgot}
-use Rattle.sequences.specs.declared.Forgot.the-variants.{Forgotten, Refused as Unforgotten}
-use Rattle.sequences.specs.Distance.{around, ruled, lastBehind, Distance, Leads, meaning, follows}
-use Rattle.sequences.specs.Ports.{freed, entry, unheld, placeOf, freePlace, lastOf, unfit, lastAt, noting, forgetting}
+use Rattle.ports_spec.specs.declared.Entry.{Entry}
+use Rattle.ports_spec.specs.declared.Noted.{Noted}
+use Rattle.ports_spec.specs.declared.Noted.the-variants.{First, Missing, Refused}
+use Rattle.ports_spec.specs.declared.Forgot.{Forgot}
+use Rattle.ports_spec.specs.declared.Forgot.the-variants.{Forgotten, Refused as Unforgotten}
+use Rattle.ports_spec.specs.Distance.{around, ruled, lastBehind, Distance, Leads, meaning, follows}
+use Rattle.ports_spec.specs.Ports.{freed, entry, unheld, placeOf, freePlace, lastOf, unfit, lastAt, noting, forgetting}
 use Rattle.ports.specs.ByValue.{freshPorts}
-use Rattle.sequences.specs.Refusing.{Held, Full, Call, keeps}
-use Rattle.sequences.proofs.Signed.{distance-is, distance-only, rule-means, missing-between}
-use Rattle.sequences.proofs.Laws.{first-free, free-is, others-noted, others-forgotten, entries-noted, noted-last, noted-first, first-last, only-full, forgotten-none, forgotten-at, forgotten-else}
-use Rattle.sequences.proofs.Refusing.{unfit-is, fit-not, held-is, away-not, full-is, free-not, rule-given, noting-keeps, forgetting-keeps}
-use Rattle.sequences.proofs.Keeping.{never-43}
+use Rattle.ports_spec.specs.Refusing.{Held, Full, Call, keeps}
+use Rattle.ports_spec.proofs.Signed.{distance-is, distance-only, rule-means, missing-between}
+use Rattle.ports_spec.proofs.Laws.{first-free, free-is, others-noted, others-forgotten, entries-noted, noted-last, noted-first, first-last, only-full, forgotten-none, forgotten-at, forgotten-else}
+use Rattle.ports_spec.proofs.Refusing.{unfit-is, fit-not, held-is, away-not, full-is, free-not, rule-given, noting-keeps, forgetting-keeps}
+use Rattle.ports_spec.proofs.Keeping.{never-43}
 use Rattle.ports.proofs.Fresh.{fresh-fit, fresh-none}
 use Rattle.demands.specs.Table.{Exact}
 use Rattle.demands.specs.Refusals.{ByCall}

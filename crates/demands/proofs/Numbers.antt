@@ -6,26 +6,26 @@ use mathlib.Core.Path.{_≡_, refl}
 use mathlib.Core.List.{[]}
 use Rattle.fcs.specs.Fcs.{fcs, register, entered}
 use Rattle.field.specs.Field.{add, double, shiftAdd, mul, pow}
-use Rattle.words.specs.Word.{horner, eval, clean, scale, onto, timesRoot, generator, divide, remainder}
-use Rattle.frames.specs.Contents.{withCheck, contents}
-use Rattle.frames.specs.Escape.{escape, escapeByte, plain, wrongFrom, right, last, scan}
-use Rattle.frames.specs.Frame.{judgeBody, judgeContents, closedBy, closed, judge}
-use Rattle.frames.specs.Port.{class}
-use Rattle.captures.specs.File.{records}
-use Rattle.captures.specs.Import.{entry, read}
-use Rattle.listed.specs.Apart.{nextAt, inStream, apart}
-use Rattle.listed.specs.Lines.{decimal, decimalBy, told, lines, count, endLine, wrongLine}
-use Rattle.listed.specs.Listing.{heard, lastLine, listed, listing}
+use Rattle.word_spec.specs.Word.{horner, eval, clean, scale, onto, timesRoot, generator, divide, remainder}
+use Rattle.packet_spec.specs.Contents.{withCheck, contents}
+use Rattle.packet_spec.specs.Escape.{escape, escapeByte, plain, wrongFrom, right, last, scan}
+use Rattle.packet_spec.specs.Frame.{judgeBody, judgeContents, closedBy, closed, judge}
+use Rattle.packet_spec.specs.Port.{class}
+use Rattle.capture_spec.specs.File.{records}
+use Rattle.capture_spec.specs.Import.{entry, read}
+use Rattle.listing_spec.specs.Apart.{nextAt, inStream, apart}
+use Rattle.listing_spec.specs.Lines.{decimal, decimalBy, told, lines, count, endLine, wrongLine}
+use Rattle.listing_spec.specs.Listing.{heard, lastLine, listed, listing}
 use Rattle.lines.specs.Noted.{notedLine}
 use Rattle.lines.specs.Row.{rowLine}
-use Rattle.sequences.specs.Ports.{placeOf, freePlace, twice, noting, forgetting}
-use Rattle.multiplex.specs.Bits.{digits, bits, number, pack}
-use Rattle.multiplex.specs.Tables.{sequence, announced, heads, start, step, payload, lent, unfit}
-use Rattle.multiplex.specs.Unit.{weave, begins, opened, laidOut, unitBits, unit, hidden, written}
-use Rattle.multiplex.specs.Reading.{heard as heads-heard, unwoven, headerOf, payloadOf, isHeader, named, readParts, readUnit}
-use Rattle.sheets.specs.Tally.{toldFrom, told as told-numbers, sum}
-use Rattle.sheets.specs.Recording.{marks}
-use Rattle.sheets.specs.Month.{numbersOf, numbers as numbers-of, added, addedAll, anyWide}
+use Rattle.ports_spec.specs.Ports.{placeOf, freePlace, twice, noting, forgetting}
+use Rattle.unit_spec.specs.Bits.{digits, bits, number, pack}
+use Rattle.unit_spec.specs.Tables.{sequence, announced, heads, start, step, payload, lent, unfit}
+use Rattle.unit_spec.specs.Unit.{weave, begins, opened, laidOut, unitBits, unit, hidden, written}
+use Rattle.unit_spec.specs.Reading.{heard as heads-heard, unwoven, headerOf, payloadOf, isHeader, named, readParts, readUnit}
+use Rattle.sheet_spec.specs.Tally.{toldFrom, told as told-numbers, sum}
+use Rattle.sheet_spec.specs.Recording.{marks}
+use Rattle.sheet_spec.specs.Month.{numbersOf, numbers as numbers-of, added, addedAll, anyWide}
 use Rattle.demands.specs.Numbers.{table, wrong}
 use Rattle.demands.specs.Printed.{printed}
 use Rattle.demands.specs.Requested.{requested}

@@ -1,7 +1,7 @@
 -- What each public function promises: it accepts every input, it ends, and its promise is exactly this, in the words of its `ensures`, where
 -- `now x` is what x refers to, and a lent buffer has its .entry and its .exit. Demand1 to Demand3 speak of the definitions that stand here;
 -- with these laws they speak of the code.
--- CRATE-FUNCTION-means   of each public function of each library crate; `cases` and `deliveries`, parts of the comparison programs, promise nothing
+-- CRATE-FUNCTION-means   of each public function of each library crate; `cases` and `cases_frames`, parts of the comparison programs, promise nothing
 -- judged-is, ..          what the code's answers are, case by case
 use Prim.Native.Nat.{ℕ, _+_, _-_, _≤_, min}
 use mathlib.Core.Path.{_≡_, refl, ap}
@@ -16,45 +16,45 @@ use Rattle.base.specs.UpTo.{upTo}
 use Rattle.base.specs.Written.{outcome, write, copied}
 use Rattle.fcs.specs.Fcs as check
 use Rattle.field.specs.Field.{add, mul, pow, alpha, inverse}
-use Rattle.words.specs.Word.{clean, onto, scale}
-use Rattle.words.specs.Residue.{residue, residueFrom}
+use Rattle.word_spec.specs.Word.{clean, onto, scale}
+use Rattle.word_spec.specs.Residue.{residue, residueFrom}
 use Rattle.parity.specs.Calls.{atPowers, atRoots, made, checked}
 use Rattle.repair.specs.Promise.{Promised}
-use Rattle.matrices.specs.Running.{pushing, closing, pulling}
-use Rattle.frames.specs.Escape.{flag, wrongBehind}
-use Rattle.frames.specs.Frame.{Told, packet, refusal, broken, judged, judging, part}
-use Rattle.frames.specs.Contents.{Packet, packetOf, plainPacket, payloadAt}
-use Rattle.frames.specs.declared.Judged.{Judged}
-use Rattle.frames.specs.declared.Judged.the-variants.{Packet as Delivered, Refused, Broken}
-use Rattle.frames.specs.Port.{class}
-use Rattle.frames.specs.Sender.{writing}
+use Rattle.interleaver_spec.specs.Running.{pushing, closing, pulling}
+use Rattle.packet_spec.specs.Escape.{flag, wrongBehind}
+use Rattle.packet_spec.specs.Frame.{Told, packet, refusal, broken, judged, judging, part}
+use Rattle.packet_spec.specs.Contents.{Packet, packetOf, plainPacket, payloadAt}
+use Rattle.packet_spec.specs.declared.Judged.{Judged}
+use Rattle.packet_spec.specs.declared.Judged.the-variants.{Packet as Delivered, Refused, Broken}
+use Rattle.packet_spec.specs.Port.{class}
+use Rattle.packet_spec.specs.Sender.{writing}
 use Rattle.stream.specs.Sender.{appending}
 use Rattle.stream.specs.Called as plain
 use Rattle.stream.specs.declared.frame.Heard.the-variants as plain-answer
-use Rattle.blocks.specs.Sender.{marking, sending}
+use Rattle.channel_spec.specs.Sender.{marking, sending}
 use Rattle.channel.specs.Called.{board, sound, roomy, hearCall, answered}
-use Rattle.blocks.specs.Channel.{said, block, lost, isMarker}
-use Rattle.blocks.specs.declared.Condition.{Condition}
+use Rattle.channel_spec.specs.Channel.{said, block, lost, isMarker}
+use Rattle.channel_spec.specs.declared.Condition.{Condition}
 use Rattle.channel.specs.declared.answer.Answer.the-variants.{More, Said, Block, LockLost}
-use Rattle.listed.specs.Lines.{line, endLine, wrongLine}
-use Rattle.listed.specs.Apart.{well}
-use Rattle.listed.specs.declared.Place.the-variants.{Mode}
-use Rattle.tape.specs.Called.{deckOf, isMore, tapeCall}
+use Rattle.listing_spec.specs.Lines.{line, endLine, wrongLine}
+use Rattle.listing_spec.specs.Apart.{well}
+use Rattle.listing_spec.specs.declared.Place.the-variants.{Mode}
+use Rattle.recording.specs.Called.{deckOf, isMore, tapeCall}
 use Rattle.subchannel.specs.declared.settings.Settings.{Settings}
 use Rattle.subchannel.specs.declared.sub.Sub.{Sub}
 use Rattle.subchannel.specs.Called as subchannel
-use Rattle.subsender.specs.Sending as subsender
-use Rattle.subchannels.specs.Four as subchannels
-use Rattle.subsenders.specs.Four as subsenders
-use Rattle.captures.specs.File as capture-file
+use Rattle.subchannel_sender.specs.Sending as subsender
+use Rattle.four_receivers.specs.Four as subchannels
+use Rattle.four_senders.specs.Four as subsenders
+use Rattle.capture_spec.specs.File as capture-file
 use Rattle.capture.specs.Export.{entering}
 use Rattle.capture.specs.Called as capture
 use Rattle.capture.specs.declared.reader.Capture.the-variants.{Header}
-use Rattle.multiplex.specs.Unit as units
-use Rattle.multiplex.specs.Reading as unit-reading
-use Rattle.readout.specs.Called as readout
-use Rattle.readout.specs.declared.readout.Readout.{Readout}
-use Rattle.recording.specs.Printed as recording
+use Rattle.unit_spec.specs.Unit as units
+use Rattle.unit_spec.specs.Reading as unit-reading
+use Rattle.board.specs.Called as readout
+use Rattle.board.specs.declared.readout.Readout.{Readout}
+use Rattle.listing.specs.Printed as recording
 use Rattle.bid.specs.Line.{reading}
 use Rattle.office.specs.Desk.{desk, blocks, unread, refusal as denied}
 use Rattle.office.specs.declared.Answer.the-variants as office-answer
@@ -63,17 +63,17 @@ use Rattle.office.specs.declared.Started.the-variants.{Ready, Refused as Denied
 use Rattle.office.specs.Called as office
 use Rattle.lines.specs.Noted.{notedLine}
 use Rattle.lines.specs.Piece.{pieceOf}
-use Rattle.shown.specs.Text.{shownByte}
-use Rattle.shown.specs.Board.{wrongAt, written, writtenAll, ending}
-use Rattle.shown.specs.Parts.{lead, remark}
-use Rattle.sequences.specs.declared.Entry.{Entry}
-use Rattle.sequences.specs.declared.Noted.{Noted}
-use Rattle.sequences.specs.declared.Forgot.{Forgot}
-use Rattle.sequences.specs.Distance.{ruled}
-use Rattle.sequences.specs.Ports.{unfit, noting, forgetting}
+use Rattle.board_spec.specs.Text.{shownByte}
+use Rattle.board_spec.specs.Board.{wrongAt, written, writtenAll, ending}
+use Rattle.board_spec.specs.Parts.{lead, remark}
+use Rattle.ports_spec.specs.declared.Entry.{Entry}
+use Rattle.ports_spec.specs.declared.Noted.{Noted}
+use Rattle.ports_spec.specs.declared.Forgot.{Forgot}
+use Rattle.ports_spec.specs.Distance.{ruled}
+use Rattle.ports_spec.specs.Ports.{unfit, noting, forgetting}
 use Rattle.lines.specs.Row.{rowLine}
-use Rattle.sheets.specs.Month.{counts, wrong, refuses}
-use Rattle.sheets.specs.Rows.{paddedTo}
+use Rattle.sheet_spec.specs.Month.{counts, wrong, refuses}
+use Rattle.sheet_spec.specs.Rows.{paddedTo}
 use Rattle.sheet.specs.Called.{beginning, noting as counted, closing as settling, answerOf, printing}
 use Rattle.sheet.specs.declared.Counted.the-variants as sheet-answer
 use Rattle.rack.specs.Words.{making, checking, mending}
@@ -84,9 +84,9 @@ use Rattle.packet.proofs.write as packet-write
 use Rattle.stream.proofs.begin as stream-begin
 use Rattle.stream.proofs.append_as as stream-append-as
 use Rattle.stream.proofs.append as stream-append
-use Rattle.blocks.proofs.Hunting.fresh as blocks-fresh
-use Rattle.blocks.proofs.Hunting.shift as blocks-shift
-use Rattle.blocks.proofs.Hunting.at_marker as blocks-at-marker
+use Rattle.channel_spec.proofs.Hunting.fresh as channel-spec-fresh
+use Rattle.channel_spec.proofs.Hunting.shift as channel-spec-shift
+use Rattle.channel_spec.proofs.Hunting.at_marker as channel-spec-at-marker
 use Rattle.channel.proofs.mark as channel-mark
 use Rattle.channel.proofs.send as channel-send
 use Rattle.channel.proofs.receiver.Receiver.fresh as channel-fresh
@@ -97,17 +97,17 @@ use Rattle.subchannel.proofs.settings.Settings.within as subchannel-within
 use Rattle.subchannel.proofs.sub.Sub.told as subchannel-told
 use Rattle.subchannel.proofs.sub.Sub.sound as subchannel-sound
 use Rattle.subchannel.proofs.sub.Sub.hear as subchannel-hear
-use Rattle.subsender.proofs.send as subsender-send
-use Rattle.subsender.proofs.send_group as subsender-send-group
-use Rattle.subsender.proofs.count as subsender-count
-use Rattle.subchannels.proofs.Receiver.fresh as subchannels-fresh
-use Rattle.subchannels.proofs.Receiver.sound as subchannels-sound
-use Rattle.subchannels.proofs.Receiver.configure as subchannels-configure
-use Rattle.subchannels.proofs.Receiver.hear as subchannels-hear
-use Rattle.subsenders.proofs.Sender.fresh as subsenders-fresh
-use Rattle.subsenders.proofs.Sender.sound as subsenders-sound
-use Rattle.subsenders.proofs.Sender.configure as subsenders-configure
-use Rattle.subsenders.proofs.Sender.send as subsenders-send
+use Rattle.subchannel_sender.proofs.send as subchannel-sender-send
+use Rattle.subchannel_sender.proofs.send_group as subchannel-sender-send-group
+use Rattle.subchannel_sender.proofs.count as subchannel-sender-count
+use Rattle.four_receivers.proofs.Receiver.fresh as four-receivers-fresh
+use Rattle.four_receivers.proofs.Receiver.sound as four-receivers-sound
+use Rattle.four_receivers.proofs.Receiver.configure as four-receivers-configure
+use Rattle.four_receivers.proofs.Receiver.hear as four-receivers-hear
+use Rattle.four_senders.proofs.Sender.fresh as four-senders-fresh
+use Rattle.four_senders.proofs.Sender.sound as four-senders-sound
+use Rattle.four_senders.proofs.Sender.configure as four-senders-configure
+use Rattle.four_senders.proofs.Sender.send as four-senders-send
 use Rattle.stream.proofs.frame.Frame.fresh as stream-fresh
 use Rattle.stream.proofs.frame.Frame.read as stream-read
 use Rattle.stream.proofs.frame.Frame.sound as stream-sound
@@ -131,18 +131,18 @@ use Rattle.interleaver.proofs.push as interleaver-push
 use Rattle.interleaver.proofs.close as interleaver-close
 use Rattle.interleaver.proofs.fresh_back as interleaver-fresh-back
 use Rattle.interleaver.proofs.pull as interleaver-pull
-use Rattle.tape.proofs.tape.Tape.fresh as tape-fresh
-use Rattle.tape.proofs.tape.Tape.next as tape-next
-use Rattle.tape.proofs.tape.Tape.may_end as tape-may-end
-use Rattle.tape.proofs.tape.Heard.is_more as tape-is-more
-use Rattle.readout.proofs.readout.Readout.fresh as readout-fresh
-use Rattle.readout.proofs.readout.Readout.take as readout-take
-use Rattle.readout.proofs.readout.Readout.finish as readout-finish
-use Rattle.units.proofs.write as units-write
-use Rattle.units.proofs.read as units-read
-use Rattle.recording.proofs.recording.Recording.fresh as recording-fresh
-use Rattle.recording.proofs.recording.Recording.take as recording-take
-use Rattle.recording.proofs.recording.Recording.finish as recording-finish
+use Rattle.recording.proofs.tape.Tape.fresh as recording-fresh
+use Rattle.recording.proofs.tape.Tape.next as recording-next
+use Rattle.recording.proofs.tape.Tape.may_end as recording-may-end
+use Rattle.recording.proofs.tape.Heard.is_more as recording-is-more
+use Rattle.board.proofs.readout.Readout.fresh as board-fresh
+use Rattle.board.proofs.readout.Readout.take as board-take
+use Rattle.board.proofs.readout.Readout.finish as board-finish
+use Rattle.unit.proofs.write as unit-write
+use Rattle.unit.proofs.read as unit-read
+use Rattle.listing.proofs.lister.Recording.fresh as listing-fresh
+use Rattle.listing.proofs.lister.Recording.take as listing-take
+use Rattle.listing.proofs.lister.Recording.finish as listing-finish
 use Rattle.lines.proofs.print as lines-print
 use Rattle.lines.proofs.print_end as lines-print-end
 use Rattle.lines.proofs.print_wrong as lines-print-wrong
@@ -249,17 +249,17 @@ pub channel-has-room-means : Means channel-has-room.Statement.statement channel-
 channel-has-room-means = (λ M. channel-has-room.Met.met, λ κs a. tt, λ κs a z ws. (λ p. p, λ p. p))
 
 -- .. and the four hunted bytes
-pub blocks-fresh-means : Means blocks-fresh.Statement.statement blocks-fresh.Kinds.ps blocks-fresh.Kinds.r blocks-fresh.Reads.Asked blocks-fresh.Reads.Learnt
+pub channel-spec-fresh-means : Means channel-spec-fresh.Statement.statement channel-spec-fresh.Kinds.ps channel-spec-fresh.Kinds.r channel-spec-fresh.Reads.Asked channel-spec-fresh.Reads.Learnt
     λ κs r. r ≡ record { a = 0; b = 0; c = 0; d = 0 }
-blocks-fresh-means = (λ M. blocks-fresh.Met.met, λ κs a. tt, λ κs a z ws. (λ p. p, λ p. p))
+channel-spec-fresh-means = (λ M. channel-spec-fresh.Met.met, λ κs a. tt, λ κs a z ws. (λ p. p, λ p. p))
 
-pub blocks-shift-means : Means blocks-shift.Statement.statement blocks-shift.Kinds.ps blocks-shift.Kinds.r blocks-shift.Reads.Asked blocks-shift.Reads.Learnt
+pub channel-spec-shift-means : Means channel-spec-shift.Statement.statement channel-spec-shift.Kinds.ps channel-spec-shift.Kinds.r channel-spec-shift.Reads.Asked channel-spec-shift.Reads.Learnt
     λ κs self x r. r ≡ record { a = self .b; b = self .c; c = self .d; d = x }
-blocks-shift-means = (λ M. blocks-shift.Met.met, λ κs a. tt, λ κs a z ws. (λ p. p, λ p. p))
+channel-spec-shift-means = (λ M. channel-spec-shift.Met.met, λ κs a. tt, λ κs a z ws. (λ p. p, λ p. p))
 
-pub blocks-at-marker-means : Means blocks-at-marker.Statement.statement blocks-at-marker.Kinds.ps blocks-at-marker.Kinds.r blocks-at-marker.Reads.Asked blocks-at-marker.Reads.Learnt
+pub channel-spec-at-marker-means : Means channel-spec-at-marker.Statement.statement channel-spec-at-marker.Kinds.ps channel-spec-at-marker.Kinds.r channel-spec-at-marker.Reads.Asked channel-spec-at-marker.Reads.Learnt
     λ κs self r. r ≡ isMarker self
-blocks-at-marker-means = (λ M. blocks-at-marker.Met.met, λ κs a. tt, λ κs a z ws. (λ p. p, λ p. p))
+channel-spec-at-marker-means = (λ M. channel-spec-at-marker.Met.met, λ κs a. tt, λ κs a z ws. (λ p. p, λ p. p))
 
 -- ---- one fixed sub-channel. Just told its settings: hunting, nothing heard, the first marked block at row zero
 pub subchannel-told-means : Means subchannel-told.Statement.statement subchannel-told.Kinds.ps subchannel-told.Kinds.r subchannel-told.Reads.Asked subchannel-told.Reads.Learnt
@@ -289,21 +289,21 @@ pub subchannel-hear-means : Means subchannel-hear.Statement.statement subchannel
     (r ≡ record { answer = answered (x .0); taken = x .1; sub = x .2 .st }) × (now (recv .exit) ≡ x .2 .recv) × (now (word .exit) ≡ x .2 .word)
 subchannel-hear-means = (λ M. subchannel-hear.Met.met, λ κs a. tt, λ κs a z ws. (λ p. p, λ p. p))
 
-pub subsender-send-means : Means subsender-send.Statement.statement subsender-send.Kinds.ps subsender-send.Kinds.r subsender-send.Reads.Asked subsender-send.Reads.Learnt
+pub subchannel-sender-send-means : Means subchannel-sender-send.Statement.statement subchannel-sender-send.Kinds.ps subchannel-sender-send.Kinds.r subchannel-sender-send.Reads.Asked subchannel-sender-send.Reads.Learnt
     λ κs parity depth stream out w. outcome w (now (out .exit)) ≡ subsender.sending parity depth (now stream) (now (out .entry))
-subsender-send-means = (λ M. subsender-send.Met.met, λ κs a. tt, λ κs a z ws. (λ p. p, λ p. p))
+subchannel-sender-send-means = (λ M. subchannel-sender-send.Met.met, λ κs a. tt, λ κs a z ws. (λ p. p, λ p. p))
 
-pub subsender-send-group-means : Means subsender-send-group.Statement.statement subsender-send-group.Kinds.ps subsender-send-group.Kinds.r subsender-send-group.Reads.Asked subsender-send-group.Reads.Learnt
+pub subchannel-sender-send-group-means : Means subchannel-sender-send-group.Statement.statement subchannel-sender-send-group.Kinds.ps subchannel-sender-send-group.Kinds.r subchannel-sender-send-group.Reads.Asked subchannel-sender-send-group.Reads.Learnt
     λ κs parity depth matrix stream out r.
     (outcome (r .written) (now (out .exit)), r .taken, r .matrix) ≡ subsender.groupSending parity depth matrix (now stream) (now (out .entry))
-subsender-send-group-means = (λ M. subsender-send-group.Met.met, λ κs a. tt, λ κs a z ws. (λ p. p, λ p. p))
+subchannel-sender-send-group-means = (λ M. subchannel-sender-send-group.Met.met, λ κs a. tt, λ κs a z ws. (λ p. p, λ p. p))
 
-pub subsender-count-means : Means subsender-count.Statement.statement subsender-count.Kinds.ps subsender-count.Kinds.r subsender-count.Reads.Asked subsender-count.Reads.Learnt
+pub subchannel-sender-count-means : Means subchannel-sender-count.Statement.statement subchannel-sender-count.Kinds.ps subchannel-sender-count.Kinds.r subchannel-sender-count.Reads.Asked subchannel-sender-count.Reads.Learnt
     λ κs parity depth bytes r. r ≡ subsender.counting parity depth bytes
-subsender-count-means = (λ M. subsender-count.Met.met, λ κs a. tt, λ κs a z ws. (λ p. p, λ p. p))
+subchannel-sender-count-means = (λ M. subchannel-sender-count.Met.met, λ κs a. tt, λ κs a z ws. (λ p. p, λ p. p))
 
 -- ---- four of them: at first none is told its settings
-pub subchannels-fresh-means : Means subchannels-fresh.Statement.statement subchannels-fresh.Kinds.ps subchannels-fresh.Kinds.r subchannels-fresh.Reads.Asked subchannels-fresh.Reads.Learnt
+pub four-receivers-fresh-means : Means four-receivers-fresh.Statement.statement four-receivers-fresh.Kinds.ps four-receivers-fresh.Kinds.r four-receivers-fresh.Reads.Asked four-receivers-fresh.Reads.Learnt
     λ κs r.
     let u : Sub = record {
       lane = record {
@@ -318,37 +318,37 @@ pub subchannels-fresh-means : Means subchannels-fresh.Statement.statement subcha
     }
     in
     r ≡ record { a = u; b = u; c = u; d = u }
-subchannels-fresh-means = (λ M. subchannels-fresh.Met.met, λ κs a. tt, λ κs a z ws. (λ p. p, λ p. p))
+four-receivers-fresh-means = (λ M. four-receivers-fresh.Met.met, λ κs a. tt, λ κs a z ws. (λ p. p, λ p. p))
 
-pub subchannels-sound-means : Means subchannels-sound.Statement.statement subchannels-sound.Kinds.ps subchannels-sound.Kinds.r subchannels-sound.Reads.Asked subchannels-sound.Reads.Learnt
+pub four-receivers-sound-means : Means four-receivers-sound.Statement.statement four-receivers-sound.Kinds.ps four-receivers-sound.Kinds.r four-receivers-sound.Reads.Asked four-receivers-sound.Reads.Learnt
     λ κs self r. r ≡ (subchannel.sound (self .a) && (subchannel.sound (self .b) && (subchannel.sound (self .c) && subchannel.sound (self .d))))
-subchannels-sound-means = (λ M. subchannels-sound.Met.met, λ κs a. tt, λ κs a z ws. (λ p. p, λ p. p))
+four-receivers-sound-means = (λ M. four-receivers-sound.Met.met, λ κs a. tt, λ κs a z ws. (λ p. p, λ p. p))
 
-pub subchannels-configure-means : Means subchannels-configure.Statement.statement subchannels-configure.Kinds.ps subchannels-configure.Kinds.r subchannels-configure.Reads.Asked subchannels-configure.Reads.Learnt
+pub four-receivers-configure-means : Means four-receivers-configure.Statement.statement four-receivers-configure.Kinds.ps four-receivers-configure.Kinds.r four-receivers-configure.Reads.Asked four-receivers-configure.Reads.Learnt
     λ κs self number parity depth r. let x = subchannels.configuring self number parity depth in r ≡ record { answer = x .0; receiver = x .1 }
-subchannels-configure-means = (λ M. subchannels-configure.Met.met, λ κs a. tt, λ κs a z ws. (λ p. p, λ p. p))
+four-receivers-configure-means = (λ M. four-receivers-configure.Met.met, λ κs a. tt, λ κs a z ws. (λ p. p, λ p. p))
 
-pub subchannels-hear-means : Means subchannels-hear.Statement.statement subchannels-hear.Kinds.ps subchannels-hear.Kinds.r subchannels-hear.Reads.Asked subchannels-hear.Reads.Learnt
+pub four-receivers-hear-means : Means four-receivers-hear.Statement.statement four-receivers-hear.Kinds.ps four-receivers-hear.Kinds.r four-receivers-hear.Reads.Asked four-receivers-hear.Reads.Learnt
     λ κs self number recv word piece r. let x = subchannels.hearFour self number (now (recv .entry)) (now (word .entry)) (now piece) in
     (r ≡ record { answer = answered (x .0); taken = x .1; receiver = x .2 }) × (now (recv .exit) ≡ x .3) × (now (word .exit) ≡ x .4)
-subchannels-hear-means = (λ M. subchannels-hear.Met.met, λ κs a. tt, λ κs a z ws. (λ p. p, λ p. p))
+four-receivers-hear-means = (λ M. four-receivers-hear.Met.met, λ κs a. tt, λ κs a z ws. (λ p. p, λ p. p))
 
 -- ---- their sender: at first none is told its settings
-pub subsenders-fresh-means : Means subsenders-fresh.Statement.statement subsenders-fresh.Kinds.ps subsenders-fresh.Kinds.r subsenders-fresh.Reads.Asked subsenders-fresh.Reads.Learnt
+pub four-senders-fresh-means : Means four-senders-fresh.Statement.statement four-senders-fresh.Kinds.ps four-senders-fresh.Kinds.r four-senders-fresh.Reads.Asked four-senders-fresh.Reads.Learnt
     λ κs r. let u : Settings = record { told = false; parity = 0; depth = 0 } in r ≡ record { a = u; b = u; c = u; d = u }
-subsenders-fresh-means = (λ M. subsenders-fresh.Met.met, λ κs a. tt, λ κs a z ws. (λ p. p, λ p. p))
+four-senders-fresh-means = (λ M. four-senders-fresh.Met.met, λ κs a. tt, λ κs a z ws. (λ p. p, λ p. p))
 
-pub subsenders-sound-means : Means subsenders-sound.Statement.statement subsenders-sound.Kinds.ps subsenders-sound.Kinds.r subsenders-sound.Reads.Asked subsenders-sound.Reads.Learnt
+pub four-senders-sound-means : Means four-senders-sound.Statement.statement four-senders-sound.Kinds.ps four-senders-sound.Kinds.r four-senders-sound.Reads.Asked four-senders-sound.Reads.Learnt
     λ κs self r. r ≡ (subchannel.within (self .a) && (subchannel.within (self .b) && (subchannel.within (self .c) && subchannel.within (self .d))))
-subsenders-sound-means = (λ M. subsenders-sound.Met.met, λ κs a. tt, λ κs a z ws. (λ p. p, λ p. p))
+four-senders-sound-means = (λ M. four-senders-sound.Met.met, λ κs a. tt, λ κs a z ws. (λ p. p, λ p. p))
 
-pub subsenders-configure-means : Means subsenders-configure.Statement.statement subsenders-configure.Kinds.ps subsenders-configure.Kinds.r subsenders-configure.Reads.Asked subsenders-configure.Reads.Learnt
+pub four-senders-configure-means : Means four-senders-configure.Statement.statement four-senders-configure.Kinds.ps four-senders-configure.Kinds.r four-senders-configure.Reads.Asked four-senders-configure.Reads.Learnt
     λ κs self number parity depth r. let x = subsenders.configuring self number parity depth in r ≡ record { answer = x .0; sender = x .1 }
-subsenders-configure-means = (λ M. subsenders-configure.Met.met, λ κs a. tt, λ κs a z ws. (λ p. p, λ p. p))
+four-senders-configure-means = (λ M. four-senders-configure.Met.met, λ κs a. tt, λ κs a z ws. (λ p. p, λ p. p))
 
-pub subsenders-send-means : Means subsenders-send.Statement.statement subsenders-send.Kinds.ps subsenders-send.Kinds.r subsenders-send.Reads.Asked subsenders-send.Reads.Learnt
+pub four-senders-send-means : Means four-senders-send.Statement.statement four-senders-send.Kinds.ps four-senders-send.Kinds.r four-senders-send.Reads.Asked four-senders-send.Reads.Learnt
     λ κs self number stream out w. outcome w (now (out .exit)) ≡ subsenders.sendFour self number (now stream) (now (out .entry))
-subsenders-send-means = (λ M. subsenders-send.Met.met, λ κs a. tt, λ κs a z ws. (λ p. p, λ p. p))
+four-senders-send-means = (λ M. four-senders-send.Met.met, λ κs a. tt, λ κs a z ws. (λ p. p, λ p. p))
 
 -- what a frame is told to be, and what a call answers, in the code's words
 pub judged-is : (p : Packet) (n : ℕ)
@@ -463,7 +463,7 @@ pub capture-finish-means : Means capture-finish.Statement.statement capture-fini
 capture-finish-means = (λ M. capture-finish.Met.met, λ κs a. tt, λ κs a z ws. (λ p. p, λ p. p))
 
 -- ---- a recording's bytes. Before the first one: at the byte that says which stream it is, with a fresh receiver
-pub tape-fresh-means : Means tape-fresh.Statement.statement tape-fresh.Kinds.ps tape-fresh.Kinds.r tape-fresh.Reads.Asked tape-fresh.Reads.Learnt
+pub recording-fresh-means : Means recording-fresh.Statement.statement recording-fresh.Kinds.ps recording-fresh.Kinds.r recording-fresh.Reads.Asked recording-fresh.Reads.Learnt
     λ κs r. r ≡ record {
       spot = record { place = Mode; offset = 0; count = 0 };
       channel = false;
@@ -474,28 +474,28 @@ pub tape-fresh-means : Means tape-fresh.Statement.statement tape-fresh.Kinds.ps 
         frame = record { opened = false; raw = 0; stored = 0; place = 0 };
       };
     }
-tape-fresh-means = (λ M. tape-fresh.Met.met, λ κs a. tt, λ κs a z ws. (λ p. p, λ p. p))
+recording-fresh-means = (λ M. recording-fresh.Met.met, λ κs a. tt, λ κs a z ws. (λ p. p, λ p. p))
 
-pub tape-next-means : Means tape-next.Statement.statement tape-next.Kinds.ps tape-next.Kinds.r tape-next.Reads.Asked tape-next.Reads.Learnt
+pub recording-next-means : Means recording-next.Statement.statement recording-next.Kinds.ps recording-next.Kinds.r recording-next.Reads.Asked recording-next.Reads.Learnt
     λ κs self recv word piece r. let x = tapeCall (deckOf self (now (recv .entry)) (now (word .entry))) (now piece) in
     (r ≡ record { answer = answered (x .0); taken = x .1; tape = record { spot = x .2 .spot; channel = x .2 .ear .channel; receiver = x .2 .ear .board .st } })
     × (now (recv .exit) ≡ x .2 .ear .board .recv) × (now (word .exit) ≡ x .2 .ear .board .word)
-tape-next-means = (λ M. tape-next.Met.met, λ κs a. tt, λ κs a z ws. (λ p. p, λ p. p))
+recording-next-means = (λ M. recording-next.Met.met, λ κs a. tt, λ κs a z ws. (λ p. p, λ p. p))
 
-pub tape-may-end-means : Means tape-may-end.Statement.statement tape-may-end.Kinds.ps tape-may-end.Kinds.r tape-may-end.Reads.Asked tape-may-end.Reads.Learnt
+pub recording-may-end-means : Means recording-may-end.Statement.statement recording-may-end.Kinds.ps recording-may-end.Kinds.r recording-may-end.Reads.Asked recording-may-end.Reads.Learnt
     λ κs self r. r ≡ well (self .spot .place)
-tape-may-end-means = (λ M. tape-may-end.Met.met, λ κs a. tt, λ κs a z ws. (λ p. p, λ p. p))
+recording-may-end-means = (λ M. recording-may-end.Met.met, λ κs a. tt, λ κs a z ws. (λ p. p, λ p. p))
 
-pub tape-is-more-means : Means tape-is-more.Statement.statement tape-is-more.Kinds.ps tape-is-more.Kinds.r tape-is-more.Reads.Asked tape-is-more.Reads.Learnt
+pub recording-is-more-means : Means recording-is-more.Statement.statement recording-is-more.Kinds.ps recording-is-more.Kinds.r recording-is-more.Reads.Asked recording-is-more.Reads.Learnt
     λ κs self r. r ≡ isMore (self .answer)
-tape-is-more-means = (λ M. tape-is-more.Met.met, λ κs a. tt, λ κs a z ws. (λ p. p, λ p. p))
+recording-is-more-means = (λ M. recording-is-more.Met.met, λ κs a. tt, λ κs a z ws. (λ p. p, λ p. p))
 
 pub more-is : (j : Judged) (c : Condition)
     → (isMore More ≡ true) × (isMore (Said j) ≡ false) × (isMore (Block c) ≡ false) × (isMore LockLost ≡ false)
 more-is j c = (refl, refl, refl, refl)
 
 -- ---- a recording that is listed. Before its first byte: at the byte that says which stream it is, with a fresh receiver and nothing counted
-pub recording-fresh-means : Means recording-fresh.Statement.statement recording-fresh.Kinds.ps recording-fresh.Kinds.r recording-fresh.Reads.Asked recording-fresh.Reads.Learnt
+pub listing-fresh-means : Means listing-fresh.Statement.statement listing-fresh.Kinds.ps listing-fresh.Kinds.r listing-fresh.Reads.Asked listing-fresh.Reads.Learnt
     λ κs r. r ≡ record {
       tape = record {
         spot = record { place = Mode; offset = 0; count = 0 };
@@ -509,33 +509,33 @@ pub recording-fresh-means : Means recording-fresh.Statement.statement recording-
       };
       totals = record { packets = 0; refused = 0; damaged = 0; lost = 0 };
     }
-recording-fresh-means = (λ M. recording-fresh.Met.met, λ κs a. tt, λ κs a z ws. (λ p. p, λ p. p))
+listing-fresh-means = (λ M. listing-fresh.Met.met, λ κs a. tt, λ κs a z ws. (λ p. p, λ p. p))
 
-pub recording-take-means : Means recording-take.Statement.statement recording-take.Kinds.ps recording-take.Kinds.r recording-take.Reads.Asked recording-take.Reads.Learnt
+pub listing-take-means : Means listing-take.Statement.statement listing-take.Kinds.ps listing-take.Kinds.r listing-take.Reads.Asked listing-take.Reads.Learnt
     λ κs self recv word piece out r.
     let x = recording.takes (recording.deckOf (self .tape) (now (recv .entry)) (now (word .entry))) (self .totals) (length (now (out .entry))) (now piece) in
     (r ≡ record { wants = x .wants; taken = x .taken; written = length (x .text); next = recording.recorded (x .deck) (x .totals) })
     × (now (recv .exit) ≡ x .deck .ear .board .recv) × (now (word .exit) ≡ x .deck .ear .board .word)
     × (now (out .exit) ≡ x .text ++ drop (length (x .text)) (now (out .entry)))
-recording-take-means = (λ M. recording-take.Met.met, λ κs a. tt, λ κs a z ws. (λ p. p, λ p. p))
+listing-take-means = (λ M. listing-take.Met.met, λ κs a. tt, λ κs a z ws. (λ p. p, λ p. p))
 
-pub recording-finish-means : Means recording-finish.Statement.statement recording-finish.Kinds.ps recording-finish.Kinds.r recording-finish.Reads.Asked recording-finish.Reads.Learnt
+pub listing-finish-means : Means listing-finish.Statement.statement listing-finish.Kinds.ps listing-finish.Kinds.r listing-finish.Reads.Asked listing-finish.Reads.Learnt
     λ κs self out w. outcome w (now (out .exit)) ≡ write (recording.lastOf self) (now (out .entry))
-recording-finish-means = (λ M. recording-finish.Met.met, λ κs a. tt, λ κs a z ws. (λ p. p, λ p. p))
+listing-finish-means = (λ M. listing-finish.Met.met, λ κs a. tt, λ κs a z ws. (λ p. p, λ p. p))
 
 -- ---- Layer 2 units
-pub units-write-means : Means units-write.Statement.statement units-write.Kinds.ps units-write.Kinds.r units-write.Reads.Asked units-write.Reads.Learnt
+pub unit-write-means : Means unit-write.Statement.statement unit-write.Kinds.ps unit-write.Kinds.r unit-write.Reads.Asked unit-write.Reads.Learnt
     λ κs size delimiter audio opportunistic fixed out w.
     outcome w (now (out .exit)) ≡ units.written size delimiter (now audio) (now opportunistic) (now fixed) (now (out .entry))
-units-write-means = (λ M. units-write.Met.met, λ κs a. tt, λ κs a z ws. (λ p. p, λ p. p))
+unit-write-means = (λ M. unit-write.Met.met, λ κs a. tt, λ κs a z ws. (λ p. p, λ p. p))
 
-pub units-read-means : Means units-read.Statement.statement units-read.Kinds.ps units-read.Kinds.r units-read.Reads.Asked units-read.Reads.Learnt
+pub unit-read-means : Means unit-read.Statement.statement unit-read.Kinds.ps unit-read.Kinds.r unit-read.Reads.Asked unit-read.Reads.Learnt
     λ κs size delimiter audio fixed unit out w.
     outcome w (now (out .exit)) ≡ unit-reading.readUnit size delimiter audio fixed (now unit) (now (out .entry))
-units-read-means = (λ M. units-read.Met.met, λ κs a. tt, λ κs a z ws. (λ p. p, λ p. p))
+unit-read-means = (λ M. unit-read.Met.met, λ κs a. tt, λ κs a z ws. (λ p. p, λ p. p))
 
 -- ---- a board. Before the first byte: nothing heard, no port held, nothing owed
-pub readout-fresh-means : Means readout-fresh.Statement.statement readout-fresh.Kinds.ps readout-fresh.Kinds.r readout-fresh.Reads.Asked readout-fresh.Reads.Learnt
+pub board-fresh-means : Means board-fresh.Statement.statement board-fresh.Kinds.ps board-fresh.Kinds.r board-fresh.Reads.Asked board-fresh.Reads.Learnt
     λ κs bare blocks r. r ≡ record {
       bare = bare;
       blocks = blocks;
@@ -558,19 +558,19 @@ pub readout-fresh-means : Means readout-fresh.Statement.statement readout-fresh.
         at = 0;
       };
     }
-readout-fresh-means = (λ M. readout-fresh.Met.met, λ κs a. tt, λ κs a z ws. (λ p. p, λ p. p))
+board-fresh-means = (λ M. board-fresh.Met.met, λ κs a. tt, λ κs a z ws. (λ p. p, λ p. p))
 
-pub readout-take-means : Means readout-take.Statement.statement readout-take.Kinds.ps readout-take.Kinds.r readout-take.Reads.Asked readout-take.Reads.Learnt
+pub board-take-means : Means board-take.Statement.statement board-take.Kinds.ps board-take.Kinds.r board-take.Reads.Asked board-take.Reads.Learnt
     λ κs self recv word piece out r.
     let x = readout.takes (length (now (out .entry))) (readout.screenOf self (now (recv .entry)) (now (word .entry))) (now piece) in
     (r ≡ record { wants = x .wants; taken = x .taken; written = length (x .text); next = readout.readoutOf (x .screen) })
     × (now (recv .exit) ≡ x .screen .source .deck .ear .board .recv) × (now (word .exit) ≡ x .screen .source .deck .ear .board .word)
     × (now (out .exit) ≡ x .text ++ drop (length (x .text)) (now (out .entry)))
-readout-take-means = (λ M. readout-take.Met.met, λ κs a. tt, λ κs a z ws. (λ p. p, λ p. p))
+board-take-means = (λ M. board-take.Met.met, λ κs a. tt, λ κs a z ws. (λ p. p, λ p. p))
 
-pub readout-finish-means : Means readout-finish.Statement.statement readout-finish.Kinds.ps readout-finish.Kinds.r readout-finish.Reads.Asked readout-finish.Reads.Learnt
+pub board-finish-means : Means board-finish.Statement.statement board-finish.Kinds.ps board-finish.Kinds.r board-finish.Reads.Asked board-finish.Reads.Learnt
     λ κs self r. r ≡ pieceOf (writtenAll (readout.lastLines self))
-readout-finish-means = (λ M. readout-finish.Met.met, λ κs a. tt, λ κs a z ws. (λ p. p, λ p. p))
+board-finish-means = (λ M. board-finish.Met.met, λ κs a. tt, λ κs a z ws. (λ p. p, λ p. p))
 
 -- what is still to be said behind the last byte: of bare bytes nothing, they end anywhere; of a recording that it is wrong, where it is
 pub readout-last-is : (r : Readout)

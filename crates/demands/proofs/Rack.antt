@@ -23,8 +23,8 @@ use borrow.Author.Tests.{ne-eqb}
 use Rattle.base.specs.Bytes.{Bytes}
 use Rattle.base.specs.declared.Written.{Written}
 use Rattle.base.specs.declared.Written.the-variants as written
-use Rattle.frames.specs.Contents.{rawLimit, Packet}
-use Rattle.frames.specs.Frame.{Told, packet, refusal, broken}
+use Rattle.packet_spec.specs.Contents.{rawLimit, Packet}
+use Rattle.packet_spec.specs.Frame.{Told, packet, refusal, broken}
 use Rattle.parity.specs.Calls.{made, checked}
 use Rattle.parity.specs.declared.Checked.{Checked}
 use Rattle.parity.specs.declared.Checked.the-variants as check
@@ -38,8 +38,8 @@ use Rattle.stream.specs.Called as plain
 use Rattle.stream.specs.declared.frame.Frame.{Frame}
 use Rattle.stream.specs.declared.frame.Heard.{Heard}
 use Rattle.stream.specs.declared.frame.Heard.the-variants.{More}
-use Rattle.blocks.specs.Channel.{Event, said, block, lost}
-use Rattle.blocks.specs.declared.Condition.the-variants.{Clean, Repaired, Beyond}
+use Rattle.channel_spec.specs.Channel.{Event, said, block, lost}
+use Rattle.channel_spec.specs.declared.Condition.the-variants.{Clean, Repaired, Beyond}
 use Rattle.channel.specs.Called.{board, freshReceiver, hearCall, answered}
 use Rattle.channel.specs.declared.receiver.Receiver.{Receiver}
 use Rattle.channel.specs.declared.answer.Answer.{Answer}

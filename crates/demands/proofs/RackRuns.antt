@@ -24,15 +24,15 @@ use Rattle.base.specs.Calls.ReadsAll.{done, piece}
 use Rattle.base.specs.Choice.{pick}
 use Rattle.base.proofs.Bytes.{each-append-left, each-append-right, each-drop}
 use Rattle.base.proofs.Calls.{hear-by, yields-so, none-owed, more-iff}
-use Rattle.frames.specs.Contents.{rawLimit, Packet}
-use Rattle.frames.specs.Frame.{Told, packet, refusal, broken, part}
+use Rattle.packet_spec.specs.Contents.{rawLimit, Packet}
+use Rattle.packet_spec.specs.Frame.{Told, packet, refusal, broken, part}
 use Rattle.stream.specs.Reader.{waiting, reads}
 use Rattle.stream.specs.Called.{Held, held, takeByte, readAll, readCall, answered, heldOf, inUse, ThereHeld, Fine}
 use Rattle.stream.proofs.Cutting.{read-agrees}
-use Rattle.blocks.specs.Sender.{wordBytes}
-use Rattle.blocks.specs.declared.Hunting.{Hunting}
-use Rattle.blocks.specs.Channel.{Event, said, block, lost, shift, isMarker, freshChannel, hears, answers}
-use Rattle.blocks.specs.declared.Condition.the-variants.{Clean, Repaired, Beyond}
+use Rattle.channel_spec.specs.Sender.{wordBytes}
+use Rattle.channel_spec.specs.declared.Hunting.{Hunting}
+use Rattle.channel_spec.specs.Channel.{Event, said, block, lost, shift, isMarker, freshChannel, hears, answers}
+use Rattle.channel_spec.specs.declared.Condition.the-variants.{Clean, Repaired, Beyond}
 use Rattle.channel.specs.Called as channel
 use Rattle.channel.specs.Called.{Board, board, huntOn, wordOn, compareOn, markOn, eatBy, eatByte, owed, handOn, hearOn, hearBy, hearCall, boardOf}
 use Rattle.channel.proofs.Cutting.{hand-one, hear-agrees}

@@ -26,8 +26,8 @@ use Rattle.parity.specs.Calls.{checked}
 use Rattle.repair.specs.declared.Mended.{Mended}
 use Rattle.repair.specs.declared.Mended.the-variants as repair
 use Rattle.repair.specs.Promise.{Promised}
-use Rattle.matrices.specs.Running.{beyond, calling}
-use Rattle.matrices.proofs.Calling.{below, state-refused, depth-refused, output-refused, wrote as fits}
+use Rattle.interleaver_spec.specs.Running.{beyond, calling}
+use Rattle.interleaver_spec.proofs.Calling.{below, state-refused, depth-refused, output-refused, wrote as fits}
 use Rattle.demands.specs.Table.{Row, First, Exact}
 use Rattle.demands.specs.Refusals.{PlaceBeyond, ByCall, ByState, ByCheck, ByRepair}
 

@@ -23,18 +23,18 @@ use Rattle.base.proofs.Calls.{yields-so}
 use Rattle.base.proofs.Writing.{write-keeps}
 use Rattle.lines.specs.Row.{rowLine, rowLongest}
 use Rattle.lines.proofs.Rows.{row-short}
-use Rattle.listed.specs.Apart.{well}
-use Rattle.tape.specs.Called.{far, EveryCut}
-use Rattle.tape.proofs.Demands.{taken-apart}
-use Rattle.sheets.specs.declared.Row.{Row}
-use Rattle.sequences.specs.declared.Noted.the-variants.{First, InOrder, Repeated, Missing, Late}
-use Rattle.sheets.specs.Tally.{told, tallied, nothing, plus, one, sum, tally, timelyIn}
-use Rattle.sheets.specs.Month.{Mark, Month, numbersOf, numbers, timelyOf, addedAll, portsOf, line, lines, anyWide, portLimit, counts, wrong, ruling, with, counting, monthOf}
-use Rattle.sheets.specs.Rows.{blank}
-use Rattle.sheets.specs.Recording.{marks, brings}
-use Rattle.sheets.proofs.Tallies as tallies
-use Rattle.sheets.proofs.Ports.{Rising, In, Among, ports-rise, ports-are}
-use Rattle.sheets.proofs.Counted.{Fit, fresh-fit, month-fit, refused-stays, counts-with}
+use Rattle.listing_spec.specs.Apart.{well}
+use Rattle.recording.specs.Called.{far, EveryCut}
+use Rattle.recording.proofs.Demands.{taken-apart}
+use Rattle.sheet_spec.specs.declared.Row.{Row}
+use Rattle.ports_spec.specs.declared.Noted.the-variants.{First, InOrder, Repeated, Missing, Late}
+use Rattle.sheet_spec.specs.Tally.{told, tallied, nothing, plus, one, sum, tally, timelyIn}
+use Rattle.sheet_spec.specs.Month.{Mark, Month, numbersOf, numbers, timelyOf, addedAll, portsOf, line, lines, anyWide, portLimit, counts, wrong, ruling, with, counting, monthOf}
+use Rattle.sheet_spec.specs.Rows.{blank}
+use Rattle.sheet_spec.specs.Recording.{marks, brings}
+use Rattle.sheet_spec.proofs.Tallies as tallies
+use Rattle.sheet_spec.proofs.Ports.{Rising, In, Among, ports-rise, ports-are}
+use Rattle.sheet_spec.proofs.Counted.{Fit, fresh-fit, month-fit, refused-stays, counts-with}
 use Rattle.sheet.specs.declared.Sheet.{Sheet}
 use Rattle.sheet.specs.declared.Draft.{Draft}
 use Rattle.sheet.specs.declared.Closed.{Closed}

@@ -40,52 +40,52 @@ use Rattle.base.specs.Bytes.{Each, Bytes}
 use Rattle.base.specs.Calls.{With, joined, run, ReadsAll, Yields}
 use Rattle.base.specs.Choice.{pick}
 use Rattle.base.specs.Written.{refused, write, Keeps}
-use Rattle.frames.specs.Contents.{Packet, rawLimit}
-use Rattle.frames.specs.Escape.{flag}
-use Rattle.frames.specs.Frame.{Told as FrameTold, refusal}
-use Rattle.frames.specs.Sender.{Accepted}
+use Rattle.packet_spec.specs.Contents.{Packet, rawLimit}
+use Rattle.packet_spec.specs.Escape.{flag}
+use Rattle.packet_spec.specs.Frame.{Told as FrameTold, refusal}
+use Rattle.packet_spec.specs.Sender.{Accepted}
 use Rattle.stream.specs.Reader.{waiting, reads}
 use Rattle.stream.specs.Sender.{stream, delivered, openedFrom}
 use Rattle.stream.proofs.Streaming.{stream-read}
-use Rattle.matrices.specs.Places.{cell}
-use Rattle.matrices.specs.Running.{fresh, freshBack, sent as turned, push}
-use Rattle.matrices.specs.declared.Back.{Back}
-use Rattle.matrices.proofs.Calling.{passes}
+use Rattle.interleaver_spec.specs.Places.{cell}
+use Rattle.interleaver_spec.specs.Running.{fresh, freshBack, sent as turned, push}
+use Rattle.interleaver_spec.specs.declared.Back.{Back}
+use Rattle.interleaver_spec.proofs.Calling.{passes}
 use Rattle.repair.specs.declared.Mended.{Mended}
 use Rattle.repair.specs.Promise.{CleanWord, Promised}
-use Rattle.blocks.specs.Sender.{marker, wordBytes}
-use Rattle.blocks.specs.Channel.{Event, said, lost, frames, blocks, losses, IsWord, FirstMarker, conditionBy, asMended}
-use Rattle.blocks.specs.declared.Condition.the-variants.{Clean as clean}
-use Rattle.blocks.specs.declared.Hunting.{Hunting}
-use Rattle.blocks.proofs.Streaming.{theMarker, stream-bytes}
-use Rattle.groups.specs.Sender.{wordOf, messagesOf, flagWord, closingWords, pushed, wordsOf, wordsBack, grouped, marked, sent}
-use Rattle.groups.specs.Word.{condition, mend, carried, cameBack}
-use Rattle.groups.specs.Sub.{inGroup, silent, hears, start, answers, wordsGive}
-use Rattle.groups.proofs.Words.{word-promised, word-determined}
-use Rattle.groups.proofs.Streaming.{messages, messages-each, carries, frames-given, blocks-given, losses-given}
-use Rattle.groups.proofs.Received.{joined-length}
-use Rattle.groups.proofs.Sent as laid
-use Rattle.groups.proofs.Flags.{flag-word}
-use Rattle.groups.proofs.Lost as losing
-use Rattle.groups.proofs.Order.{few-given}
-use Rattle.groups.proofs.Numbers.{begins}
-use Rattle.groups.proofs.Returned.{back-is, returned, unaltered as came-unaltered, flat-back, word-place}
+use Rattle.channel_spec.specs.Sender.{marker, wordBytes}
+use Rattle.channel_spec.specs.Channel.{Event, said, lost, frames, blocks, losses, IsWord, FirstMarker, conditionBy, asMended}
+use Rattle.channel_spec.specs.declared.Condition.the-variants.{Clean as clean}
+use Rattle.channel_spec.specs.declared.Hunting.{Hunting}
+use Rattle.channel_spec.proofs.Streaming.{theMarker, stream-bytes}
+use Rattle.subchannel_spec.specs.Sender.{wordOf, messagesOf, flagWord, closingWords, pushed, wordsOf, wordsBack, grouped, marked, sent}
+use Rattle.subchannel_spec.specs.Word.{condition, mend, carried, cameBack}
+use Rattle.subchannel_spec.specs.Sub.{inGroup, silent, hears, start, answers, wordsGive}
+use Rattle.subchannel_spec.proofs.Words.{word-promised, word-determined}
+use Rattle.subchannel_spec.proofs.Streaming.{messages, messages-each, carries, frames-given, blocks-given, losses-given}
+use Rattle.subchannel_spec.proofs.Received.{joined-length}
+use Rattle.subchannel_spec.proofs.Sent as laid
+use Rattle.subchannel_spec.proofs.Flags.{flag-word}
+use Rattle.subchannel_spec.proofs.Lost as losing
+use Rattle.subchannel_spec.proofs.Order.{few-given}
+use Rattle.subchannel_spec.proofs.Numbers.{begins}
+use Rattle.subchannel_spec.proofs.Returned.{back-is, returned, unaltered as came-unaltered, flat-back, word-place}
 use Rattle.subchannel.specs.Called.{Board, board, toldSub, hearCall, EveryCut, ThereEvent, boardOf, inUse}
 use Rattle.subchannel.proofs.Demands as one
 use Rattle.subchannel.proofs.Delivery.{payload-there}
-use Rattle.subchannels.specs.declared.Configured.the-variants.{Told, Refused}
-use Rattle.subchannels.specs.declared.Receiver.{Receiver}
-use Rattle.subchannels.specs.Four.{freshReceiver, Boards, boardAt, exchanged, callOn, Scheduled, ofOne, get, configuring, hearFour}
-use Rattle.subchannels.proofs.Calling as made
-use Rattle.subchannels.proofs.Ending as ending
-use Rattle.subchannels.proofs.Ending.{Ready, schedule-ends}
-use Rattle.subchannels.proofs.Apart as apart-four
-use Rattle.subchannels.proofs.Apart.{Live, board-own, call-other, call-own, live-own, alone, configure-own, configure-others, told-means}
-use Rattle.subsender.specs.Sending.{sending}
-use Rattle.subsender.proofs.Determined.{sending-keeps}
-use Rattle.subsenders.specs.declared.Sender.{Sender}
-use Rattle.subsenders.specs.Four as senders
-use Rattle.subsenders.proofs.Apart as apart
+use Rattle.four_receivers.specs.declared.Configured.the-variants.{Told, Refused}
+use Rattle.four_receivers.specs.declared.Receiver.{Receiver}
+use Rattle.four_receivers.specs.Four.{freshReceiver, Boards, boardAt, exchanged, callOn, Scheduled, ofOne, get, configuring, hearFour}
+use Rattle.four_receivers.proofs.Calling as made
+use Rattle.four_receivers.proofs.Ending as ending
+use Rattle.four_receivers.proofs.Ending.{Ready, schedule-ends}
+use Rattle.four_receivers.proofs.Apart as apart-four
+use Rattle.four_receivers.proofs.Apart.{Live, board-own, call-other, call-own, live-own, alone, configure-own, configure-others, told-means}
+use Rattle.subchannel_sender.specs.Sending.{sending}
+use Rattle.subchannel_sender.proofs.Determined.{sending-keeps}
+use Rattle.four_senders.specs.declared.Sender.{Sender}
+use Rattle.four_senders.specs.Four as senders
+use Rattle.four_senders.proofs.Apart as apart
 use Rattle.demands.specs.Table.{Exact}
 use Rattle.demands.specs.Guarantee.{Received, received}
 use Rattle.demands.specs.Refusals.{Short, OfFrame, OfCall, ByFrame, ByCall, ByHear}

@@ -20,16 +20,16 @@ use Rattle.base.specs.Calls.{With}
 use Rattle.base.specs.Choice.{pick}
 use Rattle.base.proofs.Calls.{with-hear}
 use Rattle.base.proofs.Tests.{and-parts}
-use Rattle.frames.specs.Frame.{Told, refusal}
+use Rattle.packet_spec.specs.Frame.{Told, refusal}
 use Rattle.stream.specs.Called.{takeByte, sound as soundFrame}
 use Rattle.parity.specs.Calls.{rootLimit}
-use Rattle.matrices.specs.Running.{depthLimit, pull, beyond}
-use Rattle.matrices.specs.declared.Back.{Back}
-use Rattle.blocks.specs.declared.Hunting.{Hunting}
-use Rattle.blocks.specs.Sender.{wordBytes}
-use Rattle.blocks.specs.Channel.{Event, said, isMarker, shift}
+use Rattle.interleaver_spec.specs.Running.{depthLimit, pull, beyond}
+use Rattle.interleaver_spec.specs.declared.Back.{Back}
+use Rattle.channel_spec.specs.declared.Hunting.{Hunting}
+use Rattle.channel_spec.specs.Sender.{wordBytes}
+use Rattle.channel_spec.specs.Channel.{Event, said, isMarker, shift}
 use Rattle.channel.specs.Called.{roomy}
-use Rattle.groups.specs.Sender.{messageBytes, groupBytes, sent}
+use Rattle.subchannel_spec.specs.Sender.{messageBytes, groupBytes, sent}
 use Rattle.subchannel.specs.declared.settings.Settings.{Settings}
 use Rattle.subchannel.specs.declared.settings.Counts.{Counts}
 use Rattle.subchannel.specs.declared.lane.Lane.{Lane}
@@ -37,13 +37,13 @@ use Rattle.subchannel.specs.declared.sub.Sub.{Sub}
 use Rattle.subchannel.specs.Called.{Board, board, heldIn, wordAt, wordOn, groupOn, compareOn, markOn, eatBy, eatByte, owed, handOn}
 use Rattle.subchannel.specs.Called.{within, soundCounts, soundLane, sound, hearOn, hearBy, hearCall}
 use Rattle.subchannel.proofs.Cutting.{hand-one}
-use Rattle.subchannels.specs.declared.Configured.{Configured}
-use Rattle.subchannels.specs.declared.Configured.the-variants as configured
-use Rattle.subchannels.specs.declared.Receiver.{Receiver}
-use Rattle.subchannels.specs.Four as receiver
-use Rattle.subchannels.proofs.Apart.{sound-at}
-use Rattle.subsenders.specs.declared.Sender.{Sender}
-use Rattle.subsenders.specs.Four as sender
+use Rattle.four_receivers.specs.declared.Configured.{Configured}
+use Rattle.four_receivers.specs.declared.Configured.the-variants as configured
+use Rattle.four_receivers.specs.declared.Receiver.{Receiver}
+use Rattle.four_receivers.specs.Four as receiver
+use Rattle.four_receivers.proofs.Apart.{sound-at}
+use Rattle.four_senders.specs.declared.Sender.{Sender}
+use Rattle.four_senders.specs.Four as sender
 use Rattle.demands.specs.Table.{Exact}
 use Rattle.demands.specs.Refusals.{PlaceBeyond, Short, OfFrame, OfCall, ByFrame, ByCall, ByHear}
 use Rattle.demands.specs.SubChannels.{SettingsBeyond, CountsBeyond, SubBeyond, ReceiverBeyond, SenderBeyond, Unknown, OfNumbered, ByConfigure, ByNumbered}

@@ -14,18 +14,18 @@ use Rattle.base.specs.Bytes.{Each, Bytes}
 use Rattle.base.specs.Calls.{joined}
 use Rattle.base.specs.Choice.{pick}
 use Rattle.base.specs.UpTo.{upTo}
-use Rattle.frames.specs.Contents.{Packet, plainPacket}
-use Rattle.frames.specs.Escape.{escape, escapeByte}
+use Rattle.packet_spec.specs.Contents.{Packet, plainPacket}
+use Rattle.packet_spec.specs.Escape.{escape, escapeByte}
 use Rattle.stream.specs.Sender.{stream}
-use Rattle.blocks.specs.Sender.{parityBytes, messagesOf, sentWords, marked}
-use Rattle.blocks.proofs.Streaming.{sent-each, sent-messages}
+use Rattle.channel_spec.specs.Sender.{parityBytes, messagesOf, sentWords, marked}
+use Rattle.channel_spec.proofs.Streaming.{sent-each, sent-messages}
 use Rattle.bid.specs.Line.{lineLimit, digits, value, numberFrom, number, judged, verdict}
 use Rattle.bid.specs.Input.{linesFrom, packets, packetsOf}
 use Rattle.office.specs.Desk.{Desk, waiting, sentBy}
 use Rattle.office.specs.Called.{holdLimit, outLimit, closeCall, lastOf}
 use Rattle.office.proofs.Cutting.{bids-cut}
 use Rattle.office.proofs.Board.{packets-accepted}
-use Rattle.shown.specs.Typed.{accepting, acceptedLines, Plainly, numbersOf, ByOne, Among}
+use Rattle.board_spec.specs.Typed.{accepting, acceptedLines, Plainly, numbersOf, ByOne, Among}
 use Rattle.demands.specs.Way.{Sends, Airs}
 use Rattle.demands.proofs.Altered.{unaltered, sent-clean-words}
 use Rattle.demands.proofs.Manager.{went-out}

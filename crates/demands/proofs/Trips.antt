@@ -13,22 +13,22 @@ use lib.Seq.{take-at}
 use Rattle.base.specs.Bytes.{Bytes}
 use Rattle.base.specs.Calls.{joined}
 use Rattle.base.specs.declared.Written.the-variants.{Wrote}
-use Rattle.frames.specs.Escape.{flag}
-use Rattle.frames.specs.Frame.{Told, packet, delivery, judged, closed, judge, There}
-use Rattle.frames.specs.Sender.{Accepted, frameOf, flagged, writing}
-use Rattle.frames.specs.declared.Judged.the-variants.{Packet as Delivered}
-use Rattle.frames.proofs.Judging.{judge-is, payload-there}
-use Rattle.frames.proofs.Round.{raw-fits}
+use Rattle.packet_spec.specs.Escape.{flag}
+use Rattle.packet_spec.specs.Frame.{Told, packet, delivery, judged, closed, judge, There}
+use Rattle.packet_spec.specs.Sender.{Accepted, frameOf, flagged, writing}
+use Rattle.packet_spec.specs.declared.Judged.the-variants.{Packet as Delivered}
+use Rattle.packet_spec.proofs.Judging.{judge-is, payload-there}
+use Rattle.packet_spec.proofs.Round.{raw-fits}
 use Rattle.packet.proofs.Sending.{wrote-is}
 use Rattle.stream.specs.Reader.{inside, reads}
 use Rattle.stream.specs.Sender.{rawOf, delivered}
-use Rattle.frames.specs.Contents.{Packet}
+use Rattle.packet_spec.specs.Contents.{Packet}
 use Rattle.stream.proofs.Accepting.{judged-is}
 use Rattle.stream.proofs.Streaming.{behind-read}
-use Rattle.listed.specs.Apart.{most, records}
-use Rattle.listed.specs.Lines.{lines}
-use Rattle.listed.specs.Listing.{heard, totalLine, lastLine, listed, listing}
-use Rattle.listed.proofs.Apart.{records-apart, records-channel}
+use Rattle.listing_spec.specs.Apart.{most, records}
+use Rattle.listing_spec.specs.Lines.{lines}
+use Rattle.listing_spec.specs.Listing.{heard, totalLine, lastLine, listed, listing}
+use Rattle.listing_spec.proofs.Apart.{records-apart, records-channel}
 
 module _ (p : Packet) (number-fits : p .number < 256) (key-bytes : Bytes (p .key)) (port-fits : p .port < 65536) (sequence-fits : p .sequence < 65536)
     (bytes : Bytes (p .payload)) (out : List ℕ) (n : ℕ) (wrote : writing p out .answer ≡ Wrote n) where

@@ -17,15 +17,15 @@ use Rattle.base.specs.Written.{Outcome, refused, write}
 use Rattle.base.specs.declared.Written.{Written}
 use Rattle.base.specs.declared.Written.the-variants.{Wrote, Refused}
 use Rattle.base.proofs.Tests.{by-test}
-use Rattle.multiplex.specs.Tables.{sequence, announced, heads, payload, lent, unfit}
-use Rattle.multiplex.specs.Unit.{opened, filled, laidOut, unit, hidden, written}
-use Rattle.multiplex.specs.Reading.{headerOf, payloadOf, named, middle, readParts, readUnit}
-use Rattle.multiplex.specs.Refusing.{Disagree, Unmarked, carried}
-use Rattle.multiplex.proofs.Carrying.{length-unit}
-use Rattle.units.proofs.Finding.{length-payload}
-use Rattle.multiplex.proofs.Refusing.{unfit-is, fit-not, mix-none, mix-some, early-is, early-not, unnamed-is, named-not, differ, alike, unmarked-is, marked-not}
-use Rattle.multiplex.proofs.Refusing.{length-parts, length-plain}
-use Rattle.multiplex.proofs.Ways.{writes, written-is}
+use Rattle.unit_spec.specs.Tables.{sequence, announced, heads, payload, lent, unfit}
+use Rattle.unit_spec.specs.Unit.{opened, filled, laidOut, unit, hidden, written}
+use Rattle.unit_spec.specs.Reading.{headerOf, payloadOf, named, middle, readParts, readUnit}
+use Rattle.unit_spec.specs.Refusing.{Disagree, Unmarked, carried}
+use Rattle.unit_spec.proofs.Carrying.{length-unit}
+use Rattle.unit.proofs.Finding.{length-payload}
+use Rattle.unit_spec.proofs.Refusing.{unfit-is, fit-not, mix-none, mix-some, early-is, early-not, unnamed-is, named-not, differ, alike, unmarked-is, marked-not}
+use Rattle.unit_spec.proofs.Refusing.{length-parts, length-plain}
+use Rattle.unit_spec.proofs.Ways.{writes, written-is}
 use Rattle.demands.specs.Table.{Row, First, Exact}
 use Rattle.demands.specs.Refusals.{ByCall}
 use Rattle.demands.specs.Units.{writeRows, partRows, readRows}

@@ -22,21 +22,21 @@ use borrow.Author.Tests.{ne-eqb, lt-ltb, le-ltb}
 use Rattle.base.specs.Bytes.{Bytes}
 use Rattle.base.specs.Written.{write, Keeps}
 use Rattle.base.specs.declared.Written.the-variants.{Wrote}
-use Rattle.multiplex.specs.Bits.{digits, number, bits}
-use Rattle.multiplex.specs.Tables.{sequence, heads, start, step, payload, lent, unfit}
-use Rattle.multiplex.specs.Unit.{begins, opened, laidOut, unit, written}
-use Rattle.multiplex.specs.Reading.{heard, unwoven, headerOf, payloadOf, named, middle, readUnit}
-use Rattle.multiplex.specs.Refusing.{Early, EarlyShort, carried}
-use Rattle.units.proofs.Digits.{digit-at, bits-at}
-use Rattle.multiplex.proofs.Rows.{by-row, accepted, least, spaced}
-use Rattle.multiplex.proofs.Sequences as bySequence
-use Rattle.multiplex.proofs.Carrying.{unwoven-unit}
-use Rattle.units.proofs.Placing.{header-at}
-use Rattle.units.proofs.Finding.{opened-is}
-use Rattle.multiplex.proofs.Ignored as ignored
-use Rattle.multiplex.proofs.Round as round
-use Rattle.multiplex.proofs.Keeping.{written-keeps, read-keeps}
-use Rattle.multiplex.proofs.Refusing as refusing
+use Rattle.unit_spec.specs.Bits.{digits, number, bits}
+use Rattle.unit_spec.specs.Tables.{sequence, heads, start, step, payload, lent, unfit}
+use Rattle.unit_spec.specs.Unit.{begins, opened, laidOut, unit, written}
+use Rattle.unit_spec.specs.Reading.{heard, unwoven, headerOf, payloadOf, named, middle, readUnit}
+use Rattle.unit_spec.specs.Refusing.{Early, EarlyShort, carried}
+use Rattle.unit.proofs.Digits.{digit-at, bits-at}
+use Rattle.unit_spec.proofs.Rows.{by-row, accepted, least, spaced}
+use Rattle.unit_spec.proofs.Sequences as bySequence
+use Rattle.unit_spec.proofs.Carrying.{unwoven-unit}
+use Rattle.unit.proofs.Placing.{header-at}
+use Rattle.unit.proofs.Finding.{opened-is}
+use Rattle.unit_spec.proofs.Ignored as ignored
+use Rattle.unit_spec.proofs.Round as round
+use Rattle.unit_spec.proofs.Keeping.{written-keeps, read-keeps}
+use Rattle.unit_spec.proofs.Refusing as refusing
 use Rattle.demands.specs.Table.{First, Exact}
 use Rattle.demands.specs.Refusals.{ByCall}
 use Rattle.demands.specs.Units.{writeRows, readRows}

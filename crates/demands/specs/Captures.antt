@@ -13,14 +13,14 @@ use lib.ListN.{take}
 use Rattle.base.specs.Written.{Outcome}
 use Rattle.base.specs.declared.Written.{Written}
 use Rattle.base.specs.declared.Written.the-variants.{Wrote, Refused as NotWritten}
-use Rattle.frames.specs.Contents.{Packet, packed}
-use Rattle.frames.specs.Frame.{Told}
-use Rattle.frames.specs.Sender.{Accepted}
+use Rattle.packet_spec.specs.Contents.{Packet, packed}
+use Rattle.packet_spec.specs.Frame.{Told}
+use Rattle.packet_spec.specs.Sender.{Accepted}
 use Rattle.stream.specs.Called.{Held}
-use Rattle.blocks.specs.Channel.{Event, said, block, lost}
+use Rattle.channel_spec.specs.Channel.{Event, said, block, lost}
 use Rattle.channel.specs.Called.{Board}
 use Rattle.subchannel.specs.Called.{Board as SubBoard}
-use Rattle.tape.specs.Deck.{Deck}
+use Rattle.recording.specs.Deck.{Deck}
 use Rattle.capture.specs.Export.{Fetched, entering}
 use Rattle.capture.specs.declared.reader.Capture.{Capture}
 use Rattle.capture.specs.declared.reader.Capture.the-variants.{Header, Head, Record, Behind}

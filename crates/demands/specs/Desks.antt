@@ -11,8 +11,8 @@ use mathlib.Core.Logic.{_⊎_}
 use mathlib.Core.List.{List, [], _∷_}
 use mathlib.Core.Option.{Option}
 use lib.ListN.{length}
-use Rattle.frames.specs.Contents.{payloadLimit}
-use Rattle.frames.specs.Escape.{escape}
+use Rattle.packet_spec.specs.Contents.{payloadLimit}
+use Rattle.packet_spec.specs.Escape.{escape}
 use Rattle.bid.specs.Line.{lineLimit, noNumber, port, sequence, text, Verdict, refused}
 use Rattle.office.specs.declared.Office.{Office}
 use Rattle.office.specs.declared.Started.{Started}

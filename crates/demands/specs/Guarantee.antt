@@ -8,10 +8,10 @@ use lib.Dec.{eqb}
 use lib.ListN.{getD}
 use Rattle.base.specs.Choice.{pick}
 use Rattle.base.specs.Bytes.{Bytes}
-use Rattle.blocks.specs.Sender.{wordBytes}
-use Rattle.blocks.specs.Channel.{IsWord}
-use Rattle.blocks.specs.declared.Condition.{Condition}
-use Rattle.blocks.specs.declared.Condition.the-variants.{Clean as clean, Repaired as repaired}
+use Rattle.channel_spec.specs.Sender.{wordBytes}
+use Rattle.channel_spec.specs.Channel.{IsWord}
+use Rattle.channel_spec.specs.declared.Condition.{Condition}
+use Rattle.channel_spec.specs.declared.Condition.the-variants.{Clean as clean, Repaired as repaired}
 
 -- in how many of n places, from place i on
 unfoldable pub alteredFrom : ℕ → ℕ → List ℕ → List ℕ → ℕ

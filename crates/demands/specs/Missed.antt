@@ -4,12 +4,12 @@
 use Prim.Native.Nat.{ℕ}
 use mathlib.Core.Path.{_≡_}
 use mathlib.Core.List.{List, [], _∷_}
-use Rattle.sequences.specs.declared.Entry.{Entry}
-use Rattle.sequences.specs.declared.Noted.{Noted}
-use Rattle.sequences.specs.declared.Noted.the-variants.{Refused}
-use Rattle.sequences.specs.declared.Forgot.{Forgot}
-use Rattle.sequences.specs.declared.Forgot.the-variants.{Refused as Unforgotten}
-use Rattle.sequences.specs.Refusing.{Unfit as UnfitTable, Held, Full}
+use Rattle.ports_spec.specs.declared.Entry.{Entry}
+use Rattle.ports_spec.specs.declared.Noted.{Noted}
+use Rattle.ports_spec.specs.declared.Noted.the-variants.{Refused}
+use Rattle.ports_spec.specs.declared.Forgot.{Forgot}
+use Rattle.ports_spec.specs.declared.Forgot.the-variants.{Refused as Unforgotten}
+use Rattle.ports_spec.specs.Refusing.{Unfit as UnfitTable, Held, Full}
 use Rattle.demands.specs.Table.{Row}
 
 -- a packet to be noted is refused

@@ -12,11 +12,11 @@ use Rattle.base.specs.Calls.{joined}
 use Rattle.base.specs.Choice.{pick}
 use Rattle.fcs.specs.Fcs.{fcs, register, entered}
 use Rattle.field.specs.Field.{add, double, shiftAdd, mul, pow}
-use Rattle.words.specs.Word.{scale, onto, timesRoot, generator, divide, remainder}
-use Rattle.matrices.specs.Places.{cell}
-use Rattle.frames.specs.Contents.{plainPacket, withCheck, contents}
-use Rattle.frames.specs.Escape.{escape, escapeByte, plain, wrongFrom, right, last, scan}
-use Rattle.frames.specs.Frame.{Told, packet, refusal, broken, judgeContents, closedBy, closed, judge, judgeBody}
+use Rattle.word_spec.specs.Word.{scale, onto, timesRoot, generator, divide, remainder}
+use Rattle.interleaver_spec.specs.Places.{cell}
+use Rattle.packet_spec.specs.Contents.{plainPacket, withCheck, contents}
+use Rattle.packet_spec.specs.Escape.{escape, escapeByte, plain, wrongFrom, right, last, scan}
+use Rattle.packet_spec.specs.Frame.{Told, packet, refusal, broken, judgeContents, closedBy, closed, judge, judgeBody}
 use Rattle.stream.specs.Reader.{waiting, reads}
 
 -- a letter, what the definitions give, what the paper says

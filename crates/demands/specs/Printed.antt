@@ -8,27 +8,27 @@ use Rattle.base.specs.Calls.{joined}
 use Rattle.fcs.specs.Fcs as check
 use Rattle.field.specs.Field as field
 use Rattle.parity.specs.Calls as parity
-use Rattle.matrices.specs.Places.{width}
-use Rattle.matrices.specs.Running as interleaver
-use Rattle.frames.specs.Contents.{plainPacket, keyPacket, plainFormat, keyFormat, keyLeast, keyMost, payloadLimit, plainLimit, rawLimit, contents}
-use Rattle.frames.specs.Escape.{flag, escape}
-use Rattle.frames.specs.Frame.{judge}
-use Rattle.frames.specs.declared.Judged.the-variants.{Packet as Delivered, Refused as Denied, Broken}
+use Rattle.interleaver_spec.specs.Places.{width}
+use Rattle.interleaver_spec.specs.Running as interleaver
+use Rattle.packet_spec.specs.Contents.{plainPacket, keyPacket, plainFormat, keyFormat, keyLeast, keyMost, payloadLimit, plainLimit, rawLimit, contents}
+use Rattle.packet_spec.specs.Escape.{flag, escape}
+use Rattle.packet_spec.specs.Frame.{judge}
+use Rattle.packet_spec.specs.declared.Judged.the-variants.{Packet as Delivered, Refused as Denied, Broken}
 use Rattle.stream.specs.Called.{placeLimit}
-use Rattle.blocks.specs.Sender.{marker, messageBytes, parityBytes, wordBytes, blockBytes}
-use Rattle.blocks.specs.declared.Condition.the-variants.{Clean, Repaired, Beyond}
+use Rattle.channel_spec.specs.Sender.{marker, messageBytes, parityBytes, wordBytes, blockBytes}
+use Rattle.channel_spec.specs.declared.Condition.the-variants.{Clean, Repaired, Beyond}
 use Rattle.channel.specs.declared.answer.Answer.the-variants.{Said, Block, LockLost}
-use Rattle.listed.specs.Apart as listed
+use Rattle.listing_spec.specs.Apart as listed
 use Rattle.bid.specs.Line.{lineLimit}
 use Rattle.office.specs.Called.{heldLimit, holdLimit, outLimit}
-use Rattle.tape.specs.Called.{far}
-use Rattle.listed.specs.Lines.{longest, line, wrongLine}
-use Rattle.listed.specs.Listing.{totalLine, listing}
-use Rattle.recording.specs.Printed.{lastOf}
+use Rattle.recording.specs.Called.{far}
+use Rattle.listing_spec.specs.Lines.{longest, line, wrongLine}
+use Rattle.listing_spec.specs.Listing.{totalLine, listing}
+use Rattle.listing.specs.Printed.{lastOf}
 use Rattle.lines.specs.Noted.{notedLine}
-use Rattle.sequences.specs.Distance.{around, half, ruled, lastBehind}
-use Rattle.sequences.specs.Ports.{placeLimit as mostPorts, freed, entry, noting, forgetting}
-use Rattle.sequences.specs.declared.Noted.the-variants.{First, InOrder, Repeated, Missing, Late, Refused as NotNoted}
+use Rattle.ports_spec.specs.Distance.{around, half, ruled, lastBehind}
+use Rattle.ports_spec.specs.Ports.{placeLimit as mostPorts, freed, entry, noting, forgetting}
+use Rattle.ports_spec.specs.declared.Noted.the-variants.{First, InOrder, Repeated, Missing, Late, Refused as NotNoted}
 use Rattle.demands.specs.Numbers.{Line, inNumbers, heard}
 use Rattle.demands.specs.Telling.{answersOf, endsWith, behindStream, letterOf, unusable, refusalOf, paying, portOf, headed, keyRefusal, judgedBy, unreadBy}
 use Rattle.demands.specs.Telling.{placeOf, places, refusalAt, unmadeBy, uncheckedBy, unheardBy, toldOf, unforgottenOf, tableOf}

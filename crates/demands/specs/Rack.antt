@@ -13,10 +13,10 @@ use mathlib.Core.Option.{Option, some, none}
 use lib.Dec.{eqb}
 use lib.ListN.{take, drop, getD}
 use Rattle.base.specs.Choice.{pick}
-use Rattle.frames.specs.Contents.{Packet}
-use Rattle.frames.specs.Frame.{Told, judged}
+use Rattle.packet_spec.specs.Contents.{Packet}
+use Rattle.packet_spec.specs.Frame.{Told, judged}
 use Rattle.stream.specs.Called.{Held, held}
-use Rattle.blocks.specs.Channel.{Event}
+use Rattle.channel_spec.specs.Channel.{Event}
 use Rattle.channel.specs.Called.{Board, board, answered}
 use Rattle.rack.specs.Told.{ofJudged, ofAnswer, ofCall, frameOf, receiverOf, toldNumbers}
 use Rattle.rack.specs.Calls.{reading, hearing}

@@ -21,32 +21,32 @@ use Rattle.base.specs.Choice.{pick}
 use Rattle.base.specs.Written.{Outcome}
 use Rattle.base.specs.declared.Written.the-variants.{Refused}
 use Rattle.fcs.specs.Fcs.{fcs}
-use Rattle.frames.specs.Contents.{Packet, plainFormat, keyFormat, keyLeast, keyMost, keyAt, keyLength, payloadLimit, rawLimit, wordAt}
-use Rattle.frames.specs.Escape.{escape, plain, last, Followed}
-use Rattle.frames.specs.Frame.{Told, refusal, number}
-use Rattle.matrices.specs.declared.Matrix.{Matrix}
-use Rattle.subsender.specs.declared.Counted.{Counted}
-use Rattle.subsender.specs.declared.Counted.the-variants.{Refused as CountRefused}
+use Rattle.packet_spec.specs.Contents.{Packet, plainFormat, keyFormat, keyLeast, keyMost, keyAt, keyLength, payloadLimit, rawLimit, wordAt}
+use Rattle.packet_spec.specs.Escape.{escape, plain, last, Followed}
+use Rattle.packet_spec.specs.Frame.{Told, refusal, number}
+use Rattle.interleaver_spec.specs.declared.Matrix.{Matrix}
+use Rattle.subchannel_sender.specs.declared.Counted.{Counted}
+use Rattle.subchannel_sender.specs.declared.Counted.the-variants.{Refused as CountRefused}
 use Rattle.parity.specs.declared.Checked.{Checked}
 use Rattle.parity.specs.declared.Checked.the-variants.{Refused as WordRefused}
 use Rattle.repair.specs.declared.Mended.{Mended}
 use Rattle.repair.specs.declared.Mended.the-variants.{Refused as RepairRefused}
 use Rattle.stream.specs.Called.{placeLimit}
 use Rattle.stream.specs.declared.frame.Frame.{Frame}
-use Rattle.blocks.specs.Channel.{Event, said}
-use Rattle.blocks.specs.Sender.{messageBytes, wordBytes}
+use Rattle.channel_spec.specs.Channel.{Event, said}
+use Rattle.channel_spec.specs.Sender.{messageBytes, wordBytes}
 use Rattle.channel.specs.declared.receiver.Receiver.{Receiver}
-use Rattle.listed.specs.declared.Spot.{Spot}
-use Rattle.listed.specs.Lines.{longest}
-use Rattle.sequences.specs.Refusing.{Unfit as UnfitTable}
-use Rattle.tape.specs.Deck.{Deck}
-use Rattle.tape.specs.Called.{far}
-use Rattle.recording.specs.Printed.{Printed}
-use Rattle.recording.specs.declared.recording.Totals.{Totals}
-use Rattle.recording.specs.declared.recording.Wants.the-variants.{Refused as TakeRefused}
-use Rattle.readout.specs.Called.{Part}
-use Rattle.readout.specs.declared.readout.Readout.{Readout}
-use Rattle.readout.specs.declared.readout.Wants.the-variants.{Refused as ShowRefused}
+use Rattle.listing_spec.specs.declared.Spot.{Spot}
+use Rattle.listing_spec.specs.Lines.{longest}
+use Rattle.ports_spec.specs.Refusing.{Unfit as UnfitTable}
+use Rattle.recording.specs.Deck.{Deck}
+use Rattle.recording.specs.Called.{far}
+use Rattle.listing.specs.Printed.{Printed}
+use Rattle.listing.specs.declared.lister.Totals.{Totals}
+use Rattle.listing.specs.declared.lister.Wants.the-variants.{Refused as TakeRefused}
+use Rattle.board.specs.Called.{Part}
+use Rattle.board.specs.declared.readout.Readout.{Readout}
+use Rattle.board.specs.declared.readout.Wants.the-variants.{Refused as ShowRefused}
 use Rattle.demands.specs.Table.{Row}
 
 -- 10 of the interleaver: a cell place of N or more, at depth 2 or more

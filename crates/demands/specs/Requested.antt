@@ -11,33 +11,33 @@ use Rattle.base.specs.Calls.{joined, run}
 use Rattle.base.specs.Choice.{pick}
 use Rattle.base.specs.declared.Written.{Written}
 use Rattle.base.specs.declared.Written.the-variants.{Wrote, Refused as Unwritten}
-use Rattle.frames.specs.Contents.{plainPacket, packetOf, withCheck}
-use Rattle.frames.specs.Frame.{Told as FrameTold, packet, refusal, broken, judgeContents}
-use Rattle.frames.specs.Sender.{refusing}
+use Rattle.packet_spec.specs.Contents.{plainPacket, packetOf, withCheck}
+use Rattle.packet_spec.specs.Frame.{Told as FrameTold, packet, refusal, broken, judgeContents}
+use Rattle.packet_spec.specs.Sender.{refusing}
 use Rattle.repair.specs.Promise.{half}
 use Rattle.stream.specs.Called.{fresh, held, readCall}
-use Rattle.blocks.specs.declared.Condition.the-variants.{Clean}
-use Rattle.blocks.specs.Channel.{Event, said, block, lost, zeros}
-use Rattle.blocks.specs.Sender.{parityBytes, marking}
-use Rattle.matrices.specs.Running.{freshBack}
-use Rattle.matrices.specs.Running as interleaver
-use Rattle.groups.specs.Sender.{groupWords, groupBytes, closingWords, completing, grouped}
+use Rattle.channel_spec.specs.declared.Condition.the-variants.{Clean}
+use Rattle.channel_spec.specs.Channel.{Event, said, block, lost, zeros}
+use Rattle.channel_spec.specs.Sender.{parityBytes, marking}
+use Rattle.interleaver_spec.specs.Running.{freshBack}
+use Rattle.interleaver_spec.specs.Running as interleaver
+use Rattle.subchannel_spec.specs.Sender.{groupWords, groupBytes, closingWords, completing, grouped}
 use Rattle.subchannel.specs.Called as sub
-use Rattle.subchannels.specs.declared.Configured.{Configured}
-use Rattle.subchannels.specs.declared.Configured.the-variants.{Told, Refused}
-use Rattle.subchannels.specs.declared.Receiver.{Receiver}
-use Rattle.subchannels.specs.Four as receiver
-use Rattle.subsenders.specs.Four as sender
-use Rattle.multiplex.specs.Bits.{digits, number}
-use Rattle.multiplex.specs.Tables as units
-use Rattle.multiplex.specs.Unit.{written}
-use Rattle.multiplex.specs.Reading.{named, readUnit}
-use Rattle.captures.specs.File.{header, records}
-use Rattle.captures.specs.Import.{entryLimit, imported}
+use Rattle.four_receivers.specs.declared.Configured.{Configured}
+use Rattle.four_receivers.specs.declared.Configured.the-variants.{Told, Refused}
+use Rattle.four_receivers.specs.declared.Receiver.{Receiver}
+use Rattle.four_receivers.specs.Four as receiver
+use Rattle.four_senders.specs.Four as sender
+use Rattle.unit_spec.specs.Bits.{digits, number}
+use Rattle.unit_spec.specs.Tables as units
+use Rattle.unit_spec.specs.Unit.{written}
+use Rattle.unit_spec.specs.Reading.{named, readUnit}
+use Rattle.capture_spec.specs.File.{header, records}
+use Rattle.capture_spec.specs.Import.{entryLimit, imported}
 use Rattle.lines.specs.Row.{rowLine, rowLongest}
-use Rattle.sheets.specs.Tally.{far, wide}
-use Rattle.sheets.specs.Recording.{marks}
-use Rattle.sheets.specs.Month.{Mark, portLimit, Counting, counts, wrong, refuses, ruling, rulingOf}
+use Rattle.sheet_spec.specs.Tally.{far, wide}
+use Rattle.sheet_spec.specs.Recording.{marks}
+use Rattle.sheet_spec.specs.Month.{Mark, portLimit, Counting, counts, wrong, refuses, ruling, rulingOf}
 use Rattle.demands.specs.Numbers.{Line}
 use Rattle.demands.specs.Telling.{toldNumber, numberOf}
 

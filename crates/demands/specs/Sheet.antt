@@ -9,8 +9,8 @@ use mathlib.Core.Bool.{Bool, true}
 use mathlib.Core.Logic.{_⊎_}
 use mathlib.Core.List.{List, [], _∷_}
 use lib.ListN.{length, getD}
-use Rattle.sheets.specs.Month.{Mark, Month, lines, anyWide, with}
-use Rattle.sheets.specs.Rows.{blank}
+use Rattle.sheet_spec.specs.Month.{Mark, Month, lines, anyWide, with}
+use Rattle.sheet_spec.specs.Rows.{blank}
 use Rattle.sheet.specs.declared.Sheet.{Sheet}
 use Rattle.sheet.specs.declared.Draft.{Draft}
 use Rattle.sheet.specs.declared.Closed.{Closed}

@@ -13,19 +13,19 @@ use mathlib.Core.List.{List, [], _∷_, _++_}
 use mathlib.Core.Option.{Option, some}
 use lib.ListN.{drop}
 use Rattle.base.specs.Written.{Outcome}
-use Rattle.frames.specs.Frame.{refusal}
-use Rattle.matrices.specs.declared.Matrix.{Matrix}
-use Rattle.blocks.specs.Sender.{wordBytes}
-use Rattle.blocks.specs.Channel.{Event, said}
-use Rattle.groups.specs.Sender.{messageBytes, groupBytes}
+use Rattle.packet_spec.specs.Frame.{refusal}
+use Rattle.interleaver_spec.specs.declared.Matrix.{Matrix}
+use Rattle.channel_spec.specs.Sender.{wordBytes}
+use Rattle.channel_spec.specs.Channel.{Event, said}
+use Rattle.subchannel_spec.specs.Sender.{messageBytes, groupBytes}
 use Rattle.subchannel.specs.declared.settings.Settings.{Settings}
 use Rattle.subchannel.specs.declared.settings.Counts.{Counts}
 use Rattle.subchannel.specs.declared.sub.Sub.{Sub}
-use Rattle.subchannels.specs.declared.Configured.{Configured}
-use Rattle.subchannels.specs.declared.Configured.the-variants.{Refused}
-use Rattle.subchannels.specs.declared.Receiver.{Receiver}
-use Rattle.subsender.specs.Sending.{groupSending}
-use Rattle.subsenders.specs.declared.Sender.{Sender}
+use Rattle.four_receivers.specs.declared.Configured.{Configured}
+use Rattle.four_receivers.specs.declared.Configured.the-variants.{Refused}
+use Rattle.four_receivers.specs.declared.Receiver.{Receiver}
+use Rattle.subchannel_sender.specs.Sending.{groupSending}
+use Rattle.four_senders.specs.declared.Sender.{Sender}
 use Rattle.demands.specs.Captures.{put}
 use Rattle.demands.specs.Refusals.{PlaceBeyond, FrameBeyond, OfCall}
 

@@ -18,28 +18,28 @@ use Rattle.base.specs.declared.Written.the-variants.{Wrote, Refused}
 use Rattle.parity.specs.Calls as parity
 use Rattle.parity.specs.declared.Checked.{Checked}
 use Rattle.parity.specs.declared.Checked.the-variants as checking
-use Rattle.matrices.specs.Running as interleaver
-use Rattle.frames.specs.Contents.{Packet, packetOf, plainPacket, packed, withCheck}
-use Rattle.frames.specs.Frame.{Told, packet, refusal, broken, judgeContents, judgeBody, judge}
-use Rattle.frames.specs.Port.{class, barred}
-use Rattle.frames.specs.Sender.{refusing}
+use Rattle.interleaver_spec.specs.Running as interleaver
+use Rattle.packet_spec.specs.Contents.{Packet, packetOf, plainPacket, packed, withCheck}
+use Rattle.packet_spec.specs.Frame.{Told, packet, refusal, broken, judgeContents, judgeBody, judge}
+use Rattle.packet_spec.specs.Port.{class, barred}
+use Rattle.packet_spec.specs.Sender.{refusing}
 use Rattle.stream.specs.Reader.{waiting, reads}
 use Rattle.stream.specs.Called.{fresh}
-use Rattle.blocks.specs.Channel.{Event, said, block, lost, zeros}
-use Rattle.blocks.specs.declared.Condition.the-variants.{Clean, Repaired, Beyond}
+use Rattle.channel_spec.specs.Channel.{Event, said, block, lost, zeros}
+use Rattle.channel_spec.specs.declared.Condition.the-variants.{Clean, Repaired, Beyond}
 use Rattle.channel.specs.Called.{board, counts, freshReceiver, hearCall}
-use Rattle.listed.specs.Apart as listed
-use Rattle.listed.specs.Lines.{letter, count}
-use Rattle.listed.specs.Listing.{lastLine}
-use Rattle.listed.specs.declared.Place.the-variants.{Mark, Inside}
-use Rattle.listed.specs.declared.Spot.{Spot}
-use Rattle.recording.specs.declared.recording.Recording.{Recording}
-use Rattle.sequences.specs.Ports.{entry}
-use Rattle.sequences.specs.declared.Entry.{Entry}
-use Rattle.sequences.specs.declared.Noted.{Noted}
-use Rattle.sequences.specs.declared.Noted.the-variants.{First, InOrder, Repeated, Missing, Late, Refused as NotNoted}
-use Rattle.sequences.specs.declared.Forgot.{Forgot}
-use Rattle.sequences.specs.declared.Forgot.the-variants.{Forgotten, Refused as Unforgotten}
+use Rattle.listing_spec.specs.Apart as listed
+use Rattle.listing_spec.specs.Lines.{letter, count}
+use Rattle.listing_spec.specs.Listing.{lastLine}
+use Rattle.listing_spec.specs.declared.Place.the-variants.{Mark, Inside}
+use Rattle.listing_spec.specs.declared.Spot.{Spot}
+use Rattle.listing.specs.declared.lister.Recording.{Recording}
+use Rattle.ports_spec.specs.Ports.{entry}
+use Rattle.ports_spec.specs.declared.Entry.{Entry}
+use Rattle.ports_spec.specs.declared.Noted.{Noted}
+use Rattle.ports_spec.specs.declared.Noted.the-variants.{First, InOrder, Repeated, Missing, Late, Refused as NotNoted}
+use Rattle.ports_spec.specs.declared.Forgot.{Forgot}
+use Rattle.ports_spec.specs.declared.Forgot.the-variants.{Forgotten, Refused as Unforgotten}
 
 -- the number by which a frame is refused; 0 where it is a packet
 abbrev pub toldNumber : Told → ℕ

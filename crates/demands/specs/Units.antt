@@ -4,10 +4,10 @@ use Prim.Native.Nat.{ℕ, _+_, _-_, _<_}
 use mathlib.Core.Logic.{_⊎_}
 use mathlib.Core.List.{List, [], _∷_}
 use lib.ListN.{length}
-use Rattle.multiplex.specs.Tables.{heads, payload, lent}
-use Rattle.multiplex.specs.Unit.{filled}
-use Rattle.multiplex.specs.Reading.{headerOf, payloadOf, named, middle}
-use Rattle.multiplex.specs.Refusing.{Unfit as UnfitLength, NoMix, Early, Unnamed, Disagree, Unmarked, carried}
+use Rattle.unit_spec.specs.Tables.{heads, payload, lent}
+use Rattle.unit_spec.specs.Unit.{filled}
+use Rattle.unit_spec.specs.Reading.{headerOf, payloadOf, named, middle}
+use Rattle.unit_spec.specs.Refusing.{Unfit as UnfitLength, NoMix, Early, Unnamed, Disagree, Unmarked, carried}
 use Rattle.demands.specs.Table.{Row}
 
 -- of a call that writes a unit of l bits, with r bytes of output

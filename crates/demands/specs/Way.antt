@@ -8,8 +8,8 @@ use mathlib.Core.List.{List, _++_}
 use lib.ListN.{length}
 use Rattle.base.specs.Bytes.{Each}
 use Rattle.base.specs.Calls.{joined, ReadsAll}
-use Rattle.blocks.specs.Sender.{parityBytes, framed, marked}
-use Rattle.blocks.specs.Channel.{IsWord, FirstMarker}
+use Rattle.channel_spec.specs.Sender.{parityBytes, framed, marked}
+use Rattle.channel_spec.specs.Channel.{IsWord, FirstMarker}
 use Rattle.bid.specs.Line.{lineLimit}
 use Rattle.office.specs.Desk.{Said, Desk, waiting, sentBy}
 use Rattle.office.specs.Called.{holdLimit, outLimit, hearCall, closeCall, first, lastOf}

@@ -15,11 +15,11 @@ use Rattle.base.specs.Choice.{pick}
 use Rattle.base.specs.Written.{copied}
 use Rattle.base.proofs.Tests.{by-le}
 use Rattle.base.proofs.Writing.{copied-fits}
-use Rattle.matrices.specs.Running.{size, back, taken, gave, pull, beyond}
-use Rattle.matrices.specs.declared.Matrix.{Matrix}
-use Rattle.matrices.specs.declared.Back.{Back}
-use Rattle.matrices.proofs.Calling.{passes, deeper, below}
-use Rattle.matrices.proofs.Pulling.{taken-length, all-held, some-given, given-length}
+use Rattle.interleaver_spec.specs.Running.{size, back, taken, gave, pull, beyond}
+use Rattle.interleaver_spec.specs.declared.Matrix.{Matrix}
+use Rattle.interleaver_spec.specs.declared.Back.{Back}
+use Rattle.interleaver_spec.proofs.Calling.{passes, deeper, below}
+use Rattle.interleaver_spec.proofs.Pulling.{taken-length, all-held, some-given, given-length}
 use Rattle.interleaver.specs.Private.{left, held, given}
 use Rattle.interleaver.proofs.Loops.{left-out}
 

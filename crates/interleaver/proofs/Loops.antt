@@ -12,10 +12,10 @@ use lib.Seq.{sets, sets-eq, drop-cons}
 use Rattle.base.specs.Calls.{tell, run}
 use Rattle.base.specs.Written.{copied}
 use Rattle.base.proofs.Writing.{copied-fits}
-use Rattle.matrices.specs.Running.{sent}
+use Rattle.interleaver_spec.specs.Running.{sent}
 use Rattle.interleaver.specs.Private.{left}
-use Rattle.matrices.specs.declared.Matrix.{Matrix}
-use Rattle.matrices.proofs.Pushing.{sent-length}
+use Rattle.interleaver_spec.specs.declared.Matrix.{Matrix}
+use Rattle.interleaver_spec.proofs.Pushing.{sent-length}
 
 module _ (e : Matrix → ℕ → Option ℕ × Matrix) (bs : List ℕ) (i : ℕ) (m : Matrix) (out : List ℕ) {t : List ℕ × Matrix} (l : left e bs i m out ≡ t) where
   pub left-next : (n : Matrix) (v : ℕ) → i < length bs → e m (getD bs i 0) ≡ (some v, n) → left e bs (i + 1) n (set out i v) ≡ t

@@ -6,8 +6,8 @@ use mathlib.Core.List.{List}
 use mathlib.Core.Option.{some}
 use Prim.Native.Nat.{ℕ}
 use lib.ListN.{getD, set}
-use Rattle.matrices.specs.Places.{cell}
-use Rattle.matrices.specs.Running.{next, matrix, sent, taken}
+use Rattle.interleaver_spec.specs.Places.{cell}
+use Rattle.interleaver_spec.specs.Running.{next, matrix, sent, taken}
 
 module _ (d p : ℕ) (cs : List ℕ) (b : ℕ) {k q : ℕ} (e : k ≡ cell d p) (g : q ≡ next d p) where
   pub sends : sent d (matrix p cs) b ≡ (some (getD (set cs p b) k 0), matrix q (set cs p b))

@@ -13,9 +13,9 @@ use lib.Seq.{sets}
 use Rattle.base.specs.Calls.{run}
 use Rattle.base.specs.Choice.{pick}
 use Rattle.base.specs.Written.{copied}
-use Rattle.matrices.specs.Running.{depthLimit, size, gave}
-use Rattle.matrices.specs.declared.Matrix.{Matrix}
-use Rattle.matrices.specs.declared.Back.{Back}
+use Rattle.interleaver_spec.specs.Running.{depthLimit, size, gave}
+use Rattle.interleaver_spec.specs.declared.Matrix.{Matrix}
+use Rattle.interleaver_spec.specs.declared.Back.{Back}
 
 -- each byte by e
 abbrev pub left : (Matrix → ℕ → Option ℕ × Matrix) → List ℕ → ℕ → Matrix → List ℕ → List ℕ × Matrix

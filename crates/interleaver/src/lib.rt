@@ -6,14 +6,14 @@ ghost use lib.ListN.{length};
 ghost use Rattle.base.specs.Calls.{run};
 ghost use Rattle.base.specs.Written.{outcome};
 ghost use Rattle.base.specs.declared.Written.the-variants.{Refused};
-ghost use Rattle.matrices.specs.Places.{width, cell};
-ghost use Rattle.matrices.specs.Running.{depthLimit, size, next, matrix, fresh, freshBack, sent, taken};
-ghost use Rattle.matrices.specs.Running.{beyond, pushing, closingBytes, closing, pulling};
+ghost use Rattle.interleaver_spec.specs.Places.{width, cell};
+ghost use Rattle.interleaver_spec.specs.Running.{depthLimit, size, next, matrix, fresh, freshBack, sent, taken};
+ghost use Rattle.interleaver_spec.specs.Running.{beyond, pushing, closingBytes, closing, pulling};
 ghost use Rattle.interleaver.specs.Private.{left, held, Ready, given};
 use base::Refusal;
 use base::Written;
-pub use matrices::Back;
-pub use matrices::Matrix;
+pub use interleaver_spec::Back;
+pub use interleaver_spec::Matrix;
 
 /// What a push answers.
 pub struct Pushed {

@@ -18,15 +18,15 @@ use Rattle.base.specs.Choice.{pick}
 use Rattle.base.specs.Bytes.{Each, Bytes}
 use Rattle.field.specs.Field.{add, double}
 use Rattle.field.proofs.Sum.{zero-add, add-zero}
-use Rattle.words.specs.Word.{onto}
-use Rattle.words.specs.Residue.{laneRoots}
-use Rattle.words.specs.Private.{bytesOf, fed, fedAll, worth, spent, kept, summed, doublings, bitWorths}
+use Rattle.word_spec.specs.Word.{onto}
+use Rattle.word_spec.specs.Residue.{laneRoots}
+use Rattle.word_spec.specs.Private.{bytesOf, fed, fedAll, worth, spent, kept, summed, doublings, bitWorths}
 use Rattle.lanes.specs.Private.{laid, rowOf, Further, Worths, doubledBy, following, bits, five}
 use Rattle.lanes.specs.declared.coefficients.Lanes.{Lanes}
-use Rattle.words.proofs.Sums.{onto-comm, zeros-onto}
-use Rattle.words.proofs.Packed.{length-bytes, bytes-xor}
-use Rattle.words.proofs.Residue.{fed-leading}
-use Rattle.words.proofs.Rows.{length-kept, kept-zero, kept-one, length-summed, summed-append, summed-low, summed-onto, both, summed-both, spent-bits}
+use Rattle.word_spec.proofs.Sums.{onto-comm, zeros-onto}
+use Rattle.word_spec.proofs.Packed.{length-bytes, bytes-xor}
+use Rattle.word_spec.proofs.Residue.{fed-leading}
+use Rattle.word_spec.proofs.Rows.{length-kept, kept-zero, kept-one, length-summed, summed-append, summed-low, summed-onto, both, summed-both, spent-bits}
 use Rattle.lanes.proofs.Laid.{length-laid, bytes-laid, laid-plus}
 
 -- ---- some of five bits' rows added, in one number of eight bytes

@@ -9,11 +9,11 @@ use mathlib.Core.List.{List, [], _∷_, _++_, append-assoc}
 use lib.ListN.{length, length-append}
 use Rattle.base.specs.Private.{Laid}
 use Rattle.base.proofs.Laid.{laid-append}
-use Rattle.listed.specs.Lines.{decimal, longest}
-use Rattle.sequences.specs.declared.Noted.{Noted}
-use Rattle.sequences.specs.declared.Noted.the-variants.{First, InOrder, Repeated, Missing, Late, Refused}
+use Rattle.listing_spec.specs.Lines.{decimal, longest}
+use Rattle.ports_spec.specs.declared.Noted.{Noted}
+use Rattle.ports_spec.specs.declared.Noted.the-variants.{First, InOrder, Repeated, Missing, Late, Refused}
 use Rattle.lines.specs.Noted.{words, notedLine}
-use Rattle.listed.proofs.Digits.{digits-short}
+use Rattle.listing_spec.proofs.Digits.{digits-short}
 use Rattle.lines.proofs.Writes.{laid-as, Item, Put}
 
 -- the words from a place on, within 32 bytes

@@ -17,21 +17,21 @@ use lib.ListN.{length, drop, replicate, length-replicate}
 use borrow.Author.Tests.{eq-eqb, ne-eqb, le-leb, lt-leb}
 use Rattle.base.specs.Private.{Laid}
 use Rattle.base.proofs.Laid.{laid-none, laid-append, laid-start}
-use Rattle.frames.specs.Contents.{keyFormat}
-use Rattle.frames.specs.declared.Delivery.{Delivery}
-use Rattle.frames.specs.declared.Judged.{Judged}
-use Rattle.frames.specs.declared.Judged.the-variants.{Packet, Refused, Broken}
-use Rattle.blocks.specs.declared.Condition.{Condition}
-use Rattle.blocks.specs.declared.Condition.the-variants.{Clean, Repaired, Beyond}
+use Rattle.packet_spec.specs.Contents.{keyFormat}
+use Rattle.packet_spec.specs.declared.Delivery.{Delivery}
+use Rattle.packet_spec.specs.declared.Judged.{Judged}
+use Rattle.packet_spec.specs.declared.Judged.the-variants.{Packet, Refused, Broken}
+use Rattle.channel_spec.specs.declared.Condition.{Condition}
+use Rattle.channel_spec.specs.declared.Condition.the-variants.{Clean, Repaired, Beyond}
 use Rattle.channel.specs.declared.answer.Answer.{Answer}
 use Rattle.channel.specs.declared.answer.Answer.the-variants.{Said}
-use Rattle.listed.specs.Lines.{decimal, longest}
-use Rattle.sequences.specs.declared.Noted.{Noted}
-use Rattle.shown.specs.Text.{sixteenth, shownByte, heading}
-use Rattle.shown.specs.Board.{Line, missing, unwatched, restricted, refusedFrame, brokenFrame, cleanBlock, repairedBlock, beyondRepair, lockLost, wrongAt}
-use Rattle.shown.specs.Board.{missingWord, unwatchedWord, restrictedWord, refusedWord, cleanWord, repairedWord, beyondWord, lostWord, wrongWord}
-use Rattle.shown.specs.Board.{number, written, writtenAll, aheadOf, blockLines}
-use Rattle.shown.specs.Parts.{ownLead, lead, remark}
+use Rattle.listing_spec.specs.Lines.{decimal, longest}
+use Rattle.ports_spec.specs.declared.Noted.{Noted}
+use Rattle.board_spec.specs.Text.{sixteenth, shownByte, heading}
+use Rattle.board_spec.specs.Board.{Line, missing, unwatched, restricted, refusedFrame, brokenFrame, cleanBlock, repairedBlock, beyondRepair, lockLost, wrongAt}
+use Rattle.board_spec.specs.Board.{missingWord, unwatchedWord, restrictedWord, refusedWord, cleanWord, repairedWord, beyondWord, lostWord, wrongWord}
+use Rattle.board_spec.specs.Board.{number, written, writtenAll, aheadOf, blockLines}
+use Rattle.board_spec.specs.Parts.{ownLead, lead, remark}
 use Rattle.lines.specs.Piece.{pieceOf}
 use Rattle.lines.specs.declared.piece.Piece.{Piece}
 use Rattle.lines.proofs.Writes.{laid-as, Item, Put, put-as}

@@ -9,10 +9,10 @@ use mathlib.Core.List.{List, [], _∷_, _++_, append-assoc}
 use lib.ListN.{length, take, length-append}
 use Rattle.base.specs.Private.{Laid}
 use Rattle.base.proofs.Laid.{laid-append, laid-take}
-use Rattle.listed.specs.Lines.{decimal}
+use Rattle.listing_spec.specs.Lines.{decimal}
 use Rattle.lines.specs.Row.{rowLine, rowLongest}
 use Rattle.lines.proofs.Writes.{laid-as, Item}
-use Rattle.listed.proofs.Digits.{digits-short}
+use Rattle.listing_spec.proofs.Digits.{digits-short}
 
 -- a line from the start on, within 147 bytes
 abbrev pub RowPut : List ℕ → List ℕ → List ℕ → ℕ → Type 0

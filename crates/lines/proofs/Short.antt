@@ -6,16 +6,16 @@ use Prim.Native.Nat.{ℕ, _+_, _≤_, _<_}
 use native.Mathlib.Omega.{arith}
 use mathlib.Core.List.{List, [], _∷_, _++_}
 use lib.ListN.{length, length-append}
-use Rattle.frames.specs.Port.{class}
-use Rattle.frames.specs.declared.Judged.{Judged}
-use Rattle.frames.specs.declared.Judged.the-variants.{Packet, Refused, Broken}
-use Rattle.frames.specs.Frame.{packet, refusal, broken, delivery}
-use Rattle.blocks.specs.Channel.{Event, said, block, lost}
-use Rattle.blocks.specs.declared.Condition.the-variants.{Clean, Repaired, Beyond}
+use Rattle.packet_spec.specs.Port.{class}
+use Rattle.packet_spec.specs.declared.Judged.{Judged}
+use Rattle.packet_spec.specs.declared.Judged.the-variants.{Packet, Refused, Broken}
+use Rattle.packet_spec.specs.Frame.{packet, refusal, broken, delivery}
+use Rattle.channel_spec.specs.Channel.{Event, said, block, lost}
+use Rattle.channel_spec.specs.declared.Condition.the-variants.{Clean, Repaired, Beyond}
 use Rattle.channel.specs.declared.answer.Answer.{Answer}
 use Rattle.channel.specs.declared.answer.Answer.the-variants.{More, Said, Block, LockLost}
-use Rattle.listed.specs.Lines.{decimal, letter, told, line, given, endLine, wrongLine, longest}
-use Rattle.listed.proofs.Digits.{digits-short}
+use Rattle.listing_spec.specs.Lines.{decimal, letter, told, line, given, endLine, wrongLine, longest}
+use Rattle.listing_spec.proofs.Digits.{digits-short}
 
 item-short : (n k : ℕ) (rest : List ℕ) → length rest ≤ k → length (decimal n ++ rest) ≤ 20 + k
 item-short n k rest h = omega (arith, length-append (decimal n) rest, digits-short n)

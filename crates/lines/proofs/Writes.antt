@@ -11,12 +11,12 @@ use mathlib.Core.List.{List, [], _∷_, _++_, append-assoc}
 use lib.ListN.{length, take, set}
 use Rattle.base.specs.Private.{Laid}
 use Rattle.base.proofs.Laid.{laid-append, laid-take}
-use Rattle.frames.specs.Port.{class}
-use Rattle.frames.specs.declared.Delivery.{Delivery}
-use Rattle.frames.specs.declared.Judged.the-variants.{Packet, Refused, Broken}
-use Rattle.blocks.specs.declared.Condition.the-variants.{Repaired}
-use Rattle.listed.specs.Lines.{decimal, letter, told, endLine, wrongLine, longest, blockLine}
-use Rattle.listed.proofs.Digits.{wide, last-digit, more-digits, digits-short}
+use Rattle.packet_spec.specs.Port.{class}
+use Rattle.packet_spec.specs.declared.Delivery.{Delivery}
+use Rattle.packet_spec.specs.declared.Judged.the-variants.{Packet, Refused, Broken}
+use Rattle.channel_spec.specs.declared.Condition.the-variants.{Repaired}
+use Rattle.listing_spec.specs.Lines.{decimal, letter, told, endLine, wrongLine, longest, blockLine}
+use Rattle.listing_spec.proofs.Digits.{wide, last-digit, more-digits, digits-short}
 
 laid-one : (l : List ℕ) (at b : ℕ) → Laid l at (b ∷ []) (set l at b) (at + 1)
 laid-one l at b = record { ends = refl; holds = refl }

@@ -3,9 +3,9 @@
 -- notedLine   the line
 use Prim.Native.Nat.{ℕ}
 use mathlib.Core.List.{List, [], _∷_, _++_}
-use Rattle.listed.specs.Lines.{decimal}
-use Rattle.sequences.specs.declared.Noted.{Noted}
-use Rattle.sequences.specs.declared.Noted.the-variants.{First, InOrder, Repeated, Missing, Late, Refused}
+use Rattle.listing_spec.specs.Lines.{decimal}
+use Rattle.ports_spec.specs.declared.Noted.{Noted}
+use Rattle.ports_spec.specs.declared.Noted.the-variants.{First, InOrder, Repeated, Missing, Late, Refused}
 
 -- `first`, `in order`, `repeated`, `missing N`, `late`, `refused N`
 abbrev pub words : Noted → List ℕ

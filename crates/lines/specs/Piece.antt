@@ -4,7 +4,7 @@
 use Prim.Native.Nat.{ℕ, _-_}
 use mathlib.Core.List.{List, _++_}
 use lib.ListN.{length, take, replicate}
-use Rattle.listed.specs.Lines.{longest}
+use Rattle.listing_spec.specs.Lines.{longest}
 use Rattle.lines.specs.declared.piece.Piece.{Piece}
 
 -- a text of at most 128 bytes as a piece

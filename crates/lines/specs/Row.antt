@@ -3,7 +3,7 @@
 -- rowLongest   none is longer
 use Prim.Native.Nat.{ℕ}
 use mathlib.Core.List.{List, [], _∷_, _++_}
-use Rattle.listed.specs.Lines.{decimal}
+use Rattle.listing_spec.specs.Lines.{decimal}
 
 -- "port, packets delivered, repeated, late, missing .., and loss as two whole numbers", missing over the total
 unfoldable pub rowLine : ℕ → ℕ → ℕ → ℕ → ℕ → ℕ → List ℕ

@@ -4,7 +4,7 @@ ghost use Prim.Native.Nat.{_+_, _≤_};
 ghost use lib.ListN.{length};
 ghost use Rattle.base.specs.Private.{Laid};
 ghost use Rattle.base.specs.Written.{outcome, write};
-ghost use Rattle.listed.specs.Lines.{longest};
+ghost use Rattle.listing_spec.specs.Lines.{longest};
 ghost use Rattle.lines.specs.Noted.{words, notedLine};
 use crate::Line;
 use crate::deliver;

@@ -1,1 +1,9 @@
-pub mod Within
+pub mod Tags
+pub mod Counting
+pub mod Printing
+pub mod Output
+pub mod Taking
+pub mod Did
+pub mod Listing
+pub mod Ends
+pub mod Determined

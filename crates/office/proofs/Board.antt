@@ -9,12 +9,12 @@ use lib.ListN.{length, replicate}
 use Rattle.base.specs.Bytes.{Each, IsByte, Bytes}
 use Rattle.base.proofs.Bytes.{each-append}
 use Rattle.base.proofs.Tests.{by-eq}
-use Rattle.frames.specs.Sender.{Accepted}
+use Rattle.packet_spec.specs.Sender.{Accepted}
 use Rattle.stream.specs.Sender.{delivered}
-use Rattle.blocks.specs.Sender.{sentWords}
-use Rattle.blocks.specs.Channel.{answers, frames, blocks, losses, FirstMarker}
-use Rattle.blocks.specs.declared.Condition.the-variants.{Clean as clean}
-use Rattle.blocks.proofs.Streaming.{whole-stream}
+use Rattle.channel_spec.specs.Sender.{sentWords}
+use Rattle.channel_spec.specs.Channel.{answers, frames, blocks, losses, FirstMarker}
+use Rattle.channel_spec.specs.declared.Condition.the-variants.{Clean as clean}
+use Rattle.channel_spec.proofs.Streaming.{whole-stream}
 use Rattle.bid.specs.Line.{feed, Verdict, noBid, refused, accepted, verdict}
 use Rattle.bid.specs.Input.{linesFrom, linesOf, packets, packetsOf}
 use Rattle.bid.proofs.Lines.{lines-feed, lines-other, lines-none, lines-one}

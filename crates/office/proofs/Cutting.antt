@@ -15,9 +15,9 @@ use lib.ListN.{length, take, drop, length-drop}
 use borrow.Author.Tests.{le-leb}
 use Rattle.base.specs.Calls.{joined, tell, owesNone, handsNone, Yields}
 use Rattle.base.proofs.Calls.{none-owed, yields-all, yields-so}
-use Rattle.frames.specs.Escape.{flag}
+use Rattle.packet_spec.specs.Escape.{flag}
 use Rattle.stream.specs.Sender.{framesOf}
-use Rattle.blocks.specs.Sender.{marked, sending}
+use Rattle.channel_spec.specs.Sender.{marked, sending}
 use Rattle.bid.specs.Line.{lineLimit}
 use Rattle.bid.specs.Input.{packetsOf, complaints}
 use Rattle.office.specs.declared.Started.{Started}

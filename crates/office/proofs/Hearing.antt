@@ -27,7 +27,7 @@ use Rattle.base.specs.Written.{Outcome, refused, copied}
 use Rattle.base.proofs.Lists.{over}
 use Rattle.base.proofs.Tests.{by-eq, by-le, and-parts}
 use Rattle.base.proofs.Writing.{copied-fits}
-use Rattle.frames.specs.Escape.{flag}
+use Rattle.packet_spec.specs.Escape.{flag}
 use Rattle.bid.specs.Line.{feed, lineLimit, verdict}
 use Rattle.bid.specs.Input.{numbered}
 use Rattle.office.specs.declared.Office.{Office}

@@ -16,15 +16,15 @@ use Rattle.base.proofs.Parts.{tail-is}
 use Rattle.base.proofs.Lists.{drop-take}
 use Rattle.base.proofs.Tests.{by-eq, by-le, by-test}
 use Rattle.base.proofs.Writing.{copied-fits, room-wrote, room-never}
-use Rattle.frames.specs.Port.{barred}
-use Rattle.frames.specs.Contents.{payloadLimit, plainLimit, Packet, plainPacket}
-use Rattle.frames.specs.Escape.{flag, escape}
-use Rattle.frames.specs.Sender.{flagged, frameOf, writing}
+use Rattle.packet_spec.specs.Port.{barred}
+use Rattle.packet_spec.specs.Contents.{payloadLimit, plainLimit, Packet, plainPacket}
+use Rattle.packet_spec.specs.Escape.{flag, escape}
+use Rattle.packet_spec.specs.Sender.{flagged, frameOf, writing}
 use Rattle.packet.proofs.Sending.{Wrote-is, wrote-is, write-empty, write-long, write-barred, write-frame}
-use Rattle.frames.proofs.Round.{plain-fits}
+use Rattle.packet_spec.proofs.Round.{plain-fits}
 use Rattle.stream.specs.Sender.{rawOf, appending}
 use Rattle.stream.proofs.Sending.{appending-keeps}
-use Rattle.blocks.specs.Sender.{marked, sending}
+use Rattle.channel_spec.specs.Sender.{marked, sending}
 use Rattle.bid.specs.Line.{text, reading, Verdict, refused, accepted, judged, bidOf, verdict}
 use Rattle.bid.specs.declared.Found.the-variants.{Bid, NoBid}
 use Rattle.bid.proofs.Reading.{text-is, bid-found, bid-missed}
@@ -32,10 +32,10 @@ use Rattle.bid.proofs.Verdicts.{judged-empty, judged-long, judged-barred, judge
 use Rattle.office.specs.declared.Answer.the-variants.{Sent, NoBid as Unread, Refused}
 use Rattle.office.specs.declared.Ended.{Ended}
 use Rattle.office.specs.Desk.{endingBy}
-use Rattle.blocks.specs.Sender.{wholeBytes, wholes, restOf, messageBytes}
+use Rattle.channel_spec.specs.Sender.{wholeBytes, wholes, restOf, messageBytes}
 use Rattle.office.specs.Called.{heldLimit, holdLimit, outLimit}
 use Rattle.office.specs.Private.{EndedIs, PutIs}
-use Rattle.blocks.proofs.Marking.{marked-length, wholes-length, rest-short}
+use Rattle.channel_spec.proofs.Marking.{marked-length, wholes-length, rest-short}
 
 -- a local's zeros
 abbrev zeros : List ℕ

@@ -15,17 +15,17 @@ use borrow.Author.Tests.{le-leb}
 use Rattle.base.specs.Calls.{tell}
 use Rattle.base.proofs.Tests.{by-eq, by-le}
 use Rattle.base.proofs.Writing.{copied-fits}
-use Rattle.frames.specs.Escape.{flag}
+use Rattle.packet_spec.specs.Escape.{flag}
 use Rattle.stream.specs.Sender.{rawOf, framesOf}
-use Rattle.blocks.specs.Sender.{marked}
+use Rattle.channel_spec.specs.Sender.{marked}
 use Rattle.bid.specs.Line.{feed, lineLimit, Verdict, noBid, refused, accepted, verdict}
 use Rattle.bid.specs.Input.{linesFrom, packets, numbered, complaintsFrom}
 use Rattle.bid.proofs.Verdicts.{verdict-first}
 use Rattle.bid.proofs.Lines.{lines-feed, lines-other, lines-none, lines-one}
 use Rattle.office.specs.Desk.{Spoken, blocks, unread, refusal, Said, putOut, endingBy, Desk, soFar, waiting, kept, endingOf, ended, eat, deskAll, sentBy, complaintsBy}
-use Rattle.blocks.specs.Sender.{wholes, restOf, messageBytes}
+use Rattle.channel_spec.specs.Sender.{wholes, restOf, messageBytes}
 use Rattle.office.specs.Called.{heldLimit, holdLimit, sound, roomy, hearOn, endBytes, Fine, lastOf}
-use Rattle.blocks.proofs.Marking.{rest-short, marked-rest}
+use Rattle.channel_spec.proofs.Marking.{rest-short, marked-rest}
 use Rattle.office.proofs.Hearing.{eat-feed, eat-other, none-begun, one-begun}
 
 -- ---- a line

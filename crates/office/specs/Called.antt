@@ -15,9 +15,9 @@ use lib.ListN.{length, take, drop}
 use Rattle.base.specs.Choice.{pick}
 use Rattle.base.specs.Calls.{owesNone, handsNone, hear}
 use Rattle.base.specs.Written.{Outcome, refused}
-use Rattle.frames.specs.Escape.{flag}
-use Rattle.frames.specs.Contents.{plainLimit}
-use Rattle.blocks.specs.Sender.{messageBytes, blockBytes, sending}
+use Rattle.packet_spec.specs.Escape.{flag}
+use Rattle.packet_spec.specs.Contents.{plainLimit}
+use Rattle.channel_spec.specs.Sender.{messageBytes, blockBytes, sending}
 use Rattle.bid.specs.Line.{feed, lineLimit}
 use Rattle.office.specs.declared.Office.{Office}
 use Rattle.office.specs.declared.Started.{Started}

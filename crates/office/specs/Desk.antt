@@ -13,9 +13,9 @@ use lib.Seq.{sets}
 use Rattle.base.specs.Choice.{pick}
 use Rattle.base.specs.Calls.{owesNone, handsNone, all}
 use Rattle.base.specs.Written.{copied}
-use Rattle.frames.specs.Escape.{flag}
+use Rattle.packet_spec.specs.Escape.{flag}
 use Rattle.stream.specs.Sender.{rawOf}
-use Rattle.blocks.specs.Sender.{messageBytes, marked, sent, wholes, restOf}
+use Rattle.channel_spec.specs.Sender.{messageBytes, marked, sent, wholes, restOf}
 use Rattle.bid.specs.Line.{feed, lineLimit, Verdict, noBid, refused, accepted, verdict}
 use Rattle.bid.specs.Input.{numbered, packetsOf}
 use Rattle.office.specs.declared.Office.{Office}

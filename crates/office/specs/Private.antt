@@ -6,10 +6,10 @@ use mathlib.Core.Path.{_≡_}
 use mathlib.Core.List.{List, _++_}
 use lib.ListN.{length, drop}
 use Rattle.base.specs.Written.{copied}
-use Rattle.blocks.specs.Sender.{marked}
+use Rattle.channel_spec.specs.Sender.{marked}
 use Rattle.office.specs.declared.Ended.{Ended}
 use Rattle.office.specs.Desk.{Ending}
-use Rattle.blocks.specs.Sender.{wholes, restOf}
+use Rattle.channel_spec.specs.Sender.{wholes, restOf}
 use Rattle.office.specs.Called.{spoken, spokenOut}
 
 -- a line ended

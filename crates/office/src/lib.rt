@@ -5,7 +5,7 @@ ghost use Prim.Native.Nat.{_+_, _-_, _≤_, min};
 ghost use lib.ListN.{length, take};
 ghost use lib.Seq.{sets};
 ghost use Rattle.base.specs.Written.{outcome};
-ghost use Rattle.frames.specs.Contents.{plainPacket};
+ghost use Rattle.packet_spec.specs.Contents.{plainPacket};
 ghost use Rattle.bid.specs.Line.{lineLimit, judged, verdict};
 ghost use Rattle.bid.specs.Input.{numbered};
 ghost use Rattle.office.specs.declared.Answer.the-variants.{Refused};

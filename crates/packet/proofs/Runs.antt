@@ -22,9 +22,9 @@ use Rattle.base.proofs.Lists.{part-next, part-over, part-set, drop-take}
 use Rattle.base.proofs.Parts.{tail-is}
 use Rattle.base.proofs.Tests.{by-eq, by-le}
 use Rattle.base.proofs.UpTo.{up-to-short, up-to-is}
-use Rattle.frames.specs.Escape.{plain, escaped, wrongFrom, wrongBehind}
+use Rattle.packet_spec.specs.Escape.{plain, escaped, wrongFrom, wrongBehind}
 use Rattle.packet.specs.Private.{run}
-use Rattle.frames.proofs.Places.{wrong-before}
+use Rattle.packet_spec.proofs.Places.{wrong-before}
 
 plain-all : (bs : List ℕ) → length bs ≤ length (run bs) → plain bs ≡ run bs
 unfolding upTo plain

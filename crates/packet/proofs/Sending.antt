@@ -23,13 +23,13 @@ use Rattle.base.specs.declared.Written.the-variants.{Wrote, Refused}
 use Rattle.base.proofs.Laid.{laid-none, laid-more, laid-append, laid-start, laid-take, laid-copied}
 use Rattle.base.proofs.Writing.{refused-keeps, write-keeps, pick-keeps}
 use Rattle.fcs.specs.Fcs.{fcs}
-use Rattle.frames.specs.Port.{barred}
-use Rattle.frames.specs.Contents.{Packet, packetOf, keyFormat, keyMost, keyAt, payloadLimit, contents, withCheck, head, opening, two}
-use Rattle.frames.specs.Escape.{flag, escape}
-use Rattle.frames.specs.Sender.{flagged, frameOf, headFits, refusing, writing}
+use Rattle.packet_spec.specs.Port.{barred}
+use Rattle.packet_spec.specs.Contents.{Packet, packetOf, keyFormat, keyMost, keyAt, payloadLimit, contents, withCheck, head, opening, two}
+use Rattle.packet_spec.specs.Escape.{flag, escape}
+use Rattle.packet_spec.specs.Sender.{flagged, frameOf, headFits, refusing, writing}
 use Rattle.packet.specs.Private.{openingMost}
-use Rattle.frames.proofs.Escaping.{escape-append}
-use Rattle.frames.proofs.Round.{by-format}
+use Rattle.packet_spec.proofs.Escaping.{escape-append}
+use Rattle.packet_spec.proofs.Round.{by-format}
 
 module _ {A : Type 0} (p : Packet) (refuse : ℕ → A) (send : A) where
   pub refusing-empty : length (p .payload) ≡ 0 → refusing p refuse send ≡ refuse 20

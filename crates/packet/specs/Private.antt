@@ -4,7 +4,7 @@
 use Prim.Native.Nat.{ℕ, _+_}
 use mathlib.Core.List.{List}
 use Rattle.base.specs.UpTo.{upTo}
-use Rattle.frames.specs.Contents.{keyMost, keyAt}
+use Rattle.packet_spec.specs.Contents.{keyMost, keyAt}
 
 -- the bytes before the first 7D, all where there is none: plain reading passes over them at once
 abbrev pub run : List ℕ → List ℕ

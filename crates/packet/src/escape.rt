@@ -5,10 +5,10 @@ ghost use lib.Dec.{ltb};
 ghost use lib.ListN.{length, take, drop};
 ghost use lib.Seq.{sets};
 ghost use Rattle.base.specs.Private.{Laid};
-ghost use Rattle.frames.specs.Escape.{escape, escapeByte, plain, escaped, wrongFrom, wrongBehind, scan, restored};
+ghost use Rattle.packet_spec.specs.Escape.{escape, escapeByte, plain, escaped, wrongFrom, wrongBehind, scan, restored};
 ghost use Rattle.packet.specs.Private.{run};
 use crate::search;
-use frames::Escapes;
+use packet_spec::Escapes;
 
 // Plain reading of raw[at..]: the place of the first wrong byte behind 7D, 0 where there is none.
 fn scan_plain(raw: &[u8], at: usize) -> usize

@@ -2,14 +2,14 @@
 ghost use mathlib.Core.Path.{_≡_};
 ghost use Prim.Native.Nat.{_+_, _≤_, _<_};
 ghost use lib.ListN.{length};
-ghost use Rattle.frames.specs.Contents.{keySized, word, wordAt, unpacked};
-ghost use Rattle.frames.specs.Frame.{judged, judgePacket, keyFits, judgeBody, judgeContents, closed, judging};
+ghost use Rattle.packet_spec.specs.Contents.{keySized, word, wordAt, unpacked};
+ghost use Rattle.packet_spec.specs.Frame.{judged, judgePacket, keyFits, judgeBody, judgeContents, closed, judging};
 use crate::escape;
 use crate::port;
 use base::Refusal;
-use frames::Delivery;
-use frames::Escapes;
-use frames::Judged;
+use packet_spec::Delivery;
+use packet_spec::Escapes;
+use packet_spec::Judged;
 
 /// The numbers of packets and frames.
 pub struct Packet;

@@ -1,7 +1,7 @@
 //! Ports and their classes.
 ghost use mathlib.Core.Path.{_≡_};
-ghost use Rattle.frames.specs.Port.{class, barred};
-use frames::Class;
+ghost use Rattle.packet_spec.specs.Port.{class, barred};
+use packet_spec::Class;
 
 /// The class of a port.
 pub fn class_of(port: u16) -> Class

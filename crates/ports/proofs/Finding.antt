@@ -11,8 +11,8 @@ use lib.Dec.{ltb}
 use lib.ListN.{length, take, drop, getD, length-take, length-drop, drop-of-length-le}
 use lib.Seq.{slice-cons, length-take-le}
 use Rattle.base.proofs.Tests.{by-le}
-use Rattle.sequences.specs.declared.Entry.{Entry}
-use Rattle.sequences.specs.Ports.{freed, holds, placeOf, freePlace, twice}
+use Rattle.ports_spec.specs.declared.Entry.{Entry}
+use Rattle.ports_spec.specs.Ports.{freed, holds, placeOf, freePlace, twice}
 
 -- ---- the loops: what is left from place i on, of the first n places
 part-next : (t : List Entry) (i n : ℕ) → i < n → n ≤ length t → drop i (take n t) ≡ getD t i freed ∷ drop (i + 1) (take n t)

@@ -5,7 +5,7 @@ use mathlib.Core.Path.{_≡_, refl}
 use mathlib.Core.Bool.{false}
 use mathlib.Core.Option.{none}
 use Prim.Native.Nat.{ℕ}
-use Rattle.sequences.specs.Ports.{placeOf, lastOf, twice, unfit}
+use Rattle.ports_spec.specs.Ports.{placeOf, lastOf, twice, unfit}
 use Rattle.ports.specs.ByValue.{freshPorts}
 
 pub fresh-fit : unfit (freshPorts .entries) ≡ false

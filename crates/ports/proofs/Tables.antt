@@ -17,18 +17,18 @@ use lib.ListN.{length, getD, set, take, drop}
 use lib.Seq.{take-all}
 use Rattle.base.proofs.Tests.{by-le, by-test}
 use Rattle.base.specs.Choice.{pick}
-use Rattle.sequences.specs.Distance.{ruled, lastBehind}
-use Rattle.sequences.specs.Ports.{freed, entry, placeOf, freePlace, twice, unfit, forgetting, noting}
+use Rattle.ports_spec.specs.Distance.{ruled, lastBehind}
+use Rattle.ports_spec.specs.Ports.{freed, entry, placeOf, freePlace, twice, unfit, forgetting, noting}
 use Rattle.ports.specs.ByValue.{forgotIn, notedIn}
 use Rattle.ports.specs.Private.{gathered, tableOf, unfreed, unnoted, freeingOf, notingOf}
-use Rattle.sequences.specs.declared.Entry.{Entry}
+use Rattle.ports_spec.specs.declared.Entry.{Entry}
 use Rattle.ports.specs.declared.Table.{Table}
 use Rattle.ports.specs.declared.Freeing.{Freeing}
 use Rattle.ports.specs.declared.Noting.{Noting}
-use Rattle.sequences.specs.declared.Forgot.{Forgot}
-use Rattle.sequences.specs.declared.Forgot.the-variants.{Forgotten, Refused as Unforgotten}
-use Rattle.sequences.specs.declared.Noted.{Noted}
-use Rattle.sequences.specs.declared.Noted.the-variants.{First, Refused}
+use Rattle.ports_spec.specs.declared.Forgot.{Forgot}
+use Rattle.ports_spec.specs.declared.Forgot.the-variants.{Forgotten, Refused as Unforgotten}
+use Rattle.ports_spec.specs.declared.Noted.{Noted}
+use Rattle.ports_spec.specs.declared.Noted.the-variants.{First, Refused}
 
 pub set-past : (es : List Entry) (i : ℕ) (e : Entry) → length es ≤ i → set es i e ≡ es
 set-past [] i e l = refl

@@ -5,10 +5,10 @@
 use mathlib.Core.Bool.{Bool, not}
 use mathlib.Core.List.{List}
 use lib.ListN.{replicate}
-use Rattle.sequences.specs.Ports.{placeLimit, freed, unfit}
-use Rattle.sequences.specs.declared.Entry.{Entry}
-use Rattle.sequences.specs.declared.Noted.{Noted}
-use Rattle.sequences.specs.declared.Forgot.{Forgot}
+use Rattle.ports_spec.specs.Ports.{placeLimit, freed, unfit}
+use Rattle.ports_spec.specs.declared.Entry.{Entry}
+use Rattle.ports_spec.specs.declared.Noted.{Noted}
+use Rattle.ports_spec.specs.declared.Forgot.{Forgot}
 use Rattle.ports.specs.declared.by_value.Ports.{Ports}
 use Rattle.ports.specs.declared.by_value.NotedIn.{NotedIn}
 use Rattle.ports.specs.declared.by_value.ForgotIn.{ForgotIn}

@@ -6,14 +6,14 @@ use mathlib.Core.List.{List, [], _∷_}
 use lib.Dec.{ltb}
 use lib.ListN.{length, getD, take}
 use Rattle.base.specs.Choice.{pick}
-use Rattle.sequences.specs.Distance.{ruled, lastBehind}
-use Rattle.sequences.specs.Ports.{placeLimit, freed, entry, unheld, placeOf, freePlace, twice}
-use Rattle.sequences.specs.declared.Entry.{Entry}
+use Rattle.ports_spec.specs.Distance.{ruled, lastBehind}
+use Rattle.ports_spec.specs.Ports.{placeLimit, freed, entry, unheld, placeOf, freePlace, twice}
+use Rattle.ports_spec.specs.declared.Entry.{Entry}
 use Rattle.ports.specs.declared.Table.{Table}
 use Rattle.ports.specs.declared.Freeing.{Freeing}
 use Rattle.ports.specs.declared.Noting.{Noting}
-use Rattle.sequences.specs.declared.Noted.the-variants.{First, Refused}
-use Rattle.sequences.specs.declared.Forgot.the-variants.{Forgotten, Refused as Unforgotten}
+use Rattle.ports_spec.specs.declared.Noted.the-variants.{First, Refused}
+use Rattle.ports_spec.specs.declared.Forgot.the-variants.{Forgotten, Refused as Unforgotten}
 
 -- the first 16 places of a table, free ones behind its end
 abbrev pub gathered : List Entry → List Entry

@@ -2,7 +2,7 @@
 ghost use mathlib.Core.Path.{_≡_};
 ghost use mathlib.Core.Bool.{not};
 ghost use lib.ListN.{length, set};
-ghost use Rattle.sequences.specs.Ports.{noting, forgetting, unfit};
+ghost use Rattle.ports_spec.specs.Ports.{noting, forgetting, unfit};
 ghost use Rattle.ports.specs.ByValue.{freshPorts, notedIn, forgotIn, soundPorts};
 use crate::Entry;
 use crate::Forgot;

@@ -1,6 +1,6 @@
 //! The distance rule: what a new sequence number says of a port with this last one.
 ghost use mathlib.Core.Path.{_≡_};
-ghost use Rattle.sequences.specs.Distance.{gap, ruled, lastBehind};
+ghost use Rattle.ports_spec.specs.Distance.{gap, ruled, lastBehind};
 use crate::Noted;
 
 // Sequence numbers go around.

@@ -2,11 +2,11 @@
 ghost use mathlib.Core.Path.{_≡_};
 ghost use mathlib.Core.List.{List};
 ghost use lib.ListN.{getD, set};
-ghost use Rattle.sequences.specs.Ports.{freed, noting, forgetting};
+ghost use Rattle.ports_spec.specs.Ports.{freed, noting, forgetting};
 ghost use Rattle.ports.specs.Private.{tableOf, freeingOf, notingOf, unfreed, unnoted};
-ghost use Rattle.sequences.specs.declared.Entry.{Entry};
-ghost use Rattle.sequences.specs.declared.Noted.{Noted};
-ghost use Rattle.sequences.specs.declared.Forgot.{Forgot};
+ghost use Rattle.ports_spec.specs.declared.Entry.{Entry};
+ghost use Rattle.ports_spec.specs.declared.Noted.{Noted};
+ghost use Rattle.ports_spec.specs.declared.Forgot.{Forgot};
 use base::Refusal;
 use distance::last_behind;
 use places::free_place;
@@ -21,9 +21,9 @@ pub use by_value::ForgotIn;
 pub use by_value::NotedIn;
 pub use by_value::Ports;
 pub use distance::rule;
-pub use sequences::Entry;
-pub use sequences::Forgot;
-pub use sequences::Noted;
+pub use ports_spec::Entry;
+pub use ports_spec::Forgot;
+pub use ports_spec::Noted;
 
 // A lent table, as a value: its length and its first 16 places.
 struct Table {

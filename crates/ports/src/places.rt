@@ -4,7 +4,7 @@ ghost use mathlib.Core.Bool.{_&&_};
 ghost use Prim.Native.Nat.{_+_, _≤_};
 ghost use lib.Dec.{ltb};
 ghost use lib.ListN.{take, drop};
-ghost use Rattle.sequences.specs.Ports.{holds, placeOf, freePlace, twice};
+ghost use Rattle.ports_spec.specs.Ports.{holds, placeOf, freePlace, twice};
 use crate::Entry;
 
 // Whether a place holds this port.

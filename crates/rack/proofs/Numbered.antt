@@ -15,11 +15,11 @@ use Rattle.base.specs.Bytes.{Bytes}
 use Rattle.base.specs.Choice.{pick}
 use Rattle.base.specs.Written.{outcome}
 use Rattle.base.specs.declared.Written.{Written}
-use Rattle.frames.specs.Contents.{payloadAt}
-use Rattle.frames.specs.Frame.{noDelivery}
-use Rattle.frames.specs.declared.Delivery.{Delivery}
-use Rattle.frames.specs.declared.Judged.{Judged}
-use Rattle.frames.specs.declared.Judged.the-variants.{Packet, Broken}
+use Rattle.packet_spec.specs.Contents.{payloadAt}
+use Rattle.packet_spec.specs.Frame.{noDelivery}
+use Rattle.packet_spec.specs.declared.Delivery.{Delivery}
+use Rattle.packet_spec.specs.declared.Judged.{Judged}
+use Rattle.packet_spec.specs.declared.Judged.the-variants.{Packet, Broken}
 use Rattle.parity.specs.Calls.{made, checked}
 use Rattle.parity.specs.declared.Checked.{Checked}
 use Rattle.repair.specs.declared.Mended.{Mended}
@@ -31,8 +31,8 @@ use Rattle.repair.proofs.Promising.{promised-is}
 use Rattle.stream.specs.Called as plain
 use Rattle.stream.specs.declared.frame.Frame.{Frame}
 use Rattle.stream.specs.declared.frame.Read.{Read}
-use Rattle.blocks.specs.declared.Condition.{Condition}
-use Rattle.blocks.specs.declared.Condition.the-variants.{Repaired as Mended-block}
+use Rattle.channel_spec.specs.declared.Condition.{Condition}
+use Rattle.channel_spec.specs.declared.Condition.the-variants.{Repaired as Mended-block}
 use Rattle.channel.specs.Called as channel
 use Rattle.channel.specs.declared.receiver.Receiver.{Receiver}
 use Rattle.channel.specs.declared.answer.Hearing.{Hearing}

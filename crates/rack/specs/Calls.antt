@@ -5,9 +5,9 @@ use Prim.Native.Nat.{ℕ}
 use mathlib.Core.List.{List}
 use mathlib.Core.Option.{Option}
 use Rattle.base.specs.Choice.{pick}
-use Rattle.frames.specs.Frame as frame
+use Rattle.packet_spec.specs.Frame as frame
 use Rattle.stream.specs.Called as plain
-use Rattle.blocks.specs.Channel.{Event}
+use Rattle.channel_spec.specs.Channel.{Event}
 use Rattle.channel.specs.Called.{Board, board, hearCall, answered}
 use Rattle.rack.specs.declared.told.Told.{Told}
 use Rattle.rack.specs.Told.{ofHeard, ofAnswer, ofCall, frameOf, receiverOf, streamNumbers, channelNumbers}

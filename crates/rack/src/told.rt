@@ -1,11 +1,11 @@
 //! What an answer tells, in numbers.
 ghost use mathlib.Core.Path.{_≡_};
-ghost use Rattle.frames.specs.Contents.{payloadAt};
-ghost use Rattle.frames.specs.Frame.{noDelivery};
+ghost use Rattle.packet_spec.specs.Contents.{payloadAt};
+ghost use Rattle.packet_spec.specs.Frame.{noDelivery};
 ghost use Rattle.rack.specs.Told.{bare, ofJudged, ofHeard, ofBlock, ofAnswer, ofCall, frameBy, flagNumber};
 use base::Refusal;
-use blocks::Condition;
 use channel::Answer;
+use channel_spec::Condition;
 use packet::Delivery;
 use packet::Judged;
 use packet::Packet;

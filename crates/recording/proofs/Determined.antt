@@ -1,20 +1,24 @@
 -- Each public function's promise determines its result, and what the lent buffers then hold.
 use mathlib.Core.Path.{refl}
 use Rattle.base.specs.Determined.{Determined}
-use Rattle.base.proofs.Determining.{same, same-answer, same-output, buffer, skip}
-use Rattle.recording.proofs.recording.Recording.fresh.Kinds as fresh-kinds
-use Rattle.recording.proofs.recording.Recording.fresh.Reads as fresh-reads
-use Rattle.recording.proofs.recording.Recording.take.Kinds as take-kinds
-use Rattle.recording.proofs.recording.Recording.take.Reads as take-reads
-use Rattle.recording.proofs.recording.Recording.finish.Kinds as finish-kinds
-use Rattle.recording.proofs.recording.Recording.finish.Reads as finish-reads
+use Rattle.base.proofs.Determining.{same, buffer, skip}
+use Rattle.recording.proofs.tape.Tape.fresh.Kinds as fresh-kinds
+use Rattle.recording.proofs.tape.Tape.fresh.Reads as fresh-reads
+use Rattle.recording.proofs.tape.Tape.next.Kinds as next-kinds
+use Rattle.recording.proofs.tape.Tape.next.Reads as next-reads
+use Rattle.recording.proofs.tape.Tape.may_end.Kinds as may-end-kinds
+use Rattle.recording.proofs.tape.Tape.may_end.Reads as may-end-reads
+use Rattle.recording.proofs.tape.Heard.is_more.Kinds as is-more-kinds
+use Rattle.recording.proofs.tape.Heard.is_more.Reads as is-more-reads
 
 pub fresh-determined : Determined fresh-kinds.ps fresh-kinds.r fresh-reads.Asked fresh-reads.Learnt
 fresh-determined κs a z z′ ws ws′ pre p q = (same p q, refl)
 
-pub take-determined : Determined take-kinds.ps take-kinds.r take-reads.Asked take-reads.Learnt
-take-determined κs a z z′ ws ws′ pre p q =
-    (same (p .0) (q .0), skip (buffer (same (p .1) (q .1)) (buffer (same (p .2) (q .2)) (skip (buffer (same (p .3) (q .3)) refl)))))
+pub next-determined : Determined next-kinds.ps next-kinds.r next-reads.Asked next-reads.Learnt
+next-determined κs a z z′ ws ws′ pre p q = (same (p .0) (q .0), skip (buffer (same (p .1) (q .1)) (buffer (same (p .2) (q .2)) refl)))
 
-pub finish-determined : Determined finish-kinds.ps finish-kinds.r finish-reads.Asked finish-reads.Learnt
-finish-determined κs a z z′ ws ws′ pre p q = (same-answer p q, skip (buffer (same-output p q) refl))
+pub may-end-determined : Determined may-end-kinds.ps may-end-kinds.r may-end-reads.Asked may-end-reads.Learnt
+may-end-determined κs a z z′ ws ws′ pre p q = (same p q, refl)
+
+pub is-more-determined : Determined is-more-kinds.ps is-more-kinds.r is-more-reads.Asked is-more-reads.Learnt
+is-more-determined κs a z z′ ws ws′ pre p q = (same p q, refl)

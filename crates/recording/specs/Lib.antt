@@ -1,3 +1,3 @@
-pub mod Printed
-pub mod Runs
+pub mod Deck
+pub mod Called
 pub mod Private

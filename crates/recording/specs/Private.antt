@@ -1,37 +1,89 @@
--- What private functions alone are promised by: what the code does with a line.
--- Below      no total is at its width
--- StepIs     a step of a call gives one line at most
-use Prim.Native.Nat.{ℕ, suc, _-_, _≤_, _<_}
+-- What private functions alone are promised by: what the code does with many bytes at once.
+-- runOf, skipped       a run of stream bytes
+-- earHear, EarIs       one call on stream bytes
+-- TurnIs, HeardIs      a turn of a call on a recording's bytes, and the call
+use Prim.Native.Nat.{ℕ, _+_, _-_, _≤_, _<_, min}
 use mathlib.Core.Path.{_≡_}
 use mathlib.Core.Bool.{Bool, true, false}
-use mathlib.Core.List.{List, _++_}
+use mathlib.Core.List.{List}
+use mathlib.Core.Option.{Option}
+use lib.Dec.{eqb, ltb}
 use lib.ListN.{length, drop}
-use Rattle.tape.specs.Deck.{Deck}
-use Rattle.tape.specs.Called.{far, deckOf}
-use Rattle.tape.specs.Private.{Stays}
-use Rattle.recording.specs.declared.recording.Totals.{Totals}
-use Rattle.recording.specs.declared.recording.Step.{Step}
-use Rattle.recording.specs.Printed.{near, printed, further, print}
+use Rattle.base.specs.Choice.{pick}
+use Rattle.base.specs.Calls.{hear, after}
+use Rattle.channel_spec.specs.Channel.{Event}
+use Rattle.channel.specs.Called.{board, sound, roomy, answered}
+use Rattle.channel.specs.declared.receiver.Receiver.{Receiver}
+use Rattle.channel.specs.declared.answer.Answer.{Answer}
+use Rattle.channel.specs.declared.answer.Hearing.{Hearing}
+use Rattle.listing_spec.specs.declared.Place.{Place}
+use Rattle.listing_spec.specs.declared.Place.the-variants.{Mode, Mark, Second, Low, High, Inside, Wrong}
+use Rattle.listing_spec.specs.declared.Spot.{Spot}
+use Rattle.listing_spec.specs.Apart.{most, next}
+use Rattle.recording.specs.declared.tape.Tape.{Tape}
+use Rattle.recording.specs.declared.tape.Heard.{Heard}
+use Rattle.recording.specs.declared.tape.Turn.{Turn}
+use Rattle.recording.specs.Deck.{Ear, ear, earOwes, earHand, earEat, channelAt, Deck, deckHear}
+use Rattle.recording.specs.Called.{deckOf}
 
--- no total is at its width
-abbrev pub Below : Totals → Type 0
-Below t = (t .packets < far) × (t .refused < far) × (t .damaged < far) × (t .lost < far)
+-- stream bytes left in the record, this one with them
+abbrev pub leftAt : Place → ℕ
+leftAt Mode = 0
+leftAt Mark = 0
+leftAt Second = 0
+leftAt Low = 0
+leftAt (High l) = 0
+leftAt (Inside k) = k + 1
+leftAt Wrong = 0
 
--- by: does the step end the call. Else the call goes on behind it with less room
-abbrev pub StepBy : Bool → Deck → Totals → List ℕ → ℕ → Step → List ℕ → List ℕ → List ℕ → Type 0
-StepBy true m t bs room x text l k =
-    (f : ℕ) → room ≤ f → print f room m t bs ≡ further (x .taken) text (printed (x .wants) (deckOf (x .next .tape) l k) (x .next .totals))
-StepBy false m t bs room x text l k =
-    ((f : ℕ) → room ≤ suc f
-    → print (suc f) room m t bs ≡ further (x .taken) text (print f (room - length text) (deckOf (x .next .tape) l k) (x .next .totals) (drop (x .taken) bs)))
-    × (0 < length text)
+-- how many of the next n bytes are stream bytes of this record
+abbrev pub runOf : Spot → ℕ → ℕ
+runOf p n = min n (min (leftAt (p .place)) (most - p .count))
 
--- l and k are the receiver's buffers and out′ is the output behind the step
-pub record StepIs (m : Deck) (t : Totals) (bs out : List ℕ) (x : Step) (l k out′ : List ℕ) : Type 0 where
-  pub text : List ℕ
-  pub means : StepBy (x .done) m t bs (length out) x text l k
-  pub written : x .written ≡ length text
-  pub fits : length text ≤ length out
-  pub output : out′ ≡ text ++ drop (length text) out
-  pub stays : Stays m bs (x .taken) (x .next .tape) l k
-  pub nears : near (x .next .tape .spot) (x .next .totals) (length bs - x .taken) (length out - x .written) ≡ true
+-- the place n stream bytes on
+abbrev pub onTo : Place → ℕ → Place
+onTo q n = pick (eqb n 0) q (pick (ltb n (leftAt q)) (Inside (leftAt q - n - 1)) Mark)
+
+-- n stream bytes on
+abbrev pub skipped : Spot → ℕ → Spot
+skipped p n = record { place = onTo (p .place) n; offset = p .offset + n; count = p .count + n }
+
+-- one call on stream bytes
+abbrev pub earHear : Ear → List ℕ → Option Event × ℕ × Ear
+earHear = hear earOwes earHand earEat
+
+-- r is its result, l and k the buffers then
+abbrev pub EarIs : Bool → Option Event × ℕ × Ear → Hearing → List ℕ → List ℕ → Type 0
+EarIs t x r l k = (r .answer ≡ answered (x .0)) × (x ≡ (x .0, r .taken, ear t (board (r .receiver) l k)))
+
+-- of a plain stream: whatever the word buffer holds, it stays
+abbrev pub PlainIs : Receiver → List ℕ → List ℕ → Hearing → List ℕ → Type 0
+PlainIs s l bs r l′ = (k : List ℕ) → EarIs false (earHear (ear false (board s l k)) bs) r l′ k
+
+-- behind a byte that is no stream byte
+abbrev pub headed : Tape → ℕ → Tape
+headed t b = record { spot = next (t .spot) b; channel = channelAt (t .spot .place) b (t .channel); receiver = t .receiver }
+
+-- a call with this answer, so many bytes taken and this tape
+abbrev pub CallIs : Option Event × ℕ × Deck → Answer → ℕ → Tape → List ℕ → List ℕ → Type 0
+CallIs x a n t l k = (a ≡ answered (x .0)) × (x ≡ (x .0, n, deckOf t l k))
+
+-- by: does the turn end the call. Else the call goes on behind it, a byte further at least
+abbrev pub TurnBy : Bool → Deck → List ℕ → Turn → List ℕ → List ℕ → Type 0
+TurnBy true m bs t l k = CallIs (deckHear m bs) (t .answer) (t .taken) (t .tape) l k
+TurnBy false m bs t l k = (deckHear m bs ≡ after (t .taken) (deckHear (deckOf (t .tape) l k) (drop (t .taken) bs))) × (0 < t .taken)
+
+-- what stays within its limits behind n bytes
+pub record Stays (m : Deck) (bs : List ℕ) (n : ℕ) (t : Tape) (l k : List ℕ) : Type 0 where
+  pub within : n ≤ length bs
+  pub near : t .spot .offset ≤ m .spot .offset + n
+  pub sound : sound (t .receiver) ≡ true
+  pub roomy : roomy l k ≡ true
+
+-- a turn
+abbrev pub TurnIs : Deck → List ℕ → Turn → List ℕ → List ℕ → Type 0
+TurnIs m bs t l k = TurnBy (t .done) m bs t l k × Stays m bs (t .taken) (t .tape) l k
+
+-- one call
+abbrev pub HeardIs : Deck → List ℕ → Heard → List ℕ → List ℕ → Type 0
+HeardIs m bs r l k = CallIs (deckHear m bs) (r .answer) (r .taken) (r .tape) l k × Stays m bs (r .taken) (r .tape) l k

@@ -1,7 +1,6 @@
-//! A recording listed: its bytes in, in pieces, and the lines of its listing out.
-mod recording;
+//! A recording's bytes taken apart and heard: one answer a call, any cutting.
+mod spot;
+mod tape;
 
-pub use recording::Recording;
-pub use recording::Took;
-pub use recording::Totals;
-pub use recording::Wants;
+pub use tape::Heard;
+pub use tape::Tape;

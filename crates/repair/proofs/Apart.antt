@@ -20,13 +20,13 @@ use Rattle.field.specs.Field.{alpha, add, mul, pow}
 use Rattle.field.proofs.Sum.{add-self, add-eq}
 use Rattle.field.proofs.Product.{mul-comm}
 use Rattle.field.proofs.Powers.{pow-suc, pow-lt, cancel}
-use Rattle.words.specs.Word.{onto, clean, Zero}
+use Rattle.word_spec.specs.Word.{onto, clean, Zero}
 use Rattle.parity.specs.Calls.{checked, rootLimit, wordBytes}
 use Rattle.parity.specs.declared.Checked.{Checked}
 use Rattle.parity.specs.declared.Checked.the-variants as check
-use Rattle.words.proofs.Sums.{length-onto, bytes-onto, onto-zero}
-use Rattle.words.proofs.Values.{eval-add}
-use Rattle.words.proofs.Clean.{clean-roots}
+use Rattle.word_spec.proofs.Sums.{length-onto, bytes-onto, onto-zero}
+use Rattle.word_spec.proofs.Values.{eval-add}
+use Rattle.word_spec.proofs.Clean.{clean-roots}
 use Rattle.repair.specs.Promise.{distance, CleanWord}
 use Rattle.repair.proofs.Weigh.{weigh-same, sum-weigh, AtEach}
 use Rattle.repair.proofs.Few.{weight, few, point-pos}

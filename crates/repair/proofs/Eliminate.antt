@@ -18,8 +18,8 @@ use Rattle.field.specs.Field.{add, mul, inverse}
 use Rattle.field.proofs.Sum.{add-self, zero-add, add-eq, add-byte}
 use Rattle.field.proofs.Product.{ring, mul-zero, mul-lt, one-mul}
 use Rattle.field.proofs.Powers.{mul-inverse}
-use Rattle.words.specs.Word.{scale, onto}
-use Rattle.words.proofs.Sums.{length-scale, length-onto, bytes-scale, bytes-onto}
+use Rattle.word_spec.specs.Word.{scale, onto}
+use Rattle.word_spec.proofs.Sums.{length-scale, length-onto, bytes-scale, bytes-onto}
 use Rattle.repair.specs.Way.{dot, head, shift, pivot, normal, reduced, extended, solve}
 use Rattle.repair.proofs.Weigh.{add-step}
 use Rattle.repair.proofs.Locate.{Kills, AllZero}

@@ -20,13 +20,13 @@ use Rattle.field.specs.Field.{alpha, add, mul, pow, inverse}
 use Rattle.field.proofs.Sum.{add-zero, zero-add, add-assoc, add-comm}
 use Rattle.field.proofs.Product.{mul-zero, zero-mul, mul-comm}
 use Rattle.field.proofs.Powers.{pow-suc}
-use Rattle.words.specs.Word.{horner, eval, valuesFrom, scale, onto}
+use Rattle.word_spec.specs.Word.{horner, eval, valuesFrom, scale, onto}
 use Rattle.parity.specs.Calls.{atPowers, atRoots, checked, rootLimit, wordBytes}
 use Rattle.parity.specs.declared.Checked.{Checked}
 use Rattle.parity.specs.declared.Checked.the-variants as check
-use Rattle.words.proofs.Sums.{length-onto}
-use Rattle.words.proofs.Values.{horner-append}
-use Rattle.words.proofs.Roots.{length-values, values-at}
+use Rattle.word_spec.proofs.Sums.{length-onto}
+use Rattle.word_spec.proofs.Values.{horner-append}
+use Rattle.word_spec.proofs.Roots.{length-values, values-at}
 use Rattle.repair.specs.declared.Mended.{Mended}
 use Rattle.repair.specs.declared.Mended.the-variants.{Repaired, Beyond}
 use Rattle.repair.specs.Promise.{distance, half, Promised}

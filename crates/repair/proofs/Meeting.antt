@@ -17,14 +17,14 @@ use Rattle.base.proofs.Bytes.{each-append, each-take, each-drop, each-replicate
 use Rattle.field.specs.Field.{alpha, add, mul, pow, inverse}
 use Rattle.field.proofs.Sum.{add-zero}
 use Rattle.field.proofs.Product.{mul-lt}
-use Rattle.words.specs.Word.{eval, valuesFrom, onto, clean}
+use Rattle.word_spec.specs.Word.{eval, valuesFrom, onto, clean}
 use Rattle.parity.specs.Calls.{checked, rootLimit, wordBytes}
 use Rattle.parity.specs.declared.Checked.{Checked}
 use Rattle.parity.specs.declared.Checked.the-variants as check
-use Rattle.words.proofs.Sums.{length-onto, bytes-onto, onto-comm, onto-twice}
-use Rattle.words.proofs.Values.{eval-add}
-use Rattle.words.proofs.Roots.{length-values, bytes-values}
-use Rattle.words.proofs.Clean.{clean-roots}
+use Rattle.word_spec.proofs.Sums.{length-onto, bytes-onto, onto-comm, onto-twice}
+use Rattle.word_spec.proofs.Values.{eval-add}
+use Rattle.word_spec.proofs.Roots.{length-values, bytes-values}
+use Rattle.word_spec.proofs.Clean.{clean-roots}
 use Rattle.repair.specs.declared.Mended.the-variants.{Clean, Beyond, Refused}
 use Rattle.repair.specs.Promise.{distance, half, Near, Promised}
 use Rattle.repair.specs.Way.{low, tails, dot, sums, windows, errorAt, errors, locator, amended, settled, mended, repairedBy, repaired}

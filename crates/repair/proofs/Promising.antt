@@ -19,7 +19,7 @@ use lib.ListN.{length, getD, set, length-set}
 use Rattle.base.specs.Choice.{pick}
 use Rattle.base.specs.Bytes.{Bytes}
 use Rattle.base.proofs.Tests.{by-eq}
-use Rattle.words.specs.Word.{clean}
+use Rattle.word_spec.specs.Word.{clean}
 use Rattle.parity.specs.Calls.{checked, rootLimit, wordBytes}
 use Rattle.parity.specs.declared.Checked.{Checked}
 use Rattle.parity.specs.declared.Checked.the-variants as check
@@ -27,7 +27,7 @@ use Rattle.repair.specs.declared.Mended.{Mended}
 use Rattle.repair.specs.declared.Mended.the-variants.{Clean, Repaired, Beyond, Refused}
 use Rattle.repair.specs.Promise.{distance, half, CleanWord, Near, Promised}
 use Rattle.repair.specs.Way.{amended, settled, mended, repairedBy, repaired}
-use Rattle.words.proofs.Sums.{length-onto}
+use Rattle.word_spec.proofs.Sums.{length-onto}
 use Rattle.repair.proofs.Apart.{distance-self, distance-zero, distance-sym, distance-set, checked-clean, checked-is, altered-damaged}
 use Rattle.repair.proofs.Meeting.{repaired-promised}
 

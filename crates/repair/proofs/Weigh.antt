@@ -15,8 +15,8 @@ use Rattle.field.specs.Field.{alpha, add, mul, pow}
 use Rattle.field.proofs.Sum.{add-self}
 use Rattle.field.proofs.Product.{ring, mul-zero}
 use Rattle.field.proofs.Powers.{pow-suc, pow-mul}
-use Rattle.words.specs.Word.{horner, eval, valuesFrom}
-use Rattle.words.proofs.Values.{eval-cons}
+use Rattle.word_spec.specs.Word.{horner, eval, valuesFrom}
+use Rattle.word_spec.proofs.Values.{eval-cons}
 use Rattle.repair.specs.Way.{low, dot}
 
 unfoldable pub weigh : (ℕ → ℕ) → List ℕ → ℕ

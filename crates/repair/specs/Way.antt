@@ -14,7 +14,7 @@ use lib.Dec.{eqb, ltb}
 use lib.ListN.{length, take, drop, getD, replicate}
 use Rattle.base.specs.Choice.{pick}
 use Rattle.field.specs.Field.{alpha, add, mul, pow, inverse}
-use Rattle.words.specs.Word.{valuesFrom, scale, onto}
+use Rattle.word_spec.specs.Word.{valuesFrom, scale, onto}
 use Rattle.parity.specs.Calls.{checked, rootLimit}
 use Rattle.parity.specs.declared.Checked.{Checked}
 use Rattle.parity.specs.declared.Checked.the-variants as check

@@ -3,7 +3,7 @@ ghost use mathlib.Core.Path.{_≡_};
 ghost use mathlib.Core.List.{reverse};
 ghost use Prim.Native.Nat.{_≤_, _<_};
 ghost use lib.ListN.{length, take};
-ghost use Rattle.words.specs.Word.{valuesFrom, onto};
+ghost use Rattle.word_spec.specs.Word.{valuesFrom, onto};
 ghost use Rattle.repair.specs.Way.{low, errorAt, errors};
 use parity::Word;
 

@@ -12,12 +12,12 @@ use borrow.Author.Tests.{ltb-false, le-ltb}
 use lib.Dec.{ltb}
 use lib.ListN.{length}
 use Rattle.base.specs.Choice.{pick}
-use Rattle.sheets.specs.declared.Row.{Row}
-use Rattle.sheets.specs.Tally.{wide}
-use Rattle.sheets.specs.Month.{Mark, Month, line, lines, portsOf, portLimit, Counting, counts, wrong, refuses, kept, counting}
-use Rattle.sheets.specs.Rows.{heardRow, noteIn, rowFor, cleared, Run, run, step, steps, settled}
-use Rattle.sheets.proofs.Places.{padded-rows}
-use Rattle.sheets.proofs.Counted.{Fit, counted-is}
+use Rattle.sheet_spec.specs.declared.Row.{Row}
+use Rattle.sheet_spec.specs.Tally.{wide}
+use Rattle.sheet_spec.specs.Month.{Mark, Month, line, lines, portsOf, portLimit, Counting, counts, wrong, refuses, kept, counting}
+use Rattle.sheet_spec.specs.Rows.{heardRow, noteIn, rowFor, cleared, Run, run, step, steps, settled}
+use Rattle.sheet_spec.proofs.Places.{padded-rows}
+use Rattle.sheet_spec.proofs.Counted.{Fit, counted-is}
 use Rattle.sheet.specs.declared.Sheet.{Sheet}
 use Rattle.sheet.specs.declared.Draft.{Draft}
 use Rattle.sheet.specs.declared.Closed.{Closed}

@@ -15,15 +15,15 @@ use lib.Dec.{ltb, leb}
 use lib.ListN.{getD}
 use Rattle.base.proofs.Tests.{by-le}
 use Rattle.base.specs.Choice.{pick}
-use Rattle.sequences.specs.Distance.{ruled}
-use Rattle.sequences.specs.declared.Noted.{Noted}
-use Rattle.sequences.specs.declared.Noted.the-variants.{First}
-use Rattle.sheets.specs.declared.Tally.{Tally}
-use Rattle.sheets.specs.declared.Row.{Row}
-use Rattle.sheets.specs.Tally.{far, plus, one, wide}
-use Rattle.sheets.specs.Rows.{row, blank, verdict, heardRow}
-use Rattle.sheets.specs.Places.{lastBy, putAt}
-use Rattle.sheets.proofs.Places.{last-is}
+use Rattle.ports_spec.specs.Distance.{ruled}
+use Rattle.ports_spec.specs.declared.Noted.{Noted}
+use Rattle.ports_spec.specs.declared.Noted.the-variants.{First}
+use Rattle.sheet_spec.specs.declared.Tally.{Tally}
+use Rattle.sheet_spec.specs.declared.Row.{Row}
+use Rattle.sheet_spec.specs.Tally.{far, plus, one, wide}
+use Rattle.sheet_spec.specs.Rows.{row, blank, verdict, heardRow}
+use Rattle.sheet_spec.specs.Places.{lastBy, putAt}
+use Rattle.sheet_spec.proofs.Places.{last-is}
 
 pub near-is : (a b : ℕ) → b ≤ far → leb a (far - b) ≡ not (ltb far (a + b))
 near-is a b h =

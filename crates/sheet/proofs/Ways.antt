@@ -13,12 +13,12 @@ use lib.Dec.{ltb}
 use lib.ListN.{length, getD, replicate, length-take, length-map}
 use Rattle.base.specs.Written.{Outcome, outcome, write}
 use Rattle.base.specs.declared.Written.the-variants.{Wrote, Refused as Unwritten}
-use Rattle.sheets.specs.declared.Row.{Row}
-use Rattle.sheets.specs.Tally.{wide}
-use Rattle.sheets.specs.Month.{portLimit}
-use Rattle.sheets.specs.Rows.{blank, heardRow, noteIn, rowFor, cleared, padded, paddedTo}
-use Rattle.sheets.specs.Places.{placeFor, isOld, putAt, tab}
-use Rattle.sheets.proofs.Places.{row-is, length-is, old-is, put-all-is, clear-all-is}
+use Rattle.sheet_spec.specs.declared.Row.{Row}
+use Rattle.sheet_spec.specs.Tally.{wide}
+use Rattle.sheet_spec.specs.Month.{portLimit}
+use Rattle.sheet_spec.specs.Rows.{blank, heardRow, noteIn, rowFor, cleared, padded, paddedTo}
+use Rattle.sheet_spec.specs.Places.{placeFor, isOld, putAt, tab}
+use Rattle.sheet_spec.proofs.Places.{row-is, length-is, old-is, put-all-is, clear-all-is}
 use Rattle.sheet.specs.declared.Sheet.{Sheet}
 use Rattle.sheet.specs.declared.Draft.{Draft}
 use Rattle.sheet.specs.declared.Counted.the-variants.{Counts, Wrong, Refused}

@@ -11,10 +11,10 @@ use lib.ListN.{length, take, getD}
 use Rattle.base.specs.Choice.{pick}
 use Rattle.base.specs.Written.{Outcome, refused, write}
 use Rattle.lines.specs.Row.{rowLine}
-use Rattle.sheets.specs.declared.Row.{Row}
-use Rattle.sheets.specs.Tally.{wide}
-use Rattle.sheets.specs.Month.{Mark, portLimit, Counting, counts, wrong, refuses, kept}
-use Rattle.sheets.specs.Rows.{blank, heardRow, noteIn, rowFor, cleared, padded, Run, run, settled}
+use Rattle.sheet_spec.specs.declared.Row.{Row}
+use Rattle.sheet_spec.specs.Tally.{wide}
+use Rattle.sheet_spec.specs.Month.{Mark, portLimit, Counting, counts, wrong, refuses, kept}
+use Rattle.sheet_spec.specs.Rows.{blank, heardRow, noteIn, rowFor, cleared, padded, Run, run, settled}
 use Rattle.sheet.specs.declared.Sheet.{Sheet}
 use Rattle.sheet.specs.declared.Draft.{Draft}
 use Rattle.sheet.specs.declared.Closed.{Closed}

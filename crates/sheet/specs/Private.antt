@@ -5,9 +5,9 @@ use mathlib.Core.Bool.{not}
 use mathlib.Core.List.{List}
 use lib.ListN.{length}
 use Rattle.base.specs.Choice.{pick}
-use Rattle.sheets.specs.declared.Row.{Row}
-use Rattle.sheets.specs.Rows.{rowFor}
-use Rattle.sheets.specs.Places.{placeFor, isOld}
+use Rattle.sheet_spec.specs.declared.Row.{Row}
+use Rattle.sheet_spec.specs.Rows.{rowFor}
+use Rattle.sheet_spec.specs.Places.{placeFor, isOld}
 use Rattle.sheet.specs.declared.rows.Found.{Found}
 
 -- what a packet of a port finds: its row; else a new one is put between

@@ -8,7 +8,7 @@ use rows::clear_all;
 use rows::find;
 use rows::put_all;
 use rows::row_at;
-use sheets::Row;
+use sheet_spec::Row;
 use tally::blank;
 use tally::fits;
 use tally::heard_row;

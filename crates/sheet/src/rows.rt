@@ -3,13 +3,13 @@ ghost use mathlib.Core.Path.{_≡_};
 ghost use mathlib.Core.Bool.{true};
 ghost use Prim.Native.Nat.{_+_, _≤_};
 ghost use lib.ListN.{length, take, getD};
-ghost use Rattle.sheets.specs.Rows.{blank, cleared};
-ghost use Rattle.sheets.specs.Places.{placeFor, putAt, tab};
+ghost use Rattle.sheet_spec.specs.Rows.{blank, cleared};
+ghost use Rattle.sheet_spec.specs.Places.{placeFor, putAt, tab};
 ghost use Rattle.sheet.specs.Private.{foundIn};
 use crate::Sheet;
 use crate::tally::blank;
 use crate::tally::clear;
-use sheets::Row;
+use sheet_spec::Row;
 
 /// Where a packet's row stands or is to stand, whether it is new, the row before it, and how many rows there are then.
 pub(crate) struct Found {

@@ -3,12 +3,12 @@ ghost use mathlib.Core.Path.{_≡_};
 ghost use mathlib.Core.Bool.{not, false};
 ghost use Prim.Native.Nat.{_+_, _≤_};
 ghost use lib.Dec.{ltb};
-ghost use Rattle.sheets.specs.Tally.{far, plus, one, wide};
-ghost use Rattle.sheets.specs.Rows.{blank, cleared, verdict, heardRow};
-ghost use Rattle.sheets.specs.Places.{lastBy};
+ghost use Rattle.sheet_spec.specs.Tally.{far, plus, one, wide};
+ghost use Rattle.sheet_spec.specs.Rows.{blank, cleared, verdict, heardRow};
+ghost use Rattle.sheet_spec.specs.Places.{lastBy};
 use ports::Noted;
-use sheets::Row;
-use sheets::Tally;
+use sheet_spec::Row;
+use sheet_spec::Tally;
 
 /// A port's row before its first packet.
 pub(crate) fn blank(port: u16) -> Row

@@ -13,15 +13,15 @@ use Rattle.base.specs.Bytes.{IsByte, Bytes}
 use Rattle.base.proofs.Bytes.{each-append}
 use Rattle.fcs.specs.Fcs.{fcs}
 use Rattle.fcs.proofs.Laws.{fcs-lt}
-use Rattle.frames.specs.Contents.{contents, withCheck, head, opening, packed, two}
-use Rattle.frames.specs.Escape.{escape, escapeByte, plain, NoFlag}
-use Rattle.frames.specs.Frame.{judge}
-use Rattle.frames.proofs.Escaping.{Kind, kind, escape-other}
-use Rattle.frames.proofs.Escaping.Kind.{flag, esc, other}
-use Rattle.frames.proofs.Round.{no-flag, plain-undoes, by-format, packed-length, round}
-use Rattle.frames.specs.Sender.{Accepted}
+use Rattle.packet_spec.specs.Contents.{contents, withCheck, head, opening, packed, two}
+use Rattle.packet_spec.specs.Escape.{escape, escapeByte, plain, NoFlag}
+use Rattle.packet_spec.specs.Frame.{judge}
+use Rattle.packet_spec.proofs.Escaping.{Kind, kind, escape-other}
+use Rattle.packet_spec.proofs.Escaping.Kind.{flag, esc, other}
+use Rattle.packet_spec.proofs.Round.{no-flag, plain-undoes, by-format, packed-length, round}
+use Rattle.packet_spec.specs.Sender.{Accepted}
 use Rattle.stream.specs.Sender.{rawOf, delivered}
-use Rattle.frames.specs.Contents.{Packet}
+use Rattle.packet_spec.specs.Contents.{Packet}
 
 bytes-byte : {b : ℕ} → Kind b → IsByte b → Bytes (escapeByte b)
 unfolding escapeByte

@@ -10,8 +10,8 @@ use lib.ListN.{length}
 use borrow.Author.Tests.{le-leb}
 use Rattle.base.specs.Calls.{joined, owesNone, handsNone, told, Yields}
 use Rattle.base.proofs.Calls.{none-owed, law, yields-all, yields-so}
-use Rattle.frames.specs.Contents.{rawLimit}
-use Rattle.frames.specs.Frame.{Told}
+use Rattle.packet_spec.specs.Contents.{rawLimit}
+use Rattle.packet_spec.specs.Frame.{Told}
 use Rattle.stream.specs.Called.{Held, held, fresh, takeByte, readAll, readOn, readCall, Fine, EveryCut}
 use Rattle.stream.proofs.Fine.{fine-is, fine-take}
 

@@ -7,10 +7,10 @@ use lib.ListN.{length}
 use lib.Dec.{eqb, leb}
 use Rattle.base.specs.Calls.{With, owesNone, handsNone}
 use Rattle.base.proofs.Calls.{none-owed, with-hear}
-use Rattle.frames.specs.Escape.{flag}
-use Rattle.frames.specs.Contents.{rawLimit}
-use Rattle.frames.specs.Frame.{Told, There}
-use Rattle.frames.proofs.Judging.{payload-there}
+use Rattle.packet_spec.specs.Escape.{flag}
+use Rattle.packet_spec.specs.Contents.{rawLimit}
+use Rattle.packet_spec.specs.Frame.{Told, There}
+use Rattle.packet_spec.proofs.Judging.{payload-there}
 use Rattle.stream.specs.Called.{Held, shut, takeBy, takeByte, sound, readBy, readCall, ThereHeld}
 
 -- of an answer, if there is one, and the buffer that comes with it

@@ -12,9 +12,9 @@ use lib.ListN.{length, length-set}
 use lib.Dec.{eqb, ltb, leb}
 use borrow.Author.Tests.{le-leb, lt-leb, eq-eqb, ne-eqb, ltb-true, eqb-true, leb-true}
 use Rattle.base.proofs.Tests.{and-parts}
-use Rattle.frames.specs.Contents.{rawLimit}
-use Rattle.frames.specs.Escape.{flag}
-use Rattle.frames.proofs.Judging.{length-closed}
+use Rattle.packet_spec.specs.Contents.{rawLimit}
+use Rattle.packet_spec.specs.Escape.{flag}
+use Rattle.packet_spec.proofs.Judging.{length-closed}
 use Rattle.stream.specs.declared.frame.Frame.{Frame}
 use Rattle.stream.specs.Called.{Held, held, begun, placeLimit, lastRaw, store, shut, takeBy, takeByte, sound, Fine}
 use Rattle.stream.proofs.Places.{noticed-within}

@@ -5,9 +5,9 @@ use mathlib.Core.Bool.{Bool, true, false}
 use mathlib.Core.List.{List, [], _∷_, _++_}
 use Prim.Native.Nat.{ℕ, suc, _-_}
 use lib.ListN.{replicate}
-use Rattle.frames.specs.Contents.{rawLimit}
-use Rattle.frames.specs.Escape.{plain, wrongFrom, right, last, scan}
-use Rattle.frames.specs.Frame.{Told, refusal, broken, judgeContents, closedBy, closed, judge}
+use Rattle.packet_spec.specs.Contents.{rawLimit}
+use Rattle.packet_spec.specs.Escape.{plain, wrongFrom, right, last, scan}
+use Rattle.packet_spec.specs.Frame.{Told, refusal, broken, judgeContents, closedBy, closed, judge}
 use Rattle.stream.specs.Reader.{waiting, reads}
 use Rattle.stream.specs.Called.{held, fresh, placeLimit, takeByte, readAll, sound}
 

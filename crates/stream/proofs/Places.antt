@@ -17,10 +17,10 @@ use borrow.Author.Tests.{eq-eqb, ne-eqb}
 use Rattle.base.specs.Choice.{pick}
 use Rattle.base.proofs.Lists.{part-over}
 use Rattle.base.proofs.Tests.{by-eq, by-le}
-use Rattle.frames.specs.Contents.{rawLimit}
-use Rattle.frames.specs.Escape.{wrongFrom, last, byteBefore, wrongBehind}
-use Rattle.frames.proofs.Escaping.{last-at}
-use Rattle.frames.proofs.Places.{wrong-append, wrong-within}
+use Rattle.packet_spec.specs.Contents.{rawLimit}
+use Rattle.packet_spec.specs.Escape.{wrongFrom, last, byteBefore, wrongBehind}
+use Rattle.packet_spec.proofs.Escaping.{last-at}
+use Rattle.packet_spec.proofs.Places.{wrong-append, wrong-within}
 use Rattle.stream.specs.Called.{Held, noticed, lastRaw, placeLimit, Fine}
 use Rattle.stream.specs.Private.{countedBy, placed, looked, gatheredBy}
 use Rattle.stream.specs.declared.frame.Frame.{Frame}

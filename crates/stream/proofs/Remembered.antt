@@ -11,10 +11,10 @@ use mathlib.Core.List.{List, [], _∷_}
 use mathlib.Core.Option.{Option, some}
 use lib.ListN.{length}
 use lib.Seq.{take-all}
-use Rattle.frames.specs.Contents.{rawLimit}
-use Rattle.frames.specs.Escape.{flag, wrongAt, last, BrokenAt}
-use Rattle.frames.specs.Frame.{Told, broken, judge}
-use Rattle.frames.proofs.Faults.{broken-is, broken-there, judge-broken}
+use Rattle.packet_spec.specs.Contents.{rawLimit}
+use Rattle.packet_spec.specs.Escape.{flag, wrongAt, last, BrokenAt}
+use Rattle.packet_spec.specs.Frame.{Told, broken, judge}
+use Rattle.packet_spec.proofs.Faults.{broken-is, broken-there, judge-broken}
 use Rattle.stream.specs.Reader.{Reading, waiting, inside, read, reads}
 use Rattle.stream.specs.Called.{Held, takeByte, EveryCut, heldOf}
 use Rattle.stream.proofs.Shown.{shown-byte, shown-plain}

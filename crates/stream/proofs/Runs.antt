@@ -19,8 +19,8 @@ use Rattle.base.proofs.Laid.{laid-copied}
 use Rattle.base.proofs.Lists.{next, over}
 use Rattle.base.proofs.UpTo.{up-to-over, up-to-short, up-to-is}
 use Rattle.base.proofs.Tests.{by-eq, by-le}
-use Rattle.frames.specs.Contents.{rawLimit}
-use Rattle.frames.specs.Escape.{flag, NoFlag}
+use Rattle.packet_spec.specs.Contents.{rawLimit}
+use Rattle.packet_spec.specs.Escape.{flag, NoFlag}
 use Rattle.stream.specs.declared.frame.Frame.{Frame}
 use Rattle.stream.specs.Private.{before, countedBy, counted, gatheredBy}
 

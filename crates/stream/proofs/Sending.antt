@@ -18,11 +18,11 @@ use Rattle.base.proofs.Lists.{over}
 use Rattle.base.proofs.Parts.{tail-is, tail-put}
 use Rattle.base.proofs.Tests.{by-le}
 use Rattle.base.proofs.Writing.{write-fits, copied-fits, write-is}
-use Rattle.frames.specs.Escape.{flag}
-use Rattle.frames.specs.Sender.{frameOf, flagged}
+use Rattle.packet_spec.specs.Escape.{flag}
+use Rattle.packet_spec.specs.Sender.{frameOf, flagged}
 use Rattle.packet.proofs.Sending.{writing-keeps, wrote-is}
 use Rattle.stream.specs.Sender.{rawOf, framesOf, stream, appending}
-use Rattle.frames.specs.Contents.{Packet}
+use Rattle.packet_spec.specs.Contents.{Packet}
 
 set-first : (l : List ℕ) (b : ℕ) → 0 < length l → set l 0 b ≡ b ∷ drop 1 l
 set-first [] b h = absurd (omega arith)

@@ -13,11 +13,11 @@ use lib.Seq.{append-snoc, take-all, take-at, take-append-le, set-append-seam}
 use lib.Dec.{eqb, ltb}
 use borrow.Author.Tests.{ne-eqb, ltb-true, ltb-false}
 use Rattle.base.specs.Calls.{tell}
-use Rattle.frames.specs.Escape.{flag, wrongFrom, wrongAt, last, byteBefore}
-use Rattle.frames.specs.Contents.{rawLimit}
-use Rattle.frames.specs.Frame.{Closed, judge, closed}
-use Rattle.frames.proofs.Places.{wrong-append}
-use Rattle.frames.proofs.Judging.{closed-over, judge-long, judge-is, length-closed}
+use Rattle.packet_spec.specs.Escape.{flag, wrongFrom, wrongAt, last, byteBefore}
+use Rattle.packet_spec.specs.Contents.{rawLimit}
+use Rattle.packet_spec.specs.Frame.{Closed, judge, closed}
+use Rattle.packet_spec.proofs.Places.{wrong-append}
+use Rattle.packet_spec.proofs.Judging.{closed-over, judge-long, judge-is, length-closed}
 use Rattle.stream.specs.Reader.{Reading, waiting, inside, readAt, read, reads}
 use Rattle.stream.specs.Called.{held, begun, noticed, store, shut, takeBy, takeByte, readAll, heldOf}
 use Rattle.stream.proofs.Places.{before-last}

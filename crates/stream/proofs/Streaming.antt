@@ -18,12 +18,12 @@ use borrow.Author.Tests.{ne-eqb}
 use Rattle.base.specs.Bytes.{Each}
 use Rattle.base.specs.Calls.{tell}
 use Rattle.base.proofs.Calls.{run-append}
-use Rattle.frames.specs.Escape.{flag, NoFlag}
-use Rattle.frames.specs.Frame.{judge}
+use Rattle.packet_spec.specs.Escape.{flag, NoFlag}
+use Rattle.packet_spec.specs.Frame.{judge}
 use Rattle.stream.specs.Reader.{Reading, waiting, inside, closing, read, reads}
-use Rattle.frames.specs.Sender.{Accepted}
+use Rattle.packet_spec.specs.Sender.{Accepted}
 use Rattle.stream.specs.Sender.{rawOf, framesOf, stream, delivered, openedFrom}
-use Rattle.frames.specs.Contents.{Packet}
+use Rattle.packet_spec.specs.Contents.{Packet}
 use Rattle.stream.proofs.Accepting.{clear, some-raw, judged-is}
 
 -- a flag behind bytes that are none stands behind all of them

@@ -19,12 +19,12 @@ use Rattle.base.specs.Calls.{unless, oneMore, after}
 use Rattle.base.proofs.Calls.{after-none, after-one, after-more, after-after}
 use Rattle.base.proofs.Lists.{over}
 use Rattle.base.proofs.Tests.{by-le}
-use Rattle.frames.specs.Contents.{rawLimit}
-use Rattle.frames.specs.Escape.{flag, NoFlag}
-use Rattle.frames.specs.Frame.{Told, refusal, judged, Closed, closed, judging}
-use Rattle.frames.proofs.Judging.{judging-is}
-use Rattle.frames.specs.declared.Judged.{Judged}
-use Rattle.frames.specs.declared.Judged.the-variants.{Refused}
+use Rattle.packet_spec.specs.Contents.{rawLimit}
+use Rattle.packet_spec.specs.Escape.{flag, NoFlag}
+use Rattle.packet_spec.specs.Frame.{Told, refusal, judged, Closed, closed, judging}
+use Rattle.packet_spec.proofs.Judging.{judging-is}
+use Rattle.packet_spec.specs.declared.Judged.{Judged}
+use Rattle.packet_spec.specs.declared.Judged.the-variants.{Refused}
 use Rattle.stream.specs.declared.frame.Frame.{Frame}
 use Rattle.stream.specs.declared.frame.Read.{Read}
 use Rattle.stream.specs.declared.frame.Turn.{Turn}

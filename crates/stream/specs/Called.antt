@@ -19,9 +19,9 @@ use lib.ListN.{length, take, set}
 use lib.Dec.{eqb, ltb, leb}
 use Rattle.base.specs.Calls.{joined, owesNone, handsNone, all, hear, Yields}
 use Rattle.base.specs.Choice.{pick}
-use Rattle.frames.specs.Contents.{rawLimit}
-use Rattle.frames.specs.Escape.{flag, wrongFrom, wrongAt, byteBefore}
-use Rattle.frames.specs.Frame.{Told, refusal, judged, closed, There}
+use Rattle.packet_spec.specs.Contents.{rawLimit}
+use Rattle.packet_spec.specs.Escape.{flag, wrongFrom, wrongAt, byteBefore}
+use Rattle.packet_spec.specs.Frame.{Told, refusal, judged, closed, There}
 use Rattle.stream.specs.Reader.{Reading, waiting, inside}
 use Rattle.stream.specs.declared.frame.Frame.{Frame}
 use Rattle.stream.specs.declared.frame.Read.{Read}

@@ -13,8 +13,8 @@ use lib.Dec.{eqb}
 use lib.Seq.{sets}
 use Rattle.base.specs.UpTo.{upTo}
 use Rattle.base.specs.Calls.{after}
-use Rattle.frames.specs.Contents.{rawLimit}
-use Rattle.frames.specs.Escape.{flag, byteBefore}
+use Rattle.packet_spec.specs.Contents.{rawLimit}
+use Rattle.packet_spec.specs.Escape.{flag, byteBefore}
 use Rattle.stream.specs.Called.{Held, held, noticed, readOn, sound, ReadIs}
 use Rattle.stream.specs.declared.frame.Frame.{Frame}
 use Rattle.stream.specs.declared.frame.Turn.{Turn}

@@ -9,8 +9,8 @@ use mathlib.Core.List.{List, [], _∷_, _++_}
 use mathlib.Core.Option.{Option, some, none}
 use lib.Dec.{eqb}
 use Rattle.base.specs.Calls.{run}
-use Rattle.frames.specs.Escape.{flag}
-use Rattle.frames.specs.Frame.{Told, judge}
+use Rattle.packet_spec.specs.Escape.{flag}
+use Rattle.packet_spec.specs.Frame.{Told, judge}
 
 -- waiting for a flag; or behind one, with the raw bytes since
 pub data Reading : Type 0 where

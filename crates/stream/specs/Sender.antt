@@ -6,10 +6,10 @@ use Prim.Native.Nat.{ℕ, zero, suc, _-_}
 use mathlib.Core.List.{List, [], _∷_, _++_}
 use lib.ListN.{length, take, drop}
 use Rattle.base.specs.Written.{Outcome, outcome}
-use Rattle.frames.specs.Contents.{Packet, contents}
-use Rattle.frames.specs.Escape.{flag, escape}
-use Rattle.frames.specs.Frame.{Told, packet}
-use Rattle.frames.specs.Sender.{writing}
+use Rattle.packet_spec.specs.Contents.{Packet, contents}
+use Rattle.packet_spec.specs.Escape.{flag, escape}
+use Rattle.packet_spec.specs.Frame.{Told, packet}
+use Rattle.packet_spec.specs.Sender.{writing}
 
 -- a packet's raw bytes: its escaped contents
 abbrev pub rawOf : Packet → List ℕ

@@ -2,8 +2,8 @@
 ghost use mathlib.Core.Path.{_≡_};
 ghost use mathlib.Core.List.{[], _∷_};
 ghost use Rattle.base.specs.Written.{outcome, write};
-ghost use Rattle.frames.specs.Contents.{packetOf, plainPacket};
-ghost use Rattle.frames.specs.Escape.{flag};
+ghost use Rattle.packet_spec.specs.Contents.{packetOf, plainPacket};
+ghost use Rattle.packet_spec.specs.Escape.{flag};
 ghost use Rattle.stream.specs.Sender.{appending};
 use base::Refusal;
 use base::Written;

@@ -8,16 +8,16 @@ use lib.ListN.{getD, set}
 use lib.Dec.{ltb}
 use Rattle.base.specs.Calls.{With}
 use Rattle.base.proofs.Calls.{with-hear}
-use Rattle.frames.specs.Frame.{Told}
+use Rattle.packet_spec.specs.Frame.{Told}
 use Rattle.stream.specs.Called.{takeByte}
 use Rattle.stream.proofs.Delivery.{ThereIf, there-byte}
-use Rattle.matrices.specs.Running.{pull}
-use Rattle.matrices.specs.declared.Back.{Back}
-use Rattle.blocks.specs.declared.Hunting.{Hunting}
-use Rattle.blocks.specs.Sender.{wordBytes}
-use Rattle.blocks.specs.Channel.{isMarker, shift}
+use Rattle.interleaver_spec.specs.Running.{pull}
+use Rattle.interleaver_spec.specs.declared.Back.{Back}
+use Rattle.channel_spec.specs.declared.Hunting.{Hunting}
+use Rattle.channel_spec.specs.Sender.{wordBytes}
+use Rattle.channel_spec.specs.Channel.{isMarker, shift}
 use Rattle.channel.specs.Called.{asEvent, roomy}
-use Rattle.groups.specs.Sender.{groupBytes}
+use Rattle.subchannel_spec.specs.Sender.{groupBytes}
 use Rattle.subchannel.specs.declared.lane.Lane.{Lane}
 use Rattle.subchannel.specs.Called.{Board, heldIn, wordAt, wordOn, groupOn, compareOn, markOn, eatBy, eatByte, owed, handOn}
 use Rattle.subchannel.specs.Called.{sound, hearBy, hearCall, ThereEvent}

@@ -15,11 +15,11 @@ use lib.Dec.{ltb}
 use borrow.Author.Tests.{lt-ltb, le-ltb}
 use Rattle.base.specs.Choice.{pick}
 use Rattle.base.proofs.Tests.{by-le}
-use Rattle.matrices.specs.Running.{matrix, back, taken, full, gave, pull, beyond}
-use Rattle.matrices.specs.declared.Back.{Back}
+use Rattle.interleaver_spec.specs.Running.{matrix, back, taken, full, gave, pull, beyond}
+use Rattle.interleaver_spec.specs.declared.Back.{Back}
 use Rattle.channel.specs.declared.answer.Answer.the-variants.{More}
-use Rattle.blocks.specs.Sender.{wordBytes}
-use Rattle.groups.specs.Sender.{groupBytes}
+use Rattle.channel_spec.specs.Sender.{wordBytes}
+use Rattle.subchannel_spec.specs.Sender.{groupBytes}
 use Rattle.subchannel.specs.declared.lane.Lane.{Lane}
 use Rattle.subchannel.specs.declared.cells.Turned.{Turned}
 use Rattle.subchannel.specs.declared.sub.Sub.{Sub}

@@ -16,18 +16,18 @@ use lib.Dec.{eqb, ltb, leb}
 use borrow.Author.Tests.{lt-ltb, le-ltb, le-leb, lt-leb, ltb-true, leb-true}
 use Rattle.base.specs.Choice.{pick}
 use Rattle.base.proofs.Tests.{and-parts, by-le}
-use Rattle.frames.specs.Contents.{rawLimit}
+use Rattle.packet_spec.specs.Contents.{rawLimit}
 use Rattle.parity.specs.Calls.{rootLimit}
 use Rattle.repair.proofs.Promising.{left-length}
 use Rattle.stream.proofs.Fine.{fine-take, fine-of as frame-of, fine-is as frame-is}
-use Rattle.matrices.specs.Running.{depthLimit, size, pull, gave, beyond}
-use Rattle.matrices.specs.declared.Back.{Back}
-use Rattle.blocks.specs.declared.Hunting.{Hunting}
-use Rattle.blocks.specs.Sender.{wordBytes}
-use Rattle.blocks.specs.Channel.{shift, isMarker}
+use Rattle.interleaver_spec.specs.Running.{depthLimit, size, pull, gave, beyond}
+use Rattle.interleaver_spec.specs.declared.Back.{Back}
+use Rattle.channel_spec.specs.declared.Hunting.{Hunting}
+use Rattle.channel_spec.specs.Sender.{wordBytes}
+use Rattle.channel_spec.specs.Channel.{shift, isMarker}
 use Rattle.channel.specs.Called.{roomy}
-use Rattle.groups.specs.Sender.{messageBytes, groupBytes}
-use Rattle.groups.specs.Word.{mend}
+use Rattle.subchannel_spec.specs.Sender.{messageBytes, groupBytes}
+use Rattle.subchannel_spec.specs.Word.{mend}
 use Rattle.subchannel.specs.declared.settings.Counts.{Counts}
 use Rattle.subchannel.specs.declared.lane.Lane.{Lane}
 use Rattle.subchannel.specs.declared.sub.Sub.{Sub}

@@ -18,24 +18,24 @@ use borrow.Author.Tests.{eq-eqb, ne-eqb, eqb-true, ltb-true}
 use Rattle.base.specs.Calls.{unless, after, oneMore, owesNone, handsNone}
 use Rattle.base.proofs.Above.{Along, above}
 use Rattle.base.proofs.Calls.{none-owed, FitsBy, fits, hear-hand, hear-eat, hear-end, inv-hear, after-none, after-more}
-use Rattle.frames.specs.Contents.{rawLimit}
-use Rattle.frames.specs.Frame.{Told, judged}
-use Rattle.frames.specs.declared.Judged.{Judged}
-use Rattle.frames.specs.declared.Judged.the-variants.{Refused}
+use Rattle.packet_spec.specs.Contents.{rawLimit}
+use Rattle.packet_spec.specs.Frame.{Told, judged}
+use Rattle.packet_spec.specs.declared.Judged.{Judged}
+use Rattle.packet_spec.specs.declared.Judged.the-variants.{Refused}
 use Rattle.parity.specs.Calls.{rootLimit}
 use Rattle.stream.specs.declared.frame.Read.{Read}
 use Rattle.stream.specs.declared.frame.Heard.the-variants as heard
 use Rattle.stream.specs.Called.{Held, held, takeByte, readOn, readCall, ReadIs, answered as frameAnswered, Fine as FineFrame}
 use Rattle.stream.proofs.Fine.{fine-take}
 use Rattle.stream.proofs.Cutting.{read-agrees}
-use Rattle.matrices.specs.Running.{beyond, matrix, back, freshBack, pull}
-use Rattle.matrices.specs.declared.Back.{Back}
-use Rattle.blocks.specs.declared.Hunting.{Hunting}
+use Rattle.interleaver_spec.specs.Running.{beyond, matrix, back, freshBack, pull}
+use Rattle.interleaver_spec.specs.declared.Back.{Back}
+use Rattle.channel_spec.specs.declared.Hunting.{Hunting}
 use Rattle.channel.specs.declared.answer.Answer.the-variants.{More, Said}
-use Rattle.blocks.specs.Sender.{wordBytes}
-use Rattle.blocks.specs.Channel.{Event, shift, isMarker}
+use Rattle.channel_spec.specs.Sender.{wordBytes}
+use Rattle.channel_spec.specs.Channel.{Event, shift, isMarker}
 use Rattle.channel.specs.Called.{asEvent, answered, roomy}
-use Rattle.groups.specs.Sender.{messageBytes, groupBytes}
+use Rattle.subchannel_spec.specs.Sender.{messageBytes, groupBytes}
 use Rattle.subchannel.specs.declared.lane.Lane.{Lane}
 use Rattle.subchannel.specs.declared.lane.Step.{Step}
 use Rattle.subchannel.specs.declared.lane.Eaten.{Eaten}

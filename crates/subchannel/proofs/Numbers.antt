@@ -9,12 +9,12 @@ use lib.ListN.{length}
 use borrow.Author.Tests.{lt-ltb, le-ltb}
 use Rattle.base.specs.Choice.{pick}
 use Rattle.stream.specs.Reader.{Reading}
-use Rattle.matrices.specs.Running.{matrix, back}
-use Rattle.matrices.specs.declared.Back.{Back}
-use Rattle.blocks.specs.declared.Hunting.{Hunting}
-use Rattle.blocks.specs.Channel.{zeros}
+use Rattle.interleaver_spec.specs.Running.{matrix, back}
+use Rattle.interleaver_spec.specs.declared.Back.{Back}
+use Rattle.channel_spec.specs.declared.Hunting.{Hunting}
+use Rattle.channel_spec.specs.Channel.{zeros}
 use Rattle.stream.specs.Called.{fresh}
-use Rattle.groups.specs.Sub.{inGroup, inMark}
+use Rattle.subchannel_spec.specs.Sub.{inGroup, inMark}
 use Rattle.subchannel.specs.declared.sub.Sub.{Sub}
 use Rattle.subchannel.specs.declared.settings.Counts.{Counts}
 use Rattle.subchannel.specs.Called.{sub, lane, settings, counts, sound, boardOf}

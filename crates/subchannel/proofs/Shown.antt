@@ -17,21 +17,21 @@ use Rattle.base.specs.Calls.{tell, andThen, drain, rest}
 use Rattle.base.specs.Choice.{pick}
 use Rattle.base.proofs.Calls.{all-append}
 use Rattle.base.proofs.Tests.{by-le}
-use Rattle.frames.specs.Contents.{rawLimit}
-use Rattle.frames.specs.Frame.{Told}
+use Rattle.packet_spec.specs.Contents.{rawLimit}
+use Rattle.packet_spec.specs.Frame.{Told}
 use Rattle.parity.specs.Calls.{rootLimit}
 use Rattle.stream.specs.Reader.{Reading, read, reads}
 use Rattle.stream.specs.Called.{Held, takeByte, heldOf}
 use Rattle.stream.proofs.Shown.{shown-byte, tell-end, held-use, held-st}
-use Rattle.matrices.specs.Running.{pull}
-use Rattle.matrices.specs.declared.Back.{Back}
-use Rattle.blocks.specs.declared.Hunting.{Hunting}
-use Rattle.blocks.specs.Sender.{wordBytes}
-use Rattle.blocks.specs.Channel.{Event, said, block, shift, isMarker}
+use Rattle.interleaver_spec.specs.Running.{pull}
+use Rattle.interleaver_spec.specs.declared.Back.{Back}
+use Rattle.channel_spec.specs.declared.Hunting.{Hunting}
+use Rattle.channel_spec.specs.Sender.{wordBytes}
+use Rattle.channel_spec.specs.Channel.{Event, said, block, shift, isMarker}
 use Rattle.channel.specs.Called.{asEvent}
-use Rattle.groups.specs.Sender.{messageBytes, groupBytes}
-use Rattle.groups.specs.Word.{condition, mend, message}
-use Rattle.groups.specs.Sub.{Sub, hunting, inGroup, inMark, silent, whole, worded, takes, hunt, grouping, compared, behindGroup, step, hears}
+use Rattle.subchannel_spec.specs.Sender.{messageBytes, groupBytes}
+use Rattle.subchannel_spec.specs.Word.{condition, mend, message}
+use Rattle.subchannel_spec.specs.Sub.{Sub, hunting, inGroup, inMark, silent, whole, worded, takes, hunt, grouping, compared, behindGroup, step, hears}
 use Rattle.subchannel.specs.declared.lane.Lane.{Lane}
 use Rattle.subchannel.specs.Called.{Board, board, sub, lane, settings, counts, huntOn, mendIn, wordOn, groupOn, compareOn, markOn}
 use Rattle.subchannel.specs.Called.{behind, eatBy, onBoard, eatByte}

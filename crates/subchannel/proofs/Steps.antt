@@ -20,23 +20,23 @@ use borrow.Author.Tests.{lt-ltb, le-ltb, eq-eqb, ne-eqb, leb-true}
 use Rattle.base.specs.Choice.{pick}
 use Rattle.base.proofs.Tests.{and-parts}
 use Rattle.parity.specs.Calls.{rootLimit}
-use Rattle.matrices.specs.Places.{cell}
-use Rattle.matrices.specs.Running.{size, next, matrix, back, taken, full, gave, pull}
-use Rattle.matrices.specs.declared.Matrix.{Matrix}
-use Rattle.matrices.specs.declared.Back.{Back}
+use Rattle.interleaver_spec.specs.Places.{cell}
+use Rattle.interleaver_spec.specs.Running.{size, next, matrix, back, taken, full, gave, pull}
+use Rattle.interleaver_spec.specs.declared.Matrix.{Matrix}
+use Rattle.interleaver_spec.specs.declared.Back.{Back}
 use Rattle.interleaver.proofs.Steps as cells
 use Rattle.base.specs.Bytes.{Bytes}
 use Rattle.repair.specs.declared.Mended.{Mended}
 use Rattle.repair.specs.Promise.{Promised}
 use Rattle.repair.proofs.Promising.{promised-is}
-use Rattle.blocks.specs.declared.Hunting.{Hunting}
-use Rattle.blocks.specs.declared.Condition.{Condition}
+use Rattle.channel_spec.specs.declared.Hunting.{Hunting}
+use Rattle.channel_spec.specs.declared.Condition.{Condition}
 use Rattle.channel.specs.declared.answer.Answer.the-variants.{More, Block, LockLost}
-use Rattle.blocks.specs.Sender.{wordBytes}
-use Rattle.blocks.specs.Channel.{Event, conditionBy, shift, isMarker}
+use Rattle.channel_spec.specs.Sender.{wordBytes}
+use Rattle.channel_spec.specs.Channel.{Event, conditionBy, shift, isMarker}
 use Rattle.channel.specs.Called.{answered}
-use Rattle.groups.specs.Sender.{messageBytes, groupBytes}
-use Rattle.groups.specs.Word.{condition, mend}
+use Rattle.subchannel_spec.specs.Sender.{messageBytes, groupBytes}
+use Rattle.subchannel_spec.specs.Word.{condition, mend}
 use Rattle.subchannel.specs.declared.settings.Settings.{Settings}
 use Rattle.subchannel.specs.declared.settings.Counts.{Counts}
 use Rattle.subchannel.specs.declared.lane.Lane.{Lane}

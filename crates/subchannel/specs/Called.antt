@@ -19,20 +19,20 @@ use lib.ListN.{length, take, drop, getD, set}
 use lib.Dec.{eqb, ltb, leb}
 use Rattle.base.specs.Calls.{joined, all, hear, Yields}
 use Rattle.base.specs.Choice.{pick}
-use Rattle.frames.specs.Contents.{rawLimit}
-use Rattle.frames.specs.Frame.{Told, refusal, There}
+use Rattle.packet_spec.specs.Contents.{rawLimit}
+use Rattle.packet_spec.specs.Frame.{Told, refusal, There}
 use Rattle.parity.specs.Calls.{rootLimit}
 use Rattle.stream.specs.declared.frame.Frame.{Frame}
 use Rattle.stream.specs.Called.{Held, held, fresh, takeByte, heldOf, sound as soundFrame, Fine as FineFrame}
-use Rattle.matrices.specs.Running.{depthLimit, freshBack, pull, beyond}
-use Rattle.matrices.specs.declared.Back.{Back}
-use Rattle.blocks.specs.declared.Hunting.{Hunting}
-use Rattle.blocks.specs.Sender.{wordBytes}
-use Rattle.blocks.specs.Channel.{Event, said, block, lost, shift, isMarker, zeros}
+use Rattle.interleaver_spec.specs.Running.{depthLimit, freshBack, pull, beyond}
+use Rattle.interleaver_spec.specs.declared.Back.{Back}
+use Rattle.channel_spec.specs.declared.Hunting.{Hunting}
+use Rattle.channel_spec.specs.Sender.{wordBytes}
+use Rattle.channel_spec.specs.Channel.{Event, said, block, lost, shift, isMarker, zeros}
 use Rattle.channel.specs.Called.{asEvent, answered, roomy}
-use Rattle.groups.specs.Sender.{messageBytes, groupBytes}
-use Rattle.groups.specs.Word.{condition, mend}
-use Rattle.groups.specs.Sub as model
+use Rattle.subchannel_spec.specs.Sender.{messageBytes, groupBytes}
+use Rattle.subchannel_spec.specs.Word.{condition, mend}
+use Rattle.subchannel_spec.specs.Sub as model
 use Rattle.subchannel.specs.declared.settings.Settings.{Settings}
 use Rattle.subchannel.specs.declared.settings.Counts.{Counts}
 use Rattle.subchannel.specs.declared.lane.Lane.{Lane}

@@ -15,14 +15,14 @@ use mathlib.Core.List.{List}
 use mathlib.Core.Option.{Option, some, none}
 use lib.ListN.{length, drop, replicate}
 use Rattle.base.specs.Calls.{after}
-use Rattle.frames.specs.Contents.{rawLimit}
+use Rattle.packet_spec.specs.Contents.{rawLimit}
 use Rattle.parity.specs.Calls.{rootLimit}
-use Rattle.matrices.specs.Running.{depthLimit, matrix, back, beyond}
-use Rattle.matrices.specs.declared.Back.{Back}
-use Rattle.blocks.specs.Sender.{wordBytes}
-use Rattle.blocks.specs.Channel.{Event}
+use Rattle.interleaver_spec.specs.Running.{depthLimit, matrix, back, beyond}
+use Rattle.interleaver_spec.specs.declared.Back.{Back}
+use Rattle.channel_spec.specs.Sender.{wordBytes}
+use Rattle.channel_spec.specs.Channel.{Event}
 use Rattle.channel.specs.Called.{answered}
-use Rattle.groups.specs.Sender.{groupBytes}
+use Rattle.subchannel_spec.specs.Sender.{groupBytes}
 use Rattle.subchannel.specs.declared.lane.Lane.{Lane}
 use Rattle.subchannel.specs.declared.lane.Step.{Step}
 use Rattle.subchannel.specs.declared.lane.Eaten.{Eaten}

@@ -2,8 +2,8 @@
 ghost use mathlib.Core.Path.{_≡_};
 ghost use mathlib.Core.Bool.{true, false};
 ghost use Prim.Native.Nat.{_*_, _≤_, _<_};
-ghost use Rattle.matrices.specs.Places.{width, cell};
-ghost use Rattle.matrices.specs.Running.{depthLimit, size, next, matrix, back, pull, beyond};
+ghost use Rattle.interleaver_spec.specs.Places.{width, cell};
+ghost use Rattle.interleaver_spec.specs.Running.{depthLimit, size, next, matrix, back, pull, beyond};
 ghost use Rattle.subchannel.specs.Private.{TurnedIs};
 
 // The cells of the largest interleaver, 64 rows of 255.

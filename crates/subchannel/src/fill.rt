@@ -1,8 +1,8 @@
 //! Bytes that only fill a word, many in one go: they give no answer, and of the state they move the group's count, the word's and the cells alone.
 ghost use mathlib.Core.Path.{_≡_};
 ghost use Prim.Native.Nat.{_+_, _≤_};
-ghost use Rattle.blocks.specs.Sender.{wordBytes};
-ghost use Rattle.groups.specs.Sender.{groupBytes};
+ghost use Rattle.channel_spec.specs.Sender.{wordBytes};
+ghost use Rattle.subchannel_spec.specs.Sender.{groupBytes};
 ghost use Rattle.subchannel.specs.Private.{Fills, filled, FillAsks, FilledIs};
 use crate::cells;
 use crate::lane::Lane;

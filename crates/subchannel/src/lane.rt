@@ -4,11 +4,11 @@ ghost use mathlib.Core.Bool.{true, false};
 ghost use Prim.Native.Nat.{suc, _≤_, _<_};
 ghost use lib.Dec.{ltb};
 ghost use mathlib.Core.Option.{some};
-ghost use Rattle.matrices.specs.Running.{matrix, back, beyond};
+ghost use Rattle.interleaver_spec.specs.Running.{matrix, back, beyond};
 ghost use Rattle.parity.specs.Calls.{rootLimit};
-ghost use Rattle.blocks.specs.Channel.{shift, isMarker};
+ghost use Rattle.channel_spec.specs.Channel.{shift, isMarker};
 ghost use Rattle.channel.specs.Called.{roomy};
-ghost use Rattle.groups.specs.Sender.{messageBytes, groupBytes};
+ghost use Rattle.subchannel_spec.specs.Sender.{messageBytes, groupBytes};
 ghost use Rattle.subchannel.specs.Called.{
   counts,
   moved,

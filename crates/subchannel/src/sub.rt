@@ -2,7 +2,7 @@
 ghost use mathlib.Core.Path.{_≡_};
 ghost use mathlib.Core.Bool.{true, false};
 ghost use Rattle.channel.specs.Called.{roomy};
-ghost use Rattle.matrices.specs.Running.{matrix, back};
+ghost use Rattle.interleaver_spec.specs.Running.{matrix, back};
 ghost use Rattle.subchannel.specs.Called.{Fine, board, sub, toldSub, owes, sound, hearOn, hearCall, HearingIs};
 ghost use Rattle.subchannel.specs.Private.{spare, BytesIs};
 use crate::cells;

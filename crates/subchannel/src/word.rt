@@ -2,8 +2,8 @@
 ghost use mathlib.Core.Path.{_≡_};
 ghost use Prim.Native.Nat.{_≤_, _<_};
 ghost use lib.ListN.{length, take};
-ghost use Rattle.blocks.specs.Sender.{wordBytes};
-ghost use Rattle.groups.specs.Word.{condition, mend};
+ghost use Rattle.channel_spec.specs.Sender.{wordBytes};
+ghost use Rattle.subchannel_spec.specs.Word.{condition, mend};
 ghost use Rattle.subchannel.specs.Called.{wordAt, mendIn};
 use crate::sub::Sub;
 use channel::Condition;

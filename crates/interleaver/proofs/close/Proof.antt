@@ -2,7 +2,7 @@
 use mathlib.Core.Path.{_∙_}
 use native.Mathlib.Nat.{sub-zero}
 use borrow.Author.Needs.{needs}
-use Rattle.matrices.proofs.Calling.{closes}
+use Rattle.interleaver_spec.proofs.Calling.{closes}
 use Rattle.interleaver.proofs.close.Statement.{statement}
 use Rattle.interleaver.proofs.close.Tie as tie
 

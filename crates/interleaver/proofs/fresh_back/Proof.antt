@@ -2,7 +2,7 @@
 use mathlib.Core.Path.{ap}
 use mathlib.Core.Bool.{false}
 use borrow.Author.Needs.{needs}
-use Rattle.matrices.specs.Running.{back}
+use Rattle.interleaver_spec.specs.Running.{back}
 use Rattle.interleaver.proofs.fresh_back.Statement.{statement}
 use Rattle.interleaver.proofs.fresh_back.Tie as tie
 

@@ -4,7 +4,7 @@ use Prim.Native.Nat.{_-_}
 use native.Mathlib.Omega.{arith}
 use borrow.Author.Needs.{needs}
 use borrow.Author.Tests.{lt-ltb, le-ltb}
-use Rattle.matrices.proofs.Calling.{below}
+use Rattle.interleaver_spec.proofs.Calling.{below}
 use Rattle.interleaver.proofs.held.Statement.{statement}
 use Rattle.interleaver.proofs.held.Tie as tie
 

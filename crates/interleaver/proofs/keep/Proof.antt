@@ -5,9 +5,9 @@ use Prim.Native.Nat.{ℕ, _≤_, _<_, _-_}
 use native.Mathlib.Omega.{arith}
 use lib.ListN.{length, length-set}
 use borrow.Author.Needs.{needs}
-use Rattle.matrices.specs.Running.{size, matrix, taken}
+use Rattle.interleaver_spec.specs.Running.{size, matrix, taken}
 use Rattle.interleaver.specs.Private.{left}
-use Rattle.matrices.specs.declared.Matrix.{Matrix}
+use Rattle.interleaver_spec.specs.declared.Matrix.{Matrix}
 use Rattle.interleaver.proofs.Loops.{left-next, left-done}
 use Rattle.interleaver.proofs.Steps.{takes}
 use Rattle.interleaver.proofs.keep.Statement.{statement}

@@ -6,9 +6,9 @@ use lib.ListN.{length}
 use borrow.Author.Needs.{needs}
 use Rattle.base.specs.Calls.{run}
 use Rattle.base.specs.Written.{outcome}
-use Rattle.matrices.specs.Running.{gave, pull}
+use Rattle.interleaver_spec.specs.Running.{gave, pull}
 use Rattle.interleaver.specs.declared.Pulled.{Pulled}
-use Rattle.matrices.proofs.Calling.{below, state-refused, depth-refused, short, flat, deep}
+use Rattle.interleaver_spec.proofs.Calling.{below, state-refused, depth-refused, short, flat, deep}
 use Rattle.interleaver.proofs.Holding.{pulled-length}
 use Rattle.interleaver.proofs.pull.Statement.{statement}
 use Rattle.interleaver.proofs.pull.Tie as tie

@@ -4,10 +4,10 @@ use lib.ListN.{length}
 use borrow.Author.Needs.{needs}
 use Rattle.base.specs.Calls.{run}
 use Rattle.base.specs.Written.{outcome}
-use Rattle.matrices.specs.Running.{sent, push}
+use Rattle.interleaver_spec.specs.Running.{sent, push}
 use Rattle.interleaver.specs.declared.Pushed.{Pushed}
-use Rattle.matrices.proofs.Calling.{below, state-refused, depth-refused, short, flat, deep}
-use Rattle.matrices.proofs.Pushing.{pushed-length}
+use Rattle.interleaver_spec.proofs.Calling.{below, state-refused, depth-refused, short, flat, deep}
+use Rattle.interleaver_spec.proofs.Pushing.{pushed-length}
 use Rattle.interleaver.proofs.Loops.{sent-out}
 use Rattle.interleaver.proofs.push.Statement.{statement}
 use Rattle.interleaver.proofs.push.Tie as tie

@@ -3,9 +3,9 @@ use mathlib.Core.Path.{_≡_, ap, _∙_}
 use Prim.Native.Nat.{_-_, _%_, _≤_, _<_}
 use native.Mathlib.Omega.{arith}
 use lib.ListN.{length, drop, replicate}
-use Rattle.words.specs.Residue.{laneRoots}
-use Rattle.words.specs.Private.{above, fedAll}
-use Rattle.words.proofs.Residue.{fed-start, fed-next, fed-done}
+use Rattle.word_spec.specs.Residue.{laneRoots}
+use Rattle.word_spec.specs.Private.{above, fedAll}
+use Rattle.word_spec.proofs.Residue.{fed-start, fed-next, fed-done}
 use Rattle.lanes.specs.Private.{laid}
 use Rattle.lanes.proofs.Laid.{eight-left, eight-on}
 use Rattle.lanes.proofs.divided_above.Statement.{statement}

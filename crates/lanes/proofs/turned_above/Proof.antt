@@ -1,7 +1,7 @@
 -- `lanes::turned_above` meets its contract: the bits that go are replaced by what they are worth, five by five, which is eight steps of the division.
 use mathlib.Core.Path.{ap, _∙_}
 use native.Mathlib.Omega.{arith}
-use Rattle.words.specs.Private.{above}
+use Rattle.word_spec.specs.Private.{above}
 use Rattle.lanes.specs.Private.{doubledBy}
 use Rattle.lanes.proofs.Bits.{worths-are, group, turn-is}
 use Rattle.lanes.proofs.turned_above.Statement.{statement}

@@ -1,9 +1,9 @@
 -- `lanes::worths_above` meets its contract: the first row is the divisor, and each other is computed from the one before it.
 use mathlib.Core.Path.{refl}
 use Rattle.field.specs.Field.{add, double, shiftAdd, mul}
-use Rattle.words.specs.Word.{scale, onto}
-use Rattle.words.specs.Private.{bytesOf, fed}
-use Rattle.words.proofs.Packed.{above-packed}
+use Rattle.word_spec.specs.Word.{scale, onto}
+use Rattle.word_spec.specs.Private.{bytesOf, fed}
+use Rattle.word_spec.proofs.Packed.{above-packed}
 use Rattle.lanes.proofs.worths_above.Statement.{statement}
 use Rattle.lanes.proofs.worths_above.Tie as tie
 

@@ -6,7 +6,7 @@ use borrow.Author.Needs.{needs}
 use borrow.Fn.Kinds.{In}
 use borrow.Fn.PlainCycle.{Measures, is, falls, and}
 use lib.ListN.{length, length-set}
-use Rattle.listed.proofs.Digits.{last-digit, digits-next}
+use Rattle.listing_spec.proofs.Digits.{last-digit, digits-next}
 use Rattle.lines.proofs.Writes.{number-last, number-more}
 use Rattle.lines.proofs.put_number.Reads as put-number
 use Rattle.lines.proofs.put_number.Kinds as put-number-kinds

@@ -1,7 +1,7 @@
 -- `lines::put_condition` meets its contract.
 use borrow.Author.Needs.{needs}
 use Rattle.lines.proofs.Writes.{put-as}
-use Rattle.listed.specs.Lines.{blockLine}
+use Rattle.listing_spec.specs.Lines.{blockLine}
 use mathlib.Core.Path.{sym, ap}
 use Rattle.lines.proofs.put_condition.Statement.{statement}
 use Rattle.lines.proofs.put_condition.Tie as tie

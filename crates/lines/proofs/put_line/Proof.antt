@@ -2,7 +2,7 @@
 use borrow.Author.Needs.{needs}
 use Rattle.base.proofs.Laid.{laid-none}
 use Rattle.lines.proofs.Writes.{put-as}
-use Rattle.listed.specs.Lines.{line}
+use Rattle.listing_spec.specs.Lines.{line}
 use mathlib.Core.Path.{sym, ap}
 use native.Mathlib.Omega.{arith}
 use Rattle.lines.proofs.put_line.Statement.{statement}

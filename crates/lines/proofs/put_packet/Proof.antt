@@ -1,7 +1,7 @@
 -- `lines::put_packet` meets its contract.
 use borrow.Author.Needs.{needs}
 use Rattle.lines.proofs.Writes.{packet-put}
-use Rattle.listed.specs.Lines.{letter}
+use Rattle.listing_spec.specs.Lines.{letter}
 use mathlib.Core.Path.{ap, _∙_}
 use Rattle.lines.proofs.put_packet.Statement.{statement}
 use Rattle.lines.proofs.put_packet.Tie as tie

@@ -1,7 +1,7 @@
 -- `lines::put_told` meets its contract.
 use borrow.Author.Needs.{needs}
 use Rattle.lines.proofs.Writes.{put-as, refused-put, broken-put}
-use Rattle.listed.specs.Lines.{told}
+use Rattle.listing_spec.specs.Lines.{told}
 use mathlib.Core.Path.{sym, ap}
 use Rattle.lines.proofs.put_told.Statement.{statement}
 use Rattle.lines.proofs.put_told.Tie as tie

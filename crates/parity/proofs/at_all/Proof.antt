@@ -3,8 +3,8 @@ use mathlib.Core.Path.{sym}
 use native.Mathlib.Omega.{arith}
 use lib.Seq.{length-take-le}
 use borrow.Author.Needs.{needs}
-use Rattle.words.specs.Residue.{laneRoots}
-use Rattle.words.proofs.Values.{bytes-of}
+use Rattle.word_spec.specs.Residue.{laneRoots}
+use Rattle.word_spec.proofs.Values.{bytes-of}
 use Rattle.parity.proofs.Loops.{both-are}
 use Rattle.parity.proofs.at_all.Statement.{statement}
 use Rattle.parity.proofs.at_all.Tie as tie

@@ -1,7 +1,7 @@
 -- `parity::at_first` meets its contract: what division leaves of a word has its values.
 use native.Mathlib.Omega.{arith}
 use borrow.Author.Needs.{needs}
-use Rattle.words.proofs.Values.{bytes-of}
+use Rattle.word_spec.proofs.Values.{bytes-of}
 use Rattle.parity.proofs.Loops.{first-left, first-all}
 use Rattle.parity.proofs.at_first.Statement.{statement}
 use Rattle.parity.proofs.at_first.Tie as tie

@@ -4,7 +4,7 @@ use Prim.Native.Nat.{_-_, _≤_}
 use native.Mathlib.Omega.{arith}
 use lib.ListN.{length, take}
 use borrow.Author.Needs.{needs}
-use Rattle.words.specs.Word.{valuesFrom}
+use Rattle.word_spec.specs.Word.{valuesFrom}
 use Rattle.parity.proofs.Loops.{zeros-values, at-powers-next, at-powers-done}
 use Rattle.parity.proofs.at_powers.Statement.{statement}
 use Rattle.parity.proofs.at_powers.Tie as tie

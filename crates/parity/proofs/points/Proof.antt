@@ -5,7 +5,7 @@ use Prim.Native.Nat.{_-_, _≤_}
 use native.Mathlib.Omega.{arith}
 use lib.ListN.{length, take, length-set}
 use borrow.Author.Needs.{needs}
-use Rattle.words.specs.Private.{points}
+use Rattle.word_spec.specs.Private.{points}
 use Rattle.parity.proofs.Loops.{points-next, points-done}
 use Rattle.parity.proofs.points.Statement.{statement}
 use Rattle.parity.proofs.points.Tie as tie

@@ -5,7 +5,7 @@ use Prim.Native.Nat.{ℕ, _-_, _≤_, _<_}
 use native.Mathlib.Omega.{arith}
 use lib.ListN.{length, take, drop, length-set}
 use borrow.Author.Needs.{needs}
-use Rattle.words.specs.Private.{stepped}
+use Rattle.word_spec.specs.Private.{stepped}
 use Rattle.parity.proofs.Loops.{step-next, step-done}
 use Rattle.parity.proofs.step.Statement.{statement}
 use Rattle.parity.proofs.step.Tie as tie

@@ -4,7 +4,7 @@ use mathlib.Core.Bool.{true}
 use Prim.Native.Nat.{_≤_, _-_}
 use native.Mathlib.Omega.{arith}
 use borrow.Author.Needs.{needs}
-use Rattle.words.specs.Word.{clean}
+use Rattle.word_spec.specs.Word.{clean}
 use Rattle.parity.proofs.Loops.{clean-next, clean-fails, clean-done}
 use Rattle.parity.proofs.zero_at.Statement.{statement}
 use Rattle.parity.proofs.zero_at.Tie as tie

@@ -39,12 +39,12 @@ use denote.Triple.Clauses.{ensured, lasts}
 use denote.Triple.Table.{entered, cited}
 use denote.Triple.Walked.{says, Stays, stay-none-slice, walkOf, Walks, ends-at, walked, goes-none-slice, walk-meets}
 use denote.Exit.{yes}
-use Rattle.sequences.specs.Ports.{freed}
+use Rattle.ports_spec.specs.Ports.{freed}
 use Rattle.ports.specs.Private.{gathered, tableOf}
-use Rattle.sequences.specs.declared.Entry.{Entry}
+use Rattle.ports_spec.specs.declared.Entry.{Entry}
 use Rattle.ports.specs.declared.Table.{Table}
-use Rattle.sequences.proofs.Entry as TE
-use Rattle.sequences.proofs.Entry.Laws as TE′
+use Rattle.ports_spec.proofs.Entry as TE
+use Rattle.ports_spec.proofs.Entry.Laws as TE′
 use Rattle.ports.proofs.Table as TT
 use Rattle.ports.proofs.Table.Laws as TT′
 use Rattle.ports.proofs.entry_or as entry-or

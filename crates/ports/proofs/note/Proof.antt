@@ -41,20 +41,20 @@ use denote.Triple.Clauses.{ensured, lasts}
 use denote.Triple.Table.{entered, cited}
 use denote.Triple.Walked.{says, Stays, stay-slice, stay-none, walkOf, goes-slice, goes-none, Walks, ends-at, walked, walk-meets}
 use denote.Exit.{yes}
-use Rattle.sequences.specs.Ports.{noting}
+use Rattle.ports_spec.specs.Ports.{noting}
 use Rattle.ports.specs.Private.{tableOf, notingOf}
-use Rattle.sequences.specs.declared.Entry.{Entry}
+use Rattle.ports_spec.specs.declared.Entry.{Entry}
 use Rattle.ports.specs.declared.Table.{Table}
 use Rattle.ports.specs.declared.Noting.{Noting}
-use Rattle.sequences.specs.declared.Noted.{Noted}
-use Rattle.sequences.proofs.Entry as TE
-use Rattle.sequences.proofs.Entry.Laws as TE′
+use Rattle.ports_spec.specs.declared.Noted.{Noted}
+use Rattle.ports_spec.proofs.Entry as TE
+use Rattle.ports_spec.proofs.Entry.Laws as TE′
 use Rattle.ports.proofs.Table as TT
 use Rattle.ports.proofs.Table.Laws as TT′
 use Rattle.ports.proofs.Noting as TD
 use Rattle.ports.proofs.Noting.Laws as TD′
-use Rattle.sequences.proofs.Noted as TA
-use Rattle.sequences.proofs.Noted.Laws as TA′
+use Rattle.ports_spec.proofs.Noted as TA
+use Rattle.ports_spec.proofs.Noted.Laws as TA′
 use Rattle.ports.proofs.Tables.{noting-is}
 use Rattle.ports.proofs.Lending.{SharedAgain, LentAgain, shares-again, unshared, lends-again, comes-back}
 use Rattle.ports.proofs.gather as gather

@@ -2,7 +2,7 @@
 use mathlib.Core.Path.{refl, sym, _∙_}
 use borrow.Author.Needs.{needs}
 use Rattle.repair.proofs.Apart.{checked-damaged}
-use Rattle.words.proofs.Values.{bytes-of}
+use Rattle.word_spec.proofs.Values.{bytes-of}
 use Rattle.repair.proofs.Loops.{repair-damaged}
 use Rattle.repair.proofs.repair.Statement.{statement}
 use Rattle.repair.proofs.repair.Tie as tie

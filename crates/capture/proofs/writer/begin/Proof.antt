@@ -4,7 +4,7 @@ use borrow.Author.Needs.{needs}
 use Rattle.base.specs.Written.{outcome}
 use Rattle.base.specs.declared.Written.the-variants.{Wrote}
 use Rattle.base.proofs.Writing.{write-fits, write-short}
-use Rattle.captures.specs.File.{header}
+use Rattle.capture_spec.specs.File.{header}
 use Rattle.capture.proofs.writer.begin.Statement.{statement}
 use Rattle.capture.proofs.writer.begin.Tie as tie
 

@@ -9,7 +9,7 @@ use Rattle.base.proofs.Parts.{tail-is}
 use Rattle.channel.proofs.Sending.{firstBlocks, blocks-next, blocks-room, send-short, send-fits}
 use Rattle.channel.proofs.sender.send.Statement.{statement}
 use Rattle.channel.proofs.sender.send.Tie as tie
-use Rattle.blocks.specs.Sender.{blockBytes}
+use Rattle.channel_spec.specs.Sender.{blockBytes}
 
 abbrev Inv-loop : tie.InvT-loop
 Inv-loop stream out₀ blocks i₀ out i = (i ≤ blocks) × (length out ≡ length out₀) × (out ≡ firstBlocks stream i ++ drop (blockBytes * i) out₀)

@@ -4,8 +4,8 @@ use native.Mathlib.Omega.{arith}
 use Prim.Native.Nat.{_+_, _-_}
 use lib.ListN.{take, drop}
 use borrow.Author.Needs.{needs}
-use Rattle.words.specs.Word.{clean}
-use Rattle.blocks.specs.Sender.{parityBytes, wordBytes}
+use Rattle.word_spec.specs.Word.{clean}
+use Rattle.channel_spec.specs.Sender.{parityBytes, wordBytes}
 use Rattle.channel.proofs.word.is_clean_last.Statement.{statement}
 use Rattle.channel.proofs.word.is_clean_last.Tie as tie
 

@@ -4,7 +4,7 @@ use Prim.Native.Nat.{ℕ, _≤_, _<_}
 use native.Mathlib.Omega.{arith}
 use lib.ListN.{getD, replicate}
 use borrow.Author.Needs.{needs}
-use Rattle.words.specs.Private.{bytesOf, summed}
+use Rattle.word_spec.specs.Private.{bytesOf, summed}
 use Rattle.lanes.specs.Private.{five}
 use Rattle.lanes.proofs.Bits.{sums, sum-is, passed}
 use Rattle.lanes.proofs.coefficients.next.Reads as next-reads

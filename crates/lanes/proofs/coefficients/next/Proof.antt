@@ -6,7 +6,7 @@ use borrow.Author.Needs.{needs}
 use borrow.Author.Tests.{eq-eqb, ne-eqb}
 use Rattle.base.specs.Choice.{pick}
 use Rattle.field.specs.Field.{double}
-use Rattle.words.specs.Private.{bytesOf}
+use Rattle.word_spec.specs.Private.{bytesOf}
 use Rattle.lanes.proofs.coefficients.next.Statement.{statement}
 use Rattle.lanes.proofs.coefficients.next.Tie as tie
 

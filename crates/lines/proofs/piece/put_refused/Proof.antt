@@ -1,9 +1,9 @@
 -- `lines::piece::put_refused` meets its contract.
 use borrow.Author.Needs.{needs}
 use mathlib.Core.Bool.{true}
-use Rattle.frames.specs.declared.Judged.{Judged}
+use Rattle.packet_spec.specs.declared.Judged.{Judged}
 use Rattle.channel.specs.declared.answer.Answer.the-variants.{Said}
-use Rattle.shown.specs.Parts.{remark}
+use Rattle.board_spec.specs.Parts.{remark}
 use Rattle.lines.proofs.Pieces.{by-case, nothing-put, refused-line, broken-line}
 use Rattle.lines.proofs.piece.put_refused.Statement.{statement}
 use Rattle.lines.proofs.piece.put_refused.Tie as tie

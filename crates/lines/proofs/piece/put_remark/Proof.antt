@@ -1,6 +1,6 @@
 -- `lines::piece::put_remark` meets its contract.
 use borrow.Author.Needs.{needs}
-use Rattle.shown.specs.Parts.{remark}
+use Rattle.board_spec.specs.Parts.{remark}
 use Rattle.lines.proofs.Pieces.{by-case, nothing-put, said-line, lost-line}
 use Rattle.lines.proofs.piece.put_remark.Statement.{statement}
 use Rattle.lines.proofs.piece.put_remark.Tie as tie

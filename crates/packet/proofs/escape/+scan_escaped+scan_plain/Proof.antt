@@ -5,10 +5,10 @@ use lib.ListN.{length, drop}
 use borrow.Author.Needs.{needs}
 use borrow.Fn.PlainCycle.{Measures}
 use native.Mathlib.Omega.{arith}
-use Rattle.frames.specs.Escape.{wrongFrom}
+use Rattle.packet_spec.specs.Escape.{wrongFrom}
 use Rattle.base.proofs.Cycle.{at, below}
 use Rattle.base.proofs.Lists.{next, over}
-use Rattle.frames.proofs.Escaping.{right-in, right-low, right-high}
+use Rattle.packet_spec.proofs.Escaping.{right-in, right-low, right-high}
 use Rattle.packet.proofs.Runs.{found-is, found-within, scan-ends, scan-hands, wrong-plain}
 use Rattle.packet.proofs.search.up_to.Reads as up-to-reads
 use Rattle.packet.proofs.escape.scan_escaped.Reads as escaped-reads

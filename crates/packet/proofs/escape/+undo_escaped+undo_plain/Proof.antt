@@ -5,7 +5,7 @@ use lib.ListN.{length-set}
 use borrow.Author.Needs.{needs}
 use borrow.Fn.PlainCycle.{Measures}
 use native.Mathlib.Omega.{arith}
-use Rattle.frames.specs.Escape.{plain, escaped}
+use Rattle.packet_spec.specs.Escape.{plain, escaped}
 use Rattle.base.proofs.Cycle.{at, below}
 use Rattle.base.proofs.Lists.{part-over, part-next, part-set}
 use Rattle.base.proofs.Laid.{laid-none, laid-more}

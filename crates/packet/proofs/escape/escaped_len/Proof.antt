@@ -3,9 +3,9 @@ use mathlib.Core.Path.{_≡_, ap}
 use mathlib.Core.List.{List}
 use Prim.Native.Nat.{ℕ, _+_, _-_, _*_, _≤_}
 use lib.ListN.{length, drop, getD}
-use Rattle.frames.specs.Escape.{escape}
+use Rattle.packet_spec.specs.Escape.{escape}
 use Rattle.base.proofs.Lists.{over}
-use Rattle.frames.proofs.Escaping.{width-most, escape-next}
+use Rattle.packet_spec.proofs.Escaping.{width-most, escape-next}
 use borrow.Author.Needs.{needs}
 use native.Mathlib.Omega.{arith}
 use Rattle.packet.proofs.escape.escaped_len.Statement.{statement}

@@ -5,8 +5,8 @@ use borrow.Author.Needs.{needs}
 use borrow.Author.Tests.{le-ltb}
 use lib.Dec.{ltb}
 use lib.ListN.{length}
-use Rattle.frames.specs.Escape.{escape}
-use Rattle.frames.proofs.Escaping.{escape-most}
+use Rattle.packet_spec.specs.Escape.{escape}
+use Rattle.packet_spec.proofs.Escaping.{escape-most}
 use Rattle.packet.proofs.escape.longer.Statement.{statement}
 use Rattle.packet.proofs.escape.longer.Tie as tie
 

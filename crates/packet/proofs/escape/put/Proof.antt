@@ -4,10 +4,10 @@ use mathlib.Core.List.{List}
 use Prim.Native.Nat.{ℕ, _+_, _-_, _≤_}
 use lib.ListN.{length, drop}
 use lib.Seq.{sets}
-use Rattle.frames.specs.Escape.{escape}
+use Rattle.packet_spec.specs.Escape.{escape}
 use Rattle.base.proofs.Lists.{over}
 use Rattle.base.proofs.Laid.{laid-then}
-use Rattle.frames.proofs.Escaping.{escape-cons, escape-next}
+use Rattle.packet_spec.proofs.Escaping.{escape-cons, escape-next}
 use borrow.Author.Needs.{needs}
 use native.Mathlib.Omega.{arith}
 use Rattle.packet.proofs.escape.put.Statement.{statement}

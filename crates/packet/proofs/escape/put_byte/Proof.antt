@@ -4,7 +4,7 @@ use native.Mathlib.Omega.{arith}
 use native.Mathlib.Numerals.{add-one}
 use lib.ListN.{length, length-set}
 use borrow.Author.Needs.{needs}
-use Rattle.frames.proofs.Escaping.{escape-flag, escape-escape, escape-other}
+use Rattle.packet_spec.proofs.Escaping.{escape-flag, escape-escape, escape-other}
 use Rattle.packet.proofs.escape.put_byte.Statement.{statement}
 use Rattle.packet.proofs.escape.put_byte.Tie as tie
 

@@ -6,9 +6,9 @@ use native.Mathlib.Omega.{arith}
 use borrow.Author.Tests.{eq-eqb, ne-eqb}
 use borrow.Author.Needs.{needs}
 use Rattle.base.proofs.Lists.{over}
-use Rattle.frames.specs.Escape.{scan, wrongFrom, scannedBy, last}
-use Rattle.frames.specs.declared.Escapes.the-variants.{Wrong}
-use Rattle.frames.proofs.Escaping.{last-at}
+use Rattle.packet_spec.specs.Escape.{scan, wrongFrom, scannedBy, last}
+use Rattle.packet_spec.specs.declared.Escapes.the-variants.{Wrong}
+use Rattle.packet_spec.proofs.Escaping.{last-at}
 use Rattle.packet.proofs.escape.scan.Statement.{statement}
 use Rattle.packet.proofs.escape.scan.Tie as tie
 

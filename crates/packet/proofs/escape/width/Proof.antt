@@ -1,7 +1,7 @@
 -- `packet::width` meets its contract: each answer is the case of `escapeByte` that the tests pick.
 use mathlib.Core.Path.{ap, sym}
 use lib.ListN.{length}
-use Rattle.frames.proofs.Escaping.{escape-flag, escape-escape, escape-other}
+use Rattle.packet_spec.proofs.Escaping.{escape-flag, escape-escape, escape-other}
 use Rattle.packet.proofs.escape.width.Statement.{statement}
 use Rattle.packet.proofs.escape.width.Tie as tie
 

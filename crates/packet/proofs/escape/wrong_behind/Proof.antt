@@ -2,7 +2,7 @@
 use mathlib.Core.Path.{_∙_}
 use borrow.Author.Needs.{needs}
 use Rattle.base.proofs.Lists.{over}
-use Rattle.frames.specs.Escape.{wrongFrom}
+use Rattle.packet_spec.specs.Escape.{wrongFrom}
 use Rattle.packet.proofs.Runs.{at-start, behind-escape, behind-other}
 use Rattle.packet.proofs.escape.wrong_behind.Statement.{statement}
 use Rattle.packet.proofs.escape.wrong_behind.Tie as tie

@@ -7,8 +7,8 @@ use lib.ListN.{length-take}
 use lib.Seq.{length-take-le}
 use borrow.Author.Needs.{needs}
 use Rattle.base.proofs.Laid.{laid-start, laid-take, laid-within}
-use Rattle.frames.specs.Frame.{judged, judgeContents, closedBy}
-use Rattle.frames.proofs.Judging.{both, closed-over, closed-stored, plain-room}
+use Rattle.packet_spec.specs.Frame.{judged, judgeContents, closedBy}
+use Rattle.packet_spec.proofs.Judging.{both, closed-over, closed-stored, plain-room}
 use Rattle.packet.proofs.frame.close.Statement.{statement}
 use Rattle.packet.proofs.frame.close.Tie as tie
 

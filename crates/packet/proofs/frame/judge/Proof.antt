@@ -1,7 +1,7 @@
 -- `packet::frame::judge` meets its contract: each return by the tests that led there.
 use mathlib.Core.Path.{sym, _∙_}
 use borrow.Author.Needs.{needs}
-use Rattle.frames.proofs.Judging.{both, judging-over, judging-short, judging-is}
+use Rattle.packet_spec.proofs.Judging.{both, judging-over, judging-short, judging-is}
 use Rattle.packet.proofs.frame.judge.Statement.{statement}
 use Rattle.packet.proofs.frame.judge.Tie as tie
 

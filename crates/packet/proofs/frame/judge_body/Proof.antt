@@ -4,9 +4,9 @@ use Prim.Native.Nat.{_+_, _-_}
 use native.Mathlib.Omega.{arith}
 use lib.ListN.{length, drop, length-take, length-drop}
 use borrow.Author.Needs.{needs}
-use Rattle.frames.specs.Contents.{keyAt}
-use Rattle.frames.specs.Frame.{judged}
-use Rattle.frames.proofs.Judging.{body-format, body-key, key-fits, as-plain, as-keyed}
+use Rattle.packet_spec.specs.Contents.{keyAt}
+use Rattle.packet_spec.specs.Frame.{judged}
+use Rattle.packet_spec.proofs.Judging.{body-format, body-key, key-fits, as-plain, as-keyed}
 use Rattle.packet.proofs.frame.judge_body.Statement.{statement}
 use Rattle.packet.proofs.frame.judge_body.Tie as tie
 

@@ -3,8 +3,8 @@ use mathlib.Core.Path.{ap, sym, _∙_}
 use native.Mathlib.Omega.{arith}
 use lib.ListN.{length-take}
 use borrow.Author.Needs.{needs}
-use Rattle.frames.specs.Frame.{judged}
-use Rattle.frames.proofs.Judging.{judge-short, judge-check, judge-body}
+use Rattle.packet_spec.specs.Frame.{judged}
+use Rattle.packet_spec.proofs.Judging.{judge-short, judge-check, judge-body}
 use Rattle.packet.proofs.frame.judge_contents.Statement.{statement}
 use Rattle.packet.proofs.frame.judge_contents.Tie as tie
 

@@ -2,7 +2,7 @@
 use mathlib.Core.Path.{refl, sym, _∙_}
 use borrow.Author.Needs.{needs}
 use borrow.Author.Tests.{ltb-true, ltb-false}
-use Rattle.frames.proofs.Judging.{rest-port, rest-payload, rest-packet}
+use Rattle.packet_spec.proofs.Judging.{rest-port, rest-payload, rest-packet}
 use Rattle.packet.proofs.frame.judge_packet.Statement.{statement}
 use Rattle.packet.proofs.frame.judge_packet.Tie as tie
 

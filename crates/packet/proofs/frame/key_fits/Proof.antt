@@ -1,7 +1,7 @@
 -- `packet::frame::key_fits` meets its contract.
 use mathlib.Core.Path.{sym, _∙_}
 use borrow.Author.Needs.{needs}
-use Rattle.frames.proofs.Judging.{fits-sized, fits-not}
+use Rattle.packet_spec.proofs.Judging.{fits-sized, fits-not}
 use Rattle.packet.proofs.frame.key_fits.Statement.{statement}
 use Rattle.packet.proofs.frame.key_fits.Tie as tie
 

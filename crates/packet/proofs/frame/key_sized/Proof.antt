@@ -1,6 +1,6 @@
 -- `packet::frame::key_sized` meets its contract.
 use borrow.Author.Tests.{lt-leb, le-leb}
-use Rattle.frames.specs.Contents.{keyLeast}
+use Rattle.packet_spec.specs.Contents.{keyLeast}
 use Rattle.packet.proofs.frame.key_sized.Statement.{statement}
 use Rattle.packet.proofs.frame.key_sized.Tie as tie
 

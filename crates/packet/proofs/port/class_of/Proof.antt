@@ -1,7 +1,7 @@
 -- `packet::class_of` meets its contract: row after row of the table.
 use mathlib.Core.Path.{sym}
 use native.Mathlib.Omega.{arith}
-use Rattle.frames.proofs.Classes.{from-0000, from-0401, from-5100, from-5101, from-5201, from-5208, from-5300, from-7D00, from-7F00, from-FF00}
+use Rattle.packet_spec.proofs.Classes.{from-0000, from-0401, from-5100, from-5101, from-5201, from-5208, from-5300, from-7D00, from-7F00, from-FF00}
 use Rattle.packet.proofs.port.class_of.Statement.{statement}
 use Rattle.packet.proofs.port.class_of.Tie as tie
 

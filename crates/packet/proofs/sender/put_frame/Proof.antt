@@ -5,8 +5,8 @@ use mathlib.Core.List.{_++_}
 use lib.ListN.{length-set}
 use borrow.Author.Needs.{needs}
 use Rattle.base.proofs.Writing.{write-short}
-use Rattle.frames.specs.Sender.{flagged}
-use Rattle.frames.proofs.Escaping.{escape-most}
+use Rattle.packet_spec.specs.Sender.{flagged}
+use Rattle.packet_spec.proofs.Escaping.{escape-most}
 use Rattle.packet.proofs.Sending.{framed-length, laid-frame, frame-fits}
 use Rattle.packet.proofs.sender.put_frame.Statement.{statement}
 use Rattle.packet.proofs.sender.put_frame.Tie as tie

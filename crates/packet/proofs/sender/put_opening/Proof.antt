@@ -2,7 +2,7 @@
 use mathlib.Core.List.{[]}
 use native.Mathlib.Omega.{arith}
 use borrow.Author.Needs.{needs}
-use Rattle.frames.specs.Contents.{packetOf}
+use Rattle.packet_spec.specs.Contents.{packetOf}
 use Rattle.packet.proofs.Sending.{head-most, laid-opening}
 use Rattle.packet.proofs.sender.put_opening.Statement.{statement}
 use Rattle.packet.proofs.sender.put_opening.Tie as tie

@@ -6,7 +6,7 @@ use native.Mathlib.Omega.{arith}
 use borrow.Author.Needs.{needs}
 use lib.ListN.{length}
 use Rattle.base.specs.Written.{write}
-use Rattle.frames.specs.Contents.{packetOf}
+use Rattle.packet_spec.specs.Contents.{packetOf}
 use Rattle.packet.proofs.Sending.{opening-part, opening-short, opening-most, sent-parts}
 use Rattle.packet.proofs.sender.put_packet.Statement.{statement}
 use Rattle.packet.proofs.sender.put_packet.Tie as tie

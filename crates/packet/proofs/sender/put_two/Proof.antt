@@ -7,7 +7,7 @@ use native.Mathlib.Numerals.{add-one}
 use lib.ListN.{getD, set, length-set}
 use borrow.Author.Needs.{needs}
 use Rattle.base.specs.Private.{Laid}
-use Rattle.frames.specs.Contents.{two}
+use Rattle.packet_spec.specs.Contents.{two}
 use Rattle.packet.proofs.sender.put_two.Statement.{statement}
 use Rattle.packet.proofs.sender.put_two.Tie as tie
 

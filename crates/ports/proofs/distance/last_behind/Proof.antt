@@ -1,7 +1,7 @@
 -- `ports::last_behind` meets its contract.
 use native.Mathlib.Omega.{arith}
 use borrow.Author.Needs.{needs}
-use Rattle.sequences.proofs.Rule.{last-new, last-late}
+use Rattle.ports_spec.proofs.Rule.{last-new, last-late}
 use Rattle.ports.proofs.distance.last_behind.Statement.{statement}
 use Rattle.ports.proofs.distance.last_behind.Tie as tie
 

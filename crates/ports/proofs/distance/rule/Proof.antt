@@ -1,7 +1,7 @@
 -- `ports::rule` meets its contract.
 use native.Mathlib.Omega.{arith}
 use borrow.Author.Needs.{needs}
-use Rattle.sequences.proofs.Rule.{rule-zero, rule-one, rule-missing, rule-late}
+use Rattle.ports_spec.proofs.Rule.{rule-zero, rule-one, rule-missing, rule-late}
 use Rattle.ports.proofs.distance.rule.Statement.{statement}
 use Rattle.ports.proofs.distance.rule.Tie as tie
 

@@ -4,7 +4,7 @@ use Prim.Native.Nat.{_+_, _-_, _≤_}
 use native.Mathlib.Omega.{arith}
 use lib.ListN.{length, take, drop}
 use borrow.Author.Needs.{needs}
-use Rattle.sequences.specs.Ports.{freePlace}
+use Rattle.ports_spec.specs.Ports.{freePlace}
 use Rattle.ports.proofs.Finding.{free-here, free-on, free-end}
 use Rattle.ports.proofs.places.free_place.Statement.{statement}
 use Rattle.ports.proofs.places.free_place.Tie as tie

@@ -4,7 +4,7 @@ use Prim.Native.Nat.{_+_, _-_, _≤_}
 use native.Mathlib.Omega.{arith}
 use lib.ListN.{length, take, drop}
 use borrow.Author.Needs.{needs}
-use Rattle.sequences.specs.Ports.{twice}
+use Rattle.ports_spec.specs.Ports.{twice}
 use Rattle.ports.proofs.Finding.{twice-here, twice-on, twice-end}
 use Rattle.ports.proofs.places.is_twice.Statement.{statement}
 use Rattle.ports.proofs.places.is_twice.Tie as tie

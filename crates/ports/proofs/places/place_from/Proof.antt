@@ -4,7 +4,7 @@ use Prim.Native.Nat.{_+_, _-_, _≤_}
 use native.Mathlib.Omega.{arith}
 use lib.ListN.{length, take, drop}
 use borrow.Author.Needs.{needs}
-use Rattle.sequences.specs.Ports.{placeOf}
+use Rattle.ports_spec.specs.Ports.{placeOf}
 use Rattle.ports.proofs.Finding.{place-here, place-on, place-end}
 use Rattle.ports.proofs.places.place_from.Statement.{statement}
 use Rattle.ports.proofs.places.place_from.Tie as tie

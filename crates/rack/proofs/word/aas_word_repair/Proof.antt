@@ -1,7 +1,7 @@
 -- `word::aas_word_repair` meets its contract: each return by what repair finds.
 use native.Mathlib.Omega.{arith}
 use borrow.Author.Needs.{needs}
-use Rattle.words.proofs.Values.{bytes-of}
+use Rattle.word_spec.proofs.Values.{bytes-of}
 use Rattle.rack.proofs.Numbered.{few, mended-number}
 use Rattle.rack.proofs.word.aas_word_repair.Statement.{statement}
 use Rattle.rack.proofs.word.aas_word_repair.Tie as tie

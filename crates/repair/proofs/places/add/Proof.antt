@@ -7,7 +7,7 @@ use lib.ListN.{length, take, drop, length-set}
 use borrow.Author.Needs.{needs}
 use Rattle.field.specs.Field.{alpha, pow}
 use Rattle.field.proofs.Powers.{pow-zero}
-use Rattle.words.specs.Word.{onto}
+use Rattle.word_spec.specs.Word.{onto}
 use Rattle.repair.specs.Way.{errors}
 use Rattle.repair.proofs.Loops.{add-start, add-next, point-next, value-there, back-done}
 use Rattle.repair.proofs.places.add.Statement.{statement}

@@ -6,7 +6,7 @@ use native.Mathlib.Omega.{arith}
 use lib.ListN.{length, take, drop}
 use lib.Seq.{length-take-le}
 use borrow.Author.Needs.{needs}
-use Rattle.words.specs.Word.{valuesFrom}
+use Rattle.word_spec.specs.Word.{valuesFrom}
 use Rattle.repair.proofs.Loops.{places-start, places-length, places-next, places-done}
 use Rattle.repair.proofs.places.at_places.Statement.{statement}
 use Rattle.repair.proofs.places.at_places.Tie as tie

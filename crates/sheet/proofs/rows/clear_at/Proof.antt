@@ -1,8 +1,8 @@
 -- `sheet::rows::clear_at` meets its contract.
 use borrow.Author.Needs.{needs}
 use mathlib.Core.Path.{ap, _∙_}
-use Rattle.sheets.specs.declared.Row.{Row}
-use Rattle.sheets.specs.Rows.{cleared}
+use Rattle.sheet_spec.specs.declared.Row.{Row}
+use Rattle.sheet_spec.specs.Rows.{cleared}
 use Rattle.sheet.proofs.rows.clear_at.Statement.{statement}
 use Rattle.sheet.proofs.rows.clear_at.Tie as tie
 

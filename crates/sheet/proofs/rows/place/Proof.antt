@@ -4,8 +4,8 @@ use native.Mathlib.Omega.{arith}
 use Prim.Native.Nat.{_+_, _-_, _≤_}
 use mathlib.Core.Path.{_≡_, refl}
 use lib.ListN.{length, take, drop}
-use Rattle.sheets.specs.Places.{placeFor}
-use Rattle.sheets.proofs.Places.{place-here, place-on, place-end}
+use Rattle.sheet_spec.specs.Places.{placeFor}
+use Rattle.sheet_spec.proofs.Places.{place-here, place-on, place-end}
 use Rattle.sheet.proofs.rows.place.Statement.{statement}
 use Rattle.sheet.proofs.rows.place.Tie as tie
 

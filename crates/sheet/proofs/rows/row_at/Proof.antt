@@ -1,6 +1,6 @@
 -- `sheet::rows::row_at` meets its contract.
 use borrow.Author.Needs.{needs}
-use Rattle.sheets.proofs.Places.{at-in, at-past, at-over}
+use Rattle.sheet_spec.proofs.Places.{at-in, at-past, at-over}
 use Rattle.sheet.proofs.rows.row_at.Statement.{statement}
 use Rattle.sheet.proofs.rows.row_at.Tie as tie
 

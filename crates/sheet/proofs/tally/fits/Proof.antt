@@ -2,8 +2,8 @@
 use borrow.Author.Needs.{needs}
 use mathlib.Core.Path.{ap, _∙_}
 use mathlib.Core.Bool.{not}
-use Rattle.sheets.specs.declared.Tally.{Tally}
-use Rattle.sheets.specs.Tally.{wide}
+use Rattle.sheet_spec.specs.declared.Tally.{Tally}
+use Rattle.sheet_spec.specs.Tally.{wide}
 use Rattle.sheet.proofs.Sums.{tally-is}
 use Rattle.sheet.proofs.tally.fits.Statement.{statement}
 use Rattle.sheet.proofs.tally.fits.Tie as tie

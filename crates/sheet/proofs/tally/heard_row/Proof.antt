@@ -1,7 +1,7 @@
 -- `sheet::tally::heard_row` meets its contract.
 use borrow.Author.Needs.{needs}
 use mathlib.Core.Path.{ap, _∙_}
-use Rattle.sheets.specs.Tally.{wide}
+use Rattle.sheet_spec.specs.Tally.{wide}
 use Rattle.sheet.proofs.Sums.{tally-is, heard-is}
 use Rattle.sheet.proofs.tally.heard_row.Statement.{statement}
 use Rattle.sheet.proofs.tally.heard_row.Tie as tie

@@ -1,7 +1,7 @@
 -- `sheet::tally::sum` meets its contract.
 use borrow.Author.Needs.{needs}
 use native.Mathlib.Omega.{arith}
-use Rattle.sheets.specs.Tally.{plus}
+use Rattle.sheet_spec.specs.Tally.{plus}
 use Rattle.sheet.proofs.Sums.{smalls}
 use Rattle.sheet.proofs.tally.sum.Statement.{statement}
 use Rattle.sheet.proofs.tally.sum.Tie as tie

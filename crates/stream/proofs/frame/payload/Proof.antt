@@ -2,7 +2,7 @@
 use mathlib.Core.Path.{ap, _∙_}
 use Prim.Native.Nat.{ℕ}
 use borrow.Author.Needs.{needs}
-use Rattle.frames.specs.Frame.{part}
+use Rattle.packet_spec.specs.Frame.{part}
 use Rattle.stream.proofs.frame.payload.Statement.{statement}
 use Rattle.stream.proofs.frame.payload.Tie as tie
 

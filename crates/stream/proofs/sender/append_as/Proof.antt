@@ -1,7 +1,7 @@
 -- `stream::sender::append_as` meets its contract.
 use borrow.Author.Needs.{needs}
-use Rattle.frames.specs.Contents.{packetOf}
-use Rattle.frames.specs.Sender.{writing}
+use Rattle.packet_spec.specs.Contents.{packetOf}
+use Rattle.packet_spec.specs.Sender.{writing}
 use Rattle.stream.proofs.Sending.{appended}
 use Rattle.stream.proofs.sender.append_as.Statement.{statement}
 use Rattle.stream.proofs.sender.append_as.Tie as tie

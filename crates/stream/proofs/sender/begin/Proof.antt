@@ -4,7 +4,7 @@ use mathlib.Core.List.{[], _∷_}
 use native.Mathlib.Omega.{arith}
 use borrow.Author.Needs.{needs}
 use Rattle.base.proofs.Writing.{write-short}
-use Rattle.frames.specs.Escape.{flag}
+use Rattle.packet_spec.specs.Escape.{flag}
 use Rattle.stream.proofs.Sending.{begins}
 use Rattle.stream.proofs.sender.begin.Statement.{statement}
 use Rattle.stream.proofs.sender.begin.Tie as tie

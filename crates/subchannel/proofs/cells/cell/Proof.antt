@@ -2,7 +2,7 @@
 use mathlib.Core.Path.{refl}
 use native.Mathlib.Omega.{arith}
 use borrow.Author.Needs.{needs}
-use Rattle.matrices.proofs.Places.{row-below}
+use Rattle.interleaver_spec.proofs.Places.{row-below}
 use Rattle.subchannel.proofs.cells.cell.Statement.{statement}
 use Rattle.subchannel.proofs.cells.cell.Tie as tie
 

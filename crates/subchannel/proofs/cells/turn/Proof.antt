@@ -3,7 +3,7 @@ use mathlib.Core.Path.{refl}
 use native.Mathlib.Omega.{arith}
 use borrow.Author.Needs.{needs}
 use borrow.Author.Tests.{eq-eqb, ne-eqb}
-use Rattle.matrices.proofs.Calling.{below}
+use Rattle.interleaver_spec.proofs.Calling.{below}
 use Rattle.subchannel.proofs.Steps.{turned-flat, turned-full, turned-kept, again-full, last-full}
 use Rattle.subchannel.proofs.cells.turn.Statement.{statement}
 use Rattle.subchannel.proofs.cells.turn.Tie as tie

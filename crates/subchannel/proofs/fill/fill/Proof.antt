@@ -4,8 +4,8 @@ use mathlib.Core.Path.{_≡_, refl, _∙_}
 use mathlib.Core.Bool.{false}
 use native.Mathlib.Omega.{arith}
 use lib.ListN.{length, getD, length-set}
-use Rattle.matrices.specs.Running.{depthLimit, matrix, back, beyond}
-use Rattle.blocks.specs.Sender.{wordBytes}
+use Rattle.interleaver_spec.specs.Running.{depthLimit, matrix, back, beyond}
+use Rattle.channel_spec.specs.Sender.{wordBytes}
 use Rattle.subchannel.proofs.Filling.{Runs, runs-first, runs-next, runs-last, turned-placed}
 use Rattle.subchannel.proofs.fill.fill.Statement.{statement}
 use Rattle.subchannel.proofs.fill.fill.Tie as tie

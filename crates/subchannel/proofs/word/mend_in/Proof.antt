@@ -3,7 +3,7 @@ use mathlib.Core.Path.{ap}
 use mathlib.Core.List.{_++_}
 use lib.ListN.{drop}
 use borrow.Author.Needs.{needs}
-use Rattle.blocks.specs.Sender.{wordBytes}
+use Rattle.channel_spec.specs.Sender.{wordBytes}
 use Rattle.subchannel.proofs.word.mend_in.Statement.{statement}
 use Rattle.subchannel.proofs.word.mend_in.Tie as tie
 

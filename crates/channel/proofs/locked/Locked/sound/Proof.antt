@@ -1,6 +1,6 @@
 -- `Locked::sound` meets its contract.
 use borrow.Author.Tests.{le-leb, lt-leb}
-use Rattle.blocks.proofs.Tests.{two-and}
+use Rattle.channel_spec.proofs.Tests.{two-and}
 use Rattle.channel.proofs.locked.Locked.sound.Statement.{statement}
 use Rattle.channel.proofs.locked.Locked.sound.Tie as tie
 

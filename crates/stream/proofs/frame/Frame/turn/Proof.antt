@@ -3,7 +3,7 @@ use mathlib.Core.Path.{sym, subst, _∙_}
 use Prim.Native.Nat.{ℕ, _≤_}
 use native.Mathlib.Omega.{arith}
 use borrow.Author.Needs.{needs}
-use Rattle.frames.specs.Contents.{rawLimit}
+use Rattle.packet_spec.specs.Contents.{rawLimit}
 use Rattle.stream.specs.Called.{held}
 use Rattle.stream.proofs.Fine.{fine-of}
 use Rattle.stream.proofs.Runs.{counted-room, before-stops}

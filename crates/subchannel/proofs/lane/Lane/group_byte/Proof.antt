@@ -1,6 +1,6 @@
 -- `Lane::group_byte` meets its contract.
 use borrow.Author.Needs.{needs}
-use Rattle.matrices.specs.Running.{matrix, back}
+use Rattle.interleaver_spec.specs.Running.{matrix, back}
 use Rattle.subchannel.proofs.Steps.{eats-brought, eats-kept}
 use Rattle.subchannel.proofs.lane.Lane.group_byte.Statement.{statement}
 use Rattle.subchannel.proofs.lane.Lane.group_byte.Tie as tie

@@ -1,7 +1,7 @@
 -- `Counts::sound` meets its contract.
 use borrow.Author.Tests.{le-leb, lt-leb}
 use borrow.Author.Needs.{needs}
-use Rattle.blocks.proofs.Tests.{three-and}
+use Rattle.channel_spec.proofs.Tests.{three-and}
 use Rattle.subchannel.proofs.settings.Counts.sound.Statement.{statement}
 use Rattle.subchannel.proofs.settings.Counts.sound.Tie as tie
 

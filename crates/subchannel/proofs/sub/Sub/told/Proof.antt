@@ -1,7 +1,7 @@
 -- `Sub::told` meets its contract.
 use mathlib.Core.Bool.{true, false}
 use borrow.Author.Needs.{needs}
-use Rattle.blocks.specs.Channel.{zeros}
+use Rattle.channel_spec.specs.Channel.{zeros}
 use Rattle.subchannel.specs.Called.{sub, lane, settings}
 use Rattle.subchannel.proofs.sub.Sub.told.Statement.{statement}
 use Rattle.subchannel.proofs.sub.Sub.told.Tie as tie

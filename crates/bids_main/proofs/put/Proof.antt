@@ -1,0 +1,35 @@
+-- `bids_main::put` is safe and ends: the place stays within the bytes.
+use borrow.Author.Needs.{needs}
+use lib.ListN.{length}
+use Prim.Native.Nat.{_-_, _≤_}
+use Rattle.bids_main.proofs.put.Statement.{statement}
+use Rattle.bids_main.proofs.put.Tie as tie
+
+abbrev Inv-loop : tie.InvT-loop
+Inv-loop recording bytes at₀ at = at ≤ length bytes
+
+abbrev μ-loop : tie.MeasureT-loop
+μ-loop recording bytes at₀ at = length bytes - at
+
+pub put-spec : {M : Type 1} → statement M
+put-spec =
+    tie.close
+    (tie.spec Inv-loop μ-loop
+    (search needs)
+    (search needs)
+    (search needs)
+    (search needs)
+    (search needs)
+    (search needs)
+    (search needs)
+    (search needs)
+    (search needs)
+    (search needs)
+    (search needs)
+    (search needs)
+    (search needs)
+    (search needs)
+    (search needs)
+    (search needs)
+    (search needs)
+    (search needs))

@@ -1,0 +1,189 @@
+//! The board as a program, `board stream|recording [blocks]`: on standard output what the manager reads of standard input, the bytes of an
+//! opportunistic channel as they are, or a recording; with `blocks` clean and repaired blocks are told too. Bytes are read as they come, and what
+//! they show is out before the next are read. Where something fails it says so on standard error and stops; where the input is no whole recording,
+//! it says so behind the last line.
+ghost use Prim.Native.Nat.{_≤_};
+ghost use lib.ListN.{length};
+use board::Readout;
+use board::Wants;
+use channel::Receiver;
+use libc::STDERR_FILENO;
+use libc::STDIN_FILENO;
+use libc::STDOUT_FILENO;
+
+// The board behind a call.
+struct Turn {
+    // The rest of the piece is to be handed in again.
+    again: bool,
+    // It goes on; else it was said why not.
+    go: bool,
+    taken: usize,
+    next: Readout,
+}
+
+// Bytes of text that a call may write.
+const ROOM: usize = 8192;
+
+fn main() {
+    let count = os::arg_count();
+    if count == 2 {
+        choose(false);
+        return;
+    }
+    if count == 3 && is_word(2, b"blocks") {
+        choose(true);
+        return;
+    }
+    usage();
+}
+
+// What the first word asks for.
+fn choose(blocks: bool) {
+    if is_word(1, b"stream") {
+        show(Readout::fresh(true, blocks));
+        return;
+    }
+    if is_word(1, b"recording") {
+        show(Readout::fresh(false, blocks));
+        return;
+    }
+    usage();
+}
+
+// Whether an argument is this word.
+fn is_word(i: usize, word: &[u8]) -> bool {
+    let mut space = io::buffer();
+    let n = os::arg(i, &mut space);
+    check::same(&space[..n], word)
+}
+
+fn usage() {
+    say(b"usage: board stream|recording [blocks] <IN\n");
+}
+
+fn say(text: &[u8]) {
+    io::write_all(STDERR_FILENO, text);
+}
+
+// Standard input, piece by piece as it comes.
+fn show(fresh: Readout) {
+    let mut recv = [0u8; Receiver::RAW];
+    let mut word = [0u8; Receiver::WORD];
+    let mut piece = io::buffer();
+    let mut out = [0u8; ROOM];
+    let mut readout = fresh;
+    let mut reads = u64::MAX;
+    while reads > 0 {
+        let got = libc::read(STDIN_FILENO, &mut piece);
+        if got < 0 {
+            say(b"board: cannot read standard input\n");
+            return;
+        }
+        if got == 0 {
+            finish(readout);
+            return;
+        }
+        let n = io::count(got, &piece);
+        let turn = read_out(readout, &mut recv, &mut word, &piece[0..n], &mut out);
+        readout = turn.next;
+        if !turn.go {
+            return;
+        }
+        reads -= 1;
+    }
+}
+
+// A piece, until more is wanted.
+fn read_out(
+    start: Readout,
+    recv: &mut [u8],
+    word: &mut [u8],
+    piece: &[u8],
+    out: &mut [u8],
+) -> Turn {
+    let mut turn = Turn {
+        again: true,
+        go: false,
+        taken: 0,
+        next: start,
+    };
+    let mut i: usize = 0;
+    let mut calls = u64::MAX;
+    while calls > 0 {
+        turn = call(turn.next, recv, word, &piece[i..], out);
+        i += turn.taken;
+        if !turn.again {
+            return turn;
+        }
+        calls -= 1;
+    }
+    turn
+}
+
+// One call, and what it wrote.
+fn call(start: Readout, recv: &mut [u8], word: &mut [u8], piece: &[u8], out: &mut [u8]) -> Turn
+    ensures { λ t. ⌜ t .taken ≤ length (now (piece .entry)) ⌝ }
+{
+    let took = start.take(recv, word, piece, out);
+    let taken = took.taken;
+    let next = took.next;
+    let wants = took.wants;
+    let n = took.written;
+    if !print(&out[0..n]) {
+        return Turn {
+            again: false,
+            go: false,
+            taken,
+            next,
+        };
+    }
+    Turn {
+        again: wants_again(wants),
+        go: !is_refused(wants),
+        taken,
+        next,
+    }
+}
+
+fn wants_again(wants: Wants) -> bool {
+    match wants {
+        Wants::More => false,
+        Wants::Again => true,
+        Wants::Refused(_) => false,
+    }
+}
+
+// Whether a call was refused: no recording of less than 2^64 bytes comes to that, and no stream.
+fn is_refused(wants: Wants) -> bool {
+    match wants {
+        Wants::More => false,
+        Wants::Again => false,
+        Wants::Refused(_) => {
+            say(b"board: the recording is too long\n");
+            true
+        }
+    }
+}
+
+// What is still to be said behind the last byte.
+fn finish(readout: Readout) {
+    let last = readout.finish();
+    let text = last.bytes;
+    put(last.length, &text);
+}
+
+// .. the first so many bytes of a text: a line where the input is no whole recording, and else none.
+fn put(n: usize, text: &[u8]) {
+    if n > 0 && print(&text[0..base::least(n, text.len())]) {
+        say(b"board: no whole recording\n");
+    }
+}
+
+// Text to standard output; whether all went there.
+fn print(text: &[u8]) -> bool {
+    if io::write_all(STDOUT_FILENO, text) {
+        return true;
+    }
+    say(b"board: cannot write standard output\n");
+    false
+}

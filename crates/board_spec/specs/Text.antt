@@ -1,0 +1,41 @@
+-- The text of a packet as the board shows it.
+-- shownByte, shownText   a payload's bytes: each printable one as it is, the others by number
+-- heading, bidText       `PORT SEQUENCE ` and the text behind it
+use Prim.Native.Nat.{ℕ, _+_, _/_, _%_}
+use mathlib.Core.Bool.{Bool, _&&_}
+use mathlib.Core.List.{List, [], _∷_, _++_}
+use lib.Dec.{eqb, leb, ltb}
+use Rattle.base.specs.Choice.{pick}
+use Rattle.bid.specs.Line.{space}
+use Rattle.listing_spec.specs.Lines.{decimal}
+
+-- a backslash
+abbrev pub backslash : ℕ
+backslash = 92
+
+-- from the space to the tilde
+abbrev pub printable : ℕ → Bool
+printable b = leb 32 b && leb b 126
+
+-- a digit of base 16: 0 to 9, A to F
+abbrev pub sixteenth : ℕ → ℕ
+sixteenth n = pick (ltb n 10) (48 + n) (55 + n)
+
+-- a byte: a backslash doubled, a printable one as it is, any other by a backslash, x and its two digits
+unfoldable pub shownByte : ℕ → List ℕ
+shownByte b =
+    pick (eqb b backslash) (backslash ∷ backslash ∷ [])
+    (pick (printable b) (b ∷ []) (backslash ∷ 120 ∷ sixteenth (b / 16) ∷ sixteenth (b % 16) ∷ []))
+
+-- bytes, one after the other
+unfoldable pub shownText : List ℕ → List ℕ
+shownText [] = []
+shownText (b ∷ bs) = shownByte b ++ shownText bs
+
+-- `PORT SEQUENCE `
+abbrev pub heading : ℕ → ℕ → List ℕ
+heading port sequence = decimal port ++ (space ∷ []) ++ decimal sequence ++ (space ∷ [])
+
+-- `PORT SEQUENCE TEXT`
+unfoldable pub bidText : ℕ → ℕ → List ℕ → List ℕ
+bidText port sequence payload = heading port sequence ++ shownText payload

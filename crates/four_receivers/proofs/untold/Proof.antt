@@ -1,0 +1,15 @@
+-- `untold` meets its contract.
+use mathlib.Core.Bool.{false}
+use borrow.Author.Needs.{needs}
+use Rattle.channel_spec.specs.Channel.{zeros}
+use Rattle.subchannel.specs.Called.{sub, lane, settings, counts}
+use Rattle.four_receivers.proofs.untold.Statement.{statement}
+use Rattle.four_receivers.proofs.untold.Tie as tie
+
+pub untold-spec : {M : Type 1} → statement M
+untold-spec =
+    tie.close
+    (tie.spec
+    (search needs)
+    (search needs)
+    (λ c i. sub (lane (settings false 0 0) false false zeros (counts 0 0 0 0) (c .before .fresh .ensures i)) (c .fresh-back .ensures i)))

@@ -1,3 +1,0 @@
-pub mod Deck
-pub mod Called
-pub mod Private

@@ -1,0 +1,41 @@
+-- `unit::writer::unit_byte` meets its contract.
+use mathlib.Core.Path.{_∙_}
+use lib.Dec.{lit<}
+use Rattle.unit.proofs.Digits.{byte-at}
+use Rattle.unit.proofs.Placing.{byte-within}
+use Rattle.unit.proofs.writer.unit_byte.Statement.{statement}
+use Rattle.unit.proofs.writer.unit_byte.Tie as tie
+
+pub unit-byte-spec : {M : Type 1} → statement M
+unit-byte-spec =
+    tie.close
+    (tie.spec
+    (λ c κs. let p = c .before .before .before .pre in (p .0, p .1, p .3, lit< tt))
+    (λ c κs. let p = c .before .before .before .before .pre in (p .0, p .1, p .3, lit< tt))
+    (λ c κs. let p = c .before .before .before .before .before .pre in (p .0, p .1, p .3, lit< tt))
+    (λ c κs. let p = c .before .before .before .before .before .before .pre in (p .0, p .1, p .3, lit< tt))
+    (λ c κs. let p = c .before .before .before .before .before .before .before .pre in (p .0, p .1, p .3, lit< tt))
+    (λ c κs. let p = c .before .before .before .before .before .before .before .before .pre in (p .0, p .1, p .3, lit< tt))
+    (λ c κs. let p = c .before .before .before .before .before .before .before .before .before .pre in (p .0, p .1, p .3, lit< tt))
+    (λ c κs. let p = c .before .before .before .before .before .before .before .before .before .before .pre in (p .0, p .1, p .3, lit< tt))
+    (λ c κs. (
+      c .before .before .before .before .before .before .before .unit-bit .ensures .1,
+      c .before .before .before .before .before .before .unit-bit2 .ensures .1,
+      c .before .before .before .before .before .unit-bit3 .ensures .1,
+      c .before .before .before .before .unit-bit4 .ensures .1,
+      c .before .before .before .unit-bit5 .ensures .1,
+      c .before .before .unit-bit6 .ensures .1,
+      c .before .unit-bit7 .ensures .1,
+      c .unit-bit8 .ensures .1,
+    ))
+    (λ c.
+    let s = c .before .before .before .before .before .before .before .before .before .before .before .before in
+    let a = s .args in
+    c .byte .ensures
+    ∙ byte-at _ _ (byte-within (a .size) (a .cw) (a .delimiter) (a .audio .now) (a .opportunistic .now) (a .fixed .now) (a .j) (s .pre .0) (s .pre .1)
+    (s .pre .2))
+    (c .before .before .before .before .before .before .before .before .unit-bit .ensures .0)
+    (c .before .before .before .before .before .before .before .unit-bit2 .ensures .0)
+    (c .before .before .before .before .before .before .unit-bit3 .ensures .0) (c .before .before .before .before .before .unit-bit4 .ensures .0)
+    (c .before .before .before .before .unit-bit5 .ensures .0) (c .before .before .before .unit-bit6 .ensures .0) (c .before .before .unit-bit7 .ensures .0)
+    (c .before .unit-bit8 .ensures .0)))
