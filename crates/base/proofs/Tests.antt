@@ -3,8 +3,9 @@
 -- and-l, and-r     the two halves of two tests, as `T` has them
 -- and-parts        .. and as equations
 -- and-false        two tests of which the second fails
+-- one-and          .. of which the first holds
 -- all, all-at      a test at each number below n, computed once, holds at each of them: how a whole table's rule is proved
-use mathlib.Core.Path.{_≡_, refl, sym, subst}
+use mathlib.Core.Path.{_≡_, refl, sym, ap, _∙_, subst}
 use mathlib.Core.Bool.{Bool, true, false, _&&_, false≢true}
 use mathlib.Core.Logic.{⊎-elim}
 use Prim.Native.Nat.{ℕ, zero, suc, _≤_, _<_}
@@ -55,3 +56,6 @@ all-at zero p t i h = absurd (not-suc-le-zero h)
 all-at (suc n) p t i h =
     ⊎-elim (λ (e : i ≡ n). subst (λ (k : ℕ). T (p k)) (sym e) (and-l (p n) (all n p) t))
     (λ (l : i < n). all-at n p (and-r (p n) (all n p) t) i l) (eq-or-lt-of-le (le-of-suc-le-suc h))
+
+pub one-and : {a x y : Bool} → a ≡ true → x ≡ y → x ≡ a && y
+one-and {a} {x} {y} p q = q ∙ ap (λ (t : Bool). t && y) (sym p)

@@ -5,3 +5,4 @@ pub mod Written
 pub mod Private
 pub mod Calls
 pub mod Determined
+pub mod ByHand

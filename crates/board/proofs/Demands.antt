@@ -15,7 +15,7 @@ use Rattle.channel.proofs.Fine.{fine-fresh}
 use Rattle.channel.proofs.Shown.{shown-all}
 use Rattle.listing_spec.specs.Apart.{freshSpot, apart, onChannel}
 use Rattle.listing_spec.specs.Listing.{heard}
-use Rattle.ports.proofs.Fresh.{fresh-fit}
+use Rattle.ports_spec.proofs.Laws.{fresh-fit}
 use Rattle.board_spec.specs.Board.{writtenAll, shows, boardText, recordingText, ending}
 use Rattle.recording.specs.Deck.{fresh}
 use Rattle.recording.specs.Called.{far}

@@ -19,8 +19,8 @@ use Rattle.packet_spec.specs.declared.Delivery.{Delivery}
 use Rattle.packet_spec.specs.declared.Judged.the-variants.{Packet as Delivered, Refused, Broken}
 use Rattle.channel_spec.specs.Channel.{Event}
 use Rattle.channel.specs.Called.{Board, board, sound, roomy, hearOn, hearCall, HearingIs}
-use Rattle.channel.specs.declared.answer.Answer.{Answer}
-use Rattle.channel.specs.declared.answer.Answer.the-variants.{More, Said, Block, LockLost}
+use Rattle.channel_spec.specs.declared.Answer.{Answer}
+use Rattle.channel_spec.specs.declared.Answer.the-variants.{More, Said, Block, LockLost}
 use Rattle.channel.specs.declared.answer.Hearing.{Hearing}
 use Rattle.bid.specs.Line.{feed}
 use Rattle.listing_spec.specs.Apart.{well}

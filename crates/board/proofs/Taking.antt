@@ -16,7 +16,8 @@ use Rattle.base.specs.Choice.{pick}
 use Rattle.base.proofs.Tests.{and-parts}
 use Rattle.packet_spec.specs.Frame.{packet, refusal, broken}
 use Rattle.channel_spec.specs.Channel.{Event, said, block, lost}
-use Rattle.channel.specs.Called.{sound, roomy, answered}
+use Rattle.channel.specs.Called.{sound, roomy}
+use Rattle.channel_spec.specs.Answer.{answered}
 use Rattle.listing_spec.specs.Lines.{longest, given}
 use Rattle.ports.specs.declared.by_value.Ports.{Ports}
 use Rattle.ports.specs.ByValue.{soundPorts}

@@ -14,8 +14,8 @@ use Rattle.packet_spec.specs.Contents.{keyFormat, payloadAt}
 use Rattle.packet_spec.specs.Frame.{part, noDelivery}
 use Rattle.packet_spec.specs.declared.Delivery.{Delivery}
 use Rattle.packet_spec.specs.declared.Judged.the-variants.{Packet as Delivered, Refused, Broken}
-use Rattle.channel.specs.declared.answer.Answer.{Answer}
-use Rattle.channel.specs.declared.answer.Answer.the-variants.{More, Said, Block, LockLost}
+use Rattle.channel_spec.specs.declared.Answer.{Answer}
+use Rattle.channel_spec.specs.declared.Answer.the-variants.{More, Said, Block, LockLost}
 use Rattle.bid.specs.Line.{feed}
 use Rattle.listing_spec.specs.Lines.{longest}
 use Rattle.ports_spec.specs.declared.Entry.{Entry}

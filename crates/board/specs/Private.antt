@@ -12,9 +12,10 @@ use Rattle.channel_spec.specs.Channel.{Event}
 use Rattle.board.specs.declared.owed.Owed.{Owed}
 use Rattle.board.specs.declared.owed.Put.{Put}
 use Rattle.packet_spec.specs.declared.Judged.the-variants.{Packet as Delivered, Refused, Broken}
-use Rattle.channel.specs.Called.{hearCall, answered}
-use Rattle.channel.specs.declared.answer.Answer.{Answer}
-use Rattle.channel.specs.declared.answer.Answer.the-variants.{More, Said, Block, LockLost}
+use Rattle.channel.specs.Called.{hearCall}
+use Rattle.channel_spec.specs.Answer.{answered}
+use Rattle.channel_spec.specs.declared.Answer.{Answer}
+use Rattle.channel_spec.specs.declared.Answer.the-variants.{More, Said, Block, LockLost}
 use Rattle.ports.specs.declared.by_value.Ports.{Ports}
 use Rattle.ports_spec.specs.Ports.{noting}
 use Rattle.recording.specs.declared.tape.Heard.{Heard}

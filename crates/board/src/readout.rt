@@ -4,7 +4,7 @@ ghost use mathlib.Core.Bool.{true};
 ghost use lib.ListN.{length};
 ghost use Rattle.channel.specs.Called.{roomy};
 ghost use Rattle.listing_spec.specs.Lines.{longest};
-ghost use Rattle.channel.specs.declared.answer.Answer.the-variants.{Said};
+ghost use Rattle.channel_spec.specs.declared.Answer.the-variants.{Said};
 ghost use Rattle.packet_spec.specs.declared.Judged.the-variants.{Packet as Delivered};
 ghost use Rattle.board_spec.specs.Board.{writtenAll};
 ghost use Rattle.lines.specs.Piece.{pieceOf};

@@ -23,11 +23,10 @@ use Rattle.ports_spec.specs.declared.Entry.{Entry}
 use Rattle.ports_spec.specs.declared.Noted.{Noted}
 use Rattle.ports_spec.specs.declared.Noted.the-variants.{First, InOrder, Refused}
 use Rattle.ports_spec.specs.Distance.{around, gap, ruled, lastBehind}
-use Rattle.ports_spec.specs.Ports.{freePlace, lastOf, unfit, noting}
-use Rattle.ports_spec.proofs.Laws.{others-noted, noted-last, noted-first, noted-full, first-last}
+use Rattle.ports_spec.specs.Ports.{freePlace, lastOf, unfit, noting, freshTable}
+use Rattle.ports_spec.proofs.Laws.{others-noted, noted-last, noted-first, noted-full, first-last, fresh-fit, fresh-none}
 use Rattle.ports_spec.proofs.Keeping.{fit-noted}
-use Rattle.ports.proofs.Fresh.{fresh-fit, fresh-none}
-use Rattle.board_spec.specs.Board.{boardLines, freshTable}
+use Rattle.board_spec.specs.Board.{boardLines}
 use Rattle.board_spec.specs.Typed.{bidsAmong, packetsAmong, asBid, isCurrent, isShown, currentFrom, numbersOf, ByOne}
 use Rattle.board_spec.proofs.Marks.{bids-current}
 use Rattle.board_spec.proofs.Typed.{IsOpen}

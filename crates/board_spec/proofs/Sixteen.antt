@@ -26,11 +26,10 @@ use Rattle.ports_spec.specs.declared.Entry.{Entry}
 use Rattle.ports_spec.specs.declared.Noted.{Noted}
 use Rattle.ports_spec.specs.declared.Noted.the-variants.{First, InOrder}
 use Rattle.ports_spec.specs.Distance.{lastBehind}
-use Rattle.ports_spec.specs.Ports.{placeLimit, placeOf, freePlace, lastOf, twice, unfit, entry, lastAt, noting}
-use Rattle.ports_spec.proofs.Laws.{noting-ways, others-noted, away-by, once, or-right}
+use Rattle.ports_spec.specs.Ports.{placeLimit, placeOf, freePlace, lastOf, twice, unfit, entry, lastAt, noting, freshTable}
+use Rattle.ports_spec.proofs.Laws.{noting-ways, others-noted, away-by, once, or-right, fresh-fit, fresh-none}
 use Rattle.ports_spec.proofs.Keeping.{fit-noted}
-use Rattle.ports.proofs.Fresh.{fresh-fit, fresh-none}
-use Rattle.board_spec.specs.Board.{Line, packetLines, refusedFrame, brokenFrame, boardLines, freshTable}
+use Rattle.board_spec.specs.Board.{Line, packetLines, refusedFrame, brokenFrame, boardLines}
 use Rattle.board_spec.specs.Typed.{asBid, numbersOf, ByOne, Member, Among}
 use Rattle.board_spec.proofs.Marks.{plain-lines}
 use Rattle.board_spec.proofs.Typed.{IsOpen}

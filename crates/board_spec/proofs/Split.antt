@@ -19,10 +19,10 @@ use Rattle.packet_spec.specs.Frame.{packet, refusal, broken, delivery}
 use Rattle.packet_spec.specs.declared.Delivery.{Delivery}
 use Rattle.packet_spec.specs.declared.Judged.the-variants.{Packet as Delivered, Refused as RefusedFrame, Broken}
 use Rattle.channel_spec.specs.Channel.{Event, said, block, lost}
-use Rattle.channel.specs.Called.{answered}
+use Rattle.channel_spec.specs.Answer.{answered}
 use Rattle.channel_spec.specs.declared.Condition.the-variants.{Clean, Repaired, Beyond}
-use Rattle.channel.specs.declared.answer.Answer.{Answer}
-use Rattle.channel.specs.declared.answer.Answer.the-variants.{More, Said, Block, LockLost}
+use Rattle.channel_spec.specs.declared.Answer.{Answer}
+use Rattle.channel_spec.specs.declared.Answer.the-variants.{More, Said, Block, LockLost}
 use Rattle.bid.specs.Line.{feed}
 use Rattle.listing_spec.specs.Lines.{decimal}
 use Rattle.listing_spec.proofs.Digits.{digits-short}

@@ -22,8 +22,7 @@ use Rattle.listing_spec.specs.Listing.{heard}
 use Rattle.ports_spec.specs.declared.Entry.{Entry}
 use Rattle.ports_spec.specs.declared.Noted.{Noted}
 use Rattle.ports_spec.specs.declared.Noted.the-variants.{First, InOrder, Repeated, Missing, Late, Refused}
-use Rattle.ports_spec.specs.Ports.{noting}
-use Rattle.ports.specs.ByValue.{freshPorts}
+use Rattle.ports_spec.specs.Ports.{noting, freshTable}
 use Rattle.board_spec.specs.Text.{bidText}
 
 -- a line: a bid, or a remark
@@ -167,10 +166,6 @@ tableBehind t lost = t
 unfoldable pub boardLines : Bool → List Entry → List Event → List Line
 boardLines b t [] = []
 boardLines b t (e ∷ es) = eventLines b t e ++ boardLines b (tableBehind t e) es
-
--- no port is held
-abbrev pub freshTable : List Entry
-freshTable = freshPorts .entries
 
 -- what is shown of answers, from a fresh table
 abbrev pub shows : Bool → List Event → List ℕ

@@ -10,8 +10,8 @@ use Rattle.base.specs.Choice.{pick}
 use Rattle.packet_spec.specs.Contents.{Packet, keyFormat}
 use Rattle.packet_spec.specs.declared.Delivery.{Delivery}
 use Rattle.packet_spec.specs.declared.Judged.the-variants.{Packet as Delivered, Refused as RefusedFrame, Broken}
-use Rattle.channel.specs.declared.answer.Answer.{Answer}
-use Rattle.channel.specs.declared.answer.Answer.the-variants.{More, Said, Block, LockLost}
+use Rattle.channel_spec.specs.declared.Answer.{Answer}
+use Rattle.channel_spec.specs.declared.Answer.the-variants.{More, Said, Block, LockLost}
 use Rattle.bid.specs.Line.{feed}
 use Rattle.ports_spec.specs.declared.Noted.{Noted}
 use Rattle.ports_spec.specs.declared.Noted.the-variants.{First, InOrder, Repeated, Missing, Late, Refused}

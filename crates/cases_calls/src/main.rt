@@ -52,8 +52,8 @@ fn tell(asked: u8, number: u64, bytes: &[u8], out: &mut [u8]) -> u64 {
         b'B' => cases::written(stream::begin(out)),
         b'A' => appended(number, bytes, out),
         b'Q' => closed(number as usize, bytes, out),
-        b'M' => cases::written(channel::mark(bytes, out)),
-        b'R' => cases::written(channel::send(bytes, out)),
+        b'M' => cases::written(channel_sender::mark(bytes, out)),
+        b'R' => cases::written(channel_sender::send(bytes, out)),
         _ => tell_keyed(asked, number, bytes, out),
     }
 }

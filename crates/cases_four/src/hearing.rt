@@ -5,7 +5,6 @@
 use channel::Answer;
 use channel::Condition;
 use channel::Hunting;
-use four_receivers::Configured;
 use four_receivers::Receiver;
 use interleaver::Back;
 use interleaver::Matrix;
@@ -14,6 +13,7 @@ use subchannel::Counts;
 use subchannel::Lane;
 use subchannel::Settings;
 use subchannel::Sub;
+use subchannel_spec::Configured;
 
 pub fn configure(number: u64, receiver: Receiver) -> Receiver {
     let done = receiver.configure(

@@ -1,11 +1,7 @@
 -- Each public function's promise determines its result, and what the lent buffers then hold.
 use mathlib.Core.Path.{refl}
 use Rattle.base.specs.Determined.{Determined}
-use Rattle.base.proofs.Determining.{same, same-answer, same-output, buffer, skip}
-use Rattle.channel.proofs.sender.mark.Kinds as mark-kinds
-use Rattle.channel.proofs.sender.mark.Reads as mark-reads
-use Rattle.channel.proofs.sender.send.Kinds as send-kinds
-use Rattle.channel.proofs.sender.send.Reads as send-reads
+use Rattle.base.proofs.Determining.{same, buffer, skip}
 use Rattle.channel.proofs.receiver.Receiver.fresh.Kinds as fresh-kinds
 use Rattle.channel.proofs.receiver.Receiver.fresh.Reads as fresh-reads
 use Rattle.channel.proofs.receiver.Receiver.sound.Kinds as sound-kinds
@@ -14,12 +10,6 @@ use Rattle.channel.proofs.receiver.Receiver.has_room.Kinds as has-room-
 use Rattle.channel.proofs.receiver.Receiver.has_room.Reads as has-room-reads
 use Rattle.channel.proofs.receiver.Receiver.hear.Kinds as hear-kinds
 use Rattle.channel.proofs.receiver.Receiver.hear.Reads as hear-reads
-
-pub mark-determined : Determined mark-kinds.ps mark-kinds.r mark-reads.Asked mark-reads.Learnt
-mark-determined κs a z z′ ws ws′ pre p q = (same-answer p q, skip (buffer (same-output p q) refl))
-
-pub send-determined : Determined send-kinds.ps send-kinds.r send-reads.Asked send-reads.Learnt
-send-determined κs a z z′ ws ws′ pre p q = (same-answer p q, skip (buffer (same-output p q) refl))
 
 pub fresh-determined : Determined fresh-kinds.ps fresh-kinds.r fresh-reads.Asked fresh-reads.Learnt
 fresh-determined κs a z z′ ws ws′ pre p q = (same p q, refl)

@@ -37,15 +37,15 @@ use Rattle.stream.proofs.Cutting.{read-agrees}
 use Rattle.channel_spec.specs.declared.Hunting.{Hunting}
 use Rattle.channel.specs.declared.locked.Locked.{Locked}
 use Rattle.channel.specs.declared.receiver.Receiver.{Receiver}
-use Rattle.channel.specs.declared.answer.Answer.{Answer}
-use Rattle.channel.specs.declared.answer.Answer.the-variants.{More, Said, Block, LockLost}
+use Rattle.channel_spec.specs.declared.Answer.{Answer}
+use Rattle.channel_spec.specs.declared.Answer.the-variants.{More, Said, Block, LockLost}
 use Rattle.channel.specs.declared.answer.Hearing.{Hearing}
 use Rattle.channel.specs.declared.answer.Phase.{Phase}
 use Rattle.channel.specs.declared.hunting.Found.{Found}
 use Rattle.channel_spec.specs.Channel.{condition, Event, block, shift, isMarker}
 use Rattle.channel.specs.Called.{Board, board, counts, lockedWith, owedBy, owes, asEvent, hearOn, soundLock, sound, roomy, hearBy, hearCall, mendIn, hearingOf, HearingIs}
 use Rattle.channel.specs.Private.{shifts, later, hunted, ended, PhaseBy, HandedIs, SoughtIs, FilledIs}
-use Rattle.channel.proofs.Sending.{lent, back}
+use Rattle.base.proofs.Parts.{lent, back}
 use Rattle.channel.proofs.Words.{mendIn-is}
 use Rattle.channel.proofs.Phases.{onward, hand-run, mark-part, comparedOn, behindFour, mark-four, huntedOn, hunt-run, word-part, word-whole}
 use Rattle.channel_spec.specs.declared.Condition.{Condition}

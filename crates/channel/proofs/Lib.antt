@@ -1,4 +1,3 @@
-pub mod Sending
 pub mod Words
 pub mod Fine
 pub mod Cutting

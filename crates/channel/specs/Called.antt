@@ -18,13 +18,12 @@ use lib.ListN.{length, take, drop, getD, set}
 use lib.Dec.{eqb, ltb, leb}
 use Rattle.base.specs.Calls.{joined, all, hear, Yields}
 use Rattle.packet_spec.specs.Contents.{rawLimit}
-use Rattle.packet_spec.specs.Frame.{Told, refusal, judged, There}
+use Rattle.packet_spec.specs.Frame.{Told, refusal, There}
 use Rattle.stream.specs.Called.{Held, held, fresh, takeByte, heldOf, sound as soundFrame, Fine as FineFrame}
 use Rattle.channel_spec.specs.declared.Hunting.{Hunting}
 use Rattle.channel.specs.declared.locked.Locked.{Locked}
 use Rattle.channel.specs.declared.receiver.Receiver.{Receiver}
-use Rattle.channel.specs.declared.answer.Answer.{Answer}
-use Rattle.channel.specs.declared.answer.Answer.the-variants.{More, Said, Block, LockLost}
+use Rattle.channel_spec.specs.Answer.{answered}
 use Rattle.channel.specs.declared.answer.Hearing.{Hearing}
 use Rattle.channel_spec.specs.Sender.{messageBytes, wordBytes}
 use Rattle.channel_spec.specs.Channel.{condition, mend}
@@ -171,13 +170,6 @@ abbrev pub ThereEvent : Event → Board → Type 0
 ThereEvent (said a) d = There a (d .recv)
 ThereEvent (block c) d = Unit {0}
 ThereEvent lost d = Unit {0}
-
--- the code's answer
-abbrev pub answered : Option Event → Answer
-answered none = More
-answered (some (said t)) = Said (judged t)
-answered (some (block c)) = Block c
-answered (some lost) = LockLost
 
 -- the code's result of a call
 abbrev pub hearingOf : Option Event × ℕ × Board → Hearing

@@ -1,21 +1,9 @@
-//! What a call on the channel answers.
+//! The result of a call, and of its phases.
 ghost use mathlib.Core.Path.{_≡_};
 ghost use mathlib.Core.Bool.{true, false};
 ghost use Rattle.channel.specs.Private.{ended};
 use crate::receiver::Receiver;
-use channel_spec::Condition;
-use packet::Judged;
-
-/// What a call answers.
-pub enum Answer {
-    /// More is wanted.
-    More,
-    /// A closed frame, or the call refused.
-    Said(Judged),
-    /// A whole word.
-    Block(Condition),
-    LockLost,
-}
+use channel_spec::Answer;
 
 /// The result of a call.
 pub struct Hearing {

@@ -2,7 +2,7 @@
 ghost use mathlib.Core.Path.{_≡_};
 ghost use Rattle.channel_spec.specs.Sender.{wordBytes};
 ghost use Rattle.channel.specs.Called.{counts, soundLock};
-use crate::block::Block;
+use channel_spec::Block;
 
 /// Locked: bytes of a word, message bytes of it handed on, bytes of the next marker.
 pub struct Locked {

@@ -17,14 +17,14 @@ ghost use Rattle.channel.specs.Called.{
   HearingIs,
 };
 ghost use Rattle.channel.specs.Private.{HandedIs, SoughtIs, FilledIs};
-use crate::answer::Answer;
 use crate::answer::Hearing;
 use crate::answer::Phase;
-use crate::block::Block;
 use crate::hunting;
 use crate::locked::Locked;
 use crate::word;
 use base::Refusal;
+use channel_spec::Answer;
+use channel_spec::Block;
 use channel_spec::Hunting;
 use packet::Judged;
 use stream::Frame;

@@ -6,7 +6,7 @@ ghost use Rattle.word_spec.specs.Word.{clean};
 ghost use Rattle.channel_spec.specs.Sender.{parityBytes, wordBytes};
 ghost use Rattle.channel_spec.specs.Channel.{condition, mend};
 ghost use Rattle.channel.specs.Called.{mendIn};
-use crate::block::Block;
+use channel_spec::Block;
 use channel_spec::Condition;
 use parity::Checked;
 use repair::Mended;

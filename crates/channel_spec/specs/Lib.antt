@@ -1,2 +1,3 @@
 pub mod Sender
 pub mod Channel
+pub mod Answer

@@ -1,7 +1,9 @@
 //! What the opportunistic channel's bytes mean, as they are sent and as they are received without a limit, and the laws of whole streams and
-//! of altered blocks. Code is here of the four hunted bytes alone; `channel` sends and receives. Read specs/.
+//! of altered blocks. Of code the types that it names, and the four hunted bytes; `channel_sender` sends, `channel` receives. Read specs/.
 ghost use mathlib.Core.Path.{_≡_};
 ghost use Rattle.channel_spec.specs.Channel.{shift, isMarker, zeros};
+use packet_spec::Judged;
+use parity::Word;
 
 /// Hunting: the last four bytes, the oldest first.
 pub struct Hunting {
@@ -18,6 +20,37 @@ pub enum Condition {
     Repaired(usize),
     /// It is beyond repair, and left as it came.
     Beyond,
+}
+
+/// What a call answers.
+pub enum Answer {
+    /// More is wanted.
+    More,
+    /// A closed frame, or the call refused.
+    Said(Judged),
+    /// A whole word.
+    Block(Condition),
+    LockLost,
+}
+
+/// A block: the marker, and a word behind it.
+pub struct Block;
+
+impl Block {
+    /// Bytes of a word.
+    pub const WORD: usize = Word::LENGTH;
+
+    /// Its parity bytes.
+    pub const PARITY: usize = 32;
+
+    /// Its message bytes.
+    pub const MESSAGE: usize = Self::WORD - Self::PARITY;
+
+    /// Where they stand in a block.
+    pub const PARITY_AT: usize = 4 + Self::MESSAGE;
+
+    /// Bytes of a block.
+    pub const LENGTH: usize = 4 + Self::WORD;
 }
 
 impl Hunting {

@@ -40,7 +40,7 @@ use Rattle.recording.specs.Called.{far, tapeCall}
 use Rattle.recording.proofs.Ears.{deck-hand-one}
 use Rattle.recording.proofs.Kept.{hear-kept}
 use Rattle.recording.proofs.Next.{tape-agrees}
-use Rattle.channel.specs.declared.answer.Answer.{Answer}
+use Rattle.channel_spec.specs.declared.Answer.{Answer}
 use Rattle.listing_spec.specs.Lines.{line, given, longest}
 use Rattle.lines.proofs.Short.{line-some}
 use Rattle.listing.specs.declared.lister.Totals.{Totals}

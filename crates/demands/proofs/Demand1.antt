@@ -44,7 +44,7 @@ use Rattle.channel_spec.specs.Channel.{said}
 use Rattle.channel.specs.Called.{Board, hearAll, hearCall, Fine}
 use Rattle.channel_spec.specs.Sender.{marker, messageBytes, wordBytes, wordOf, marked, marking, sending}
 use Rattle.channel.proofs.Cutting.{hear-yields}
-use Rattle.channel.proofs.Sending.{marking-keeps, sending-keeps}
+use Rattle.channel_sender.proofs.Sending.{marking-keeps, sending-keeps}
 use Rattle.recording.specs.Deck.{Deck}
 use Rattle.recording.specs.Called.{tapeCall}
 use Rattle.board.specs.declared.readout.Wants.the-variants.{Refused as ShowRefused}
@@ -54,7 +54,7 @@ use Rattle.listing.specs.declared.lister.Totals.{Totals}
 use Rattle.listing.specs.declared.lister.Recording.{Recording}
 use Rattle.listing.specs.declared.lister.Wants.the-variants.{Refused}
 use Rattle.listing.specs.Printed.{printed, takes, lastOf, finishing}
-use Rattle.channel.specs.declared.answer.Answer.{Answer}
+use Rattle.channel_spec.specs.declared.Answer.{Answer}
 use Rattle.listing_spec.specs.Lines.{line, endLine, wrongLine}
 use Rattle.bid.specs.Line.{verdict}
 use Rattle.office.specs.declared.Office.{Office}

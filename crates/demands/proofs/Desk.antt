@@ -24,7 +24,7 @@ use Rattle.packet_spec.specs.Contents.{payloadLimit}
 use Rattle.packet_spec.specs.Escape.{flag, escape}
 use Rattle.packet_spec.specs.Port.{barred}
 use Rattle.channel_spec.specs.Sender.{marked}
-use Rattle.channel.specs.declared.answer.Answer.{Answer}
+use Rattle.channel_spec.specs.declared.Answer.{Answer}
 use Rattle.listing_spec.specs.Lines.{line, endLine, wrongLine}
 use Rattle.bid.specs.Line.{feed, lineLimit, noNumber, port, sequence, text, Verdict, noBid, refused, accepted, judged, isBid, verdict, bidOf}
 use Rattle.office.specs.declared.Office.{Office}

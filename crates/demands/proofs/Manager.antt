@@ -32,8 +32,8 @@ use Rattle.bid.specs.Input.{linesOf, packetsOf, complaints}
 use Rattle.office.specs.Desk.{sentFor}
 use Rattle.office.proofs.Cutting.{bids-sent}
 use Rattle.office.proofs.Board.{packets-accepted}
-use Rattle.ports_spec.specs.Ports.{placeLimit}
-use Rattle.board_spec.specs.Board.{boardLines, writtenAll, freshTable, boardText}
+use Rattle.ports_spec.specs.Ports.{placeLimit, freshTable}
+use Rattle.board_spec.specs.Board.{boardLines, writtenAll, boardText}
 use Rattle.board_spec.specs.Typed.{acceptedLines, typed, asShown, Plainly, bidsAmong, packetsAmong, asBid, currentFrom, numbersOf, ByOne, Among}
 use Rattle.board_spec.proofs.Marks.{bids-current}
 use Rattle.board_spec.proofs.Typed.{bids-typed, packets-open, shown-typed, lines-typed, unnamed}

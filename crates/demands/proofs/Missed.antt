@@ -24,10 +24,9 @@ use Rattle.ports_spec.specs.Ports.{freed, entry, unheld, placeOf, freePlace, la
 use Rattle.ports.specs.ByValue.{freshPorts}
 use Rattle.ports_spec.specs.Refusing.{Held, Full, Call, keeps}
 use Rattle.ports_spec.proofs.Signed.{distance-is, distance-only, rule-means, missing-between}
-use Rattle.ports_spec.proofs.Laws.{first-free, free-is, others-noted, others-forgotten, entries-noted, noted-last, noted-first, first-last, only-full, forgotten-none, forgotten-at, forgotten-else}
+use Rattle.ports_spec.proofs.Laws.{first-free, free-is, others-noted, others-forgotten, entries-noted, noted-last, noted-first, first-last, only-full, forgotten-none, forgotten-at, forgotten-else, fresh-fit, fresh-none}
 use Rattle.ports_spec.proofs.Refusing.{unfit-is, fit-not, held-is, away-not, full-is, free-not, rule-given, noting-keeps, forgetting-keeps}
 use Rattle.ports_spec.proofs.Keeping.{never-43}
-use Rattle.ports.proofs.Fresh.{fresh-fit, fresh-none}
 use Rattle.demands.specs.Table.{Exact}
 use Rattle.demands.specs.Refusals.{ByCall}
 use Rattle.demands.specs.Missed.{ByNoted, ByForgot, noteRows, forgetRows}

@@ -32,17 +32,19 @@ use Rattle.stream.specs.Sender.{appending}
 use Rattle.stream.specs.Called as plain
 use Rattle.stream.specs.declared.frame.Heard.the-variants as plain-answer
 use Rattle.channel_spec.specs.Sender.{marking, sending}
-use Rattle.channel.specs.Called.{board, sound, roomy, hearCall, answered}
+use Rattle.channel.specs.Called.{board, sound, roomy, hearCall}
+use Rattle.channel_spec.specs.Answer.{answered}
 use Rattle.channel_spec.specs.Channel.{said, block, lost, isMarker}
 use Rattle.channel_spec.specs.declared.Condition.{Condition}
-use Rattle.channel.specs.declared.answer.Answer.the-variants.{More, Said, Block, LockLost}
+use Rattle.channel_spec.specs.declared.Answer.the-variants.{More, Said, Block, LockLost}
 use Rattle.listing_spec.specs.Lines.{line, endLine, wrongLine}
 use Rattle.listing_spec.specs.Apart.{well}
 use Rattle.listing_spec.specs.declared.Place.the-variants.{Mode}
 use Rattle.recording.specs.Called.{deckOf, isMore, tapeCall}
-use Rattle.subchannel.specs.declared.settings.Settings.{Settings}
+use Rattle.subchannel_spec.specs.declared.Settings.{Settings}
 use Rattle.subchannel.specs.declared.sub.Sub.{Sub}
 use Rattle.subchannel.specs.Called as subchannel
+use Rattle.subchannel_spec.specs.Settings.{within}
 use Rattle.subchannel_sender.specs.Sending as subsender
 use Rattle.four_receivers.specs.Four as subchannels
 use Rattle.four_senders.specs.Four as subsenders
@@ -87,13 +89,13 @@ use Rattle.stream.proofs.append as stream-append
 use Rattle.channel_spec.proofs.Hunting.fresh as channel-spec-fresh
 use Rattle.channel_spec.proofs.Hunting.shift as channel-spec-shift
 use Rattle.channel_spec.proofs.Hunting.at_marker as channel-spec-at-marker
-use Rattle.channel.proofs.mark as channel-mark
-use Rattle.channel.proofs.send as channel-send
+use Rattle.channel_sender.proofs.mark as channel-sender-mark
+use Rattle.channel_sender.proofs.send as channel-sender-send
 use Rattle.channel.proofs.receiver.Receiver.fresh as channel-fresh
 use Rattle.channel.proofs.receiver.Receiver.hear as channel-hear
 use Rattle.channel.proofs.receiver.Receiver.sound as channel-sound
 use Rattle.channel.proofs.receiver.Receiver.has_room as channel-has-room
-use Rattle.subchannel.proofs.settings.Settings.within as subchannel-within
+use Rattle.subchannel_spec.proofs.Settings.within as subchannel-spec-within
 use Rattle.subchannel.proofs.sub.Sub.told as subchannel-told
 use Rattle.subchannel.proofs.sub.Sub.sound as subchannel-sound
 use Rattle.subchannel.proofs.sub.Sub.hear as subchannel-hear
@@ -217,13 +219,13 @@ pub stream-append-means : Means stream-append.Statement.statement stream-append.
     λ κs out at port sequence payload w. outcome w (now (out .exit)) ≡ appending at (plainPacket port sequence (now payload)) (now (out .entry))
 stream-append-means = (λ M. stream-append.Met.met, λ κs a. tt, λ κs a z ws. (λ p. p, λ p. p))
 
-pub channel-mark-means : Means channel-mark.Statement.statement channel-mark.Kinds.ps channel-mark.Kinds.r channel-mark.Reads.Asked channel-mark.Reads.Learnt
+pub channel-sender-mark-means : Means channel-sender-mark.Statement.statement channel-sender-mark.Kinds.ps channel-sender-mark.Kinds.r channel-sender-mark.Reads.Asked channel-sender-mark.Reads.Learnt
     λ κs message out w. outcome w (now (out .exit)) ≡ marking (now message) (now (out .entry))
-channel-mark-means = (λ M. channel-mark.Met.met, λ κs a. tt, λ κs a z ws. (λ p. p, λ p. p))
+channel-sender-mark-means = (λ M. channel-sender-mark.Met.met, λ κs a. tt, λ κs a z ws. (λ p. p, λ p. p))
 
-pub channel-send-means : Means channel-send.Statement.statement channel-send.Kinds.ps channel-send.Kinds.r channel-send.Reads.Asked channel-send.Reads.Learnt
+pub channel-sender-send-means : Means channel-sender-send.Statement.statement channel-sender-send.Kinds.ps channel-sender-send.Kinds.r channel-sender-send.Reads.Asked channel-sender-send.Reads.Learnt
     λ κs stream out w. outcome w (now (out .exit)) ≡ sending (now stream) (now (out .entry))
-channel-send-means = (λ M. channel-send.Met.met, λ κs a. tt, λ κs a z ws. (λ p. p, λ p. p))
+channel-sender-send-means = (λ M. channel-sender-send.Met.met, λ κs a. tt, λ κs a z ws. (λ p. p, λ p. p))
 
 -- ---- the receiver on the channel. A fresh one is "hunting with four hunted bytes of zero", "counts zero, waiting for a flag"
 pub channel-fresh-means : Means channel-fresh.Statement.statement channel-fresh.Kinds.ps channel-fresh.Kinds.r channel-fresh.Reads.Asked channel-fresh.Reads.Learnt
@@ -276,9 +278,9 @@ pub subchannel-told-means : Means subchannel-told.Statement.statement subchannel
     }
 subchannel-told-means = (λ M. subchannel-told.Met.met, λ κs a. tt, λ κs a z ws. (λ p. p, λ p. p))
 
-pub subchannel-within-means : Means subchannel-within.Statement.statement subchannel-within.Kinds.ps subchannel-within.Kinds.r subchannel-within.Reads.Asked subchannel-within.Reads.Learnt
+pub subchannel-spec-within-means : Means subchannel-spec-within.Statement.statement subchannel-spec-within.Kinds.ps subchannel-spec-within.Kinds.r subchannel-spec-within.Reads.Asked subchannel-spec-within.Reads.Learnt
     λ κs self r. r ≡ (leb (self .parity) 64 && leb (self .depth) 64)
-subchannel-within-means = (λ M. subchannel-within.Met.met, λ κs a. tt, λ κs a z ws. (λ p. p, λ p. p))
+subchannel-spec-within-means = (λ M. subchannel-spec-within.Met.met, λ κs a. tt, λ κs a z ws. (λ p. p, λ p. p))
 
 pub subchannel-sound-means : Means subchannel-sound.Statement.statement subchannel-sound.Kinds.ps subchannel-sound.Kinds.r subchannel-sound.Reads.Asked subchannel-sound.Reads.Learnt
     λ κs self r. r ≡ subchannel.sound self
@@ -339,7 +341,7 @@ pub four-senders-fresh-means : Means four-senders-fresh.Statement.statement four
 four-senders-fresh-means = (λ M. four-senders-fresh.Met.met, λ κs a. tt, λ κs a z ws. (λ p. p, λ p. p))
 
 pub four-senders-sound-means : Means four-senders-sound.Statement.statement four-senders-sound.Kinds.ps four-senders-sound.Kinds.r four-senders-sound.Reads.Asked four-senders-sound.Reads.Learnt
-    λ κs self r. r ≡ (subchannel.within (self .a) && (subchannel.within (self .b) && (subchannel.within (self .c) && subchannel.within (self .d))))
+    λ κs self r. r ≡ (within (self .a) && (within (self .b) && (within (self .c) && within (self .d))))
 four-senders-sound-means = (λ M. four-senders-sound.Met.met, λ κs a. tt, λ κs a z ws. (λ p. p, λ p. p))
 
 pub four-senders-configure-means : Means four-senders-configure.Statement.statement four-senders-configure.Kinds.ps four-senders-configure.Kinds.r four-senders-configure.Reads.Asked four-senders-configure.Reads.Learnt

@@ -40,9 +40,10 @@ use Rattle.stream.specs.declared.frame.Heard.{Heard}
 use Rattle.stream.specs.declared.frame.Heard.the-variants.{More}
 use Rattle.channel_spec.specs.Channel.{Event, said, block, lost}
 use Rattle.channel_spec.specs.declared.Condition.the-variants.{Clean, Repaired, Beyond}
-use Rattle.channel.specs.Called.{board, freshReceiver, hearCall, answered}
+use Rattle.channel.specs.Called.{board, freshReceiver, hearCall}
+use Rattle.channel_spec.specs.Answer.{answered}
 use Rattle.channel.specs.declared.receiver.Receiver.{Receiver}
-use Rattle.channel.specs.declared.answer.Answer.{Answer}
+use Rattle.channel_spec.specs.declared.Answer.{Answer}
 use Rattle.rack.specs.Words.{writtenNumber, checkedNumber, mendedNumber, making, checking, mending}
 use Rattle.rack.specs.Told as told
 use Rattle.rack.specs.Calls.{readBy, reading, heardBy, hearing}

@@ -34,6 +34,7 @@ use Rattle.channel_spec.specs.declared.Hunting.{Hunting}
 use Rattle.channel_spec.specs.Channel.{Event, said, block, lost, shift, isMarker, freshChannel, hears, answers}
 use Rattle.channel_spec.specs.declared.Condition.the-variants.{Clean, Repaired, Beyond}
 use Rattle.channel.specs.Called as channel
+use Rattle.channel_spec.specs.Answer as channel-spec
 use Rattle.channel.specs.Called.{Board, board, huntOn, wordOn, compareOn, markOn, eatBy, eatByte, owed, handOn, hearOn, hearBy, hearCall, boardOf}
 use Rattle.channel.proofs.Cutting.{hand-one, hear-agrees}
 use Rattle.rack.specs.Told.{ofAnswer, receiverOf, channelNumbers}
@@ -274,8 +275,8 @@ module _ (s recv word : List ℕ) where
   Alike q = Follows boardBy eventAs (channelBy (heardBy s q)) q
 
   back-by : (o : Option Event) (k : ℕ) (h : Board) → Hunted h
-      → board (receiverOf (channelNumbers k (ofAnswer (channel.answered o)) (h .st))) (h .recv) (h .word) ≡ h
-  back-by o k h u = λ i. board (channel-back k (channel.answered o) (h .st) u i) (h .recv) (h .word)
+      → board (receiverOf (channelNumbers k (ofAnswer (channel-spec.answered o)) (h .st))) (h .recv) (h .word) ≡ h
+  back-by o k h u = λ i. board (channel-back k (channel-spec.answered o) (h .st) u i) (h .recv) (h .word)
 
   frame-alike : (m k : ℕ) (h : Board) → Hunted h → m ≢ 0 → m ≢ 10 → m ≢ 11 → Alike (some (said (refusal m)), k, h)
   frame-alike m k h u a b c = rw (ne-eqb m 10 b) (rw (ne-eqb m 11 c) (rw (ne-eqb m 0 a) (refl, refl, back-by (some (said (refusal m))) k h u)))

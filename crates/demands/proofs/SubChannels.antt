@@ -73,7 +73,7 @@ use Rattle.subchannel_spec.proofs.Returned.{back-is, returned, unaltered as cam
 use Rattle.subchannel.specs.Called.{Board, board, toldSub, hearCall, EveryCut, ThereEvent, boardOf, inUse}
 use Rattle.subchannel.proofs.Demands as one
 use Rattle.subchannel.proofs.Delivery.{payload-there}
-use Rattle.four_receivers.specs.declared.Configured.the-variants.{Told, Refused}
+use Rattle.subchannel_spec.specs.declared.Configured.the-variants.{Told, Refused}
 use Rattle.four_receivers.specs.declared.Receiver.{Receiver}
 use Rattle.four_receivers.specs.Four.{freshReceiver, Boards, boardAt, exchanged, callOn, Scheduled, ofOne, get, configuring, hearFour}
 use Rattle.four_receivers.proofs.Calling as made

@@ -30,15 +30,16 @@ use Rattle.channel_spec.specs.Sender.{wordBytes}
 use Rattle.channel_spec.specs.Channel.{Event, said, isMarker, shift}
 use Rattle.channel.specs.Called.{roomy}
 use Rattle.subchannel_spec.specs.Sender.{messageBytes, groupBytes, sent}
-use Rattle.subchannel.specs.declared.settings.Settings.{Settings}
-use Rattle.subchannel.specs.declared.settings.Counts.{Counts}
+use Rattle.subchannel_spec.specs.declared.Settings.{Settings}
+use Rattle.subchannel.specs.declared.counts.Counts.{Counts}
 use Rattle.subchannel.specs.declared.lane.Lane.{Lane}
 use Rattle.subchannel.specs.declared.sub.Sub.{Sub}
 use Rattle.subchannel.specs.Called.{Board, board, heldIn, wordAt, wordOn, groupOn, compareOn, markOn, eatBy, eatByte, owed, handOn}
-use Rattle.subchannel.specs.Called.{within, soundCounts, soundLane, sound, hearOn, hearBy, hearCall}
+use Rattle.subchannel.specs.Called.{soundCounts, soundLane, sound, hearOn, hearBy, hearCall}
+use Rattle.subchannel_spec.specs.Settings.{within}
 use Rattle.subchannel.proofs.Cutting.{hand-one}
-use Rattle.four_receivers.specs.declared.Configured.{Configured}
-use Rattle.four_receivers.specs.declared.Configured.the-variants as configured
+use Rattle.subchannel_spec.specs.declared.Configured.{Configured}
+use Rattle.subchannel_spec.specs.declared.Configured.the-variants as configured
 use Rattle.four_receivers.specs.declared.Receiver.{Receiver}
 use Rattle.four_receivers.specs.Four as receiver
 use Rattle.four_receivers.proofs.Apart.{sound-at}

@@ -11,7 +11,7 @@ use denote.Exit.{Exit, unchanged, leaves, Last}
 use denote.Triple.Both.{Both}
 use denote.Triple.End.{Fins}
 use denote.Triple.Clauses.{Ended, Lasts, atExit}
-use Rattle.ports.specs.ByHand.{Contract, Statement, Promises}
+use Rattle.base.specs.ByHand.{Contract, Statement, Promises}
 
 -- a parameter as a promise names it: one that the call cannot change as it was passed, a lent buffer by its .entry and its .exit
 abbrev pub Named : {D : Type 0} → Exit D → Type 0

@@ -17,7 +17,7 @@ use Rattle.packet_spec.specs.declared.Judged.the-variants.{Packet as Delivered,
 use Rattle.stream.specs.Called.{placeLimit}
 use Rattle.channel_spec.specs.Sender.{marker, messageBytes, parityBytes, wordBytes, blockBytes}
 use Rattle.channel_spec.specs.declared.Condition.the-variants.{Clean, Repaired, Beyond}
-use Rattle.channel.specs.declared.answer.Answer.the-variants.{Said, Block, LockLost}
+use Rattle.channel_spec.specs.declared.Answer.the-variants.{Said, Block, LockLost}
 use Rattle.listing_spec.specs.Apart as listed
 use Rattle.bid.specs.Line.{lineLimit}
 use Rattle.office.specs.Called.{heldLimit, holdLimit, outLimit}

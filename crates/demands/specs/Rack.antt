@@ -17,7 +17,8 @@ use Rattle.packet_spec.specs.Contents.{Packet}
 use Rattle.packet_spec.specs.Frame.{Told, judged}
 use Rattle.stream.specs.Called.{Held, held}
 use Rattle.channel_spec.specs.Channel.{Event}
-use Rattle.channel.specs.Called.{Board, board, answered}
+use Rattle.channel.specs.Called.{Board, board}
+use Rattle.channel_spec.specs.Answer.{answered}
 use Rattle.rack.specs.Told.{ofJudged, ofAnswer, ofCall, frameOf, receiverOf, toldNumbers}
 use Rattle.rack.specs.Calls.{reading, hearing}
 use Rattle.demands.specs.Refusals.{OfFrame, OfCall}

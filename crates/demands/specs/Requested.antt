@@ -23,8 +23,9 @@ use Rattle.interleaver_spec.specs.Running.{freshBack}
 use Rattle.interleaver_spec.specs.Running as interleaver
 use Rattle.subchannel_spec.specs.Sender.{groupWords, groupBytes, closingWords, completing, grouped}
 use Rattle.subchannel.specs.Called as sub
-use Rattle.four_receivers.specs.declared.Configured.{Configured}
-use Rattle.four_receivers.specs.declared.Configured.the-variants.{Told, Refused}
+use Rattle.subchannel_spec.specs.Settings.{settings}
+use Rattle.subchannel_spec.specs.declared.Configured.{Configured}
+use Rattle.subchannel_spec.specs.declared.Configured.the-variants.{Told, Refused}
 use Rattle.four_receivers.specs.declared.Receiver.{Receiver}
 use Rattle.four_receivers.specs.Four as receiver
 use Rattle.four_senders.specs.Four as sender
@@ -85,7 +86,7 @@ configuringBy n r d = untoldBy (receiver.configuring receiver.freshReceiver n r 
 
 -- a receiver whose sub-channel 3 alone is told, and counts so many bytes of a group
 abbrev counting : ℕ → Receiver
-counting g = receiver.put receiver.freshReceiver 3 (sub.sub (sub.lane (sub.settings true 16 3) true false zeros (sub.counts g 0 0 0) fresh) freshBack)
+counting g = receiver.put receiver.freshReceiver 3 (sub.sub (sub.lane (settings true 16 3) true false zeros (sub.counts g 0 0 0) fresh) freshBack)
 
 -- the number by which an answer refuses
 abbrev deniedBy : Option Event → List ℕ

@@ -18,11 +18,11 @@ use Rattle.interleaver_spec.specs.declared.Matrix.{Matrix}
 use Rattle.channel_spec.specs.Sender.{wordBytes}
 use Rattle.channel_spec.specs.Channel.{Event, said}
 use Rattle.subchannel_spec.specs.Sender.{messageBytes, groupBytes}
-use Rattle.subchannel.specs.declared.settings.Settings.{Settings}
-use Rattle.subchannel.specs.declared.settings.Counts.{Counts}
+use Rattle.subchannel_spec.specs.declared.Settings.{Settings}
+use Rattle.subchannel.specs.declared.counts.Counts.{Counts}
 use Rattle.subchannel.specs.declared.sub.Sub.{Sub}
-use Rattle.four_receivers.specs.declared.Configured.{Configured}
-use Rattle.four_receivers.specs.declared.Configured.the-variants.{Refused}
+use Rattle.subchannel_spec.specs.declared.Configured.{Configured}
+use Rattle.subchannel_spec.specs.declared.Configured.the-variants.{Refused}
 use Rattle.four_receivers.specs.declared.Receiver.{Receiver}
 use Rattle.subchannel_sender.specs.Sending.{groupSending}
 use Rattle.four_senders.specs.declared.Sender.{Sender}

@@ -35,7 +35,7 @@ use Rattle.channel_spec.specs.Channel.{Event, shift, isMarker}
 use Rattle.subchannel_spec.specs.Sender.{messageBytes, groupBytes}
 use Rattle.subchannel_spec.specs.Sub.{hears, start, answers}
 use Rattle.channel.specs.Called.{roomy}
-use Rattle.subchannel.specs.declared.settings.Settings.{Settings}
+use Rattle.subchannel_spec.specs.declared.Settings.{Settings}
 use Rattle.subchannel.specs.declared.lane.Lane.{Lane}
 use Rattle.subchannel.specs.declared.sub.Sub.{Sub}
 use Rattle.subchannel.specs.Called.{Board, board, huntOn, wordAt, wordOn, groupOn, compareOn, markOn, eatBy, owed, handOn, eatByte}
@@ -44,8 +44,8 @@ use Rattle.subchannel.proofs.Fine.{fine-of, fine-is, fine-hand, fine-eat, zero-
 use Rattle.subchannel.proofs.Cutting.{hand-one}
 use Rattle.subchannel.proofs.Demands.{every-cut}
 use Rattle.four_receivers.specs.declared.Receiver.{Receiver}
-use Rattle.four_receivers.specs.declared.Configured.{Configured}
-use Rattle.four_receivers.specs.declared.Configured.the-variants.{Told, Refused}
+use Rattle.subchannel_spec.specs.declared.Configured.{Configured}
+use Rattle.subchannel_spec.specs.declared.Configured.the-variants.{Told, Refused}
 use Rattle.four_receivers.specs.Four.{get, put, soundFour, known, configuring, Boards, boardAt, exchanged, callBy, callOn, Scheduled, ofOne}
 use Rattle.four_receivers.specs.Four.{freshReceiver, heardBy, hearFour}
 use Rattle.four_receivers.specs.Four.Scheduled.{done as first, next}

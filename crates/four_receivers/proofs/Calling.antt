@@ -14,12 +14,12 @@ use Rattle.interleaver_spec.specs.Running.{depthLimit}
 use Rattle.subchannel.specs.declared.sub.Sub.{Sub}
 use Rattle.subchannel.specs.declared.sub.Hearing as fixed
 use Rattle.subchannel.specs.Called.{Board, board, toldSub, hearCall, HearingIs}
-use Rattle.channel.specs.declared.answer.Answer.the-variants.{Said}
+use Rattle.channel_spec.specs.declared.Answer.the-variants.{Said}
 use Rattle.packet_spec.specs.declared.Judged.the-variants as judge
 use Rattle.four_receivers.specs.declared.Receiver.{Receiver}
 use Rattle.four_receivers.specs.declared.Configuring.{Configuring}
 use Rattle.four_receivers.specs.declared.Hearing.{Hearing}
-use Rattle.four_receivers.specs.declared.Configured.the-variants.{Told, Refused}
+use Rattle.subchannel_spec.specs.declared.Configured.the-variants.{Told, Refused}
 use Rattle.four_receivers.specs.Four.{get, put, soundFour, known, configuring, configuringOf, heardBy, hearFour, FourIs}
 use Rattle.four_receivers.specs.Four.{Boards, boardAt, callBy, callOn}
 

@@ -24,7 +24,7 @@ use Rattle.channel.specs.Called.{roomy}
 use Rattle.subchannel.specs.Called.{Board, eatByte, owed, handOn, hearCall, Fine}
 use Rattle.subchannel.proofs.Fine.{fine-of, fine-roomy, fine-hand, fine-eat}
 use Rattle.subchannel.proofs.Cutting.{hand-one, hear-agrees, hear-yields}
-use Rattle.four_receivers.specs.declared.Configured.the-variants.{Told}
+use Rattle.subchannel_spec.specs.declared.Configured.the-variants.{Told}
 use Rattle.four_receivers.specs.Four.{configuring, Boards, boardAt, exchanged, callOn, Scheduled}
 use Rattle.four_receivers.specs.Four.Scheduled.{done, next}
 use Rattle.four_receivers.proofs.Apart.{board-own, sound-at, Live, call-own, live-own, reads-own, reads-other, told-live}

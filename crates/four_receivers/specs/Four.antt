@@ -18,14 +18,15 @@ use Rattle.parity.specs.Calls.{rootLimit}
 use Rattle.interleaver_spec.specs.Running.{depthLimit, freshBack}
 use Rattle.stream.specs.Called.{fresh}
 use Rattle.channel_spec.specs.Channel.{Event, said, zeros}
-use Rattle.channel.specs.Called.{answered}
+use Rattle.channel_spec.specs.Answer.{answered}
 use Rattle.subchannel.specs.declared.sub.Sub.{Sub}
-use Rattle.subchannel.specs.Called.{Board, board, sub, lane, settings, counts, toldSub, sound, hearCall}
+use Rattle.subchannel.specs.Called.{Board, board, sub, lane, counts, toldSub, sound, hearCall}
+use Rattle.subchannel_spec.specs.Settings.{settings}
 use Rattle.four_receivers.specs.declared.Receiver.{Receiver}
-use Rattle.four_receivers.specs.declared.Configured.{Configured}
+use Rattle.subchannel_spec.specs.declared.Configured.{Configured}
 use Rattle.four_receivers.specs.declared.Configuring.{Configuring}
 use Rattle.four_receivers.specs.declared.Hearing.{Hearing}
-use Rattle.four_receivers.specs.declared.Configured.the-variants.{Told, Refused}
+use Rattle.subchannel_spec.specs.declared.Configured.the-variants.{Told, Refused}
 
 -- sub-channel n; 3 stands for every number above 2
 abbrev pub get : Receiver → ℕ → Sub

@@ -10,6 +10,7 @@ use subchannel::Counts;
 use subchannel::Lane;
 use subchannel::Settings;
 use subchannel::Sub;
+use subchannel_spec::Configured;
 
 /// The receiver's state.
 pub struct Receiver {
@@ -17,13 +18,6 @@ pub struct Receiver {
     pub b: Sub,
     pub c: Sub,
     pub d: Sub,
-}
-
-/// What configuring answers.
-pub enum Configured {
-    Told,
-    /// The call is refused, by this number of the paper.
-    Refused(u8),
 }
 
 /// The result of configuring.

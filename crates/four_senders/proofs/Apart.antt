@@ -18,10 +18,10 @@ use Rattle.base.proofs.Writing.{write-keeps, refused-keeps, pick-keeps}
 use Rattle.parity.specs.Calls.{rootLimit}
 use Rattle.interleaver_spec.specs.Running.{depthLimit}
 use Rattle.subchannel_spec.specs.Sender.{sent}
-use Rattle.subchannel.specs.declared.settings.Settings.{Settings}
-use Rattle.subchannel.specs.Called.{settings, within}
-use Rattle.four_receivers.specs.declared.Configured.{Configured}
-use Rattle.four_receivers.specs.declared.Configured.the-variants.{Told, Refused}
+use Rattle.subchannel_spec.specs.declared.Settings.{Settings}
+use Rattle.subchannel_spec.specs.Settings.{settings, within}
+use Rattle.subchannel_spec.specs.declared.Configured.{Configured}
+use Rattle.subchannel_spec.specs.declared.Configured.the-variants.{Told, Refused}
 use Rattle.four_senders.specs.declared.Sender.{Sender}
 use Rattle.four_senders.specs.Four.{get, put, soundFour, known, configuring, sendFour}
 use Rattle.four_senders.proofs.Calling.{sound-at}

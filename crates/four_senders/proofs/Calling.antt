@@ -15,9 +15,9 @@ use Rattle.base.proofs.Tests.{and-parts}
 use Rattle.parity.specs.Calls.{rootLimit}
 use Rattle.interleaver_spec.specs.Running.{depthLimit}
 use Rattle.subchannel_spec.specs.Sender.{sent}
-use Rattle.subchannel.specs.declared.settings.Settings.{Settings}
-use Rattle.subchannel.specs.Called.{settings, within}
-use Rattle.four_receivers.specs.declared.Configured.the-variants.{Told, Refused}
+use Rattle.subchannel_spec.specs.declared.Settings.{Settings}
+use Rattle.subchannel_spec.specs.Settings.{settings, within}
+use Rattle.subchannel_spec.specs.declared.Configured.the-variants.{Told, Refused}
 use Rattle.subchannel_sender.specs.Sending.{sending}
 use Rattle.four_senders.specs.declared.Sender.{Sender}
 use Rattle.four_senders.specs.declared.Configuring.{Configuring}

@@ -1,13 +1,12 @@
 //! One to four fixed sub-channels: the sender.
 ghost use mathlib.Core.Path.{_≡_};
 ghost use Rattle.base.specs.Written.{outcome};
-ghost use Rattle.subchannel.specs.Called.{settings};
+ghost use Rattle.subchannel_spec.specs.Settings.{settings};
 ghost use Rattle.four_senders.specs.Four.{freshSender, get, put, soundFour, known, configuring, configuringOf, sendFour};
 use base::Refusal;
 use base::Written;
-use four_receivers::Configured;
-use subchannel::Settings;
-use subchannel::Sub;
+use subchannel_spec::Configured;
+use subchannel_spec::Settings;
 
 /// What the four sub-channels are told.
 pub struct Sender {
@@ -101,10 +100,10 @@ impl Sender {
         if 3 < number {
             return self.unconfigured(Refusal::SUB_CHANNEL);
         }
-        if Sub::PARITY < parity {
+        if Settings::PARITY < parity {
             return self.unconfigured(Refusal::ROOTS);
         }
-        if Sub::DEPTH < depth {
+        if Settings::DEPTH < depth {
             return self.unconfigured(Refusal::DEPTH);
         }
         let settings = Settings {

@@ -23,8 +23,8 @@ use Rattle.packet_spec.specs.declared.Judged.{Judged}
 use Rattle.packet_spec.specs.declared.Judged.the-variants.{Packet, Refused, Broken}
 use Rattle.channel_spec.specs.declared.Condition.{Condition}
 use Rattle.channel_spec.specs.declared.Condition.the-variants.{Clean, Repaired, Beyond}
-use Rattle.channel.specs.declared.answer.Answer.{Answer}
-use Rattle.channel.specs.declared.answer.Answer.the-variants.{Said}
+use Rattle.channel_spec.specs.declared.Answer.{Answer}
+use Rattle.channel_spec.specs.declared.Answer.the-variants.{Said}
 use Rattle.listing_spec.specs.Lines.{decimal, longest}
 use Rattle.ports_spec.specs.declared.Noted.{Noted}
 use Rattle.board_spec.specs.Text.{sixteenth, shownByte, heading}

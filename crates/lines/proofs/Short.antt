@@ -12,8 +12,8 @@ use Rattle.packet_spec.specs.declared.Judged.the-variants.{Packet, Refused, Bro
 use Rattle.packet_spec.specs.Frame.{packet, refusal, broken, delivery}
 use Rattle.channel_spec.specs.Channel.{Event, said, block, lost}
 use Rattle.channel_spec.specs.declared.Condition.the-variants.{Clean, Repaired, Beyond}
-use Rattle.channel.specs.declared.answer.Answer.{Answer}
-use Rattle.channel.specs.declared.answer.Answer.the-variants.{More, Said, Block, LockLost}
+use Rattle.channel_spec.specs.declared.Answer.{Answer}
+use Rattle.channel_spec.specs.declared.Answer.the-variants.{More, Said, Block, LockLost}
 use Rattle.listing_spec.specs.Lines.{decimal, letter, told, line, given, endLine, wrongLine, longest}
 use Rattle.listing_spec.proofs.Digits.{digits-short}
 

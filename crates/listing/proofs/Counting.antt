@@ -14,7 +14,7 @@ use Rattle.base.specs.declared.Written.{Written}
 use Rattle.base.specs.declared.Written.the-variants.{Wrote, Refused}
 use Rattle.base.specs.Written.{Outcome, outcome, write}
 use Rattle.base.proofs.Writing.{room-wrote, room-never}
-use Rattle.channel.specs.declared.answer.Answer.{Answer}
+use Rattle.channel_spec.specs.declared.Answer.{Answer}
 use Rattle.listing_spec.specs.Apart.{well}
 use Rattle.listing_spec.specs.Lines.{line, totalOf, one, longest}
 use Rattle.listing_spec.specs.declared.Total.{Total}

@@ -16,7 +16,7 @@ use Rattle.base.specs.Calls.{joined, told, andThen, drain, rest}
 use Rattle.base.proofs.Calls.{law, settled, all-append}
 use Rattle.channel_spec.specs.Channel.{Event}
 use Rattle.channel.specs.Called.{sound, roomy}
-use Rattle.channel.specs.declared.answer.Answer.{Answer}
+use Rattle.channel_spec.specs.declared.Answer.{Answer}
 use Rattle.listing_spec.specs.Lines.{line, given, lines, longest}
 use Rattle.recording.specs.Deck.{Deck, deckOwes, deckHand, deckEat, deckAll, deckHear}
 use Rattle.recording.proofs.Ears.{deck-hand-one}

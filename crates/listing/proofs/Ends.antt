@@ -21,7 +21,7 @@ use Rattle.packet_spec.specs.Contents.{rawLimit}
 use Rattle.channel_spec.specs.Sender.{messageBytes, wordBytes}
 use Rattle.channel_spec.specs.Channel.{Event}
 use Rattle.channel.specs.Called.{Board, board, freshReceiver, owedBy}
-use Rattle.channel.specs.declared.answer.Answer.{Answer}
+use Rattle.channel_spec.specs.declared.Answer.{Answer}
 use Rattle.channel.proofs.Fine.{fine-is, fine-roomy, fine-fresh}
 use Rattle.listing_spec.specs.declared.Place.{Place}
 use Rattle.listing_spec.specs.declared.Place.the-variants.{Mode, Mark, Second, Low, High, Inside, Wrong}

@@ -13,8 +13,9 @@ use lib.Dec.{leb}
 use lib.ListN.{length, drop}
 use borrow.Author.Tests.{lt-ltb, le-ltb, le-leb, leb-true}
 use Rattle.channel_spec.specs.Channel.{Event}
-use Rattle.channel.specs.Called.{sound, roomy, answered}
-use Rattle.channel.specs.declared.answer.Answer.{Answer}
+use Rattle.channel.specs.Called.{sound, roomy}
+use Rattle.channel_spec.specs.Answer.{answered}
+use Rattle.channel_spec.specs.declared.Answer.{Answer}
 use Rattle.base.proofs.Tests.{and-parts}
 use Rattle.listing_spec.specs.declared.Spot.{Spot}
 use Rattle.listing_spec.specs.Lines.{line, given, isPacket, isRefusal, isDamaged, isLost, longest}

@@ -14,7 +14,7 @@ use Rattle.base.specs.Choice.{pick}
 use Rattle.base.specs.Written.{Outcome, write}
 use Rattle.channel_spec.specs.Channel.{Event}
 use Rattle.channel.specs.Called.{sound, roomy}
-use Rattle.channel.specs.declared.answer.Answer.{Answer}
+use Rattle.channel_spec.specs.declared.Answer.{Answer}
 use Rattle.listing_spec.specs.declared.Spot.{Spot}
 use Rattle.listing_spec.specs.declared.Total.{Total}
 use Rattle.listing_spec.specs.Apart.{well}

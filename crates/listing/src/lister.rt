@@ -7,7 +7,7 @@ ghost use lib.ListN.{length, drop};
 ghost use Rattle.base.specs.Written.{outcome};
 ghost use Rattle.channel.specs.Called.{sound, roomy};
 ghost use Rattle.listing_spec.specs.Lines.{line, totalOf, longest};
-ghost use Rattle.channel.specs.declared.answer.Answer.the-variants.{Said, Block};
+ghost use Rattle.channel_spec.specs.declared.Answer.the-variants.{Said, Block};
 ghost use Rattle.listing.specs.declared.lister.Wants.the-variants.{Refused};
 ghost use Rattle.recording.specs.Called.{deckOf};
 ghost use Rattle.listing.specs.Printed.{noTotals, freshRecording, counted, nearTotals, near, takes, print, TookIs, finishing};

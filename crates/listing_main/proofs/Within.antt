@@ -13,7 +13,7 @@ use Rattle.base.specs.Choice.{pick}
 use Rattle.base.proofs.Calls.{FitsBy, fits}
 use Rattle.channel_spec.specs.Channel.{Event}
 use Rattle.channel.specs.Called.{sound, roomy}
-use Rattle.channel.specs.declared.answer.Answer.{Answer}
+use Rattle.channel_spec.specs.declared.Answer.{Answer}
 use Rattle.listing_spec.specs.Lines.{line, longest}
 use Rattle.recording.specs.Deck.{Deck, deckOwes, deckHand, deckEat, deckHear}
 use Rattle.recording.proofs.Ears.{deck-hand-one}

@@ -14,7 +14,7 @@ use Rattle.packet_spec.specs.declared.Class.the-variants.{System, Applications,
 use Rattle.packet_spec.specs.declared.Judged.the-variants.{Packet, Refused, Broken}
 use Rattle.packet_spec.specs.Escape.{escape, escapeByte, plain, wrongFrom, right, last, scan}
 use Rattle.packet_spec.specs.Frame.{judgeContents, closedBy, closed, judge, judgeBody}
-use Rattle.channel.specs.declared.answer.Answer.the-variants.{More, Said, Block, LockLost}
+use Rattle.channel_spec.specs.declared.Answer.the-variants.{More, Said, Block, LockLost}
 use Rattle.channel_spec.specs.declared.Condition.the-variants.{Clean, Repaired, Beyond}
 use Rattle.listing_spec.specs.declared.Place.the-variants.{Inside, Wrong}
 use Rattle.listing_spec.specs.Apart.{nextAt, inStream, apart}

@@ -22,9 +22,9 @@ use Rattle.listing_spec.specs.declared.Total.{Total}
 use Rattle.listing_spec.specs.declared.Total.the-variants.{Packets, Refusals, Damaged, Lost, Nothing}
 use Rattle.channel_spec.specs.declared.Condition.{Condition}
 use Rattle.channel_spec.specs.declared.Condition.the-variants.{Clean, Repaired, Beyond}
-use Rattle.channel.specs.Called.{answered}
-use Rattle.channel.specs.declared.answer.Answer.{Answer}
-use Rattle.channel.specs.declared.answer.Answer.the-variants.{More, Said, Block, LockLost}
+use Rattle.channel_spec.specs.Answer.{answered}
+use Rattle.channel_spec.specs.declared.Answer.{Answer}
+use Rattle.channel_spec.specs.declared.Answer.the-variants.{More, Said, Block, LockLost}
 
 -- the digits of n, at most k + 1 of them
 unfoldable pub decimalBy : ℕ → ℕ → List ℕ

@@ -16,7 +16,7 @@ use base::Refusal;
 use base::Written;
 use bid::Found;
 use bid::Line;
-use channel::Block;
+use channel_spec::Block;
 use packet::Packet;
 
 /// The sender's state.
@@ -70,7 +70,7 @@ fn put_out(hold: &mut [u8], n: usize, out: &mut [u8]) -> usize
     ensures { λ r. ⌜ PutIs (take n (now (hold .entry))) (now (hold .entry)) (now (out .entry)) r (now (hold .exit)) (now (out .exit)) ⌝ }
 {
     let whole = n / Block::MESSAGE * Block::MESSAGE;
-    let sent = channel::send(&hold[0..whole], out);
+    let sent = channel_sender::send(&hold[0..whole], out);
     let mut rest = [0u8; Block::MESSAGE];
     base::copy(&hold[whole..n], &mut rest);
     let left = n - whole;
@@ -283,6 +283,6 @@ impl Office {
             return Written::Refused(Refusal::BUFFER);
         }
         let held = self.held;
-        channel::send(&hold[0..held], out)
+        channel_sender::send(&hold[0..held], out)
     }
 }

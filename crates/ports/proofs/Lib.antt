@@ -3,4 +3,3 @@ pub mod Finding
 pub mod Lending
 pub mod Says
 pub mod Tables
-pub mod Fresh

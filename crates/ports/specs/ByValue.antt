@@ -4,8 +4,7 @@
 -- notedIn, forgotIn   what the two calls on it give
 use mathlib.Core.Bool.{Bool, not}
 use mathlib.Core.List.{List}
-use lib.ListN.{replicate}
-use Rattle.ports_spec.specs.Ports.{placeLimit, freed, unfit}
+use Rattle.ports_spec.specs.Ports.{freshTable, unfit}
 use Rattle.ports_spec.specs.declared.Entry.{Entry}
 use Rattle.ports_spec.specs.declared.Noted.{Noted}
 use Rattle.ports_spec.specs.declared.Forgot.{Forgot}
@@ -15,7 +14,7 @@ use Rattle.ports.specs.declared.by_value.ForgotIn.{ForgotIn}
 
 -- 16 free places
 abbrev pub freshPorts : Ports
-freshPorts = record { entries = replicate placeLimit freed }
+freshPorts = record { entries = freshTable }
 
 -- no port is held twice in it: 43 is no answer then
 abbrev pub soundPorts : Ports → Bool

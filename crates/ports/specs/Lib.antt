@@ -1,3 +1,2 @@
-pub mod ByHand
 pub mod ByValue
 pub mod Private

@@ -8,6 +8,7 @@
 -- only-full                        what a packet is told hangs on its port's own last number and, of a new port, on whether a place is free
 -- forgotten-none                   a port forgotten is not held
 -- forgotten-at, forgotten-else     its place is freed, and nothing else changes
+-- fresh-fit, fresh-none            a fresh table is fit, and holds no port
 use mathlib.Core.Path.{_≡_, refl, sym, ap, subst, _∙_}
 use mathlib.Core.Bool.{Bool, true, false, _&&_, _||_, false≢true, true≢false}
 use mathlib.Core.Logic.{_≢_}
@@ -28,7 +29,7 @@ use Rattle.ports_spec.specs.declared.Noted.the-variants.{First, Refused}
 use Rattle.ports_spec.specs.declared.Forgot.{Forgot}
 use Rattle.ports_spec.specs.declared.Forgot.the-variants.{Forgotten, Refused as Unforgotten}
 use Rattle.ports_spec.specs.Distance.{ruled, lastBehind}
-use Rattle.ports_spec.specs.Ports.{placeLimit, freed, entry, unheld, holds, placeOf, freePlace, lastOf, twice, unfit, lastAt, further, taken, without, noting, forgetting}
+use Rattle.ports_spec.specs.Ports.{placeLimit, freed, freshTable, entry, unheld, holds, placeOf, freePlace, lastOf, twice, unfit, lastAt, further, taken, without, noting, forgetting}
 
 -- ---- the two calls as their tests go
 abbrev pub notingBy : Bool → Bool → Bool → List Entry → ℕ → ℕ → Noted × List Entry
@@ -300,3 +301,12 @@ pub forgotten-else : (es : List Entry) (port i : ℕ) → i ≢ placeOf port es 
 forgotten-else es port i n =
     forgetting-ways es port (λ x. getD (x .1) i freed ≡ getD es i freed) refl
     (λ h. getD-set-other es (placeOf port es) i (unheld port (lastAt es port)) freed n) refl
+
+-- ---- a fresh table
+pub fresh-fit : unfit freshTable ≡ false
+unfolding twice placeOf
+fresh-fit = refl
+
+pub fresh-none : (port : ℕ) → lastOf port freshTable ≡ none
+unfolding lastOf
+fresh-none port = refl

@@ -1,6 +1,7 @@
 -- Which bids did we miss (request W1): a small table of ports, up to 16, each with its last sequence number.
 -- placeLimit               at most so many places
 -- freed, entry, unheld     a place that is free, held, or freed again
+-- freshTable               a table that holds no port
 -- placeOf, freePlace       where a port is held, and the first free place; the table's length where there is none
 -- lastOf                   a port's last number, if it is held
 -- twice, unfit             43: more than 16 places, or one port held twice
@@ -11,7 +12,7 @@ use mathlib.Core.Bool.{Bool, true, false, _&&_, _||_}
 use mathlib.Core.List.{List, [], _∷_}
 use mathlib.Core.Option.{Option, some, none}
 use lib.Dec.{eqb, ltb}
-use lib.ListN.{length, getD, set}
+use lib.ListN.{length, getD, set, replicate}
 use Rattle.base.specs.Choice.{pick}
 use Rattle.ports_spec.specs.Distance.{ruled, lastBehind}
 use Rattle.ports_spec.specs.declared.Entry.{Entry}
@@ -27,6 +28,10 @@ placeLimit = 16
 -- a free place
 abbrev pub freed : Entry
 freed = record { held = false; port = 0; last = 0 }
+
+-- 16 free places
+abbrev pub freshTable : List Entry
+freshTable = replicate placeLimit freed
 
 -- a place held
 abbrev pub entry : ℕ → ℕ → Entry

@@ -34,6 +34,7 @@ use Rattle.stream.specs.declared.frame.Read.{Read}
 use Rattle.channel_spec.specs.declared.Condition.{Condition}
 use Rattle.channel_spec.specs.declared.Condition.the-variants.{Repaired as Mended-block}
 use Rattle.channel.specs.Called as channel
+use Rattle.channel_spec.specs.Answer.{answered}
 use Rattle.channel.specs.declared.receiver.Receiver.{Receiver}
 use Rattle.channel.specs.declared.answer.Hearing.{Hearing}
 use Rattle.rack.specs.declared.told.Told.{Told}
@@ -137,7 +138,7 @@ module _ (s recv word bs : List ℕ) {g : Receiver} (k : g ≡ receiverOf s) {r 
   q′ : channel.HearingIs (channel.hearCall (channel.board (receiverOf s) recv word) bs) r l w
   q′ = subst (λ (g : Receiver). channel.HearingIs (channel.hearCall (channel.board g recv word) bs) r l w) k p
 
-  meant′ : t ≡ ofAnswer (channel.answered (channel.hearCall (channel.board (receiverOf s) recv word) bs .0))
+  meant′ : t ≡ ofAnswer (answered (channel.hearCall (channel.board (receiverOf s) recv word) bs .0))
   meant′ = e ∙ ap (λ (r : Hearing). ofAnswer (r .answer)) (q′ .0)
 
   pub heard-kept : ofCall (t .number) ≡ true → (t .number, s, l, w) ≡ hearing s recv word bs

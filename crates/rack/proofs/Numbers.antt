@@ -16,7 +16,7 @@ use Rattle.channel_spec.specs.declared.Condition.the-variants.{Clean, Repaired,
 use Rattle.parity.specs.declared.Checked.the-variants as check
 use Rattle.repair.specs.declared.Mended.the-variants as repair
 use Rattle.channel.specs.declared.receiver.Receiver.{Receiver}
-use Rattle.channel.specs.declared.answer.Answer.the-variants.{More, Said, Block, LockLost}
+use Rattle.channel_spec.specs.declared.Answer.the-variants.{More, Said, Block, LockLost}
 use Rattle.rack.specs.Words.{writtenNumber, checkedNumber, mendedNumber}
 use Rattle.rack.specs.Told.{ofHeard, ofAnswer, frameOf, receiverOf, streamNumbers, channelNumbers}
 

@@ -8,7 +8,8 @@ use Rattle.base.specs.Choice.{pick}
 use Rattle.packet_spec.specs.Frame as frame
 use Rattle.stream.specs.Called as plain
 use Rattle.channel_spec.specs.Channel.{Event}
-use Rattle.channel.specs.Called.{Board, board, hearCall, answered}
+use Rattle.channel.specs.Called.{Board, board, hearCall}
+use Rattle.channel_spec.specs.Answer.{answered}
 use Rattle.rack.specs.declared.told.Told.{Told}
 use Rattle.rack.specs.Told.{ofHeard, ofAnswer, ofCall, frameOf, receiverOf, streamNumbers, channelNumbers}
 

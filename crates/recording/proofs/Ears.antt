@@ -26,11 +26,12 @@ use Rattle.stream.specs.declared.frame.Heard.the-variants.{More as NoMore, Said
 use Rattle.stream.proofs.Fine.{fine-of as frame-fine}
 use Rattle.stream.proofs.Cutting.{read-agrees}
 use Rattle.channel_spec.specs.Channel.{said}
-use Rattle.channel.specs.Called.{Board, board, heldIn, owed, handOn, eatByte, asEvent, hearAll, hearOn, hearCall, HearingIs, sound, roomy, answered}
+use Rattle.channel.specs.Called.{Board, board, heldIn, owed, handOn, eatByte, asEvent, hearAll, hearOn, hearCall, HearingIs, sound, roomy}
+use Rattle.channel_spec.specs.Answer.{answered}
 use Rattle.channel.specs.declared.receiver.Receiver.{Receiver}
 use Rattle.channel.specs.declared.answer.Hearing.{Hearing}
-use Rattle.channel.specs.declared.answer.Answer.{Answer}
-use Rattle.channel.specs.declared.answer.Answer.the-variants.{More, Said}
+use Rattle.channel_spec.specs.declared.Answer.{Answer}
+use Rattle.channel_spec.specs.declared.Answer.the-variants.{More, Said}
 use Rattle.channel.proofs.Fine.{fine-of}
 use Rattle.channel.proofs.Cutting.{hand-one, hear-agrees}
 use Rattle.recording.specs.Deck.{Ear, ear, withHeld, owesBy, earOwes, earHand, earEat, Deck, deckOwes, deckHand}

@@ -13,7 +13,8 @@ use Rattle.base.specs.Calls.{after}
 use Rattle.base.proofs.Calls.{after-none, after-after}
 use Rattle.base.proofs.Parts.{tail-is}
 use Rattle.channel_spec.specs.Channel.{Event}
-use Rattle.channel.specs.Called.{sound, roomy, answered}
+use Rattle.channel.specs.Called.{sound, roomy}
+use Rattle.channel_spec.specs.Answer.{answered}
 use Rattle.recording.specs.declared.tape.Tape.{Tape}
 use Rattle.recording.specs.declared.tape.Turn.{Turn}
 use Rattle.recording.specs.Deck.{Deck, deckHear}

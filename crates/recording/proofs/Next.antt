@@ -16,7 +16,7 @@ use borrow.Author.Tests.{le-leb, leb-true}
 use Rattle.packet_spec.specs.declared.Judged.the-variants.{Refused}
 use Rattle.channel_spec.specs.Channel.{Event}
 use Rattle.channel.specs.Called.{sound, roomy, Fine}
-use Rattle.channel.specs.declared.answer.Answer.the-variants.{Said}
+use Rattle.channel_spec.specs.declared.Answer.the-variants.{Said}
 use Rattle.channel.proofs.Fine.{fine-of, fine-is, fine-roomy}
 use Rattle.listing_spec.specs.declared.Spot.{Spot}
 use Rattle.recording.specs.declared.tape.Tape.{Tape}

@@ -16,7 +16,8 @@ use Rattle.base.specs.Calls.{unless, oneMore, after}
 use Rattle.base.proofs.Calls.{after-none, one-after, FitsBy, Fits, fits, inv-hear, hear-eat, hear-end}
 use Rattle.stream.proofs.Fine.{fine-take}
 use Rattle.channel_spec.specs.Channel.{Event, said, block, lost}
-use Rattle.channel.specs.Called.{Board, board, heldIn, sound, roomy, answered, handOn, Fine}
+use Rattle.channel.specs.Called.{Board, board, heldIn, sound, roomy, handOn, Fine}
+use Rattle.channel_spec.specs.Answer.{answered}
 use Rattle.channel.specs.declared.receiver.Receiver.{Receiver}
 use Rattle.channel.specs.declared.answer.Hearing.{Hearing}
 use Rattle.channel.proofs.Fine.{fine-of, fine-is, fine-roomy, fine-hand, fine-eat}

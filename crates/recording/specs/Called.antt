@@ -18,9 +18,10 @@ use Rattle.packet_spec.specs.Contents.{rawLimit}
 use Rattle.packet_spec.specs.Frame.{refusal}
 use Rattle.channel_spec.specs.Sender.{wordBytes}
 use Rattle.channel_spec.specs.Channel.{Event, said}
-use Rattle.channel.specs.Called.{board, sound, roomy, freshReceiver, ThereEvent, answered}
-use Rattle.channel.specs.declared.answer.Answer.{Answer}
-use Rattle.channel.specs.declared.answer.Answer.the-variants.{More, Said, Block, LockLost}
+use Rattle.channel.specs.Called.{board, sound, roomy, freshReceiver, ThereEvent}
+use Rattle.channel_spec.specs.Answer.{answered}
+use Rattle.channel_spec.specs.declared.Answer.{Answer}
+use Rattle.channel_spec.specs.declared.Answer.the-variants.{More, Said, Block, LockLost}
 use Rattle.listing_spec.specs.declared.Spot.{Spot}
 use Rattle.listing_spec.specs.Apart.{freshSpot}
 use Rattle.recording.specs.declared.tape.Tape.{Tape}

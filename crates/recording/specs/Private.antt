@@ -12,9 +12,10 @@ use lib.ListN.{length, drop}
 use Rattle.base.specs.Choice.{pick}
 use Rattle.base.specs.Calls.{hear, after}
 use Rattle.channel_spec.specs.Channel.{Event}
-use Rattle.channel.specs.Called.{board, sound, roomy, answered}
+use Rattle.channel.specs.Called.{board, sound, roomy}
+use Rattle.channel_spec.specs.Answer.{answered}
 use Rattle.channel.specs.declared.receiver.Receiver.{Receiver}
-use Rattle.channel.specs.declared.answer.Answer.{Answer}
+use Rattle.channel_spec.specs.declared.Answer.{Answer}
 use Rattle.channel.specs.declared.answer.Hearing.{Hearing}
 use Rattle.listing_spec.specs.declared.Place.{Place}
 use Rattle.listing_spec.specs.declared.Place.the-variants.{Mode, Mark, Second, Low, High, Inside, Wrong}

@@ -8,7 +8,7 @@ ghost use Rattle.stream.specs.Called.{sound as soundFrame};
 ghost use Rattle.channel.specs.Called.{board, sound, roomy};
 ghost use Rattle.listing_spec.specs.Apart.{inStream, well};
 ghost use Rattle.packet_spec.specs.declared.Judged.the-variants.{Refused};
-ghost use Rattle.channel.specs.declared.answer.Answer.the-variants.{Said};
+ghost use Rattle.channel_spec.specs.declared.Answer.the-variants.{Said};
 ghost use Rattle.recording.specs.Deck.{ear};
 ghost use Rattle.recording.specs.Called.{freshTape, far, deckOf, isMore, nearSpot, tapeCall, NextIs};
 ghost use Rattle.recording.specs.Private.{earHear, EarIs, PlainIs, headed, TurnIs, HeardIs};

@@ -2,17 +2,12 @@
 use mathlib.Core.Path.{refl}
 use Rattle.base.specs.Determined.{Determined}
 use Rattle.base.proofs.Determining.{same, buffer, skip}
-use Rattle.subchannel.proofs.settings.Settings.within.Kinds as within-kinds
-use Rattle.subchannel.proofs.settings.Settings.within.Reads as within-reads
 use Rattle.subchannel.proofs.sub.Sub.told.Kinds as told-kinds
 use Rattle.subchannel.proofs.sub.Sub.told.Reads as told-reads
 use Rattle.subchannel.proofs.sub.Sub.sound.Kinds as sound-kinds
 use Rattle.subchannel.proofs.sub.Sub.sound.Reads as sound-reads
 use Rattle.subchannel.proofs.sub.Sub.hear.Kinds as hear-kinds
 use Rattle.subchannel.proofs.sub.Sub.hear.Reads as hear-reads
-
-pub within-determined : Determined within-kinds.ps within-kinds.r within-reads.Asked within-reads.Learnt
-within-determined κs a z z′ ws ws′ pre p q = (same p q, refl)
 
 pub told-determined : Determined told-kinds.ps told-kinds.r told-reads.Asked told-reads.Learnt
 told-determined κs a z z′ ws ws′ pre p q = (same p q, refl)

@@ -17,7 +17,7 @@ use Rattle.base.specs.Choice.{pick}
 use Rattle.base.proofs.Tests.{by-le}
 use Rattle.interleaver_spec.specs.Running.{matrix, back, taken, full, gave, pull, beyond}
 use Rattle.interleaver_spec.specs.declared.Back.{Back}
-use Rattle.channel.specs.declared.answer.Answer.the-variants.{More}
+use Rattle.channel_spec.specs.declared.Answer.the-variants.{More}
 use Rattle.channel_spec.specs.Sender.{wordBytes}
 use Rattle.subchannel_spec.specs.Sender.{groupBytes}
 use Rattle.subchannel.specs.declared.lane.Lane.{Lane}

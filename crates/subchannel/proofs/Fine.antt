@@ -28,11 +28,12 @@ use Rattle.channel_spec.specs.Channel.{shift, isMarker}
 use Rattle.channel.specs.Called.{roomy}
 use Rattle.subchannel_spec.specs.Sender.{messageBytes, groupBytes}
 use Rattle.subchannel_spec.specs.Word.{mend}
-use Rattle.subchannel.specs.declared.settings.Counts.{Counts}
+use Rattle.subchannel.specs.declared.counts.Counts.{Counts}
 use Rattle.subchannel.specs.declared.lane.Lane.{Lane}
 use Rattle.subchannel.specs.declared.sub.Sub.{Sub}
 use Rattle.subchannel.specs.Called.{Board, board, sub, counts, toldSub, heldIn, moved, huntOn, wordAt, mendIn, wordOn, groupOn, compareOn, markOn}
-use Rattle.subchannel.specs.Called.{behind, eatBy, onBoard, eatByte, owedBy, owed, handed, handOn, within, soundCounts, soundLane, sound, Fine}
+use Rattle.subchannel.specs.Called.{behind, eatBy, onBoard, eatByte, owedBy, owed, handed, handOn, soundCounts, soundLane, sound, Fine}
+use Rattle.subchannel_spec.specs.Settings.{within}
 
 not-so : (b : Bool) → not b ≡ true → b ≡ false
 not-so true e = absurd (false≢true e)

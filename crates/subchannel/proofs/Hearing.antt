@@ -31,10 +31,11 @@ use Rattle.stream.proofs.Cutting.{read-agrees}
 use Rattle.interleaver_spec.specs.Running.{beyond, matrix, back, freshBack, pull}
 use Rattle.interleaver_spec.specs.declared.Back.{Back}
 use Rattle.channel_spec.specs.declared.Hunting.{Hunting}
-use Rattle.channel.specs.declared.answer.Answer.the-variants.{More, Said}
+use Rattle.channel_spec.specs.declared.Answer.the-variants.{More, Said}
 use Rattle.channel_spec.specs.Sender.{wordBytes}
 use Rattle.channel_spec.specs.Channel.{Event, shift, isMarker}
-use Rattle.channel.specs.Called.{asEvent, answered, roomy}
+use Rattle.channel.specs.Called.{asEvent, roomy}
+use Rattle.channel_spec.specs.Answer.{answered}
 use Rattle.subchannel_spec.specs.Sender.{messageBytes, groupBytes}
 use Rattle.subchannel.specs.declared.lane.Lane.{Lane}
 use Rattle.subchannel.specs.declared.lane.Step.{Step}

@@ -16,8 +16,9 @@ use Rattle.channel_spec.specs.Channel.{zeros}
 use Rattle.stream.specs.Called.{fresh}
 use Rattle.subchannel_spec.specs.Sub.{inGroup, inMark}
 use Rattle.subchannel.specs.declared.sub.Sub.{Sub}
-use Rattle.subchannel.specs.declared.settings.Counts.{Counts}
-use Rattle.subchannel.specs.Called.{sub, lane, settings, counts, sound, boardOf}
+use Rattle.subchannel.specs.declared.counts.Counts.{Counts}
+use Rattle.subchannel.specs.Called.{sub, lane, counts, sound, boardOf}
+use Rattle.subchannel_spec.specs.Settings.{settings}
 
 -- settings r and d, counts g m w n, and place p
 abbrev at : ℕ → ℕ → ℕ → ℕ → ℕ → ℕ → ℕ → Sub

@@ -33,7 +33,8 @@ use Rattle.subchannel_spec.specs.Sender.{messageBytes, groupBytes}
 use Rattle.subchannel_spec.specs.Word.{condition, mend, message}
 use Rattle.subchannel_spec.specs.Sub.{Sub, hunting, inGroup, inMark, silent, whole, worded, takes, hunt, grouping, compared, behindGroup, step, hears}
 use Rattle.subchannel.specs.declared.lane.Lane.{Lane}
-use Rattle.subchannel.specs.Called.{Board, board, sub, lane, settings, counts, huntOn, mendIn, wordOn, groupOn, compareOn, markOn}
+use Rattle.subchannel.specs.Called.{Board, board, sub, lane, counts, huntOn, mendIn, wordOn, groupOn, compareOn, markOn}
+use Rattle.subchannel_spec.specs.Settings.{settings}
 use Rattle.subchannel.specs.Called.{behind, eatBy, onBoard, eatByte}
 use Rattle.subchannel.specs.Called.{owedBy, owed, handWith, handOn, hearAll, inUse, handedOf, lockedWith, boardOf}
 use Rattle.subchannel.proofs.Fine.{mend-length}

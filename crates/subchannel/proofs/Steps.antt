@@ -6,7 +6,7 @@
 -- mended-told                             what repair finds of a word, and leaves of it
 -- words-more, words-whole                 a byte of a word
 -- eats-..                                 one new byte
--- one-and, second-fails, within-parity    tests in a row
+-- second-fails, within-parity    tests in a row
 use Prim.Native.Nat.{ℕ, suc, _+_, _-_, _≤_, _<_}
 use native.Mathlib.Numerals.{add-one}
 use native.Mathlib.Omega.{arith}
@@ -31,18 +31,19 @@ use Rattle.repair.specs.Promise.{Promised}
 use Rattle.repair.proofs.Promising.{promised-is}
 use Rattle.channel_spec.specs.declared.Hunting.{Hunting}
 use Rattle.channel_spec.specs.declared.Condition.{Condition}
-use Rattle.channel.specs.declared.answer.Answer.the-variants.{More, Block, LockLost}
+use Rattle.channel_spec.specs.declared.Answer.the-variants.{More, Block, LockLost}
 use Rattle.channel_spec.specs.Sender.{wordBytes}
 use Rattle.channel_spec.specs.Channel.{Event, conditionBy, shift, isMarker}
-use Rattle.channel.specs.Called.{answered}
+use Rattle.channel_spec.specs.Answer.{answered}
 use Rattle.subchannel_spec.specs.Sender.{messageBytes, groupBytes}
 use Rattle.subchannel_spec.specs.Word.{condition, mend}
-use Rattle.subchannel.specs.declared.settings.Settings.{Settings}
-use Rattle.subchannel.specs.declared.settings.Counts.{Counts}
+use Rattle.subchannel_spec.specs.declared.Settings.{Settings}
+use Rattle.subchannel.specs.declared.counts.Counts.{Counts}
 use Rattle.subchannel.specs.declared.lane.Lane.{Lane}
 use Rattle.subchannel.specs.declared.lane.Step.{Step}
 use Rattle.subchannel.specs.declared.cells.Turned.{Turned}
-use Rattle.subchannel.specs.Called.{lane, counts, moved, huntOn, wordAt, mendIn, wordOn, groupOn, compareOn, markOn, grouped, eatBy, eat, owedBy, owes, within}
+use Rattle.subchannel.specs.Called.{lane, counts, moved, huntOn, wordAt, mendIn, wordOn, groupOn, compareOn, markOn, grouped, eatBy, eat, owedBy, owes}
+use Rattle.subchannel_spec.specs.Settings.{within}
 use Rattle.subchannel.specs.declared.lane.Eaten.{Eaten}
 use Rattle.subchannel.specs.Private.{isSome, orZero, TurnedIs, stepOf, WordIs, EatenIs}
 
@@ -241,9 +242,6 @@ module _ (s : Lane) (a : Bool) (p : ℕ) (cs w : List ℕ) (b : ℕ) where
         ((λ i. record { done = e i .done; answer = e i .answer; lane = e i .lane; again = a; place = p }), refl, refl)
 
 -- ---- tests in a row
-pub one-and : {a x y : Bool} → a ≡ true → x ≡ y → x ≡ a && y
-one-and {a} {x} {y} p q = q ∙ ap (λ (t : Bool). t && y) (sym p)
-
 pub second-fails : {a b : Bool} (x : Bool) → a ≡ true → b ≡ false → false ≡ a && (b && x)
 second-fails x p q = rw (p, q) refl
 

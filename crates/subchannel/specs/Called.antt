@@ -29,12 +29,14 @@ use Rattle.interleaver_spec.specs.declared.Back.{Back}
 use Rattle.channel_spec.specs.declared.Hunting.{Hunting}
 use Rattle.channel_spec.specs.Sender.{wordBytes}
 use Rattle.channel_spec.specs.Channel.{Event, said, block, lost, shift, isMarker, zeros}
-use Rattle.channel.specs.Called.{asEvent, answered, roomy}
+use Rattle.channel.specs.Called.{asEvent, roomy}
+use Rattle.channel_spec.specs.Answer.{answered}
 use Rattle.subchannel_spec.specs.Sender.{messageBytes, groupBytes}
 use Rattle.subchannel_spec.specs.Word.{condition, mend}
 use Rattle.subchannel_spec.specs.Sub as model
-use Rattle.subchannel.specs.declared.settings.Settings.{Settings}
-use Rattle.subchannel.specs.declared.settings.Counts.{Counts}
+use Rattle.subchannel_spec.specs.Settings.{settings, within}
+use Rattle.subchannel_spec.specs.declared.Settings.{Settings}
+use Rattle.subchannel.specs.declared.counts.Counts.{Counts}
 use Rattle.subchannel.specs.declared.lane.Lane.{Lane}
 use Rattle.subchannel.specs.declared.sub.Sub.{Sub}
 use Rattle.subchannel.specs.declared.sub.Hearing.{Hearing}
@@ -58,9 +60,6 @@ lane s l o f n h = record { settings = s; locked = l; lost = o; hunting = f; cou
 -- bytes of the group, of the next marker; bytes in the word buffer, message bytes of it handed on
 abbrev pub counts : ℕ → ℕ → ℕ → ℕ → Counts
 counts g m w n = record { group = g; marker = m; word = w; handed = n }
-
-abbrev pub settings : Bool → ℕ → ℕ → Settings
-settings t r d = record { told = t; parity = r; depth = d }
 
 -- just told: hunting with four bytes of zero, waiting for a flag, counts zero, the interleaver at row zero
 abbrev pub toldSub : ℕ → ℕ → Sub
@@ -184,11 +183,7 @@ hearAll = all owed handOn eatByte
 abbrev pub hearOn : Board → List ℕ → Option Event × ℕ × Board
 hearOn = hear owed handOn eatByte
 
--- what 10 asks of the settings ..
-abbrev pub within : Settings → Bool
-within s = leb (s .parity) rootLimit && leb (s .depth) depthLimit
-
--- .. and of the counts: "also when a group counts more than four words", marker above 3, word above 255, handed on above 255 - R
+-- what 10 asks of the counts: "also when a group counts more than four words", marker above 3, word above 255, handed on above 255 - R
 abbrev pub soundCounts : ℕ → Counts → Bool
 soundCounts r n = leb (n .group) groupBytes && (leb (n .marker) 3 && (leb (n .word) wordBytes && leb (n .handed) (messageBytes r)))
 

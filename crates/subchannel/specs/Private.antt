@@ -21,7 +21,7 @@ use Rattle.interleaver_spec.specs.Running.{depthLimit, matrix, back, beyond}
 use Rattle.interleaver_spec.specs.declared.Back.{Back}
 use Rattle.channel_spec.specs.Sender.{wordBytes}
 use Rattle.channel_spec.specs.Channel.{Event}
-use Rattle.channel.specs.Called.{answered}
+use Rattle.channel_spec.specs.Answer.{answered}
 use Rattle.subchannel_spec.specs.Sender.{groupBytes}
 use Rattle.subchannel.specs.declared.lane.Lane.{Lane}
 use Rattle.subchannel.specs.declared.lane.Step.{Step}

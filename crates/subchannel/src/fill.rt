@@ -5,8 +5,8 @@ ghost use Rattle.channel_spec.specs.Sender.{wordBytes};
 ghost use Rattle.subchannel_spec.specs.Sender.{groupBytes};
 ghost use Rattle.subchannel.specs.Private.{Fills, filled, FillAsks, FilledIs};
 use crate::cells;
+use crate::counts::Counts;
 use crate::lane::Lane;
-use crate::settings::Counts;
 use crate::sub::Sub;
 
 // How many of the bytes that are left only fill the word: not its last one, and none before every byte brings one.

@@ -24,14 +24,14 @@ ghost use Rattle.subchannel.specs.Called.{
 };
 ghost use Rattle.subchannel.specs.Private.{stepOf, Able, WordIs, EatenIs, HandedIs};
 use crate::cells;
-use crate::settings::Counts;
-use crate::settings::Settings;
+use crate::counts::Counts;
 use crate::sub::Sub;
 use crate::word;
 use channel::Answer;
 use channel::Hunting;
 use stream::Frame;
 use stream::Heard;
+use subchannel_spec::Settings;
 
 /// The state but for the cells.
 pub struct Lane {

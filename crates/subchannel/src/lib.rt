@@ -1,13 +1,13 @@
 //! Fixed sub-channels: each with its parity, its depth and its own bytes, at most one answer a call.
 mod cells;
+mod counts;
 mod fill;
 mod lane;
-mod settings;
 mod sub;
 mod word;
 
+pub use counts::Counts;
 pub use lane::Lane;
-pub use settings::Counts;
-pub use settings::Settings;
 pub use sub::Hearing;
 pub use sub::Sub;
+pub use subchannel_spec::Settings;

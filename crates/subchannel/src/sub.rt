@@ -6,10 +6,9 @@ ghost use Rattle.interleaver_spec.specs.Running.{matrix, back};
 ghost use Rattle.subchannel.specs.Called.{Fine, board, sub, toldSub, owes, sound, hearOn, hearCall, HearingIs};
 ghost use Rattle.subchannel.specs.Private.{spare, BytesIs};
 use crate::cells;
+use crate::counts::Counts;
 use crate::fill;
 use crate::lane::Lane;
-use crate::settings::Counts;
-use crate::settings::Settings;
 use base::Refusal;
 use channel::Answer;
 use channel::Hunting;
@@ -18,6 +17,7 @@ use interleaver::Back;
 use interleaver::Matrix;
 use packet::Judged;
 use stream::Frame;
+use subchannel_spec::Settings;
 
 /// The state of one sub-channel.
 pub struct Sub {
@@ -45,10 +45,10 @@ impl Sub {
     pub const GROUP: usize = 4 * Self::WORD;
 
     /// The most parity bytes of a word.
-    pub const PARITY: usize = 64;
+    pub const PARITY: usize = Settings::PARITY;
 
     /// The greatest depth.
-    pub const DEPTH: usize = 64;
+    pub const DEPTH: usize = Settings::DEPTH;
 
     /// Just told its settings: hunting, waiting for a flag, the first marked block at row zero.
     pub fn told(parity: usize, depth: usize) -> Self

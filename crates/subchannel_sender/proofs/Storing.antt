@@ -38,7 +38,7 @@ use Rattle.interleaver_spec.specs.Running.{depthLimit, size, fresh, sent, push,
 use Rattle.interleaver_spec.specs.declared.Matrix.{Matrix}
 use Rattle.interleaver_spec.proofs.Calling.{wrote}
 use Rattle.channel_spec.specs.Sender.{marker}
-use Rattle.channel.proofs.Sending.{lent, back}
+use Rattle.base.proofs.Parts.{lent, back}
 use Rattle.subchannel_spec.specs.Sender.{messageBytes, groupWords, groupBytes, wordOf, missing, closingWords, wordsOf, grouped}
 use Rattle.subchannel_spec.specs.Sender.{sent as sent-stream}
 use Rattle.subchannel_spec.proofs.Received.{joined-append}

@@ -14,8 +14,8 @@ ghost use Rattle.subchannel_sender.specs.Sending.{sending, messageOf, wo
 ghost use Rattle.subchannel_sender.specs.Private.{groupLength, groupsFrom, GroupIs};
 use base::Refusal;
 use base::Written;
-use channel::Block;
-use channel::Receiver;
+use channel_spec::Block;
+use channel_spec::Hunting;
 use interleaver::Matrix;
 use packet::Packet;
 
@@ -24,7 +24,7 @@ pub struct Group;
 
 impl Group {
     /// What stands before each group.
-    pub const MARKER: [u8; 4] = Receiver::MARKER;
+    pub const MARKER: [u8; 4] = Hunting::MARKER;
 
     /// Bytes of a word.
     pub const WORD: usize = Block::WORD;

@@ -9,3 +9,4 @@ pub mod Lost
 pub mod Numbers
 pub mod Returned
 pub mod Order
+pub mod Determined

@@ -2,7 +2,8 @@
 use mathlib.Core.Bool.{false}
 use borrow.Author.Needs.{needs}
 use Rattle.channel_spec.specs.Channel.{zeros}
-use Rattle.subchannel.specs.Called.{sub, lane, settings, counts}
+use Rattle.subchannel.specs.Called.{sub, lane, counts}
+use Rattle.subchannel_spec.specs.Settings.{settings}
 use Rattle.four_receivers.proofs.untold.Statement.{statement}
 use Rattle.four_receivers.proofs.untold.Tie as tie
 

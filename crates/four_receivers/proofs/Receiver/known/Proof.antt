@@ -3,7 +3,7 @@ use mathlib.Core.Path.{ap}
 use borrow.Author.Needs.{needs}
 use borrow.Author.Tests.{le-leb, lt-leb}
 use Rattle.subchannel.specs.declared.sub.Sub.{Sub}
-use Rattle.subchannel.proofs.Steps.{one-and}
+use Rattle.base.proofs.Tests.{one-and}
 use Rattle.four_receivers.proofs.Receiver.known.Statement.{statement}
 use Rattle.four_receivers.proofs.Receiver.known.Tie as tie
 

@@ -2,8 +2,8 @@
 use mathlib.Core.Path.{ap}
 use borrow.Author.Needs.{needs}
 use borrow.Author.Tests.{le-leb, lt-leb}
-use Rattle.subchannel.specs.declared.settings.Settings.{Settings}
-use Rattle.subchannel.proofs.Steps.{one-and}
+use Rattle.subchannel_spec.specs.declared.Settings.{Settings}
+use Rattle.base.proofs.Tests.{one-and}
 use Rattle.four_senders.proofs.Sender.known.Statement.{statement}
 use Rattle.four_senders.proofs.Sender.known.Tie as tie
 

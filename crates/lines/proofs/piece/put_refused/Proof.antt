@@ -2,7 +2,7 @@
 use borrow.Author.Needs.{needs}
 use mathlib.Core.Bool.{true}
 use Rattle.packet_spec.specs.declared.Judged.{Judged}
-use Rattle.channel.specs.declared.answer.Answer.the-variants.{Said}
+use Rattle.channel_spec.specs.declared.Answer.the-variants.{Said}
 use Rattle.board_spec.specs.Parts.{remark}
 use Rattle.lines.proofs.Pieces.{by-case, nothing-put, refused-line, broken-line}
 use Rattle.lines.proofs.piece.put_refused.Statement.{statement}

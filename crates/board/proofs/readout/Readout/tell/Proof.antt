@@ -1,7 +1,7 @@
 -- `board::readout::Readout::tell` meets its contract.
 use borrow.Author.Needs.{needs}
 use mathlib.Core.Path.{sym, _∙_, ap, subst}
-use Rattle.channel.specs.declared.answer.Answer.the-variants.{Said}
+use Rattle.channel_spec.specs.declared.Answer.the-variants.{Said}
 use Rattle.board.specs.Private.{answeredBy}
 use Rattle.board.proofs.Returns.{Other, answer-other}
 use Rattle.board.proofs.readout.Readout.tell.Statement.{statement}

@@ -2,7 +2,8 @@
 use mathlib.Core.Path.{sym, _∙_}
 use borrow.Author.Needs.{needs}
 use borrow.Author.Tests.{not-true, not-false}
-use Rattle.subchannel.proofs.Steps.{one-and, second-fails, within-parity}
+use Rattle.subchannel.proofs.Steps.{second-fails, within-parity}
+use Rattle.base.proofs.Tests.{one-and}
 use Rattle.subchannel.proofs.lane.Lane.sound.Statement.{statement}
 use Rattle.subchannel.proofs.lane.Lane.sound.Tie as tie
 

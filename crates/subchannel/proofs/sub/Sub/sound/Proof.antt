@@ -2,7 +2,7 @@
 use mathlib.Core.Path.{sym, _∙_, ap}
 use mathlib.Core.Bool.{not}
 use borrow.Author.Needs.{needs}
-use Rattle.subchannel.proofs.Steps.{one-and}
+use Rattle.base.proofs.Tests.{one-and}
 use Rattle.subchannel.proofs.sub.Sub.sound.Statement.{statement}
 use Rattle.subchannel.proofs.sub.Sub.sound.Tie as tie
 

@@ -2,7 +2,8 @@
 use mathlib.Core.Bool.{true, false}
 use borrow.Author.Needs.{needs}
 use Rattle.channel_spec.specs.Channel.{zeros}
-use Rattle.subchannel.specs.Called.{sub, lane, settings}
+use Rattle.subchannel.specs.Called.{sub, lane}
+use Rattle.subchannel_spec.specs.Settings.{settings}
 use Rattle.subchannel.proofs.sub.Sub.told.Statement.{statement}
 use Rattle.subchannel.proofs.sub.Sub.told.Tie as tie
 

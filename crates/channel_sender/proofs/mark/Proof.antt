@@ -1,9 +1,9 @@
--- `channel::sender::mark` meets its contract.
+-- `channel_sender::mark` meets its contract.
 use borrow.Author.Needs.{needs}
 use borrow.Author.Tests.{ne-eqb}
-use Rattle.channel.proofs.Sending.{mark-short, mark-fits}
-use Rattle.channel.proofs.sender.mark.Statement.{statement}
-use Rattle.channel.proofs.sender.mark.Tie as tie
+use Rattle.channel_sender.proofs.Sending.{mark-short, mark-fits}
+use Rattle.channel_sender.proofs.mark.Statement.{statement}
+use Rattle.channel_sender.proofs.mark.Tie as tie
 
 pub mark-spec : {M : Type 1} → statement M
 mark-spec =

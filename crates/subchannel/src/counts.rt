@@ -1,17 +1,8 @@
-//! What a sub-channel is told, what it counts, and the limits of both.
+//! What a sub-channel counts, and its limits.
 ghost use mathlib.Core.Path.{_≡_};
 ghost use Prim.Native.Nat.{_≤_};
-ghost use Rattle.subchannel.specs.Called.{counts, within, soundCounts};
+ghost use Rattle.subchannel.specs.Called.{counts, soundCounts};
 use crate::sub::Sub;
-
-/// What a sub-channel is told.
-pub struct Settings {
-    pub told: bool,
-    /// Parity bytes of a word.
-    pub parity: usize,
-    /// The interleaver's depth.
-    pub depth: usize,
-}
 
 /// Bytes of the group, bytes of the next marker; bytes in the word buffer, message bytes of it handed on.
 pub struct Counts {
@@ -19,18 +10,6 @@ pub struct Counts {
     pub marker: usize,
     pub word: usize,
     pub handed: usize,
-}
-
-impl Settings {
-    /// Whether configuring takes them.
-    pub fn within(self) -> bool
-        ensures { λ r. ⌜ r ≡ within self ⌝ }
-    {
-        if Sub::PARITY < self.parity {
-            return false;
-        }
-        self.depth <= Sub::DEPTH
-    }
 }
 
 impl Counts {

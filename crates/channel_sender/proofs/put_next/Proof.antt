@@ -1,8 +1,8 @@
--- `channel::sender::put_next` meets its contract: the block of the message copied.
+-- `channel_sender::put_next` meets its contract: the block of the message copied.
 use borrow.Author.Needs.{needs}
-use Rattle.channel.proofs.Sending.{next-put}
-use Rattle.channel.proofs.sender.put_next.Statement.{statement}
-use Rattle.channel.proofs.sender.put_next.Tie as tie
+use Rattle.channel_sender.proofs.Sending.{next-put}
+use Rattle.channel_sender.proofs.put_next.Statement.{statement}
+use Rattle.channel_sender.proofs.put_next.Tie as tie
 
 pub put-next-spec : {M : Type 1} → statement M
 put-next-spec =

@@ -1,4 +1,4 @@
--- `channel::sender::send` meets its contract. The invariant: the blocks passed are written, and the rest is as it was.
+-- `channel_sender::send` meets its contract. The invariant: the blocks passed are written, and the rest is as it was.
 use mathlib.Core.Path.{_≡_, refl}
 use mathlib.Core.List.{_++_}
 use Prim.Native.Nat.{_+_, _-_, _*_, _≤_}
@@ -6,9 +6,9 @@ use native.Mathlib.Omega.{arith}
 use lib.ListN.{length, drop, length-drop}
 use borrow.Author.Needs.{needs}
 use Rattle.base.proofs.Parts.{tail-is}
-use Rattle.channel.proofs.Sending.{firstBlocks, blocks-next, blocks-room, send-short, send-fits}
-use Rattle.channel.proofs.sender.send.Statement.{statement}
-use Rattle.channel.proofs.sender.send.Tie as tie
+use Rattle.channel_sender.proofs.Sending.{firstBlocks, blocks-next, blocks-room, send-short, send-fits}
+use Rattle.channel_sender.proofs.send.Statement.{statement}
+use Rattle.channel_sender.proofs.send.Tie as tie
 use Rattle.channel_spec.specs.Sender.{blockBytes}
 
 abbrev Inv-loop : tie.InvT-loop

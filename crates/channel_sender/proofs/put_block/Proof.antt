@@ -1,9 +1,9 @@
--- `channel::sender::put_block` meets its contract, by the law of what its calls leave.
+-- `channel_sender::put_block` meets its contract, by the law of what its calls leave.
 use mathlib.Core.Path.{refl}
 use borrow.Author.Needs.{needs}
-use Rattle.channel.proofs.Sending.{block-put}
-use Rattle.channel.proofs.sender.put_block.Statement.{statement}
-use Rattle.channel.proofs.sender.put_block.Tie as tie
+use Rattle.channel_sender.proofs.Sending.{block-put}
+use Rattle.channel_sender.proofs.put_block.Statement.{statement}
+use Rattle.channel_sender.proofs.put_block.Tie as tie
 
 pub put-block-spec : {M : Type 1} → statement M
 put-block-spec =

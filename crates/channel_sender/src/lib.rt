@@ -1,4 +1,4 @@
-//! The sender's blocks: the marker, a message and its parity, in one go.
+//! The opportunistic channel's sender: blocks, each the marker, a message and its parity, in one go.
 ghost use mathlib.Core.Path.{_≡_};
 ghost use Prim.Native.Nat.{_+_, _*_, _/_, _≤_, _<_};
 ghost use mathlib.Core.List.{_++_};
@@ -6,17 +6,18 @@ ghost use lib.ListN.{length, drop, replicate};
 ghost use Rattle.base.specs.Written.{outcome, copied};
 ghost use Rattle.packet_spec.specs.Escape.{flag};
 ghost use Rattle.channel_spec.specs.Sender.{marker, messageBytes, blockBytes, wordOf, fillers, marking, sending};
-use crate::block::Block;
-use crate::receiver::Receiver;
 use base::Refusal;
 use base::Written;
+use channel_spec::Block;
+use channel_spec::Hunting;
+use stream::Frame;
 
 // Writes one block: the marker, the message and its parity.
 fn put_block(message: &[u8], out: &mut [u8])
     requires { ⌜ (length (now message) ≡ messageBytes) × (blockBytes ≤ length (now out)) ⌝ }
     ensures { λ _. ⌜ now (out .exit) ≡ (marker ++ wordOf (now (message .entry))) ++ drop blockBytes (now (out .entry)) ⌝ }
 {
-    let marker = Receiver::MARKER;
+    let marker = Hunting::MARKER;
     base::copy(&marker, out);
     base::copy(message, &mut out[4..]);
     parity::make(Block::PARITY, message, &mut out[Block::PARITY_AT..]);
@@ -41,7 +42,7 @@ fn put_next(stream: &[u8], out: &mut [u8])
     requires { ⌜ blockBytes ≤ length (now out) ⌝ }
     ensures { λ _. ⌜ now (out .exit) ≡ (marker ++ wordOf (copied (now (stream .entry)) (replicate messageBytes flag))) ++ drop blockBytes (now (out .entry)) ⌝ }
 {
-    let mut message: [u8; Block::MESSAGE] = [Receiver::FLAG; Block::MESSAGE];
+    let mut message: [u8; Block::MESSAGE] = [Frame::FLAG; Block::MESSAGE];
     base::copy(stream, &mut message);
     mark(&message, out);
 }

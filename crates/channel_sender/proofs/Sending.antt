@@ -13,14 +13,14 @@ use native.Mathlib.Numerals.{add-one}
 use native.Mathlib.Omega.{arith}
 use lib.Dec.{eqb}
 use lib.ListN.{length, take, drop, replicate, length-append, length-drop, length-replicate}
-use lib.Seq.{drop-drop, drop-append-le, take-append-le, take-all, take-at, drop-at, length-take-le}
+use lib.Seq.{drop-drop, drop-append-le, take-append-le, take-all, length-take-le}
 use borrow.Author.Tests.{eq-eqb}
 use borrow.Rule.Slice.PartMut.{putMid}
 use Rattle.base.specs.Written.{Outcome, outcome, refused, write, copied, Keeps}
 use Rattle.base.specs.declared.Written.{Written}
 use Rattle.base.specs.declared.Written.the-variants.{Wrote}
 use Rattle.base.proofs.Lists.{over}
-use Rattle.base.proofs.Parts.{tail-is, tail-put}
+use Rattle.base.proofs.Parts.{tail-is, lent, back}
 use Rattle.base.proofs.Tests.{by-le}
 use Rattle.base.proofs.Writing.{write-fits, write-short, copied-fits, write-keeps, refused-keeps, pick-keeps}
 use Rattle.packet_spec.specs.Escape.{flag}
@@ -28,14 +28,6 @@ use Rattle.word_spec.specs.Word.{remainder}
 use Rattle.parity.specs.Calls.{made}
 use Rattle.word_spec.proofs.Division.{length-remainder}
 use Rattle.channel_spec.specs.Sender.{marker, wordOf, framed, fillers, filled, cutUp, marked, marking, sending, blockBytes, wordBytes, messageBytes, parityBytes}
-
--- ---- the list p ++ rest, whose rest is lent and comes back as y
-module _ (p rest o : List ℕ) (s : ℕ) (e : o ≡ p ++ rest) (l : length p ≡ s) where
-  pub lent : take (length o - s) (drop s o) ≡ rest
-  lent = tail-is s o ∙ ap (drop s) e ∙ drop-at p rest s l
-
-  pub back : (y : List ℕ) → putMid s (length o - s) o y ≡ p ++ y
-  back y = tail-put s o y ∙ ap (λ (a : List ℕ). a ++ y) (ap (take s) e ∙ take-at p rest s l)
 
 -- ---- bytes written, and no room for them
 module _ (bs out : List ℕ) (n : ℕ) (l : length bs ≡ n) where

@@ -2,8 +2,8 @@
 use borrow.Author.Tests.{le-leb, lt-leb}
 use borrow.Author.Needs.{needs}
 use Rattle.channel_spec.proofs.Tests.{three-and}
-use Rattle.subchannel.proofs.settings.Counts.sound.Statement.{statement}
-use Rattle.subchannel.proofs.settings.Counts.sound.Tie as tie
+use Rattle.subchannel.proofs.counts.Counts.sound.Statement.{statement}
+use Rattle.subchannel.proofs.counts.Counts.sound.Tie as tie
 
 pub sound-spec : {M : Type 1} → statement M
 sound-spec =
