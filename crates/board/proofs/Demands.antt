@@ -10,19 +10,19 @@ use lib.ListN.{length}
 use Rattle.base.specs.Calls.{joined}
 use Rattle.packet_spec.specs.Contents.{rawLimit}
 use Rattle.channel_spec.specs.Sender.{wordBytes}
-use Rattle.channel_spec.specs.Channel.{Event, answers, freshChannel}
+use Rattle.channel_spec.specs.Meaning.{Event, answers, freshChannel}
 use Rattle.channel.proofs.Fine.{fine-fresh}
 use Rattle.channel.proofs.Shown.{shown-all}
 use Rattle.listing_spec.specs.Apart.{freshSpot, apart, onChannel}
-use Rattle.listing_spec.specs.Listing.{heard}
+use Rattle.listing_spec.specs.Meaning.{heard}
 use Rattle.ports_spec.proofs.Laws.{fresh-fit}
-use Rattle.board_spec.specs.Board.{writtenAll, shows, boardText, recordingText, ending}
+use Rattle.board_spec.specs.Meaning.{writtenAll, shows, boardText, recordingText, ending}
 use Rattle.recording.specs.Deck.{fresh}
-use Rattle.recording.specs.Called.{far}
+use Rattle.recording.specs.Call.{far}
 use Rattle.recording.proofs.Means.{deck-means, fresh-owes}
 use Rattle.board.specs.Source.{source, sourceOwes, sourceAll}
 use Rattle.board.specs.Owed.{nothing}
-use Rattle.board.specs.Called.{Screen, screenOf, readoutOf, freshReadout, lastBy, lastLines, recvOn}
+use Rattle.board.specs.Call.{Screen, screenOf, readoutOf, freshReadout, lastBy, lastLines, recvOn}
 use Rattle.board.specs.Runs.{meant, ShowsAll, Run, EveryShow}
 use Rattle.board.proofs.Sources.{all-bare, all-taped}
 use Rattle.board.proofs.Left.{left-none, piece-whole}

@@ -17,8 +17,8 @@ use Rattle.base.proofs.Calls.{law, inv-hear}
 use Rattle.base.proofs.Tests.{by-test}
 use Rattle.packet_spec.specs.Contents.{keyFormat}
 use Rattle.packet_spec.specs.Frame.{packet, refusal, broken, delivery}
-use Rattle.channel_spec.specs.Channel.{Event, said, block, lost}
-use Rattle.channel.specs.Called.{Fine, owed, handOn, eatByte}
+use Rattle.channel_spec.specs.Meaning.{Event, said, block, lost}
+use Rattle.channel.specs.Call.{Fine, owed, handOn, eatByte}
 use Rattle.channel.proofs.Cutting.{hand-one}
 use Rattle.channel.proofs.Fine.{fine-is, fine-roomy, fine-eat, fine-hand}
 use Rattle.listing_spec.specs.declared.Spot.{Spot}
@@ -27,18 +27,18 @@ use Rattle.ports_spec.specs.declared.Entry.{Entry}
 use Rattle.ports_spec.specs.declared.Noted.{Noted}
 use Rattle.ports_spec.specs.Ports.{unfit, noting}
 use Rattle.ports_spec.proofs.Keeping.{fit-noted}
-use Rattle.board_spec.specs.Board.{tableBehind}
+use Rattle.board_spec.specs.Meaning.{tableBehind}
 use Rattle.board_spec.specs.Parts.{lead}
 use Rattle.board_spec.proofs.Split.{lead-short, remark-short}
 use Rattle.lines.specs.Piece.{pieceOf}
 use Rattle.recording.specs.Deck.{Deck, deckHear}
-use Rattle.recording.specs.Called.{far}
+use Rattle.recording.specs.Call.{far}
 use Rattle.recording.proofs.Kept.{Kept, hear-kept}
 use Rattle.board.specs.declared.owed.Owed.{Owed}
 use Rattle.board.specs.declared.readout.Wants.the-variants.{More, Again}
 use Rattle.board.specs.Source.{Source, source, boardIn, sourceOwes, sourceHand, sourceEat, sourceAll, sourceHear}
 use Rattle.board.specs.Owed.{alone, withText, owing, forth, forthBy}
-use Rattle.board.specs.Called.{Screen, screen, recvOn, owedOn, Part, part, partly, heardBy, takesOn, nearBy, takes}
+use Rattle.board.specs.Call.{Screen, screen, recvOn, owedOn, Part, part, partly, heardBy, takesOn, nearBy, takes}
 use Rattle.board.specs.Runs.{Shows, more, again, done, piece, Run}
 use Rattle.board.proofs.Sources.{source-hand-one, hear-bare, hear-taped}
 use Rattle.board.proofs.Left.{Whole, piece-whole, forth-short, left-by}

@@ -17,15 +17,15 @@ use Rattle.base.specs.Calls.{joined, With, tell, andThen, drain, rest, told}
 use Rattle.base.proofs.Calls.{law, settled, all-append}
 use Rattle.packet_spec.specs.Contents.{Packet, keyFormat, payloadAt}
 use Rattle.packet_spec.specs.Frame.{packet, refusal, broken, delivery, part}
-use Rattle.channel_spec.specs.Channel.{Event, said, block, lost}
-use Rattle.channel.specs.Called.{roomy}
+use Rattle.channel_spec.specs.Meaning.{Event, said, block, lost}
+use Rattle.channel.specs.Call.{roomy}
 use Rattle.bid.specs.Line.{feed}
 use Rattle.listing_spec.specs.Lines.{given}
 use Rattle.ports_spec.specs.declared.Entry.{Entry}
 use Rattle.ports_spec.specs.declared.Noted.{Noted}
 use Rattle.ports_spec.specs.Ports.{noting}
 use Rattle.board_spec.specs.Text.{shownText}
-use Rattle.board_spec.specs.Board.{Line, writtenAll, eventLines, tableBehind, boardLines}
+use Rattle.board_spec.specs.Meaning.{Line, writtenAll, eventLines, tableBehind, boardLines}
 use Rattle.board_spec.specs.Parts.{lead, remark}
 use Rattle.board_spec.proofs.Split.{all-written, lines-split, remark-is, lead-some}
 use Rattle.lines.specs.Piece.{pieceOf}
@@ -33,7 +33,7 @@ use Rattle.board.specs.declared.readout.Wants.{Wants}
 use Rattle.board.specs.declared.readout.Wants.the-variants.{More, Again, Refused}
 use Rattle.board.specs.Source.{Source, boardIn, sourceOwes, sourceHand, sourceEat, sourceAll, sourceHear}
 use Rattle.board.specs.Owed.{alone, nothing, withText, owing, left}
-use Rattle.board.specs.Called.{Screen, screen, readoutOf, recvOn, owedOn, Part, partly, heardBy, takesOn, soundState, takesBy, takes}
+use Rattle.board.specs.Call.{Screen, screen, readoutOf, recvOn, owedOn, Part, partly, heardBy, takesOn, soundState, takesBy, takes}
 use Rattle.board.specs.Runs.{tableAll, shownBy, meant, Shows, more, again, ShowsAll, done, piece}
 use Rattle.board.proofs.Sources.{source-hand-one, ThereIn, source-there}
 use Rattle.board.proofs.Left.{Whole, piece-whole, left-none, left-new, left-by}

@@ -17,8 +17,8 @@ use Rattle.base.proofs.Tests.{and-parts}
 use Rattle.packet_spec.specs.Contents.{keyFormat}
 use Rattle.packet_spec.specs.declared.Delivery.{Delivery}
 use Rattle.packet_spec.specs.declared.Judged.the-variants.{Packet as Delivered, Refused, Broken}
-use Rattle.channel_spec.specs.Channel.{Event}
-use Rattle.channel.specs.Called.{Board, board, sound, roomy, hearOn, hearCall, HearingIs}
+use Rattle.channel_spec.specs.Meaning.{Event}
+use Rattle.channel.specs.Call.{Board, board, sound, roomy, hearOn, hearCall, HearingIs}
 use Rattle.channel_spec.specs.declared.Answer.{Answer}
 use Rattle.channel_spec.specs.declared.Answer.the-variants.{More, Said, Block, LockLost}
 use Rattle.channel.specs.declared.answer.Hearing.{Hearing}
@@ -28,20 +28,20 @@ use Rattle.ports_spec.specs.declared.Entry.{Entry}
 use Rattle.ports_spec.specs.declared.Noted.{Noted}
 use Rattle.ports.specs.declared.by_value.Ports.{Ports}
 use Rattle.board_spec.specs.Text.{shownByte}
-use Rattle.board_spec.specs.Board.{wrongAt, written, writtenAll}
+use Rattle.board_spec.specs.Meaning.{wrongAt, written, writtenAll}
 use Rattle.board_spec.specs.Parts.{lead, remark}
 use Rattle.lines.specs.declared.piece.Piece.{Piece}
 use Rattle.lines.specs.Piece.{pieceOf}
 use Rattle.recording.specs.declared.tape.Tape.{Tape}
 use Rattle.recording.specs.declared.tape.Heard.{Heard}
 use Rattle.recording.specs.Deck.{Deck}
-use Rattle.recording.specs.Called.{deckOf, nearSpot, tapeCall, NextIs}
+use Rattle.recording.specs.Call.{deckOf, nearSpot, tapeCall, NextIs}
 use Rattle.recording.proofs.Next.{next-heard}
 use Rattle.board.specs.declared.owed.Owed.{Owed}
 use Rattle.board.specs.declared.readout.Readout.{Readout}
 use Rattle.board.specs.Source.{Source, source, boardIn, withBoard, sourceHear}
 use Rattle.board.specs.Owed.{alone, nothing, withText, owedPacket, owing, payloadIn, textByte, textPiece, nextPiece, further, forth}
-use Rattle.board.specs.Called.{nearBy, soundState, lastBy, lastLines}
+use Rattle.board.specs.Call.{nearBy, soundState, lastBy, lastLines}
 use Rattle.board.specs.Private.{BareIs, HeardIs, portsBy, answeredBy}
 use Rattle.board.proofs.Sources.{hear-bare, hear-taped}
 

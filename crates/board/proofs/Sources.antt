@@ -11,8 +11,8 @@ use mathlib.Core.Option.{Option, some, none}
 use Rattle.base.specs.Calls.{With}
 use Rattle.base.proofs.Calls.{with-hear}
 use Rattle.base.proofs.Above.{hear-seen, all-seen}
-use Rattle.channel_spec.specs.Channel.{Event}
-use Rattle.channel.specs.Called.{Board, owed, handOn, eatByte, hearOn, hearAll, ThereEvent}
+use Rattle.channel_spec.specs.Meaning.{Event}
+use Rattle.channel.specs.Call.{Board, owed, handOn, eatByte, hearOn, hearAll, ThereEvent}
 use Rattle.channel.proofs.Cutting.{hand-one}
 use Rattle.channel.proofs.Delivery.{hand-there, eat-there}
 use Rattle.recording.specs.Deck.{Deck, deckOwes, deckHand, deckEat, deckAll, deckHear}

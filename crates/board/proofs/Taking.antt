@@ -15,16 +15,16 @@ use borrow.Author.Tests.{lt-ltb, le-ltb, leb-true}
 use Rattle.base.specs.Choice.{pick}
 use Rattle.base.proofs.Tests.{and-parts}
 use Rattle.packet_spec.specs.Frame.{packet, refusal, broken}
-use Rattle.channel_spec.specs.Channel.{Event, said, block, lost}
-use Rattle.channel.specs.Called.{sound, roomy}
+use Rattle.channel_spec.specs.Meaning.{Event, said, block, lost}
+use Rattle.channel.specs.Call.{sound, roomy}
 use Rattle.channel_spec.specs.Answer.{answered}
 use Rattle.listing_spec.specs.Lines.{longest, given}
 use Rattle.ports.specs.declared.by_value.Ports.{Ports}
 use Rattle.ports.specs.ByValue.{soundPorts}
-use Rattle.board_spec.specs.Board.{tableBehind}
+use Rattle.board_spec.specs.Meaning.{tableBehind}
 use Rattle.recording.specs.declared.tape.Tape.{Tape}
 use Rattle.recording.specs.declared.tape.Heard.{Heard}
-use Rattle.recording.specs.Called.{deckOf, isMore}
+use Rattle.recording.specs.Call.{deckOf, isMore}
 use Rattle.board.specs.declared.owed.Owed.{Owed}
 use Rattle.board.specs.declared.owed.Put.{Put}
 use Rattle.board.specs.declared.readout.Readout.{Readout}
@@ -32,7 +32,7 @@ use Rattle.board.specs.declared.readout.Wants.the-variants.{More, Again,
 use Rattle.board.specs.declared.readout.Took.{Took}
 use Rattle.board.specs.Source.{source, sourceHear}
 use Rattle.board.specs.Owed.{owes, left, forthBy, soundOwed}
-use Rattle.board.specs.Called.{Screen, screenOf, Part, part, partly, heardBy, takesOn, nearBy, soundState, takesBy, takes, tookOf, TookIs}
+use Rattle.board.specs.Call.{Screen, screenOf, Part, part, partly, heardBy, takesOn, nearBy, soundState, takesBy, takes, tookOf, TookIs}
 use Rattle.board.specs.Private.{PutIs, HeardIs, portsBy, answeredBy}
 use Rattle.board.proofs.Left.{Whole, left-none, left-owes, left-by}
 

@@ -1,5 +1,5 @@
 pub mod Source
 pub mod Owed
-pub mod Called
+pub mod Call
 pub mod Runs
 pub mod Private

@@ -8,11 +8,11 @@ use mathlib.Core.Bool.{Bool}
 use mathlib.Core.List.{List, _++_}
 use mathlib.Core.Option.{Option}
 use lib.ListN.{length, take, drop}
-use Rattle.channel_spec.specs.Channel.{Event}
+use Rattle.channel_spec.specs.Meaning.{Event}
 use Rattle.board.specs.declared.owed.Owed.{Owed}
 use Rattle.board.specs.declared.owed.Put.{Put}
 use Rattle.packet_spec.specs.declared.Judged.the-variants.{Packet as Delivered, Refused, Broken}
-use Rattle.channel.specs.Called.{hearCall}
+use Rattle.channel.specs.Call.{hearCall}
 use Rattle.channel_spec.specs.Answer.{answered}
 use Rattle.channel_spec.specs.declared.Answer.{Answer}
 use Rattle.channel_spec.specs.declared.Answer.the-variants.{More, Said, Block, LockLost}
@@ -20,7 +20,7 @@ use Rattle.ports.specs.declared.by_value.Ports.{Ports}
 use Rattle.ports_spec.specs.Ports.{noting}
 use Rattle.recording.specs.declared.tape.Heard.{Heard}
 use Rattle.recording.specs.Deck.{Deck}
-use Rattle.recording.specs.Called.{deckOf}
+use Rattle.recording.specs.Call.{deckOf}
 use Rattle.board.specs.declared.readout.Readout.{Readout}
 use Rattle.board.specs.Source.{Source, source, boardIn, withBoard}
 use Rattle.board.specs.Owed.{owing, left, forthBy}

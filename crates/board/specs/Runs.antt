@@ -12,14 +12,14 @@ use lib.ListN.{length, drop}
 use Rattle.base.specs.Calls.{joined}
 use Rattle.packet_spec.specs.Contents.{rawLimit}
 use Rattle.channel_spec.specs.Sender.{wordBytes}
-use Rattle.channel_spec.specs.Channel.{Event}
+use Rattle.channel_spec.specs.Meaning.{Event}
 use Rattle.ports_spec.specs.declared.Entry.{Entry}
-use Rattle.board_spec.specs.Board.{tableBehind, boardLines, writtenAll}
+use Rattle.board_spec.specs.Meaning.{tableBehind, boardLines, writtenAll}
 use Rattle.board.specs.declared.readout.Readout.{Readout}
 use Rattle.board.specs.declared.readout.Wants.the-variants.{More, Again}
 use Rattle.board.specs.Source.{Source, sourceAll}
 use Rattle.board.specs.Owed.{nothing}
-use Rattle.board.specs.Called.{Screen, screen, screenOf, owedOn, takes}
+use Rattle.board.specs.Call.{Screen, screen, screenOf, owedOn, takes}
 
 -- the table behind answers
 abbrev pub tableAll : List Entry → List Event → List Entry

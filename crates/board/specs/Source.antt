@@ -8,8 +8,8 @@ use mathlib.Core.Bool.{Bool, true, false}
 use mathlib.Core.List.{List}
 use mathlib.Core.Option.{Option}
 use Rattle.base.specs.Calls.{all, hear}
-use Rattle.channel_spec.specs.Channel.{Event}
-use Rattle.channel.specs.Called.{Board, owed, handOn, eatByte}
+use Rattle.channel_spec.specs.Meaning.{Event}
+use Rattle.channel.specs.Call.{Board, owed, handOn, eatByte}
 use Rattle.recording.specs.Deck.{ear, Deck, deck, deckOwes, deckHand, deckEat}
 
 -- bare: bytes as they are; else a recording's

@@ -11,11 +11,11 @@ use lib.Dec.{ltb}
 use lib.ListN.{length, drop, length-append}
 use Rattle.base.specs.Choice.{pick}
 use Rattle.base.proofs.Calls.{FitsBy, fits}
-use Rattle.channel_spec.specs.Channel.{Event}
-use Rattle.channel.specs.Called.{roomy}
+use Rattle.channel_spec.specs.Meaning.{Event}
+use Rattle.channel.specs.Call.{roomy}
 use Rattle.board.specs.declared.readout.Took.{Took}
 use Rattle.board.specs.Source.{Source, boardIn, sourceOwes, sourceHand, sourceEat, sourceHear}
-use Rattle.board.specs.Called.{Screen, readoutOf, recvOn, owedOn, Part, partly, heardBy, takesOn, soundState, takesBy, takes, TookIs}
+use Rattle.board.specs.Call.{Screen, readoutOf, recvOn, owedOn, Part, partly, heardBy, takesOn, soundState, takesBy, takes, TookIs}
 use Rattle.board.proofs.Sources.{source-hand-one}
 
 by-answer : (o : Option Event) (n : ℕ) (s : Source) (bs : List ℕ) → FitsBy sourceOwes sourceHand sourceEat source-hand-one o n s bs → n ≤ length bs

@@ -21,10 +21,10 @@ use Rattle.bid.specs.Line.{feed, space, past, noNumber, port, sequence, text, n
 use Rattle.listing_spec.specs.Lines.{decimal}
 use Rattle.board_spec.specs.Text.{shownText, bidText}
 use Rattle.board_spec.specs.Typed.{Plainly, isBid}
-use Rattle.board_spec.specs.Board.{Line, bid, missing, unwatched, late, repeated, restricted, refusedFrame, brokenFrame}
-use Rattle.board_spec.specs.Board.{cleanBlock, repairedBlock, beyondRepair, lockLost, wrongAt, number, written}
-use Rattle.board_spec.specs.Board.{missingWord, unwatchedWord, lateWord, repeatedWord, restrictedWord}
-use Rattle.board_spec.specs.Board.{refusedWord, cleanWord, repairedWord, beyondWord, lostWord, wrongWord}
+use Rattle.board_spec.specs.Meaning.{Line, bid, missing, unwatched, late, repeated, restricted, refusedFrame, brokenFrame}
+use Rattle.board_spec.specs.Meaning.{cleanBlock, repairedBlock, beyondRepair, lockLost, wrongAt, number, written}
+use Rattle.board_spec.specs.Meaning.{missingWord, unwatchedWord, lateWord, repeatedWord, restrictedWord}
+use Rattle.board_spec.specs.Meaning.{refusedWord, cleanWord, repairedWord, beyondWord, lostWord, wrongWord}
 use Rattle.board_spec.proofs.Text.{Printable, all-printable, text-apart, text-printable, text-plain}
 use Rattle.board_spec.proofs.Decimal.{printedLimit, IsDigit, decimal-each, decimal-some, number-decimal, decimal-number}
 

@@ -18,7 +18,7 @@ use Rattle.base.specs.Choice.{pick}
 use Rattle.base.proofs.Tests.{by-eq}
 use Rattle.packet_spec.specs.Contents.{Packet, plainFormat, keyFormat, packetOf, keyPacket}
 use Rattle.packet_spec.specs.Frame.{packet, refusal, broken}
-use Rattle.channel_spec.specs.Channel.{Event, said, block, lost, frames}
+use Rattle.channel_spec.specs.Meaning.{Event, said, block, lost, frames}
 use Rattle.channel_spec.specs.declared.Condition.{Condition}
 use Rattle.channel_spec.specs.declared.Condition.the-variants.{Clean, Repaired, Beyond}
 use Rattle.ports_spec.specs.declared.Entry.{Entry}
@@ -28,7 +28,7 @@ use Rattle.ports_spec.specs.Distance.{around, Distance, ahead, behind, Leads, m
 use Rattle.ports_spec.specs.Ports.{freePlace, lastOf, unfit, noting}
 use Rattle.ports_spec.proofs.Laws.{noted-last, noted-full}
 use Rattle.ports_spec.proofs.Signed.{rule-means}
-use Rattle.board_spec.specs.Board.{Line, missing, unwatched, packetLines, blockLines, eventLines, boardLines}
+use Rattle.board_spec.specs.Meaning.{Line, missing, unwatched, packetLines, blockLines, eventLines, boardLines}
 use Rattle.board_spec.specs.Typed.{isBid, bidsAmong, packetsAmong, asBid, isCurrent, isShown, currentFrom}
 
 -- a distance of none, or back

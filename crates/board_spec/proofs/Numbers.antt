@@ -12,15 +12,15 @@ use Rattle.packet_spec.specs.Contents.{plainPacket, keyPacket}
 use Rattle.fcs.specs.Fcs.{fcs, register, entered}
 use Rattle.packet_spec.specs.Escape.{escape, escapeByte, plain, wrongFrom, right, last, scan}
 use Rattle.packet_spec.specs.Frame.{packet, refusal, broken, judgeContents, closedBy, closed, judge, judgeBody}
-use Rattle.channel_spec.specs.Channel.{Event, said, block, lost}
+use Rattle.channel_spec.specs.Meaning.{Event, said, block, lost}
 use Rattle.channel_spec.specs.declared.Condition.the-variants.{Clean, Repaired, Beyond}
 use Rattle.listing_spec.specs.Apart.{nextAt, inStream, apart}
 use Rattle.listing_spec.specs.Lines.{decimalBy, decimal}
-use Rattle.listing_spec.specs.Listing.{heard}
+use Rattle.listing_spec.specs.Meaning.{heard}
 use Rattle.ports_spec.specs.Ports.{placeOf, freePlace, twice, noting}
 use Rattle.board_spec.specs.Text.{shownByte, shownText, bidText}
-use Rattle.board_spec.specs.Board.{Line, bid, missing, unwatched, late, repeated, restricted, refusedFrame, brokenFrame}
-use Rattle.board_spec.specs.Board.{cleanBlock, repairedBlock, beyondRepair, lockLost, wrongAt, written, writtenAll, boardLines, shows, recordingText}
+use Rattle.board_spec.specs.Meaning.{Line, bid, missing, unwatched, late, repeated, restricted, refusedFrame, brokenFrame}
+use Rattle.board_spec.specs.Meaning.{cleanBlock, repairedBlock, beyondRepair, lockLost, wrongAt, written, writtenAll, boardLines, shows, recordingText}
 
 -- a line of each kind
 abbrev lineRows : List (Line × List ℕ)

@@ -18,7 +18,7 @@ use Rattle.base.proofs.Tests.{by-eq, by-le}
 use Rattle.packet_spec.specs.Contents.{Packet, plainFormat, keyFormat}
 use Rattle.packet_spec.specs.Frame.{Told}
 use Rattle.stream.specs.Sender.{delivered}
-use Rattle.channel_spec.specs.Channel.{Event, frames}
+use Rattle.channel_spec.specs.Meaning.{Event, frames}
 use Rattle.ports_spec.specs.declared.Entry.{Entry}
 use Rattle.ports_spec.specs.declared.Noted.{Noted}
 use Rattle.ports_spec.specs.declared.Noted.the-variants.{First, InOrder, Refused}
@@ -26,7 +26,7 @@ use Rattle.ports_spec.specs.Distance.{around, gap, ruled, lastBehind}
 use Rattle.ports_spec.specs.Ports.{freePlace, lastOf, unfit, noting, freshTable}
 use Rattle.ports_spec.proofs.Laws.{others-noted, noted-last, noted-first, noted-full, first-last, fresh-fit, fresh-none}
 use Rattle.ports_spec.proofs.Keeping.{fit-noted}
-use Rattle.board_spec.specs.Board.{boardLines}
+use Rattle.board_spec.specs.Meaning.{boardLines}
 use Rattle.board_spec.specs.Typed.{bidsAmong, packetsAmong, asBid, isCurrent, isShown, currentFrom, numbersOf, ByOne}
 use Rattle.board_spec.proofs.Marks.{bids-current}
 use Rattle.board_spec.proofs.Typed.{IsOpen}

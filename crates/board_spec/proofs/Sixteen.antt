@@ -19,7 +19,7 @@ use Rattle.base.proofs.Tests.{by-eq}
 use Rattle.packet_spec.specs.Contents.{Packet, plainFormat, keyFormat}
 use Rattle.packet_spec.specs.Frame.{Told, packet, refusal, broken}
 use Rattle.stream.specs.Sender.{delivered}
-use Rattle.channel_spec.specs.Channel.{Event, said, block, lost, frames, blocks, losses}
+use Rattle.channel_spec.specs.Meaning.{Event, said, block, lost, frames, blocks, losses}
 use Rattle.channel_spec.specs.declared.Condition.{Condition}
 use Rattle.channel_spec.specs.declared.Condition.the-variants.{Clean, Repaired, Beyond}
 use Rattle.ports_spec.specs.declared.Entry.{Entry}
@@ -29,7 +29,7 @@ use Rattle.ports_spec.specs.Distance.{lastBehind}
 use Rattle.ports_spec.specs.Ports.{placeLimit, placeOf, freePlace, lastOf, twice, unfit, entry, lastAt, noting, freshTable}
 use Rattle.ports_spec.proofs.Laws.{noting-ways, others-noted, away-by, once, or-right, fresh-fit, fresh-none}
 use Rattle.ports_spec.proofs.Keeping.{fit-noted}
-use Rattle.board_spec.specs.Board.{Line, packetLines, refusedFrame, brokenFrame, boardLines}
+use Rattle.board_spec.specs.Meaning.{Line, packetLines, refusedFrame, brokenFrame, boardLines}
 use Rattle.board_spec.specs.Typed.{asBid, numbersOf, ByOne, Member, Among}
 use Rattle.board_spec.proofs.Marks.{plain-lines}
 use Rattle.board_spec.proofs.Typed.{IsOpen}

@@ -18,7 +18,7 @@ use Rattle.packet_spec.specs.Contents.{Packet, keyFormat}
 use Rattle.packet_spec.specs.Frame.{packet, refusal, broken, delivery}
 use Rattle.packet_spec.specs.declared.Delivery.{Delivery}
 use Rattle.packet_spec.specs.declared.Judged.the-variants.{Packet as Delivered, Refused as RefusedFrame, Broken}
-use Rattle.channel_spec.specs.Channel.{Event, said, block, lost}
+use Rattle.channel_spec.specs.Meaning.{Event, said, block, lost}
 use Rattle.channel_spec.specs.Answer.{answered}
 use Rattle.channel_spec.specs.declared.Condition.the-variants.{Clean, Repaired, Beyond}
 use Rattle.channel_spec.specs.declared.Answer.{Answer}
@@ -30,7 +30,7 @@ use Rattle.ports_spec.specs.declared.Entry.{Entry}
 use Rattle.ports_spec.specs.declared.Noted.{Noted}
 use Rattle.ports_spec.specs.declared.Noted.the-variants.{First, InOrder, Repeated, Missing, Late, Refused}
 use Rattle.board_spec.specs.Text.{heading, shownText, bidText}
-use Rattle.board_spec.specs.Board.{Line, restricted, lateWord, repeatedWord, number, written, writtenAll, aheadOf, ownLine, packetLines, eventLines}
+use Rattle.board_spec.specs.Meaning.{Line, restricted, lateWord, repeatedWord, number, written, writtenAll, aheadOf, ownLine, packetLines, eventLines}
 use Rattle.board_spec.specs.Parts.{ownLead, lead, behind, remark}
 
 -- lines joined

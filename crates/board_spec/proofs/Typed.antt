@@ -19,7 +19,7 @@ use Rattle.bid.specs.Input.{linesFrom, linesOf, packets, packetsOf, numbered, c
 use Rattle.bid.proofs.Lines.{lines-feed, lines-other, lines-none}
 use Rattle.bid.proofs.Verdicts.{accepted-bid}
 use Rattle.ports_spec.specs.Distance.{around}
-use Rattle.board_spec.specs.Board.{written, writtenAll}
+use Rattle.board_spec.specs.Meaning.{written, writtenAll}
 use Rattle.board_spec.specs.Typed.{isAccepted, accepting, acceptedLines, typed, asShown, Plainly, asBid}
 use Rattle.board_spec.proofs.Line.{line-plain}
 

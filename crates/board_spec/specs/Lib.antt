@@ -1,4 +1,4 @@
 pub mod Text
-pub mod Board
+pub mod Meaning
 pub mod Parts
 pub mod Typed

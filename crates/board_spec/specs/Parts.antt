@@ -16,7 +16,7 @@ use Rattle.bid.specs.Line.{feed}
 use Rattle.ports_spec.specs.declared.Noted.{Noted}
 use Rattle.ports_spec.specs.declared.Noted.the-variants.{First, InOrder, Repeated, Missing, Late, Refused}
 use Rattle.board_spec.specs.Text.{heading, shownText}
-use Rattle.board_spec.specs.Board.{restricted, refusedFrame, brokenFrame, lockLost, lateWord, repeatedWord, written, writtenAll, aheadOf, blockLines}
+use Rattle.board_spec.specs.Meaning.{restricted, refusedFrame, brokenFrame, lockLost, lateWord, repeatedWord, written, writtenAll, aheadOf, blockLines}
 
 -- a packet's own line up to its text
 abbrev pub ownLead : Noted → ℕ → ℕ → List ℕ

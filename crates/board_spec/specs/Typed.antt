@@ -27,8 +27,8 @@ use Rattle.ports_spec.specs.declared.Noted.{Noted}
 use Rattle.ports_spec.specs.declared.Noted.the-variants.{First, InOrder, Repeated, Missing, Late, Refused}
 use Rattle.ports_spec.specs.Ports.{noting}
 use Rattle.board_spec.specs.Text.{backslash, printable, bidText}
-use Rattle.board_spec.specs.Board.{Line, bid, missing, unwatched, late, repeated, restricted, refusedFrame, brokenFrame}
-use Rattle.board_spec.specs.Board.{cleanBlock, repairedBlock, beyondRepair, lockLost, wrongAt}
+use Rattle.board_spec.specs.Meaning.{Line, bid, missing, unwatched, late, repeated, restricted, refusedFrame, brokenFrame}
+use Rattle.board_spec.specs.Meaning.{cleanBlock, repairedBlock, beyondRepair, lockLost, wrongAt}
 
 -- the sender accepts it
 abbrev pub isAccepted : Verdict → Bool

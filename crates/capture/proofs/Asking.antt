@@ -25,7 +25,7 @@ use Rattle.packet_spec.specs.Sender.{flagged, frameOf, headFits, refusing, writ
 use Rattle.packet_spec.specs.declared.Judged.{Judged}
 use Rattle.packet_spec.specs.declared.Judged.the-variants.{Packet as Delivered, Refused}
 use Rattle.packet_spec.proofs.Judging.{body-format, body-plain, body-key, body-keyed}
-use Rattle.capture_spec.specs.Import.{orNone, entry}
+use Rattle.capture_spec.specs.Meaning.{orNone, entry}
 use Rattle.capture.specs.Private.{asked}
 
 -- ---- the sender's answer, with no room for its output

@@ -24,7 +24,7 @@ use Rattle.packet_spec.specs.declared.Delivery.{Delivery}
 use Rattle.packet_spec.specs.declared.Judged.{Judged}
 use Rattle.packet_spec.specs.declared.Judged.the-variants.{Packet as Delivered, Refused, Broken}
 use Rattle.capture_spec.specs.File.{recordOf}
-use Rattle.capture_spec.specs.Import.{entry, entryLimit}
+use Rattle.capture_spec.specs.Meaning.{entry, entryLimit}
 use Rattle.capture_spec.proofs.Entry.{entry-most}
 use Rattle.capture.specs.Export.{packedPart, enteringBy, entering}
 use Rattle.capture.specs.Private.{headOf}

@@ -19,11 +19,11 @@ use Rattle.base.specs.Calls.{tell}
 use Rattle.base.proofs.Tests.{by-eq, by-le}
 use Rattle.packet_spec.specs.Frame.{Told, refusal}
 use Rattle.capture_spec.specs.File.{header}
-use Rattle.capture_spec.specs.Import.{entry, entryLimit, Reading, inHeader, inHead, inRecord, behind, fourAt, headed, read, reads, ends}
-use Rattle.capture_spec.specs.Import as import
+use Rattle.capture_spec.specs.Meaning.{entry, entryLimit, Reading, inHeader, inHead, inRecord, behind, fourAt, headed, read, reads, ends}
+use Rattle.capture_spec.specs.Meaning as import
 use Rattle.capture_spec.proofs.Entry.{entry-ways, entry-long}
 use Rattle.capture.specs.declared.reader.Capture.the-variants.{Header, Head, Record, Behind}
-use Rattle.capture.specs.Called.{Held, held, says, headedBy, with, takeBy, takeByte, readAll, ending, finishing, endedAs}
+use Rattle.capture.specs.Call.{Held, held, says, headedBy, with, takeBy, takeByte, readAll, ending, finishing, endedAs}
 use Rattle.capture.proofs.Hearing.{take-length}
 
 -- the bytes of a head stand in the store, and those of a record that is not longer than a packet

@@ -21,13 +21,13 @@ use Rattle.packet_spec.specs.Frame.{Told, refusal, judged}
 use Rattle.packet_spec.specs.declared.Judged.the-variants.{Refused}
 use Rattle.stream.specs.declared.frame.Heard.the-variants.{More, Said}
 use Rattle.capture_spec.specs.File.{header}
-use Rattle.capture_spec.specs.Import.{entry, entryLimit, fourAt}
+use Rattle.capture_spec.specs.Meaning.{entry, entryLimit, fourAt}
 use Rattle.capture_spec.proofs.Entry.{entry-ways}
 use Rattle.capture.specs.declared.reader.Capture.{Capture}
 use Rattle.capture.specs.declared.reader.Capture.the-variants.{Header, Head, Record, Behind}
 use Rattle.capture.specs.declared.reader.Read.{Read}
 use Rattle.capture.specs.declared.reader.Step.{Step}
-use Rattle.capture.specs.Called.{Held, held, says, next as behind, wholeBy, takeBy, takeByte, readAll, readOn, readCall, sound, Fine, readOf, ReadIs}
+use Rattle.capture.specs.Call.{Held, held, says, next as behind, wholeBy, takeBy, takeByte, readAll, readOn, readCall, sound, Fine, readOf, ReadIs}
 use Rattle.capture.specs.Private.{isSome, StepIs}
 
 -- ---- counts within their limits, behind each byte

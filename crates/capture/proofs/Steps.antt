@@ -17,11 +17,11 @@ use Rattle.packet_spec.specs.Frame.{Told, refusal, judged}
 use Rattle.packet_spec.specs.declared.Judged.{Judged}
 use Rattle.stream.specs.declared.frame.Heard.the-variants.{Said}
 use Rattle.capture_spec.specs.File.{header}
-use Rattle.capture_spec.specs.Import.{entry, entryLimit, fourAt}
+use Rattle.capture_spec.specs.Meaning.{entry, entryLimit, fourAt}
 use Rattle.capture.specs.declared.reader.Capture.{Capture}
 use Rattle.capture.specs.declared.reader.Capture.the-variants.{Header, Head, Record, Behind}
 use Rattle.capture.specs.declared.reader.Step.{Step}
-use Rattle.capture.specs.Called.{held, next, says, headerBy, headedBy, headBy, wholeBy, recordBy, takeBy, takeByte, sound}
+use Rattle.capture.specs.Call.{held, next, says, headerBy, headedBy, headBy, wholeBy, recordBy, takeBy, takeByte, sound}
 use Rattle.capture.specs.Private.{stepOf, StepIs}
 
 -- ---- the state's counts

@@ -28,11 +28,11 @@ use Rattle.packet_spec.specs.declared.Escapes.the-variants.{Right, Unfinished, 
 use Rattle.packet_spec.proofs.Only.{body-only}
 use Rattle.packet_spec.proofs.Round.{by-format}
 use Rattle.capture_spec.specs.File.{header}
-use Rattle.capture_spec.specs.Import.{entry, entryLimit, fourAt}
+use Rattle.capture_spec.specs.Meaning.{entry, entryLimit, fourAt}
 use Rattle.capture_spec.proofs.Entry.{entry-ways}
 use Rattle.capture.specs.declared.reader.Capture.{Capture}
 use Rattle.capture.specs.declared.reader.Capture.the-variants.{Header, Head, Record, Behind}
-use Rattle.capture.specs.Called.{Held, held, next, says, with, takeBy, takeByte, sound, readBy, readCall, Stands}
+use Rattle.capture.specs.Call.{Held, held, next, says, with, takeBy, takeByte, sound, readBy, readCall, Stands}
 use Rattle.capture.specs.Export.{packedPart, Fetched}
 
 -- a part that stands behind some bytes

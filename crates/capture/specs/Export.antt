@@ -10,7 +10,7 @@ use Rattle.packet_spec.specs.Contents.{packed, payloadAt}
 use Rattle.packet_spec.specs.Frame.{Told, packet, refusal, broken, delivery, part}
 use Rattle.packet_spec.specs.declared.Delivery.{Delivery}
 use Rattle.capture_spec.specs.File.{recordOf}
-use Rattle.capture_spec.specs.Import.{entry}
+use Rattle.capture_spec.specs.Meaning.{entry}
 
 -- format byte to last payload byte are a part of the receive buffer, from its start
 abbrev pub packedPart : Delivery → List ℕ → List ℕ

@@ -1,3 +1,3 @@
 pub mod Export
-pub mod Called
+pub mod Call
 pub mod Private

@@ -10,11 +10,11 @@ use mathlib.Core.Option.{Option, some, none}
 use Rattle.packet_spec.specs.Contents.{Packet}
 use Rattle.packet_spec.specs.Frame.{Told, packet, refusal}
 use Rattle.packet_spec.specs.Sender.{refusing}
-use Rattle.stream.specs.Called.{answered}
+use Rattle.stream.specs.Call.{answered}
 use Rattle.capture_spec.specs.File.{four}
 use Rattle.capture.specs.declared.reader.Capture.{Capture}
 use Rattle.capture.specs.declared.reader.Step.{Step}
-use Rattle.capture.specs.Called.{Held}
+use Rattle.capture.specs.Call.{Held}
 
 -- seconds, microseconds, twice how many bytes
 abbrev pub headOf : ℕ → ℕ → List ℕ

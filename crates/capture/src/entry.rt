@@ -4,7 +4,7 @@ ghost use Prim.Native.Nat.{_≤_, _<_};
 ghost use lib.ListN.{length};
 ghost use Rattle.packet_spec.specs.Contents.{word, payloadAt, unpacked};
 ghost use Rattle.packet_spec.specs.Frame.{judged};
-ghost use Rattle.capture_spec.specs.Import.{entry};
+ghost use Rattle.capture_spec.specs.Meaning.{entry};
 ghost use Rattle.capture.specs.Export.{packedPart};
 ghost use Rattle.capture.specs.Private.{asked};
 use base::Refusal;

@@ -25,7 +25,7 @@ use Rattle.packet_spec.proofs.Escaping.{plain-short}
 use Rattle.packet_spec.proofs.Judging.{key-fits, body-ways}
 use Rattle.packet_spec.proofs.Round.{plain-undoes, packed-length, judge-contents}
 use Rattle.packet_spec.proofs.Only.{body-only}
-use Rattle.capture_spec.specs.Import.{orNone, entry, entryLimit}
+use Rattle.capture_spec.specs.Meaning.{orNone, entry, entryLimit}
 
 -- an answer is one thing
 pub packet-not : {p : Packet} {n : ℕ} → refusal n ≡ packet p → ⊥

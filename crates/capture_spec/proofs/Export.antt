@@ -23,7 +23,7 @@ use Rattle.packet_spec.specs.Contents.{Packet, packed}
 use Rattle.packet_spec.specs.Frame.{Told, packet, refusal}
 use Rattle.packet_spec.specs.Sender.{Accepted}
 use Rattle.capture_spec.specs.File.{four, header, timed, records, captured, Recorded, CaptureOf}
-use Rattle.capture_spec.specs.Import.{entry, Reading, inHead, inRecord, fresh, fourAt, says, recordBy, headed, read, reads, ends}
+use Rattle.capture_spec.specs.Meaning.{entry, Reading, inHead, inRecord, fresh, fourAt, says, recordBy, headed, read, reads, ends}
 use Rattle.capture_spec.specs.Order.{headOf}
 use Rattle.capture_spec.proofs.Entry.{entry-packed, entry-most}
 

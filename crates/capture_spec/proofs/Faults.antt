@@ -19,7 +19,7 @@ use Rattle.base.proofs.Tests.{by-eq}
 use Rattle.packet_spec.specs.Contents.{Packet}
 use Rattle.packet_spec.specs.Frame.{Told, packet, refusal}
 use Rattle.capture_spec.specs.File.{header}
-use Rattle.capture_spec.specs.Import.{entry, Reading, inHeader, inHead, inRecord, behind, fresh, fourAt, says, recordBy, read, reads, ends, imported}
+use Rattle.capture_spec.specs.Meaning.{entry, Reading, inHeader, inHead, inRecord, behind, fresh, fourAt, says, recordBy, read, reads, ends, imported}
 use Rattle.capture_spec.proofs.Entry.{entry-ways}
 
 -- behind a fault all bytes are taken and have no effect

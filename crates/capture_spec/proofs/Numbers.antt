@@ -12,7 +12,7 @@ use Rattle.packet_spec.specs.Escape.{escape, escapeByte}
 use Rattle.packet_spec.specs.Frame.{Told, packet, refusal, broken, judgeBody}
 use Rattle.packet_spec.specs.Sender.{refusing}
 use Rattle.capture_spec.specs.File.{four, header, timed, records, captured}
-use Rattle.capture_spec.specs.Import.{entry, entryLimit, read, imported}
+use Rattle.capture_spec.specs.Meaning.{entry, entryLimit, read, imported}
 
 pub begins : header ≡ 0xD4 ∷ 0xC3 ∷ 0xB2 ∷ 0xA1 ∷ 2 ∷ 0 ∷ 4 ∷ 0 ∷ 0 ∷ 0 ∷ 0 ∷ 0 ∷ 0 ∷ 0 ∷ 0 ∷ 0 ∷ 0xFF ∷ 0xFF ∷ 0 ∷ 0 ∷ 147 ∷ 0 ∷ 0 ∷ 0 ∷ []
 begins = refl

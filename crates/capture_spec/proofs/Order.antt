@@ -19,7 +19,7 @@ use Rattle.packet_spec.specs.Contents.{Packet, packed}
 use Rattle.packet_spec.specs.Frame.{Told, packet, refusal}
 use Rattle.packet_spec.specs.Sender.{Accepted}
 use Rattle.capture_spec.specs.File.{four, header, timed, Recorded, CaptureOf}
-use Rattle.capture_spec.specs.Import.{entry, entryLimit, Reading, inHead, inRecord, behind, fresh, fourAt, says, recordBy, reads, ends, imported}
+use Rattle.capture_spec.specs.Meaning.{entry, entryLimit, Reading, inHead, inRecord, behind, fresh, fourAt, says, recordBy, reads, ends, imported}
 use Rattle.capture_spec.specs.Order.{headOf, Next, ended, in-head, unequal, in-bytes, whole}
 use Rattle.capture_spec.proofs.Entry.{packet-not, same-packet, entry-ways, entry-only, entry-long}
 use Rattle.capture_spec.proofs.Export.{say, reads-then, head-part, head-read, part-read, past-8, past-12, headed-as, record-read, some-end}

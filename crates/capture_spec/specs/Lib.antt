@@ -1,3 +1,3 @@
 pub mod File
-pub mod Import
+pub mod Meaning
 pub mod Order

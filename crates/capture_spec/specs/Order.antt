@@ -5,7 +5,7 @@ use mathlib.Core.Path.{_≡_}
 use mathlib.Core.List.{List, [], _++_}
 use lib.ListN.{length}
 use Rattle.capture_spec.specs.File.{four, timed}
-use Rattle.capture_spec.specs.Import.{fourAt}
+use Rattle.capture_spec.specs.Meaning.{fourAt}
 
 -- a record's head: its times, twice how many bytes
 abbrev pub headOf : List ℕ → ℕ → List ℕ

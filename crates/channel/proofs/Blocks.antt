@@ -13,11 +13,11 @@ use mathlib.Core.Logic.{_≢_}
 use mathlib.Core.List.{List, [], _∷_, _++_, append-nil}
 use lib.ListN.{length}
 use Rattle.base.specs.Bytes.{Each}
-use Rattle.stream.specs.Reader.{waiting}
+use Rattle.stream.specs.Meaning.{waiting}
 use Rattle.channel_spec.specs.Sender.{marker, wordBytes, framed}
-use Rattle.channel_spec.specs.Channel.{Event, lost, Chan, freshChannel, hears, answers, IsWord, wordsGive, FirstMarker}
+use Rattle.channel_spec.specs.Meaning.{Event, lost, Chan, freshChannel, hears, answers, IsWord, wordsGive, FirstMarker}
 use Rattle.channel_spec.proofs.Order.{none-given, first-given, few-given, begun-given, lost-given}
-use Rattle.channel.specs.Called.{EveryCut, boardOf, inUse}
+use Rattle.channel.specs.Call.{EveryCut, boardOf, inUse}
 use Rattle.channel.proofs.Demands.{cut-so, every-cut}
 
 pub hunting-silent : (bs : List ℕ) → ((xs ys : List ℕ) → bs ≡ xs ++ (marker ++ ys) → ⊥) → EveryCut bs λ es d. (es ≡ []) × (d .st .locked ≡ false)

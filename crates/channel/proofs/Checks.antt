@@ -24,8 +24,8 @@ use Rattle.repair.proofs.Apart.{checked-is}
 use Rattle.channel.specs.declared.receiver.Receiver.{Receiver}
 use Rattle.channel_spec.specs.declared.Condition.the-variants.{Clean}
 use Rattle.channel_spec.specs.Sender.{parityBytes, wordBytes, messageBytes}
-use Rattle.channel_spec.specs.Channel.{conditionBy, condition, mend}
-use Rattle.channel.specs.Called.{owedBy, owes, mendIn}
+use Rattle.channel_spec.specs.Meaning.{conditionBy, condition, mend}
+use Rattle.channel.specs.Call.{owedBy, owes, mendIn}
 use Rattle.channel_spec.proofs.Words.{condition-clean, mend-clean, never-refused, block-determined}
 
 module _ (s : Receiver) (o : s .locked ≡ true) where

@@ -9,8 +9,8 @@ use lib.Dec.{eqb}
 use Rattle.base.specs.Calls.{joined, told, Yields}
 use Rattle.base.proofs.Calls.{law, yields-all, yields-first}
 use Rattle.channel_spec.specs.Sender.{wordBytes}
-use Rattle.channel_spec.specs.Channel.{Event}
-use Rattle.channel.specs.Called.{Board, eatByte, owed, handOn, hearAll, hearOn, hearCall, Fine}
+use Rattle.channel_spec.specs.Meaning.{Event}
+use Rattle.channel.specs.Call.{Board, eatByte, owed, handOn, hearAll, hearOn, hearCall, Fine}
 use Rattle.channel.proofs.Fine.{fine-is, fine-roomy, fine-hand, fine-eat, owed-one}
 
 -- a message byte handed on leaves one less to hand on

@@ -10,13 +10,13 @@ use lib.Dec.{ltb}
 use Rattle.base.specs.Calls.{With}
 use Rattle.base.proofs.Calls.{with-hear}
 use Rattle.packet_spec.specs.Frame.{Told, There}
-use Rattle.stream.specs.Called.{takeByte}
+use Rattle.stream.specs.Call.{takeByte}
 use Rattle.stream.proofs.Delivery.{ThereIf, there-byte}
 use Rattle.channel_spec.specs.declared.Hunting.{Hunting}
 use Rattle.channel_spec.specs.Sender.{wordBytes}
-use Rattle.channel_spec.specs.Channel.{Event, said, block, lost, isMarker, shift}
-use Rattle.channel.specs.Called.{Board, heldIn, wordOn, compareOn, markOn, eatBy, eatByte, owed, asEvent, handOn}
-use Rattle.channel.specs.Called.{sound, roomy, hearBy, hearCall, ThereEvent}
+use Rattle.channel_spec.specs.Meaning.{Event, said, block, lost, isMarker, shift}
+use Rattle.channel.specs.Call.{Board, heldIn, wordOn, compareOn, markOn, eatBy, eatByte, owed, asEvent, handOn}
+use Rattle.channel.specs.Call.{sound, roomy, hearBy, hearCall, ThereEvent}
 use Rattle.channel.proofs.Cutting.{hand-one}
 
 pub there-as : (o : Option Told) (d : Board) → ThereIf o (d .recv) → With ThereEvent (asEvent o) d

@@ -17,15 +17,15 @@ use Rattle.base.proofs.Calls.{yields-so}
 use Rattle.packet_spec.specs.Escape.{flag}
 use Rattle.packet_spec.specs.Contents.{rawLimit, Packet}
 use Rattle.packet_spec.specs.Frame.{broken}
-use Rattle.stream.specs.Reader.{waiting, reads}
-use Rattle.stream.specs.Called.{takeByte}
+use Rattle.stream.specs.Meaning.{waiting, reads}
+use Rattle.stream.specs.Call.{takeByte}
 use Rattle.stream.proofs.Remembered.{held-told}
 use Rattle.packet_spec.specs.Sender.{Accepted}
 use Rattle.stream.specs.Sender.{delivered, openedFrom}
 use Rattle.channel_spec.specs.Sender.{wordBytes, framed, sentWords, sent}
-use Rattle.channel_spec.specs.Channel.{condition, Event, Chan, hunting, inWord, inMark, frames, blocks, losses, freshChannel, hears, answers, IsWord, carried, FirstMarker}
+use Rattle.channel_spec.specs.Meaning.{condition, Event, Chan, hunting, inWord, inMark, frames, blocks, losses, freshChannel, hears, answers, IsWord, carried, FirstMarker}
 use Rattle.channel_spec.specs.declared.Condition.the-variants.{Clean as clean}
-use Rattle.channel.specs.Called.{Board, board, heldIn, freshReceiver, hearCall, hearAll, EveryCut, boardOf, inUse}
+use Rattle.channel.specs.Call.{Board, board, heldIn, freshReceiver, hearCall, hearAll, EveryCut, boardOf, inUse}
 use Rattle.channel.proofs.Fine.{fine-fresh}
 use Rattle.channel.proofs.Cutting.{hear-settled}
 use Rattle.channel.proofs.Shown.{shown-all, in-use}

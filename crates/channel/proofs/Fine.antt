@@ -13,13 +13,13 @@ use lib.Dec.{eqb, ltb, leb}
 use borrow.Author.Tests.{le-leb, ltb-true, leb-true}
 use Rattle.base.proofs.Tests.{and-parts}
 use Rattle.packet_spec.specs.Contents.{rawLimit}
-use Rattle.stream.specs.Called.{Held, takeByte, Fine as FineFrame}
+use Rattle.stream.specs.Call.{Held, takeByte, Fine as FineFrame}
 use Rattle.stream.proofs.Fine.{fine-take, fine-of as frame-of, fine-is as frame-is}
 use Rattle.channel_spec.specs.declared.Hunting.{Hunting}
 use Rattle.channel_spec.specs.Sender.{messageBytes, wordBytes}
-use Rattle.channel_spec.specs.Channel.{shift, isMarker, zeros}
-use Rattle.channel.specs.Called.{Board, board, heldIn, huntingWith, freshReceiver, lockedWith, sound, roomy}
-use Rattle.channel.specs.Called.{huntOn, mendIn, wordOn, compareOn, markOn, eatBy, eatByte, owedBy, owed, handOn, Fine}
+use Rattle.channel_spec.specs.Meaning.{shift, isMarker, zeros}
+use Rattle.channel.specs.Call.{Board, board, heldIn, huntingWith, freshReceiver, lockedWith, sound, roomy}
+use Rattle.channel.specs.Call.{huntOn, mendIn, wordOn, compareOn, markOn, eatBy, eatByte, owedBy, owed, handOn, Fine}
 use Rattle.channel.proofs.Words.{mendIn-length}
 
 -- the tests of 10 and 11, passed ..

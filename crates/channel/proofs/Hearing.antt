@@ -31,7 +31,7 @@ use Rattle.packet_spec.specs.declared.Judged.{Judged}
 use Rattle.stream.specs.declared.frame.Frame.{Frame}
 use Rattle.stream.specs.declared.frame.Read.{Read}
 use Rattle.stream.specs.declared.frame.Heard.the-variants as heard
-use Rattle.stream.specs.Called.{Held, held, fresh, takeByte, readOn, readCall, ReadIs, sound as soundFrame, answered as frameAnswered}
+use Rattle.stream.specs.Call.{Held, held, fresh, takeByte, readOn, readCall, ReadIs, sound as soundFrame, answered as frameAnswered}
 use Rattle.stream.proofs.Fine.{fine-of}
 use Rattle.stream.proofs.Cutting.{read-agrees}
 use Rattle.channel_spec.specs.declared.Hunting.{Hunting}
@@ -42,8 +42,8 @@ use Rattle.channel_spec.specs.declared.Answer.the-variants.{More, Said, Block, 
 use Rattle.channel.specs.declared.answer.Hearing.{Hearing}
 use Rattle.channel.specs.declared.answer.Phase.{Phase}
 use Rattle.channel.specs.declared.hunting.Found.{Found}
-use Rattle.channel_spec.specs.Channel.{condition, Event, block, shift, isMarker}
-use Rattle.channel.specs.Called.{Board, board, counts, lockedWith, owedBy, owes, asEvent, hearOn, soundLock, sound, roomy, hearBy, hearCall, mendIn, hearingOf, HearingIs}
+use Rattle.channel_spec.specs.Meaning.{condition, Event, block, shift, isMarker}
+use Rattle.channel.specs.Call.{Board, board, counts, lockedWith, owedBy, owes, asEvent, hearOn, soundLock, sound, roomy, hearBy, hearCall, mendIn, hearingOf, HearingIs}
 use Rattle.channel.specs.Private.{shifts, later, hunted, ended, PhaseBy, HandedIs, SoughtIs, FilledIs}
 use Rattle.base.proofs.Parts.{lent, back}
 use Rattle.channel.proofs.Words.{mendIn-is}

@@ -6,10 +6,10 @@ use mathlib.Core.Path.{_≡_, refl}
 use mathlib.Core.Bool.{false}
 use mathlib.Core.List.{List, []}
 use lib.ListN.{length}
-use Rattle.stream.specs.Reader.{Reading}
+use Rattle.stream.specs.Meaning.{Reading}
 use Rattle.channel_spec.specs.declared.Hunting.{Hunting}
-use Rattle.channel_spec.specs.Channel.{inWord, inMark}
-use Rattle.channel.specs.Called.{freshReceiver, boardOf}
+use Rattle.channel_spec.specs.Meaning.{inWord, inMark}
+use Rattle.channel.specs.Call.{freshReceiver, boardOf}
 
 pub fresh : freshReceiver ≡ record {
   locked = false;

@@ -21,12 +21,12 @@ use Rattle.base.proofs.Calls.{after-one, one-after, none-owed, hear-hand, hear-
 use Rattle.base.proofs.Above.{Along, above}
 use Rattle.packet_spec.specs.Frame.{Told}
 use Rattle.stream.specs.declared.frame.Frame.{Frame}
-use Rattle.stream.specs.Called.{Held, held, takeByte, readOn}
+use Rattle.stream.specs.Call.{Held, held, takeByte, readOn}
 use Rattle.channel_spec.specs.declared.Hunting.{Hunting}
 use Rattle.channel.specs.declared.locked.Locked.{Locked}
 use Rattle.channel.specs.declared.hunting.Found.{Found}
-use Rattle.channel_spec.specs.Channel.{condition, mend, Event, block, lost, shift, isMarker}
-use Rattle.channel.specs.Called.{Board, board, huntingWith, lockedWith, huntOn, wordOn, compareOn, markOn, eatBy, eatByte, owed, asEvent, handOn, hearOn}
+use Rattle.channel_spec.specs.Meaning.{condition, mend, Event, block, lost, shift, isMarker}
+use Rattle.channel.specs.Call.{Board, board, huntingWith, lockedWith, huntOn, wordOn, compareOn, markOn, eatBy, eatByte, owed, asEvent, handOn, hearOn}
 use Rattle.channel.specs.Private.{shifts, later, hunted}
 use Rattle.channel.proofs.Words.{mendIn-is}
 use Rattle.channel.proofs.Cutting.{hand-one}

@@ -16,15 +16,15 @@ use Rattle.base.specs.Calls.{tell, andThen, drain, rest}
 use Rattle.base.proofs.Calls.{all-append}
 use Rattle.packet_spec.specs.Contents.{rawLimit}
 use Rattle.packet_spec.specs.Frame.{Told}
-use Rattle.stream.specs.Reader.{Reading, read, reads}
-use Rattle.stream.specs.Called.{Held, takeByte, heldOf}
+use Rattle.stream.specs.Meaning.{Reading, read, reads}
+use Rattle.stream.specs.Call.{Held, takeByte, heldOf}
 use Rattle.stream.proofs.Shown.{shown-byte, tell-end, held-use, held-st}
 use Rattle.channel_spec.specs.declared.Hunting.{Hunting}
 use Rattle.channel_spec.specs.Sender.{messageBytes, wordBytes}
-use Rattle.channel_spec.specs.Channel.{condition, mend, Event, said, block, message, shift, isMarker}
-use Rattle.channel_spec.specs.Channel.{Chan, hunting, inWord, inMark, whole, hunt, grow, compared, behindWord, step, hears}
-use Rattle.channel.specs.Called.{Board, counts, huntingWith, lockedWith, huntOn, mendIn, wordOn, compareOn, markOn, eatBy, eatByte}
-use Rattle.channel.specs.Called.{owedBy, owed, asEvent, handWith, handOn, hearAll, boardOf, inUse}
+use Rattle.channel_spec.specs.Meaning.{condition, mend, Event, said, block, message, shift, isMarker}
+use Rattle.channel_spec.specs.Meaning.{Chan, hunting, inWord, inMark, whole, hunt, grow, compared, behindWord, step, hears}
+use Rattle.channel.specs.Call.{Board, counts, huntingWith, lockedWith, huntOn, mendIn, wordOn, compareOn, markOn, eatBy, eatByte}
+use Rattle.channel.specs.Call.{owedBy, owed, asEvent, handWith, handOn, hearAll, boardOf, inUse}
 use Rattle.channel_spec.proofs.Words.{mend-length}
 use Rattle.channel.proofs.Words.{mendIn-is}
 use Rattle.channel.proofs.Cutting.{hand-one}

@@ -7,9 +7,9 @@ use mathlib.Core.List.{List, _++_}
 use lib.ListN.{length, take, drop, length-append, take-append-drop}
 use lib.Seq.{take-at, drop-at}
 use Rattle.channel_spec.specs.Sender.{wordBytes}
-use Rattle.channel_spec.specs.Channel.{mend}
+use Rattle.channel_spec.specs.Meaning.{mend}
 use Rattle.channel_spec.proofs.Words.{mend-length}
-use Rattle.channel.specs.Called.{mendIn}
+use Rattle.channel.specs.Call.{mendIn}
 
 pub mendIn-length : (k : List ℕ) → length (mendIn k) ≡ length k
 mendIn-length k =

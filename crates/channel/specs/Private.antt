@@ -15,8 +15,8 @@ use Rattle.channel.specs.declared.answer.Hearing.{Hearing}
 use Rattle.channel.specs.declared.answer.Phase.{Phase}
 use Rattle.channel.specs.declared.hunting.Found.{Found}
 use Rattle.channel_spec.specs.Sender.{wordBytes}
-use Rattle.channel_spec.specs.Channel.{shift, isMarker}
-use Rattle.channel.specs.Called.{Board, board, owes, soundLock, hearOn, HearingIs}
+use Rattle.channel_spec.specs.Meaning.{shift, isMarker}
+use Rattle.channel.specs.Call.{Board, board, owes, soundLock, hearOn, HearingIs}
 
 -- all of some bytes among the last four
 abbrev pub shifts : Hunting → List ℕ → Hunting

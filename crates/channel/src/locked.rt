@@ -1,7 +1,7 @@
 //! Lock: how far a word, its handing on and the next marker are.
 ghost use mathlib.Core.Path.{_≡_};
 ghost use Rattle.channel_spec.specs.Sender.{wordBytes};
-ghost use Rattle.channel.specs.Called.{counts, soundLock};
+ghost use Rattle.channel.specs.Call.{counts, soundLock};
 use channel_spec::Block;
 
 /// Locked: bytes of a word, message bytes of it handed on, bytes of the next marker.

@@ -4,7 +4,7 @@ ghost use mathlib.Core.Bool.{true, false};
 ghost use Prim.Native.Nat.{_+_, _≤_, _<_};
 ghost use lib.ListN.{length, drop};
 ghost use Rattle.channel_spec.specs.Sender.{messageBytes, wordBytes};
-ghost use Rattle.channel.specs.Called.{
+ghost use Rattle.channel.specs.Call.{
   board,
   counts,
   freshReceiver,

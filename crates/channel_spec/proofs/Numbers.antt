@@ -6,9 +6,9 @@
 use mathlib.Core.Path.{_≡_, refl}
 use mathlib.Core.List.{List, [], _∷_}
 use Prim.Native.Nat.{ℕ}
-use Rattle.stream.specs.Reader.{waiting, inside}
+use Rattle.stream.specs.Meaning.{waiting, inside}
 use Rattle.channel_spec.specs.Sender.{marker, messageBytes, parityBytes, wordBytes, blockBytes}
-use Rattle.channel_spec.specs.Channel.{Event, lost, zeros, Chan, hunting, inWord, inMark, freshChannel, hears}
+use Rattle.channel_spec.specs.Meaning.{Event, lost, zeros, Chan, hunting, inWord, inMark, freshChannel, hears}
 
 pub fixed : _≡_ {A = List ℕ} (messageBytes ∷ parityBytes ∷ wordBytes ∷ blockBytes ∷ marker) (223 ∷ 32 ∷ 255 ∷ 259 ∷ 0x7D ∷ 0x3A ∷ 0xE2 ∷ 0x42 ∷ [])
 fixed = refl

@@ -15,11 +15,11 @@ use lib.ListN.{length, length-append}
 use borrow.Author.Tests.{lt-ltb}
 use Rattle.base.specs.Bytes.{Each}
 use Rattle.base.specs.Calls.{andThen}
-use Rattle.stream.specs.Reader.{Reading, waiting, reads}
+use Rattle.stream.specs.Meaning.{Reading, waiting, reads}
 use Rattle.channel_spec.specs.declared.Hunting.{Hunting}
 use Rattle.channel_spec.specs.Sender.{marker, wordBytes, framed}
-use Rattle.channel_spec.specs.Channel.{condition, mend, Event, said, block, lost, message, shift, isMarker, zeros, Chan, hunting, inWord, inMark, freshChannel, hunt, whole, grow, compared, hears, answers}
-use Rattle.channel_spec.specs.Channel.{IsWord, wordsGive, FirstMarker}
+use Rattle.channel_spec.specs.Meaning.{condition, mend, Event, said, block, lost, message, shift, isMarker, zeros, Chan, hunting, inWord, inMark, freshChannel, hunt, whole, grow, compared, hears, answers}
+use Rattle.channel_spec.specs.Meaning.{IsWord, wordsGive, FirstMarker}
 use Rattle.channel_spec.proofs.Streaming.{hears-append, bytesOf, theMarker, wholes, behindWords, is-marker, no-match, past-zeros, from-start, received}
 
 -- ---- before the first marker, with f the last four: it hunts on

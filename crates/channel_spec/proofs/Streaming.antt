@@ -25,7 +25,7 @@ use Rattle.packet_spec.specs.Frame.{Told}
 use Rattle.word_spec.specs.Word.{remainder}
 use Rattle.word_spec.proofs.Division.{length-remainder}
 use Rattle.word_spec.proofs.Clean.{parity-clean}
-use Rattle.stream.specs.Reader.{Reading, waiting, read, reads}
+use Rattle.stream.specs.Meaning.{Reading, waiting, read, reads}
 use Rattle.packet_spec.specs.Sender.{Accepted}
 use Rattle.stream.specs.Sender.{rawOf, framesOf, stream, delivered, openedFrom}
 use Rattle.packet_spec.specs.Contents.{Packet}
@@ -34,9 +34,9 @@ use Rattle.stream.proofs.Streaming.{synchronised, stream-read, from-flag}
 use Rattle.channel_spec.specs.declared.Hunting.{Hunting}
 use Rattle.channel_spec.specs.Sender.{marker, messageBytes, parityBytes, wordBytes, wordOf, framed}
 use Rattle.channel_spec.specs.Sender.{fillers, filled, cutUp, messagesOf, sentWords, sent}
-use Rattle.channel_spec.specs.Channel.{condition, mend, Event, said, frames, blocks, losses, message, shift, isMarker, zeros}
-use Rattle.channel_spec.specs.Channel.{Chan, hunting, inWord, inMark, freshChannel, whole, hunt, grow, step, hears, answers}
-use Rattle.channel_spec.specs.Channel.{IsWord, carried, FirstMarker}
+use Rattle.channel_spec.specs.Meaning.{condition, mend, Event, said, frames, blocks, losses, message, shift, isMarker, zeros}
+use Rattle.channel_spec.specs.Meaning.{Chan, hunting, inWord, inMark, freshChannel, whole, hunt, grow, step, hears, answers}
+use Rattle.channel_spec.specs.Meaning.{IsWord, carried, FirstMarker}
 use Rattle.channel_spec.specs.declared.Condition.the-variants.{Clean as clean}
 use Rattle.channel_spec.proofs.Words.{condition-clean, mend-clean}
 

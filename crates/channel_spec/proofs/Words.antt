@@ -22,8 +22,8 @@ use Rattle.repair.proofs.Apart.{checked-is}
 use Rattle.repair.proofs.Promising.{left-length, clean-left, promised-is}
 use Rattle.repair.proofs.Meeting.{repaired-promised}
 use Rattle.channel_spec.specs.Sender.{parityBytes}
-use Rattle.channel_spec.specs.Channel.{conditionBy, condition, mend, IsWord}
-use Rattle.channel_spec.specs.Channel.{asMended}
+use Rattle.channel_spec.specs.Meaning.{conditionBy, condition, mend, IsWord}
+use Rattle.channel_spec.specs.Meaning.{asMended}
 use Rattle.channel_spec.specs.declared.Condition.{Condition}
 use Rattle.channel_spec.specs.declared.Condition.the-variants.{Beyond as beyond, Clean as cleanBlock, Repaired as repairedBlock}
 

@@ -2,7 +2,7 @@
 -- answered    .. of a call
 use mathlib.Core.Option.{Option, some, none}
 use Rattle.packet_spec.specs.Frame.{judged}
-use Rattle.channel_spec.specs.Channel.{Event, said, block, lost}
+use Rattle.channel_spec.specs.Meaning.{Event, said, block, lost}
 use Rattle.channel_spec.specs.declared.Answer.{Answer}
 use Rattle.channel_spec.specs.declared.Answer.the-variants.{More, Said, Block, LockLost}
 

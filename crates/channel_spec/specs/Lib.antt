@@ -1,3 +1,3 @@
 pub mod Sender
-pub mod Channel
+pub mod Meaning
 pub mod Answer

@@ -1,7 +1,7 @@
 //! What the opportunistic channel's bytes mean, as they are sent and as they are received without a limit, and the laws of whole streams and
 //! of altered blocks. Of code the types that it names, and the four hunted bytes; `channel_sender` sends, `channel` receives. Read specs/.
 ghost use mathlib.Core.Path.{_≡_};
-ghost use Rattle.channel_spec.specs.Channel.{shift, isMarker, zeros};
+ghost use Rattle.channel_spec.specs.Meaning.{shift, isMarker, zeros};
 use packet_spec::Judged;
 use parity::Word;
 

@@ -27,10 +27,10 @@ use Rattle.repair.specs.Way.{repaired as repairedWord}
 use Rattle.repair.proofs.Apart.{distance-zero, checked-is, checked-clean}
 use Rattle.repair.proofs.Meeting.{repaired-promised}
 use Rattle.repair.proofs.Promising.{restored, brought-back, clean-left}
-use Rattle.stream.specs.Reader.{Reading, reads}
+use Rattle.stream.specs.Meaning.{Reading, reads}
 use Rattle.channel_spec.specs.declared.Hunting.{Hunting}
 use Rattle.channel_spec.specs.Sender.{parityBytes, wordBytes}
-use Rattle.channel_spec.specs.Channel.{conditionBy, whole, IsWord}
+use Rattle.channel_spec.specs.Meaning.{conditionBy, whole, IsWord}
 use Rattle.channel_spec.proofs.Streaming.{theMarker, behindWords}
 use Rattle.subchannel_spec.specs.Sender.{messageBytes, wordOf}
 use Rattle.subchannel_spec.specs.Word.{condition, mend, carried}

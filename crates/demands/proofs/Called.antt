@@ -21,10 +21,10 @@ use Rattle.base.proofs.Tests.{and-parts}
 use Rattle.packet_spec.specs.Contents.{rawLimit}
 use Rattle.packet_spec.specs.Escape.{flag}
 use Rattle.packet_spec.specs.Frame.{Told, packet, refusal, broken}
-use Rattle.stream.specs.Called.{Held, placeLimit, shut, takeBy, takeByte, readOn, readBy, readCall, sound as soundFrame}
+use Rattle.stream.specs.Call.{Held, placeLimit, shut, takeBy, takeByte, readOn, readBy, readCall, sound as soundFrame}
 use Rattle.stream.specs.declared.frame.Frame.{Frame}
-use Rattle.channel_spec.specs.Channel.{Event, said, block, lost, isMarker, shift}
-use Rattle.channel.specs.Called.{Board, heldIn, wordOn, compareOn, markOn, eatBy, eatByte, owed, asEvent, handOn, soundLock, sound, roomy, hearOn, hearBy, hearCall}
+use Rattle.channel_spec.specs.Meaning.{Event, said, block, lost, isMarker, shift}
+use Rattle.channel.specs.Call.{Board, heldIn, wordOn, compareOn, markOn, eatBy, eatByte, owed, asEvent, handOn, soundLock, sound, roomy, hearOn, hearBy, hearCall}
 use Rattle.channel_spec.specs.Sender.{messageBytes, wordBytes}
 use Rattle.channel_spec.specs.declared.Hunting.{Hunting}
 use Rattle.channel.specs.declared.locked.Locked.{Locked}

@@ -25,18 +25,18 @@ use Rattle.base.specs.Choice.{pick}
 use Rattle.base.proofs.Calls.{none-owed, law, fits, FitsBy, more-iff, with-hear, inv-hear}
 use Rattle.packet_spec.specs.Contents.{rawLimit}
 use Rattle.packet_spec.specs.Frame.{Told, packet, refusal, broken}
-use Rattle.stream.specs.Called.{Held, takeByte, readAll, readOn, readBy, readCall, sound as soundFrame, Fine as FineFrame}
+use Rattle.stream.specs.Call.{Held, takeByte, readAll, readOn, readBy, readCall, sound as soundFrame, Fine as FineFrame}
 use Rattle.stream.proofs.Cutting.{read-agrees, read-law}
-use Rattle.channel_spec.specs.Channel.{Event}
-use Rattle.channel.specs.Called.{Board, owed, handOn, eatByte, sound, roomy, hearAll, hearOn, hearBy, hearCall, Fine}
+use Rattle.channel_spec.specs.Meaning.{Event}
+use Rattle.channel.specs.Call.{Board, owed, handOn, eatByte, sound, roomy, hearAll, hearOn, hearBy, hearCall, Fine}
 use Rattle.channel.proofs.Fine.{fine-of, fine-hand, fine-eat}
 use Rattle.channel.proofs.Cutting.{hand-one, hear-agrees, hear-law}
-use Rattle.subchannel.specs.Called as fixed
+use Rattle.subchannel.specs.Call as fixed
 use Rattle.subchannel.proofs.Fine as fixed-fine
 use Rattle.subchannel.proofs.Cutting as fixed-cut
 use Rattle.base.proofs.Stopping.{stops, blind, owed-first, wanting}
 use Rattle.recording.specs.Deck.{Deck, deckOwes, deckHand, deckEat, deckAll, deckHear}
-use Rattle.recording.specs.Called.{far, tapeCall}
+use Rattle.recording.specs.Call.{far, tapeCall}
 use Rattle.recording.proofs.Ears.{deck-hand-one}
 use Rattle.recording.proofs.Kept.{hear-kept}
 use Rattle.recording.proofs.Next.{tape-agrees}
@@ -45,26 +45,26 @@ use Rattle.listing_spec.specs.Lines.{line, given, longest}
 use Rattle.lines.proofs.Short.{line-some}
 use Rattle.listing.specs.declared.lister.Totals.{Totals}
 use Rattle.listing.specs.declared.lister.Wants.the-variants.{More, Room}
-use Rattle.listing.specs.Printed as listing
-use Rattle.listing.specs.Printed.{Printed, printed, further, onAnswer, counted, print, near}
+use Rattle.listing.specs.Call as listing
+use Rattle.listing.specs.Call.{Printed, printed, further, onAnswer, counted, print, near}
 use Rattle.listing.proofs.Tags.{wantsTag}
 use Rattle.board.specs.declared.readout.Wants as showing
 use Rattle.board.specs.declared.readout.Wants.the-variants as shows
 use Rattle.board.specs.Source.{Source, boardIn, sourceOwes, sourceHand, sourceEat, sourceAll, sourceHear}
 use Rattle.board.specs.Owed.{nothing}
-use Rattle.board.specs.Called.{Screen, readoutOf, recvOn, owedOn, Part, partly, heardBy, takesOn, soundState}
-use Rattle.board.specs.Called as screen
+use Rattle.board.specs.Call.{Screen, readoutOf, recvOn, owedOn, Part, partly, heardBy, takesOn, soundState}
+use Rattle.board.specs.Call as screen
 use Rattle.board.proofs.Sources.{source-hand-one}
 use Rattle.board.proofs.Left.{left-none}
-use Rattle.office.specs.Desk.{Said, Desk, eat, deskAll}
-use Rattle.office.specs.Called as office
+use Rattle.office.specs.Meaning.{Said, Desk, eat, deskAll}
+use Rattle.office.specs.Call as office
 use Rattle.office.proofs.Hearing as office-hearing
 use Rattle.office.proofs.Sent as office-sent
 use Rattle.capture_spec.specs.File.{header}
-use Rattle.capture_spec.specs.Import.{entry, entryLimit, fourAt}
+use Rattle.capture_spec.specs.Meaning.{entry, entryLimit, fourAt}
 use Rattle.capture.specs.declared.reader.Capture.{Capture}
 use Rattle.capture.specs.declared.reader.Capture.the-variants.{Header, Head, Record, Behind}
-use Rattle.capture.specs.Called as capture
+use Rattle.capture.specs.Call as capture
 use Rattle.capture.proofs.Hearing.{fine-take}
 
 -- ---- for all of them: equal pairs have equal parts; where a reader owes no move, that of `wanting` which says so goes without saying

@@ -25,22 +25,22 @@ use Rattle.base.proofs.Writing.{write-keeps, refused-keeps}
 use Rattle.packet_spec.specs.Contents.{Packet, packed}
 use Rattle.packet_spec.specs.Frame.{Told, packet, refusal, broken, delivery, closed}
 use Rattle.packet_spec.specs.Sender.{Accepted}
-use Rattle.stream.specs.Called as plain
-use Rattle.stream.specs.Called.{Held as FrameHeld}
-use Rattle.channel_spec.specs.Channel.{Event, said}
-use Rattle.channel.specs.Called.{Board, hearCall}
-use Rattle.subchannel.specs.Called as fixed
+use Rattle.stream.specs.Call as plain
+use Rattle.stream.specs.Call.{Held as FrameHeld}
+use Rattle.channel_spec.specs.Meaning.{Event, said}
+use Rattle.channel.specs.Call.{Board, hearCall}
+use Rattle.subchannel.specs.Call as fixed
 use Rattle.recording.specs.Deck.{Deck}
-use Rattle.recording.specs.Called.{tapeCall}
+use Rattle.recording.specs.Call.{tapeCall}
 use Rattle.capture_spec.specs.File.{four, header, timed, recordOf, records, captured, CaptureOf}
-use Rattle.capture_spec.specs.Import.{entry, entryLimit, Reading, inHead, inRecord, behind, fresh, fourAt, says, reads, ends, imported}
+use Rattle.capture_spec.specs.Meaning.{entry, entryLimit, Reading, inHead, inRecord, behind, fresh, fourAt, says, reads, ends, imported}
 use Rattle.capture_spec.specs.Order.{headOf, Next}
 use Rattle.capture_spec.proofs.Entry.{entry-packed, none-exactly}
 use Rattle.capture_spec.proofs.Export.{say, seen, import-any, captured-is, times-ignored}
 use Rattle.capture_spec.proofs.Faults.{faultOf, first-fault, sixty-exactly}
 use Rattle.capture_spec.proofs.Order.{next, head-next, unequal-next, bytes-next, whole-next, long-next, import-only}
 use Rattle.capture.specs.Export.{packedPart, Fetched, enteringBy, entering}
-use Rattle.capture.specs.Called.{Held, Fine, readAll, readCall, finishing, endedAs, EveryCut, Stands}
+use Rattle.capture.specs.Call.{Held, Fine, readAll, readCall, finishing, endedAs, EveryCut, Stands}
 use Rattle.capture.specs.declared.reader.Capture.{Capture}
 use Rattle.capture.proofs.Cutting.{read-yields, every-cut}
 use Rattle.capture.proofs.There.{Own, export-there, read-there}

@@ -19,10 +19,10 @@ use Rattle.base.proofs.Calls.{none-owed, with-hear}
 use Rattle.base.proofs.Tests.{by-eq, and-parts}
 use Rattle.packet_spec.specs.Frame.{Told, packet, refusal, broken}
 use Rattle.capture_spec.specs.File.{header, recordOf}
-use Rattle.capture_spec.specs.Import.{entry, entryLimit, fourAt}
+use Rattle.capture_spec.specs.Meaning.{entry, entryLimit, fourAt}
 use Rattle.capture_spec.proofs.Entry.{entry-ways, entry-only, none-exactly}
 use Rattle.capture.specs.Export.{enteringBy, entering}
-use Rattle.capture.specs.Called.{Held, held, says, takeBy, takeByte, readOn, readBy, readCall, sound, ending, finishing}
+use Rattle.capture.specs.Call.{Held, held, says, takeBy, takeByte, readOn, readBy, readCall, sound, ending, finishing}
 use Rattle.capture.specs.declared.reader.Capture.{Capture}
 use Rattle.capture.specs.declared.reader.Capture.the-variants.{Header, Head, Record, Behind}
 use Rattle.capture.specs.declared.reader.Ended.the-variants.{Whole, Refused}

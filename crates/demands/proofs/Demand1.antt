@@ -36,31 +36,31 @@ use Rattle.packet_spec.specs.Frame.{Told, refusal, closed, judging, judge}
 use Rattle.packet_spec.specs.Sender.{frameOf, headFits, writing}
 use Rattle.packet_spec.proofs.Judging.{closed-keeps}
 use Rattle.packet.proofs.Sending.{writing-keeps}
-use Rattle.stream.specs.Called.{Held, begun, takeBy, takeByte, shut, readAll, readCall, Fine as FineFrame}
+use Rattle.stream.specs.Call.{Held, begun, takeBy, takeByte, shut, readAll, readCall, Fine as FineFrame}
 use Rattle.stream.specs.Sender.{appending}
 use Rattle.stream.proofs.Cutting.{read-yields}
 use Rattle.stream.proofs.Sending.{appending-keeps}
-use Rattle.channel_spec.specs.Channel.{said}
-use Rattle.channel.specs.Called.{Board, hearAll, hearCall, Fine}
+use Rattle.channel_spec.specs.Meaning.{said}
+use Rattle.channel.specs.Call.{Board, hearAll, hearCall, Fine}
 use Rattle.channel_spec.specs.Sender.{marker, messageBytes, wordBytes, wordOf, marked, marking, sending}
 use Rattle.channel.proofs.Cutting.{hear-yields}
 use Rattle.channel_sender.proofs.Sending.{marking-keeps, sending-keeps}
 use Rattle.recording.specs.Deck.{Deck}
-use Rattle.recording.specs.Called.{tapeCall}
+use Rattle.recording.specs.Call.{tapeCall}
 use Rattle.board.specs.declared.readout.Wants.the-variants.{Refused as ShowRefused}
 use Rattle.board.specs.Source.{boardIn}
-use Rattle.board.specs.Called.{Screen, readoutOf, recvOn, part, takes as shows}
+use Rattle.board.specs.Call.{Screen, readoutOf, recvOn, part, takes as shows}
 use Rattle.listing.specs.declared.lister.Totals.{Totals}
 use Rattle.listing.specs.declared.lister.Recording.{Recording}
 use Rattle.listing.specs.declared.lister.Wants.the-variants.{Refused}
-use Rattle.listing.specs.Printed.{printed, takes, lastOf, finishing}
+use Rattle.listing.specs.Call.{printed, takes, lastOf, finishing}
 use Rattle.channel_spec.specs.declared.Answer.{Answer}
 use Rattle.listing_spec.specs.Lines.{line, endLine, wrongLine}
 use Rattle.bid.specs.Line.{verdict}
 use Rattle.office.specs.declared.Office.{Office}
 use Rattle.office.specs.declared.Started.the-variants.{Refused as StartRefused}
-use Rattle.office.specs.Desk.{Desk, endingOf, refusal as line-refusal}
-use Rattle.office.specs.Called.{holdLimit, outLimit, starting, denied, hearCall as desk-hear, closeCall, spokenOut, answeredOut, finishing as desk-finish}
+use Rattle.office.specs.Meaning.{Desk, endingOf, refusal as line-refusal}
+use Rattle.office.specs.Call.{holdLimit, outLimit, starting, denied, hearCall as desk-hear, closeCall, spokenOut, answeredOut, finishing as desk-finish}
 use Rattle.demands.specs.Table.{Exact}
 use Rattle.demands.specs.Desks.{DeskBeyond, DeskShort, lineRows, ByDesk, ByStart, ByLine, BySpoken}
 use Rattle.demands.specs.Refusals.{PlaceBeyond, Unusable, UnfitHead, frameRows, FrameBeyond, Beyond, NextBeyond, TapeBeyond, BoardBeyond, Short, OfFrame, OfCall, ByFrame, ByCall, ByState, ByCheck, ByRepair, ByRead, ByHear, ByNext, ByTake, ByShow}

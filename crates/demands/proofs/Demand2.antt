@@ -4,12 +4,12 @@
 -- What they are is defined once, in the paper's words, and each function promises those definitions:
 --   packets         `contents`, `class` (crates/packet_spec/specs/Contents.antt, Port.antt), `stream` (crates/stream/specs/Sender.antt)
 --   check values    `fcs` (crates/fcs/specs/Fcs.antt)
---   escapes         `escape`, `plain`, `scan` (crates/packet_spec/specs/Escape.antt), and `reads` (crates/stream/specs/Reader.antt)
+--   escapes         `escape`, `plain`, `scan` (crates/packet_spec/specs/Escape.antt), and `reads` (crates/stream/specs/Meaning.antt)
 --   parity words    `generator`, `remainder`, `clean` (crates/word_spec/specs/Word.antt), over the field of crates/field/specs/Field.antt
 --   interleaving    `cell` (crates/interleaver_spec/specs/Places.antt), `push`, `pull`, `pushing`, `closing`, `pulling` (crates/interleaver_spec/specs/Running.antt)
---   markers         `marked` (crates/channel_spec/specs/Sender.antt), and `answers` (crates/channel_spec/specs/Channel.antt)
---   block answers   `condition`, `mend` (crates/channel_spec/specs/Channel.antt), by repair's promise: `Promised` (crates/repair/specs/Promise.antt)
---   the listing     `listing` (crates/listing_spec/specs/Listing.antt), of recordings taken apart: `apart` (crates/listing_spec/specs/Apart.antt)
+--   markers         `marked` (crates/channel_spec/specs/Sender.antt), and `answers` (crates/channel_spec/specs/Meaning.antt)
+--   block answers   `condition`, `mend` (crates/channel_spec/specs/Meaning.antt), by repair's promise: `Promised` (crates/repair/specs/Promise.antt)
+--   the listing     `listing` (crates/listing_spec/specs/Meaning.antt), of recordings taken apart: `apart` (crates/listing_spec/specs/Apart.antt)
 -- Here: that they hold together; of interleaving, in Interleaving. The paper's numbers are in Numbers, and what else it prints in Printed.
 -- round-trip, round-answer, delivered-only   a packet written and read back, and a packet read is one that could be written
 -- part-short, part-long, payload-place   the part of the receive buffer that is handed out
@@ -55,19 +55,19 @@ use Rattle.packet_spec.specs.Frame.{packet, broken, delivery, judged, closed, j
 use Rattle.packet_spec.proofs.Faults.{closed-broken, judge-broken}
 use Rattle.packet_spec.specs.Sender.{Accepted, writing}
 use Rattle.packet_spec.specs.declared.Judged.the-variants.{Packet as Delivered}
-use Rattle.stream.specs.Reader.{waiting, inside, closing, reads}
+use Rattle.stream.specs.Meaning.{waiting, inside, closing, reads}
 use Rattle.stream.specs.Sender.{rawOf, stream, delivered, appending}
 use Rattle.stream.proofs.Streaming.{ignored, unclosed, between-flags as flag-to-flag, stream-read}
 use Rattle.stream.proofs.Sending.{begin-stream, append-stream}
 use Rattle.channel_spec.specs.Sender.{marker, parityBytes, wordOf, fillers, filled, messagesOf, marking, sending, sent}
-use Rattle.channel_spec.specs.Channel.{conditionBy, condition, mend, carried, IsWord, Event, frames, blocks, losses, asMended}
+use Rattle.channel_spec.specs.Meaning.{conditionBy, condition, mend, carried, IsWord, Event, frames, blocks, losses, asMended}
 use Rattle.channel_spec.proofs.Streaming as streaming
 use Rattle.channel_spec.proofs.Words.{block-promised, block-determined}
 use Rattle.listing_spec.specs.Apart.{most, freshSpot, apart, well, onChannel, recordOf, records}
 use Rattle.listing_spec.specs.Described.{firstByte, Described}
 use Rattle.bid.specs.Line.{digits, value}
 use Rattle.listing_spec.specs.Lines.{decimal, letter, lines, isPacket, isRefusal, isDamaged, isLost, count, packetsIn, refusalsIn, damagedIn, wrongLine, longest}
-use Rattle.listing_spec.specs.Listing.{heard, totalLine, listing}
+use Rattle.listing_spec.specs.Meaning.{heard, totalLine, listing}
 use Rattle.listing_spec.specs.declared.Place.the-variants.{Wrong}
 use Rattle.listing_spec.proofs.Described as recordings
 use Rattle.listing_spec.proofs.Offsets.{offset-right, offset-wrong}
@@ -77,17 +77,17 @@ use Rattle.packet_spec.proofs.Only.{judge-only}
 use Rattle.base.specs.Choice.{pick}
 use Rattle.channel_spec.specs.Sender.{wordBytes}
 use Rattle.recording.specs.Deck.{Deck, fresh}
-use Rattle.recording.specs.Called.{far, deckOf, tapeCall, EveryCut, ThereDeck}
+use Rattle.recording.specs.Call.{far, deckOf, tapeCall, EveryCut, ThereDeck}
 use Rattle.recording.proofs.Demands.{taken-apart}
 use Rattle.recording.proofs.Delivery.{payload-next}
 use Rattle.listing.specs.declared.lister.Totals.{Totals}
 use Rattle.listing.specs.declared.lister.Recording.{Recording}
-use Rattle.listing.specs.Printed.{noTotals, lastOf, recorded, finishing, freshRecording}
+use Rattle.listing.specs.Call.{noTotals, lastOf, recorded, finishing, freshRecording}
 use Rattle.listing.specs.Runs.{ListsAll, Run, Fair}
 use Rattle.listing.proofs.Listing.{listing-printed}
 use Rattle.listing.proofs.Ends.{listing-ends, finish-ends}
-use Rattle.office.specs.Desk.{Said, Desk}
-use Rattle.office.specs.Called.{hearCall, closeCall}
+use Rattle.office.specs.Meaning.{Said, Desk}
+use Rattle.office.specs.Call.{hearCall, closeCall}
 use Rattle.demands.proofs.Desk.{office-line-number, office-close-number}
 use Rattle.board_spec.proofs.Decimal.{decimal-digits}
 use Rattle.demands.proofs.Trips.{packet-back, judged-back, plain-listed, channel-listed}

@@ -4,7 +4,7 @@
 --   that stream begins. It delivers the sent packets once each, in order, and nothing else. If the 255 bytes of one block are altered at
 --   will and no marker is, the answers of the earlier blocks stay the same; and behind the first opening flag in a later block, the frame
 --   answers are exactly the sent packets opened from that flag on, once each and in order."
--- `EveryCut bs λ es d. ..` (crates/channel/specs/Called.antt; of the plain stream crates/stream/specs/Called.antt): a fresh receiver hears bs,
+-- `EveryCut bs λ es d. ..` (crates/channel/specs/Call.antt; of the plain stream crates/stream/specs/Call.antt): a fresh receiver hears bs,
 -- cut in any way, each piece handed in until "more wanted", with any buffers that pass 11. Its calls come to their end, and whatever calls
 -- these are, with es their answers and d the state and buffers behind them, it is so. They are calls of `hearCall`, which is what the
 -- code's `hear` promises (`channel-hear-means` of Promises).
@@ -33,10 +33,10 @@ use Rattle.packet_spec.specs.Contents.{rawLimit, Packet}
 use Rattle.packet_spec.specs.Escape.{flag, BrokenAt, NoFlag}
 use Rattle.packet_spec.specs.Frame.{Told, broken}
 use Rattle.packet_spec.proofs.Faults.{broken-there, broken-is}
-use Rattle.stream.specs.Reader.{waiting, inside, reads}
+use Rattle.stream.specs.Meaning.{waiting, inside, reads}
 use Rattle.packet_spec.specs.Sender.{Accepted}
 use Rattle.stream.specs.Sender.{rawOf, framesOf, stream, delivered, openedFrom}
-use Rattle.stream.specs.Called.{Held, takeByte, readCall, heldOf, inUse as plainInUse, ThereHeld, EveryCut as EveryPlainCut}
+use Rattle.stream.specs.Call.{Held, takeByte, readCall, heldOf, inUse as plainInUse, ThereHeld, EveryCut as EveryPlainCut}
 use Rattle.stream.proofs.Accepting.{clear}
 use Rattle.stream.proofs.Cutting.{every-cut-reads}
 use Rattle.stream.proofs.Shown.{shown-plain, held-use, held-st}
@@ -44,9 +44,9 @@ use Rattle.stream.proofs.Remembered as plain
 use Rattle.stream.proofs.Delivery.{payload-held}
 use Rattle.stream.proofs.Streaming.{ignored, stream-read, opened-behind, none-opened}
 use Rattle.channel_spec.specs.Sender.{marker, wordBytes, framed, sentWords, sent}
-use Rattle.channel_spec.specs.Channel.{condition, Event, lost, frames, blocks, losses, freshChannel, hears, answers, IsWord, carried, wordsGive, FirstMarker}
+use Rattle.channel_spec.specs.Meaning.{condition, Event, lost, frames, blocks, losses, freshChannel, hears, answers, IsWord, carried, wordsGive, FirstMarker}
 use Rattle.channel_spec.specs.declared.Condition.the-variants.{Clean as clean}
-use Rattle.channel.specs.Called.{Board, board, heldIn, freshReceiver, hearCall, EveryCut, ThereEvent, boardOf, inUse}
+use Rattle.channel.specs.Call.{Board, board, heldIn, freshReceiver, hearCall, EveryCut, ThereEvent, boardOf, inUse}
 use Rattle.channel.proofs.Demands as channel
 use Rattle.channel.proofs.Blocks as blocks-law
 use Rattle.channel.proofs.Delivery.{payload-there}

@@ -31,8 +31,8 @@ use Rattle.office.specs.declared.Office.{Office}
 use Rattle.office.specs.declared.Started.{Started}
 use Rattle.office.specs.declared.Started.the-variants.{Ready, Refused as StartRefused}
 use Rattle.office.specs.declared.Answer.the-variants.{Refused}
-use Rattle.office.specs.Desk.{Spoken, blocks, unread, refusal, Said, endingBy, Desk, soFar, kept, endingOf, ended, eat}
-use Rattle.office.specs.Called.{heldLimit, holdLimit, outLimit, freshOffice, starting, sound, roomy, hearOn, denied, hearBy, hearCall, endBytes, closeCall, spoken, answered, spokenOut, answeredOut, finishBy, finishing}
+use Rattle.office.specs.Meaning.{Spoken, blocks, unread, refusal, Said, endingBy, Desk, soFar, kept, endingOf, ended, eat}
+use Rattle.office.specs.Call.{heldLimit, holdLimit, outLimit, freshOffice, starting, sound, roomy, hearOn, denied, hearBy, hearCall, endBytes, closeCall, spoken, answered, spokenOut, answeredOut, finishBy, finishing}
 use Rattle.demands.specs.Table.{Exact}
 use Rattle.demands.specs.Refusals.{ByCall}
 use Rattle.demands.specs.Desks.{DeskBeyond, DeskShort, Bids, lineRows, OfDesk, ByDesk, ByStart, ByLine, BySpoken}

@@ -26,21 +26,21 @@ use Rattle.packet_spec.specs.declared.Escapes.{Escapes}
 use Rattle.packet_spec.specs.declared.Escapes.the-variants.{Right, Unfinished, Wrong}
 use Rattle.packet_spec.proofs.Judging.{closed-as}
 use Rattle.packet_spec.proofs.Only.{judge-only}
-use Rattle.stream.specs.Called.{Held, shut, takeBy, takeByte, sound as soundFrame, readBy, readCall}
+use Rattle.stream.specs.Call.{Held, shut, takeBy, takeByte, sound as soundFrame, readBy, readCall}
 use Rattle.channel_spec.specs.declared.Hunting.{Hunting}
 use Rattle.channel_spec.specs.Sender.{wordBytes}
-use Rattle.channel_spec.specs.Channel.{Event, said, block, lost, isMarker, shift}
-use Rattle.channel.specs.Called.{Board, heldIn, wordOn, compareOn, markOn, eatBy, eatByte, owed, asEvent, handOn, sound, roomy, hearBy, hearCall}
+use Rattle.channel_spec.specs.Meaning.{Event, said, block, lost, isMarker, shift}
+use Rattle.channel.specs.Call.{Board, heldIn, wordOn, compareOn, markOn, eatBy, eatByte, owed, asEvent, handOn, sound, roomy, hearBy, hearCall}
 use Rattle.channel.proofs.Cutting.{hand-one}
 use Rattle.interleaver_spec.specs.Running.{pull}
 use Rattle.interleaver_spec.specs.declared.Back.{Back}
 use Rattle.subchannel_spec.specs.Sender.{groupBytes}
 use Rattle.subchannel.specs.declared.lane.Lane.{Lane}
-use Rattle.subchannel.specs.Called as fixed
+use Rattle.subchannel.specs.Call as fixed
 use Rattle.subchannel.proofs.Cutting as cutting
 use Rattle.listing_spec.specs.Apart.{inStream}
 use Rattle.recording.specs.Deck.{withHeld, eatBy as eatEar, earHand, earEat, Deck, deckOwes, deckHand, byteBy, deckEat}
-use Rattle.recording.specs.Called.{nearSpot, tapeBy, tapeCall}
+use Rattle.recording.specs.Call.{nearSpot, tapeBy, tapeCall}
 use Rattle.recording.proofs.Ears.{deck-hand-one}
 use Rattle.capture.specs.Export.{packedPart}
 use Rattle.capture.proofs.There.{Own, packed-there, export-own, own-fetched}

@@ -7,7 +7,7 @@ use lib.ListN.{length, take, drop}
 use lib.Seq.{take-at, drop-at}
 use Rattle.base.specs.Bytes.{Each}
 use Rattle.channel_spec.specs.Sender.{wordBytes, framed}
-use Rattle.channel_spec.specs.Channel.{IsWord}
+use Rattle.channel_spec.specs.Meaning.{IsWord}
 
 some-framed : (w : List ℕ) (ws : List (List ℕ)) → [] ≡ framed (w ∷ ws) → ⊥
 some-framed w ws e = omega (arith, ap length e)

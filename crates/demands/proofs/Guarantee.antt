@@ -22,14 +22,14 @@ use Rattle.repair.specs.declared.Mended.the-variants.{Repaired, Beyond}
 use Rattle.repair.specs.Promise.{distance, half, CleanWord, Promised}
 use Rattle.repair.proofs.Apart.{checked-clean, altered-damaged}
 use Rattle.repair.proofs.Promising as promising
-use Rattle.stream.specs.Reader.{waiting, reads}
+use Rattle.stream.specs.Meaning.{waiting, reads}
 use Rattle.packet_spec.specs.Sender.{Accepted}
 use Rattle.stream.specs.Sender.{stream, delivered}
 use Rattle.packet_spec.specs.Contents.{Packet}
 use Rattle.stream.proofs.Streaming.{stream-read}
 use Rattle.channel_spec.specs.Sender.{parityBytes, framed, fillers, messagesOf, sentWords, sent}
-use Rattle.channel_spec.specs.Channel.{zeros, frames, blocks, losses, freshChannel, hears, IsWord, FirstMarker}
-use Rattle.channel.specs.Called.{EveryCut, boardOf, inUse}
+use Rattle.channel_spec.specs.Meaning.{zeros, frames, blocks, losses, freshChannel, hears, IsWord, FirstMarker}
+use Rattle.channel.specs.Call.{EveryCut, boardOf, inUse}
 use Rattle.channel_spec.proofs.Streaming.{wholes, behindWords, frames-wholes, blocks-wholes, losses-wholes, first-markers, sent-messages, sent-each, sent-bytes, sent-some}
 use Rattle.channel_spec.proofs.Streaming.{received as heard-words}
 use Rattle.channel.proofs.Demands.{cut-so, every-cut}

@@ -23,23 +23,23 @@ use Rattle.packet_spec.specs.Frame.{Told}
 use Rattle.packet_spec.specs.Sender.{Accepted}
 use Rattle.stream.specs.Sender.{delivered}
 use Rattle.channel_spec.specs.Sender.{parityBytes, wordBytes, sentWords}
-use Rattle.channel_spec.specs.Channel.{Event, frames, blocks, losses, answers, FirstMarker}
-use Rattle.channel.specs.Called.{EveryCut}
+use Rattle.channel_spec.specs.Meaning.{Event, frames, blocks, losses, answers, FirstMarker}
+use Rattle.channel.specs.Call.{EveryCut}
 use Rattle.channel_spec.proofs.Streaming.{sent-each}
 use Rattle.channel.proofs.Demands.{every-cut}
 use Rattle.bid.specs.Line.{feed}
 use Rattle.bid.specs.Input.{linesOf, packetsOf, complaints}
-use Rattle.office.specs.Desk.{sentFor}
+use Rattle.office.specs.Meaning.{sentFor}
 use Rattle.office.proofs.Cutting.{bids-sent}
 use Rattle.office.proofs.Board.{packets-accepted}
 use Rattle.ports_spec.specs.Ports.{placeLimit, freshTable}
-use Rattle.board_spec.specs.Board.{boardLines, writtenAll, boardText}
+use Rattle.board_spec.specs.Meaning.{boardLines, writtenAll, boardText}
 use Rattle.board_spec.specs.Typed.{acceptedLines, typed, asShown, Plainly, bidsAmong, packetsAmong, asBid, currentFrom, numbersOf, ByOne, Among}
 use Rattle.board_spec.proofs.Marks.{bids-current}
 use Rattle.board_spec.proofs.Typed.{bids-typed, packets-open, shown-typed, lines-typed, unnamed}
 use Rattle.board_spec.proofs.Ordered.{delivered-packets, bids-in-order}
 use Rattle.board_spec.proofs.Sixteen.{Good, only-bids}
-use Rattle.board.specs.Called.{freshReadout}
+use Rattle.board.specs.Call.{freshReadout}
 use Rattle.board.specs.Runs.{EveryShow}
 use Rattle.board.proofs.Demands.{shown-bare}
 use Rattle.demands.specs.Guarantee.{altered, answerFor, Received, received}

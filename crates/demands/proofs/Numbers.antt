@@ -12,10 +12,10 @@ use Rattle.packet_spec.specs.Escape.{escape, escapeByte, plain, wrongFrom, righ
 use Rattle.packet_spec.specs.Frame.{judgeBody, judgeContents, closedBy, closed, judge}
 use Rattle.packet_spec.specs.Port.{class}
 use Rattle.capture_spec.specs.File.{records}
-use Rattle.capture_spec.specs.Import.{entry, read}
+use Rattle.capture_spec.specs.Meaning.{entry, read}
 use Rattle.listing_spec.specs.Apart.{nextAt, inStream, apart}
 use Rattle.listing_spec.specs.Lines.{decimal, decimalBy, told, lines, count, endLine, wrongLine}
-use Rattle.listing_spec.specs.Listing.{heard, lastLine, listed, listing}
+use Rattle.listing_spec.specs.Meaning.{heard, lastLine, listed, listing}
 use Rattle.lines.specs.Noted.{notedLine}
 use Rattle.lines.specs.Row.{rowLine}
 use Rattle.ports_spec.specs.Ports.{placeOf, freePlace, twice, noting, forgetting}
@@ -25,7 +25,7 @@ use Rattle.unit_spec.specs.Unit.{weave, begins, opened, laidOut, unitBits, unit
 use Rattle.unit_spec.specs.Reading.{heard as heads-heard, unwoven, headerOf, payloadOf, isHeader, named, readParts, readUnit}
 use Rattle.sheet_spec.specs.Tally.{toldFrom, told as told-numbers, sum}
 use Rattle.sheet_spec.specs.Recording.{marks}
-use Rattle.sheet_spec.specs.Month.{numbersOf, numbers as numbers-of, added, addedAll, anyWide}
+use Rattle.sheet_spec.specs.Meaning.{numbersOf, numbers as numbers-of, added, addedAll, anyWide}
 use Rattle.demands.specs.Numbers.{table, wrong}
 use Rattle.demands.specs.Printed.{printed}
 use Rattle.demands.specs.Requested.{requested}

@@ -29,44 +29,44 @@ use Rattle.packet_spec.specs.declared.Judged.the-variants.{Packet as Delivered,
 use Rattle.packet_spec.specs.Port.{class}
 use Rattle.packet_spec.specs.Sender.{writing}
 use Rattle.stream.specs.Sender.{appending}
-use Rattle.stream.specs.Called as plain
+use Rattle.stream.specs.Call as plain
 use Rattle.stream.specs.declared.frame.Heard.the-variants as plain-answer
 use Rattle.channel_spec.specs.Sender.{marking, sending}
-use Rattle.channel.specs.Called.{board, sound, roomy, hearCall}
+use Rattle.channel.specs.Call.{board, sound, roomy, hearCall}
 use Rattle.channel_spec.specs.Answer.{answered}
-use Rattle.channel_spec.specs.Channel.{said, block, lost, isMarker}
+use Rattle.channel_spec.specs.Meaning.{said, block, lost, isMarker}
 use Rattle.channel_spec.specs.declared.Condition.{Condition}
 use Rattle.channel_spec.specs.declared.Answer.the-variants.{More, Said, Block, LockLost}
 use Rattle.listing_spec.specs.Lines.{line, endLine, wrongLine}
 use Rattle.listing_spec.specs.Apart.{well}
 use Rattle.listing_spec.specs.declared.Place.the-variants.{Mode}
-use Rattle.recording.specs.Called.{deckOf, isMore, tapeCall}
+use Rattle.recording.specs.Call.{deckOf, isMore, tapeCall}
 use Rattle.subchannel_spec.specs.declared.Settings.{Settings}
 use Rattle.subchannel.specs.declared.sub.Sub.{Sub}
-use Rattle.subchannel.specs.Called as subchannel
+use Rattle.subchannel.specs.Call as subchannel
 use Rattle.subchannel_spec.specs.Settings.{within}
 use Rattle.subchannel_sender.specs.Sending as subsender
-use Rattle.four_receivers.specs.Four as subchannels
-use Rattle.four_senders.specs.Four as subsenders
+use Rattle.four_receivers.specs.Call as subchannels
+use Rattle.four_senders.specs.Call as subsenders
 use Rattle.capture_spec.specs.File as capture-file
 use Rattle.capture.specs.Export.{entering}
-use Rattle.capture.specs.Called as capture
+use Rattle.capture.specs.Call as capture
 use Rattle.capture.specs.declared.reader.Capture.the-variants.{Header}
 use Rattle.unit_spec.specs.Unit as units
 use Rattle.unit_spec.specs.Reading as unit-reading
-use Rattle.board.specs.Called as readout
+use Rattle.board.specs.Call as readout
 use Rattle.board.specs.declared.readout.Readout.{Readout}
-use Rattle.listing.specs.Printed as recording
+use Rattle.listing.specs.Call as recording
 use Rattle.bid.specs.Line.{reading}
-use Rattle.office.specs.Desk.{desk, blocks, unread, refusal as denied}
+use Rattle.office.specs.Meaning.{desk, blocks, unread, refusal as denied}
 use Rattle.office.specs.declared.Answer.the-variants as office-answer
 use Rattle.office.specs.declared.Started.{Started}
 use Rattle.office.specs.declared.Started.the-variants.{Ready, Refused as Denied}
-use Rattle.office.specs.Called as office
+use Rattle.office.specs.Call as office
 use Rattle.lines.specs.Noted.{notedLine}
 use Rattle.lines.specs.Piece.{pieceOf}
 use Rattle.board_spec.specs.Text.{shownByte}
-use Rattle.board_spec.specs.Board.{wrongAt, written, writtenAll, ending}
+use Rattle.board_spec.specs.Meaning.{wrongAt, written, writtenAll, ending}
 use Rattle.board_spec.specs.Parts.{lead, remark}
 use Rattle.ports_spec.specs.declared.Entry.{Entry}
 use Rattle.ports_spec.specs.declared.Noted.{Noted}
@@ -74,12 +74,12 @@ use Rattle.ports_spec.specs.declared.Forgot.{Forgot}
 use Rattle.ports_spec.specs.Distance.{ruled}
 use Rattle.ports_spec.specs.Ports.{unfit, noting, forgetting}
 use Rattle.lines.specs.Row.{rowLine}
-use Rattle.sheet_spec.specs.Month.{counts, wrong, refuses}
+use Rattle.sheet_spec.specs.Meaning.{counts, wrong, refuses}
 use Rattle.sheet_spec.specs.Rows.{paddedTo}
-use Rattle.sheet.specs.Called.{beginning, noting as counted, closing as settling, answerOf, printing}
+use Rattle.sheet.specs.Call.{beginning, noting as counted, closing as settling, answerOf, printing}
 use Rattle.sheet.specs.declared.Counted.the-variants as sheet-answer
 use Rattle.rack.specs.Words.{making, checking, mending}
-use Rattle.rack.specs.Calls as rack
+use Rattle.rack.specs.Call as rack
 use Rattle.demands.specs.Means.{Means, MeansByHand}
 use Rattle.packet.proofs.write_as as packet-write-as
 use Rattle.packet.proofs.write as packet-write

@@ -34,19 +34,19 @@ use Rattle.repair.specs.declared.Mended.{Mended}
 use Rattle.repair.specs.declared.Mended.the-variants as repair
 use Rattle.repair.proofs.Promising.{promised-is}
 use Rattle.repair.proofs.Meeting.{repaired-promised}
-use Rattle.stream.specs.Called as plain
+use Rattle.stream.specs.Call as plain
 use Rattle.stream.specs.declared.frame.Frame.{Frame}
 use Rattle.stream.specs.declared.frame.Heard.{Heard}
 use Rattle.stream.specs.declared.frame.Heard.the-variants.{More}
-use Rattle.channel_spec.specs.Channel.{Event, said, block, lost}
+use Rattle.channel_spec.specs.Meaning.{Event, said, block, lost}
 use Rattle.channel_spec.specs.declared.Condition.the-variants.{Clean, Repaired, Beyond}
-use Rattle.channel.specs.Called.{board, freshReceiver, hearCall}
+use Rattle.channel.specs.Call.{board, freshReceiver, hearCall}
 use Rattle.channel_spec.specs.Answer.{answered}
 use Rattle.channel.specs.declared.receiver.Receiver.{Receiver}
 use Rattle.channel_spec.specs.declared.Answer.{Answer}
 use Rattle.rack.specs.Words.{writtenNumber, checkedNumber, mendedNumber, making, checking, mending}
 use Rattle.rack.specs.Told as told
-use Rattle.rack.specs.Calls.{readBy, reading, heardBy, hearing}
+use Rattle.rack.specs.Call.{readBy, reading, heardBy, hearing}
 use Rattle.demands.specs.Table.{Exact}
 use Rattle.demands.specs.Refusals.{FrameBeyond, Beyond as BeyondState, Short, OfFrame, OfCall, ByFrame}
 use Rattle.demands.specs.Rack.{ByWord, ByCalled, OfReading, OfHearing, heldBy, boardBy}

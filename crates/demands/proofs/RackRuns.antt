@@ -26,19 +26,19 @@ use Rattle.base.proofs.Bytes.{each-append-left, each-append-right, each-drop}
 use Rattle.base.proofs.Calls.{hear-by, yields-so, none-owed, more-iff}
 use Rattle.packet_spec.specs.Contents.{rawLimit, Packet}
 use Rattle.packet_spec.specs.Frame.{Told, packet, refusal, broken, part}
-use Rattle.stream.specs.Reader.{waiting, reads}
-use Rattle.stream.specs.Called.{Held, held, takeByte, readAll, readCall, answered, heldOf, inUse, ThereHeld, Fine}
+use Rattle.stream.specs.Meaning.{waiting, reads}
+use Rattle.stream.specs.Call.{Held, held, takeByte, readAll, readCall, answered, heldOf, inUse, ThereHeld, Fine}
 use Rattle.stream.proofs.Cutting.{read-agrees}
 use Rattle.channel_spec.specs.Sender.{wordBytes}
 use Rattle.channel_spec.specs.declared.Hunting.{Hunting}
-use Rattle.channel_spec.specs.Channel.{Event, said, block, lost, shift, isMarker, freshChannel, hears, answers}
+use Rattle.channel_spec.specs.Meaning.{Event, said, block, lost, shift, isMarker, freshChannel, hears, answers}
 use Rattle.channel_spec.specs.declared.Condition.the-variants.{Clean, Repaired, Beyond}
-use Rattle.channel.specs.Called as channel
+use Rattle.channel.specs.Call as channel
 use Rattle.channel_spec.specs.Answer as channel-spec
-use Rattle.channel.specs.Called.{Board, board, huntOn, wordOn, compareOn, markOn, eatBy, eatByte, owed, handOn, hearOn, hearBy, hearCall, boardOf}
+use Rattle.channel.specs.Call.{Board, board, huntOn, wordOn, compareOn, markOn, eatBy, eatByte, owed, handOn, hearOn, hearBy, hearCall, boardOf}
 use Rattle.channel.proofs.Cutting.{hand-one, hear-agrees}
 use Rattle.rack.specs.Told.{ofAnswer, receiverOf, channelNumbers}
-use Rattle.rack.specs.Calls.{readBy, reading, heardBy, hearing}
+use Rattle.rack.specs.Call.{readBy, reading, heardBy, hearing}
 use Rattle.demands.specs.Refusals.{OfFrame, OfCall, ByFrame}
 use Rattle.demands.specs.Rack.{StandsBy, saidBy, calledBy, readCalled, toldAs, heldBy, channelBy, heardCalled, eventAs, boardBy}
 use Rattle.demands.proofs.Demand1.{read-numbers, read-keeps-all, hear-numbers, hear-keeps-all}

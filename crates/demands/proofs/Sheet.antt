@@ -24,12 +24,12 @@ use Rattle.base.proofs.Writing.{write-keeps}
 use Rattle.lines.specs.Row.{rowLine, rowLongest}
 use Rattle.lines.proofs.Rows.{row-short}
 use Rattle.listing_spec.specs.Apart.{well}
-use Rattle.recording.specs.Called.{far, EveryCut}
+use Rattle.recording.specs.Call.{far, EveryCut}
 use Rattle.recording.proofs.Demands.{taken-apart}
 use Rattle.sheet_spec.specs.declared.Row.{Row}
 use Rattle.ports_spec.specs.declared.Noted.the-variants.{First, InOrder, Repeated, Missing, Late}
 use Rattle.sheet_spec.specs.Tally.{told, tallied, nothing, plus, one, sum, tally, timelyIn}
-use Rattle.sheet_spec.specs.Month.{Mark, Month, numbersOf, numbers, timelyOf, addedAll, portsOf, line, lines, anyWide, portLimit, counts, wrong, ruling, with, counting, monthOf}
+use Rattle.sheet_spec.specs.Meaning.{Mark, Month, numbersOf, numbers, timelyOf, addedAll, portsOf, line, lines, anyWide, portLimit, counts, wrong, ruling, with, counting, monthOf}
 use Rattle.sheet_spec.specs.Rows.{blank}
 use Rattle.sheet_spec.specs.Recording.{marks, brings}
 use Rattle.sheet_spec.proofs.Tallies as tallies
@@ -40,7 +40,7 @@ use Rattle.sheet.specs.declared.Draft.{Draft}
 use Rattle.sheet.specs.declared.Closed.{Closed}
 use Rattle.sheet.specs.declared.Counted.{Counted}
 use Rattle.sheet.specs.declared.Counted.the-variants.{Counts, Wrong, Refused}
-use Rattle.sheet.specs.Called.{rowsOf, sheetOf, freshSheet, closed, answerOf, beyond, closing, recorded, lineOf, printing}
+use Rattle.sheet.specs.Call.{rowsOf, sheetOf, freshSheet, closed, answerOf, beyond, closing, recorded, lineOf, printing}
 use Rattle.sheet.proofs.Month.{rows-sheet, recorded-is, closing-keeps, refused-keeps}
 use Rattle.demands.specs.Table.{Exact}
 use Rattle.demands.specs.Refusals.{ByCall}

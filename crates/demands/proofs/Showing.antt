@@ -14,20 +14,20 @@ use lib.ListN.{length}
 use borrow.Author.Tests.{leb-false, not-true, not-false}
 use Rattle.base.specs.Choice.{pick}
 use Rattle.base.proofs.Tests.{and-parts}
-use Rattle.channel_spec.specs.Channel.{Event}
-use Rattle.channel.specs.Called.{sound, roomy}
+use Rattle.channel_spec.specs.Meaning.{Event}
+use Rattle.channel.specs.Call.{sound, roomy}
 use Rattle.listing_spec.specs.declared.Spot.{Spot}
 use Rattle.listing_spec.specs.Lines.{longest}
 use Rattle.ports_spec.specs.Ports.{unfit}
 use Rattle.ports.specs.ByValue.{soundPorts}
 use Rattle.ports_spec.proofs.Refusing.{unfit-is, fit-not}
-use Rattle.recording.specs.Called.{far}
+use Rattle.recording.specs.Call.{far}
 use Rattle.board.specs.declared.readout.Readout.{Readout}
 use Rattle.board.specs.declared.readout.Wants.{Wants}
 use Rattle.board.specs.declared.readout.Wants.the-variants.{More, Again, Refused}
 use Rattle.board.specs.Source.{Source, boardIn, sourceHear}
 use Rattle.board.specs.Owed.{soundOwed}
-use Rattle.board.specs.Called.{Screen, readoutOf, recvOn, owedOn, part, partly, heardBy, takesOn, nearBy, soundState, takesBy, takes}
+use Rattle.board.specs.Call.{Screen, readoutOf, recvOn, owedOn, part, partly, heardBy, takesOn, nearBy, soundState, takesBy, takes}
 use Rattle.demands.specs.Table.{Exact}
 use Rattle.demands.specs.Refusals.{BoardBeyond, Short, ByShow}
 use Rattle.demands.proofs.Rows.{applies, over, passed, not-both}

@@ -6,7 +6,7 @@
 --   again. Bytes of one sub-channel never affect another's answers. Demand 3's cutting and its delivery of the sent packets hold for each; its
 --   recovery after an altered block holds for depth 0 and 1. Refusals: 10 also when a group counts more than four words; then 42 for a
 --   sub-channel number above 3 or, outside configuring, one not configured; then 11 for its two buffers; 30 and 32 on configuring."
--- R is r and the depth d, each to 64. `EveryCut r d bs λ es c. ..` (crates/subchannel/specs/Called.antt): a sub-channel just told r and d hears bs,
+-- R is r and the depth d, each to 64. `EveryCut r d bs λ es c. ..` (crates/subchannel/specs/Call.antt): a sub-channel just told r and d hears bs,
 -- cut in any way; its calls come to their end, and it is so of their answers es, and of state and buffers c behind them.
 -- own-settings, others-settings                        the sender of four
 -- whole-messages, closing-push, complete, flags-alone, marked-last   what is sent
@@ -44,7 +44,7 @@ use Rattle.packet_spec.specs.Contents.{Packet, rawLimit}
 use Rattle.packet_spec.specs.Escape.{flag}
 use Rattle.packet_spec.specs.Frame.{Told as FrameTold, refusal}
 use Rattle.packet_spec.specs.Sender.{Accepted}
-use Rattle.stream.specs.Reader.{waiting, reads}
+use Rattle.stream.specs.Meaning.{waiting, reads}
 use Rattle.stream.specs.Sender.{stream, delivered, openedFrom}
 use Rattle.stream.proofs.Streaming.{stream-read}
 use Rattle.interleaver_spec.specs.Places.{cell}
@@ -54,13 +54,13 @@ use Rattle.interleaver_spec.proofs.Calling.{passes}
 use Rattle.repair.specs.declared.Mended.{Mended}
 use Rattle.repair.specs.Promise.{CleanWord, Promised}
 use Rattle.channel_spec.specs.Sender.{marker, wordBytes}
-use Rattle.channel_spec.specs.Channel.{Event, said, lost, frames, blocks, losses, IsWord, FirstMarker, conditionBy, asMended}
+use Rattle.channel_spec.specs.Meaning.{Event, said, lost, frames, blocks, losses, IsWord, FirstMarker, conditionBy, asMended}
 use Rattle.channel_spec.specs.declared.Condition.the-variants.{Clean as clean}
 use Rattle.channel_spec.specs.declared.Hunting.{Hunting}
 use Rattle.channel_spec.proofs.Streaming.{theMarker, stream-bytes}
 use Rattle.subchannel_spec.specs.Sender.{wordOf, messagesOf, flagWord, closingWords, pushed, wordsOf, wordsBack, grouped, marked, sent}
 use Rattle.subchannel_spec.specs.Word.{condition, mend, carried, cameBack}
-use Rattle.subchannel_spec.specs.Sub.{inGroup, silent, hears, start, answers, wordsGive}
+use Rattle.subchannel_spec.specs.Meaning.{inGroup, silent, hears, start, answers, wordsGive}
 use Rattle.subchannel_spec.proofs.Words.{word-promised, word-determined}
 use Rattle.subchannel_spec.proofs.Streaming.{messages, messages-each, carries, frames-given, blocks-given, losses-given}
 use Rattle.subchannel_spec.proofs.Received.{joined-length}
@@ -70,12 +70,12 @@ use Rattle.subchannel_spec.proofs.Lost as losing
 use Rattle.subchannel_spec.proofs.Order.{few-given}
 use Rattle.subchannel_spec.proofs.Numbers.{begins}
 use Rattle.subchannel_spec.proofs.Returned.{back-is, returned, unaltered as came-unaltered, flat-back, word-place}
-use Rattle.subchannel.specs.Called.{Board, board, toldSub, hearCall, EveryCut, ThereEvent, boardOf, inUse}
+use Rattle.subchannel.specs.Call.{Board, board, toldSub, hearCall, EveryCut, ThereEvent, boardOf, inUse}
 use Rattle.subchannel.proofs.Demands as one
 use Rattle.subchannel.proofs.Delivery.{payload-there}
 use Rattle.subchannel_spec.specs.declared.Configured.the-variants.{Told, Refused}
 use Rattle.four_receivers.specs.declared.Receiver.{Receiver}
-use Rattle.four_receivers.specs.Four.{freshReceiver, Boards, boardAt, exchanged, callOn, Scheduled, ofOne, get, configuring, hearFour}
+use Rattle.four_receivers.specs.Call.{freshReceiver, Boards, boardAt, exchanged, callOn, Scheduled, ofOne, get, configuring, hearFour}
 use Rattle.four_receivers.proofs.Calling as made
 use Rattle.four_receivers.proofs.Ending as ending
 use Rattle.four_receivers.proofs.Ending.{Ready, schedule-ends}
@@ -84,7 +84,7 @@ use Rattle.four_receivers.proofs.Apart.{Live, board-own, call-other, call-own, 
 use Rattle.subchannel_sender.specs.Sending.{sending}
 use Rattle.subchannel_sender.proofs.Determined.{sending-keeps}
 use Rattle.four_senders.specs.declared.Sender.{Sender}
-use Rattle.four_senders.specs.Four as senders
+use Rattle.four_senders.specs.Call as senders
 use Rattle.four_senders.proofs.Apart as apart
 use Rattle.demands.specs.Table.{Exact}
 use Rattle.demands.specs.Guarantee.{Received, received}

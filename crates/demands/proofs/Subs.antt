@@ -21,30 +21,30 @@ use Rattle.base.specs.Choice.{pick}
 use Rattle.base.proofs.Calls.{with-hear}
 use Rattle.base.proofs.Tests.{and-parts}
 use Rattle.packet_spec.specs.Frame.{Told, refusal}
-use Rattle.stream.specs.Called.{takeByte, sound as soundFrame}
+use Rattle.stream.specs.Call.{takeByte, sound as soundFrame}
 use Rattle.parity.specs.Calls.{rootLimit}
 use Rattle.interleaver_spec.specs.Running.{depthLimit, pull, beyond}
 use Rattle.interleaver_spec.specs.declared.Back.{Back}
 use Rattle.channel_spec.specs.declared.Hunting.{Hunting}
 use Rattle.channel_spec.specs.Sender.{wordBytes}
-use Rattle.channel_spec.specs.Channel.{Event, said, isMarker, shift}
-use Rattle.channel.specs.Called.{roomy}
+use Rattle.channel_spec.specs.Meaning.{Event, said, isMarker, shift}
+use Rattle.channel.specs.Call.{roomy}
 use Rattle.subchannel_spec.specs.Sender.{messageBytes, groupBytes, sent}
 use Rattle.subchannel_spec.specs.declared.Settings.{Settings}
 use Rattle.subchannel.specs.declared.counts.Counts.{Counts}
 use Rattle.subchannel.specs.declared.lane.Lane.{Lane}
 use Rattle.subchannel.specs.declared.sub.Sub.{Sub}
-use Rattle.subchannel.specs.Called.{Board, board, heldIn, wordAt, wordOn, groupOn, compareOn, markOn, eatBy, eatByte, owed, handOn}
-use Rattle.subchannel.specs.Called.{soundCounts, soundLane, sound, hearOn, hearBy, hearCall}
+use Rattle.subchannel.specs.Call.{Board, board, heldIn, wordAt, wordOn, groupOn, compareOn, markOn, eatBy, eatByte, owed, handOn}
+use Rattle.subchannel.specs.Call.{soundCounts, soundLane, sound, hearOn, hearBy, hearCall}
 use Rattle.subchannel_spec.specs.Settings.{within}
 use Rattle.subchannel.proofs.Cutting.{hand-one}
 use Rattle.subchannel_spec.specs.declared.Configured.{Configured}
 use Rattle.subchannel_spec.specs.declared.Configured.the-variants as configured
 use Rattle.four_receivers.specs.declared.Receiver.{Receiver}
-use Rattle.four_receivers.specs.Four as receiver
+use Rattle.four_receivers.specs.Call as receiver
 use Rattle.four_receivers.proofs.Apart.{sound-at}
 use Rattle.four_senders.specs.declared.Sender.{Sender}
-use Rattle.four_senders.specs.Four as sender
+use Rattle.four_senders.specs.Call as sender
 use Rattle.demands.specs.Table.{Exact}
 use Rattle.demands.specs.Refusals.{PlaceBeyond, Short, OfFrame, OfCall, ByFrame, ByCall, ByHear}
 use Rattle.demands.specs.SubChannels.{SettingsBeyond, CountsBeyond, SubBeyond, ReceiverBeyond, SenderBeyond, Unknown, OfNumbered, ByConfigure, ByNumbered}

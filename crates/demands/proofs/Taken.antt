@@ -17,18 +17,18 @@ use Rattle.base.specs.Calls.{With}
 use Rattle.base.proofs.Calls.{with-hear}
 use Rattle.base.proofs.Tests.{and-parts}
 use Rattle.packet_spec.specs.Frame.{Told, refusal}
-use Rattle.stream.specs.Called.{takeByte}
-use Rattle.channel_spec.specs.Channel.{Event, said, block, lost}
-use Rattle.channel.specs.Called.{Board, heldIn, handOn, eatByte, sound, roomy}
+use Rattle.stream.specs.Call.{takeByte}
+use Rattle.channel_spec.specs.Meaning.{Event, said, block, lost}
+use Rattle.channel.specs.Call.{Board, heldIn, handOn, eatByte, sound, roomy}
 use Rattle.channel_spec.specs.Sender.{wordBytes}
 use Rattle.listing_spec.specs.declared.Spot.{Spot}
 use Rattle.listing_spec.specs.Apart.{inStream}
 use Rattle.recording.specs.Deck.{eatBy, earHand, earEat, Deck, deckOwes, deckHand, byteBy, deckEat, deckHear}
-use Rattle.recording.specs.Called.{far, nearSpot, tapeBy, tapeCall}
+use Rattle.recording.specs.Call.{far, nearSpot, tapeBy, tapeCall}
 use Rattle.recording.proofs.Ears.{deck-hand-one}
 use Rattle.listing.specs.declared.lister.Totals.{Totals}
 use Rattle.listing.specs.declared.lister.Wants.the-variants.{Refused}
-use Rattle.listing.specs.Printed.{printed, nearTotals, near, takesBy, takes}
+use Rattle.listing.specs.Call.{printed, nearTotals, near, takesBy, takes}
 use Rattle.listing.proofs.Ends.{print-not}
 use Rattle.demands.specs.Table.{Exact}
 use Rattle.demands.specs.Refusals.{NextBeyond, TapeBeyond, Short, OfCall, ByFrame, ByNext, ByTake}

@@ -21,8 +21,8 @@ use Rattle.channel_spec.specs.Sender.{parityBytes, messagesOf, sentWords, marke
 use Rattle.channel_spec.proofs.Streaming.{sent-each, sent-messages}
 use Rattle.bid.specs.Line.{lineLimit, digits, value, numberFrom, number, judged, verdict}
 use Rattle.bid.specs.Input.{linesFrom, packets, packetsOf}
-use Rattle.office.specs.Desk.{Desk, waiting, sentBy}
-use Rattle.office.specs.Called.{holdLimit, outLimit, closeCall, lastOf}
+use Rattle.office.specs.Meaning.{Desk, waiting, sentBy}
+use Rattle.office.specs.Call.{holdLimit, outLimit, closeCall, lastOf}
 use Rattle.office.proofs.Cutting.{bids-cut}
 use Rattle.office.proofs.Board.{packets-accepted}
 use Rattle.board_spec.specs.Typed.{accepting, acceptedLines, Plainly, numbersOf, ByOne, Among}

@@ -20,14 +20,14 @@ use Rattle.packet_spec.specs.declared.Judged.the-variants.{Packet as Delivered}
 use Rattle.packet_spec.proofs.Judging.{judge-is, payload-there}
 use Rattle.packet_spec.proofs.Round.{raw-fits}
 use Rattle.packet.proofs.Sending.{wrote-is}
-use Rattle.stream.specs.Reader.{inside, reads}
+use Rattle.stream.specs.Meaning.{inside, reads}
 use Rattle.stream.specs.Sender.{rawOf, delivered}
 use Rattle.packet_spec.specs.Contents.{Packet}
 use Rattle.stream.proofs.Accepting.{judged-is}
 use Rattle.stream.proofs.Streaming.{behind-read}
 use Rattle.listing_spec.specs.Apart.{most, records}
 use Rattle.listing_spec.specs.Lines.{lines}
-use Rattle.listing_spec.specs.Listing.{heard, totalLine, lastLine, listed, listing}
+use Rattle.listing_spec.specs.Meaning.{heard, totalLine, lastLine, listed, listing}
 use Rattle.listing_spec.proofs.Apart.{records-apart, records-channel}
 
 module _ (p : Packet) (number-fits : p .number < 256) (key-bytes : Bytes (p .key)) (port-fits : p .port < 65536) (sequence-fits : p .sequence < 65536)

@@ -16,10 +16,10 @@ use Rattle.base.specs.declared.Written.the-variants.{Wrote, Refused as NotWritt
 use Rattle.packet_spec.specs.Contents.{Packet, packed}
 use Rattle.packet_spec.specs.Frame.{Told}
 use Rattle.packet_spec.specs.Sender.{Accepted}
-use Rattle.stream.specs.Called.{Held}
-use Rattle.channel_spec.specs.Channel.{Event, said, block, lost}
-use Rattle.channel.specs.Called.{Board}
-use Rattle.subchannel.specs.Called.{Board as SubBoard}
+use Rattle.stream.specs.Call.{Held}
+use Rattle.channel_spec.specs.Meaning.{Event, said, block, lost}
+use Rattle.channel.specs.Call.{Board}
+use Rattle.subchannel.specs.Call.{Board as SubBoard}
 use Rattle.recording.specs.Deck.{Deck}
 use Rattle.capture.specs.Export.{Fetched, entering}
 use Rattle.capture.specs.declared.reader.Capture.{Capture}

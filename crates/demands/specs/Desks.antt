@@ -18,8 +18,8 @@ use Rattle.office.specs.declared.Office.{Office}
 use Rattle.office.specs.declared.Started.{Started}
 use Rattle.office.specs.declared.Started.the-variants.{Refused as StartRefused}
 use Rattle.office.specs.declared.Answer.the-variants.{Refused}
-use Rattle.office.specs.Desk.{Spoken, Said, Desk}
-use Rattle.office.specs.Called.{heldLimit, holdLimit, spoken, answered}
+use Rattle.office.specs.Meaning.{Spoken, Said, Desk}
+use Rattle.office.specs.Call.{heldLimit, holdLimit, spoken, answered}
 use Rattle.demands.specs.Table.{Row}
 use Rattle.demands.specs.Refusals.{Unusable}
 

@@ -9,7 +9,7 @@ use lib.ListN.{getD}
 use Rattle.base.specs.Choice.{pick}
 use Rattle.base.specs.Bytes.{Bytes}
 use Rattle.channel_spec.specs.Sender.{wordBytes}
-use Rattle.channel_spec.specs.Channel.{IsWord}
+use Rattle.channel_spec.specs.Meaning.{IsWord}
 use Rattle.channel_spec.specs.declared.Condition.{Condition}
 use Rattle.channel_spec.specs.declared.Condition.the-variants.{Clean as clean, Repaired as repaired}
 

@@ -17,7 +17,7 @@ use Rattle.interleaver_spec.specs.Places.{cell}
 use Rattle.packet_spec.specs.Contents.{plainPacket, withCheck, contents}
 use Rattle.packet_spec.specs.Escape.{escape, escapeByte, plain, wrongFrom, right, last, scan}
 use Rattle.packet_spec.specs.Frame.{Told, packet, refusal, broken, judgeContents, closedBy, closed, judge, judgeBody}
-use Rattle.stream.specs.Reader.{waiting, reads}
+use Rattle.stream.specs.Meaning.{waiting, reads}
 
 -- a letter, what the definitions give, what the paper says
 abbrev pub Line : Type 0

@@ -14,17 +14,17 @@ use Rattle.packet_spec.specs.Contents.{plainPacket, keyPacket, plainFormat, key
 use Rattle.packet_spec.specs.Escape.{flag, escape}
 use Rattle.packet_spec.specs.Frame.{judge}
 use Rattle.packet_spec.specs.declared.Judged.the-variants.{Packet as Delivered, Refused as Denied, Broken}
-use Rattle.stream.specs.Called.{placeLimit}
+use Rattle.stream.specs.Call.{placeLimit}
 use Rattle.channel_spec.specs.Sender.{marker, messageBytes, parityBytes, wordBytes, blockBytes}
 use Rattle.channel_spec.specs.declared.Condition.the-variants.{Clean, Repaired, Beyond}
 use Rattle.channel_spec.specs.declared.Answer.the-variants.{Said, Block, LockLost}
 use Rattle.listing_spec.specs.Apart as listed
 use Rattle.bid.specs.Line.{lineLimit}
-use Rattle.office.specs.Called.{heldLimit, holdLimit, outLimit}
-use Rattle.recording.specs.Called.{far}
+use Rattle.office.specs.Call.{heldLimit, holdLimit, outLimit}
+use Rattle.recording.specs.Call.{far}
 use Rattle.listing_spec.specs.Lines.{longest, line, wrongLine}
-use Rattle.listing_spec.specs.Listing.{totalLine, listing}
-use Rattle.listing.specs.Printed.{lastOf}
+use Rattle.listing_spec.specs.Meaning.{totalLine, listing}
+use Rattle.listing.specs.Call.{lastOf}
 use Rattle.lines.specs.Noted.{notedLine}
 use Rattle.ports_spec.specs.Distance.{around, half, ruled, lastBehind}
 use Rattle.ports_spec.specs.Ports.{placeLimit as mostPorts, freed, entry, noting, forgetting}

@@ -15,12 +15,12 @@ use lib.ListN.{take, drop, getD}
 use Rattle.base.specs.Choice.{pick}
 use Rattle.packet_spec.specs.Contents.{Packet}
 use Rattle.packet_spec.specs.Frame.{Told, judged}
-use Rattle.stream.specs.Called.{Held, held}
-use Rattle.channel_spec.specs.Channel.{Event}
-use Rattle.channel.specs.Called.{Board, board}
+use Rattle.stream.specs.Call.{Held, held}
+use Rattle.channel_spec.specs.Meaning.{Event}
+use Rattle.channel.specs.Call.{Board, board}
 use Rattle.channel_spec.specs.Answer.{answered}
 use Rattle.rack.specs.Told.{ofJudged, ofAnswer, ofCall, frameOf, receiverOf, toldNumbers}
-use Rattle.rack.specs.Calls.{reading, hearing}
+use Rattle.rack.specs.Call.{reading, hearing}
 use Rattle.demands.specs.Refusals.{OfFrame, OfCall}
 
 -- a call on a word: 0 and 1 are no refusals, nor is a number above 255

@@ -31,20 +31,20 @@ use Rattle.parity.specs.declared.Checked.{Checked}
 use Rattle.parity.specs.declared.Checked.the-variants.{Refused as WordRefused}
 use Rattle.repair.specs.declared.Mended.{Mended}
 use Rattle.repair.specs.declared.Mended.the-variants.{Refused as RepairRefused}
-use Rattle.stream.specs.Called.{placeLimit}
+use Rattle.stream.specs.Call.{placeLimit}
 use Rattle.stream.specs.declared.frame.Frame.{Frame}
-use Rattle.channel_spec.specs.Channel.{Event, said}
+use Rattle.channel_spec.specs.Meaning.{Event, said}
 use Rattle.channel_spec.specs.Sender.{messageBytes, wordBytes}
 use Rattle.channel.specs.declared.receiver.Receiver.{Receiver}
 use Rattle.listing_spec.specs.declared.Spot.{Spot}
 use Rattle.listing_spec.specs.Lines.{longest}
 use Rattle.ports_spec.specs.Refusing.{Unfit as UnfitTable}
 use Rattle.recording.specs.Deck.{Deck}
-use Rattle.recording.specs.Called.{far}
-use Rattle.listing.specs.Printed.{Printed}
+use Rattle.recording.specs.Call.{far}
+use Rattle.listing.specs.Call.{Printed}
 use Rattle.listing.specs.declared.lister.Totals.{Totals}
 use Rattle.listing.specs.declared.lister.Wants.the-variants.{Refused as TakeRefused}
-use Rattle.board.specs.Called.{Part}
+use Rattle.board.specs.Call.{Part}
 use Rattle.board.specs.declared.readout.Readout.{Readout}
 use Rattle.board.specs.declared.readout.Wants.the-variants.{Refused as ShowRefused}
 use Rattle.demands.specs.Table.{Row}

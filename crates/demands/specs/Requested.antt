@@ -15,30 +15,30 @@ use Rattle.packet_spec.specs.Contents.{plainPacket, packetOf, withCheck}
 use Rattle.packet_spec.specs.Frame.{Told as FrameTold, packet, refusal, broken, judgeContents}
 use Rattle.packet_spec.specs.Sender.{refusing}
 use Rattle.repair.specs.Promise.{half}
-use Rattle.stream.specs.Called.{fresh, held, readCall}
+use Rattle.stream.specs.Call.{fresh, held, readCall}
 use Rattle.channel_spec.specs.declared.Condition.the-variants.{Clean}
-use Rattle.channel_spec.specs.Channel.{Event, said, block, lost, zeros}
+use Rattle.channel_spec.specs.Meaning.{Event, said, block, lost, zeros}
 use Rattle.channel_spec.specs.Sender.{parityBytes, marking}
 use Rattle.interleaver_spec.specs.Running.{freshBack}
 use Rattle.interleaver_spec.specs.Running as interleaver
 use Rattle.subchannel_spec.specs.Sender.{groupWords, groupBytes, closingWords, completing, grouped}
-use Rattle.subchannel.specs.Called as sub
+use Rattle.subchannel.specs.Call as sub
 use Rattle.subchannel_spec.specs.Settings.{settings}
 use Rattle.subchannel_spec.specs.declared.Configured.{Configured}
 use Rattle.subchannel_spec.specs.declared.Configured.the-variants.{Told, Refused}
 use Rattle.four_receivers.specs.declared.Receiver.{Receiver}
-use Rattle.four_receivers.specs.Four as receiver
-use Rattle.four_senders.specs.Four as sender
+use Rattle.four_receivers.specs.Call as receiver
+use Rattle.four_senders.specs.Call as sender
 use Rattle.unit_spec.specs.Bits.{digits, number}
 use Rattle.unit_spec.specs.Tables as units
 use Rattle.unit_spec.specs.Unit.{written}
 use Rattle.unit_spec.specs.Reading.{named, readUnit}
 use Rattle.capture_spec.specs.File.{header, records}
-use Rattle.capture_spec.specs.Import.{entryLimit, imported}
+use Rattle.capture_spec.specs.Meaning.{entryLimit, imported}
 use Rattle.lines.specs.Row.{rowLine, rowLongest}
 use Rattle.sheet_spec.specs.Tally.{far, wide}
 use Rattle.sheet_spec.specs.Recording.{marks}
-use Rattle.sheet_spec.specs.Month.{Mark, portLimit, Counting, counts, wrong, refuses, ruling, rulingOf}
+use Rattle.sheet_spec.specs.Meaning.{Mark, portLimit, Counting, counts, wrong, refuses, ruling, rulingOf}
 use Rattle.demands.specs.Numbers.{Line}
 use Rattle.demands.specs.Telling.{toldNumber, numberOf}
 

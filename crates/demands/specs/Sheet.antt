@@ -9,13 +9,13 @@ use mathlib.Core.Bool.{Bool, true}
 use mathlib.Core.Logic.{_⊎_}
 use mathlib.Core.List.{List, [], _∷_}
 use lib.ListN.{length, getD}
-use Rattle.sheet_spec.specs.Month.{Mark, Month, lines, anyWide, with}
+use Rattle.sheet_spec.specs.Meaning.{Mark, Month, lines, anyWide, with}
 use Rattle.sheet_spec.specs.Rows.{blank}
 use Rattle.sheet.specs.declared.Sheet.{Sheet}
 use Rattle.sheet.specs.declared.Draft.{Draft}
 use Rattle.sheet.specs.declared.Closed.{Closed}
 use Rattle.sheet.specs.declared.Counted.the-variants.{Refused}
-use Rattle.sheet.specs.Called.{rowsOf, lineOf, recorded}
+use Rattle.sheet.specs.Call.{rowsOf, lineOf, recorded}
 use Rattle.demands.specs.Table.{Row}
 
 -- a recording is refused

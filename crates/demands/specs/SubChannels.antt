@@ -16,7 +16,7 @@ use Rattle.base.specs.Written.{Outcome}
 use Rattle.packet_spec.specs.Frame.{refusal}
 use Rattle.interleaver_spec.specs.declared.Matrix.{Matrix}
 use Rattle.channel_spec.specs.Sender.{wordBytes}
-use Rattle.channel_spec.specs.Channel.{Event, said}
+use Rattle.channel_spec.specs.Meaning.{Event, said}
 use Rattle.subchannel_spec.specs.Sender.{messageBytes, groupBytes}
 use Rattle.subchannel_spec.specs.declared.Settings.{Settings}
 use Rattle.subchannel.specs.declared.counts.Counts.{Counts}

@@ -23,14 +23,14 @@ use Rattle.packet_spec.specs.Contents.{Packet, packetOf, plainPacket, packed, w
 use Rattle.packet_spec.specs.Frame.{Told, packet, refusal, broken, judgeContents, judgeBody, judge}
 use Rattle.packet_spec.specs.Port.{class, barred}
 use Rattle.packet_spec.specs.Sender.{refusing}
-use Rattle.stream.specs.Reader.{waiting, reads}
-use Rattle.stream.specs.Called.{fresh}
-use Rattle.channel_spec.specs.Channel.{Event, said, block, lost, zeros}
+use Rattle.stream.specs.Meaning.{waiting, reads}
+use Rattle.stream.specs.Call.{fresh}
+use Rattle.channel_spec.specs.Meaning.{Event, said, block, lost, zeros}
 use Rattle.channel_spec.specs.declared.Condition.the-variants.{Clean, Repaired, Beyond}
-use Rattle.channel.specs.Called.{board, counts, freshReceiver, hearCall}
+use Rattle.channel.specs.Call.{board, counts, freshReceiver, hearCall}
 use Rattle.listing_spec.specs.Apart as listed
 use Rattle.listing_spec.specs.Lines.{letter, count}
-use Rattle.listing_spec.specs.Listing.{lastLine}
+use Rattle.listing_spec.specs.Meaning.{lastLine}
 use Rattle.listing_spec.specs.declared.Place.the-variants.{Mark, Inside}
 use Rattle.listing_spec.specs.declared.Spot.{Spot}
 use Rattle.listing.specs.declared.lister.Recording.{Recording}

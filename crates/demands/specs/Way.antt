@@ -9,10 +9,10 @@ use lib.ListN.{length}
 use Rattle.base.specs.Bytes.{Each}
 use Rattle.base.specs.Calls.{joined, ReadsAll}
 use Rattle.channel_spec.specs.Sender.{parityBytes, framed, marked}
-use Rattle.channel_spec.specs.Channel.{IsWord, FirstMarker}
+use Rattle.channel_spec.specs.Meaning.{IsWord, FirstMarker}
 use Rattle.bid.specs.Line.{lineLimit}
-use Rattle.office.specs.Desk.{Said, Desk, waiting, sentBy}
-use Rattle.office.specs.Called.{holdLimit, outLimit, hearCall, closeCall, first, lastOf}
+use Rattle.office.specs.Meaning.{Said, Desk, waiting, sentBy}
+use Rattle.office.specs.Call.{holdLimit, outLimit, hearCall, closeCall, first, lastOf}
 use Rattle.demands.specs.Guarantee.{Received}
 
 -- the office hears the bytes `input`, cut in some way, from its start, with buffers that pass 11 and each call with room that passes 23, and

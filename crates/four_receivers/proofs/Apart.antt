@@ -31,24 +31,24 @@ use Rattle.interleaver_spec.specs.Running.{depthLimit, pull}
 use Rattle.interleaver_spec.specs.declared.Back.{Back}
 use Rattle.channel_spec.specs.declared.Hunting.{Hunting}
 use Rattle.channel_spec.specs.Sender.{wordBytes}
-use Rattle.channel_spec.specs.Channel.{Event, shift, isMarker}
+use Rattle.channel_spec.specs.Meaning.{Event, shift, isMarker}
 use Rattle.subchannel_spec.specs.Sender.{messageBytes, groupBytes}
-use Rattle.subchannel_spec.specs.Sub.{hears, start, answers}
-use Rattle.channel.specs.Called.{roomy}
+use Rattle.subchannel_spec.specs.Meaning.{hears, start, answers}
+use Rattle.channel.specs.Call.{roomy}
 use Rattle.subchannel_spec.specs.declared.Settings.{Settings}
 use Rattle.subchannel.specs.declared.lane.Lane.{Lane}
 use Rattle.subchannel.specs.declared.sub.Sub.{Sub}
-use Rattle.subchannel.specs.Called.{Board, board, huntOn, wordAt, wordOn, groupOn, compareOn, markOn, eatBy, owed, handOn, eatByte}
-use Rattle.subchannel.specs.Called.{toldSub, sound, hearBy, hearOn, hearCall, Fine, inUse, boardOf}
+use Rattle.subchannel.specs.Call.{Board, board, huntOn, wordAt, wordOn, groupOn, compareOn, markOn, eatBy, owed, handOn, eatByte}
+use Rattle.subchannel.specs.Call.{toldSub, sound, hearBy, hearOn, hearCall, Fine, inUse, boardOf}
 use Rattle.subchannel.proofs.Fine.{fine-of, fine-is, fine-hand, fine-eat, zero-placed}
 use Rattle.subchannel.proofs.Cutting.{hand-one}
 use Rattle.subchannel.proofs.Demands.{every-cut}
 use Rattle.four_receivers.specs.declared.Receiver.{Receiver}
 use Rattle.subchannel_spec.specs.declared.Configured.{Configured}
 use Rattle.subchannel_spec.specs.declared.Configured.the-variants.{Told, Refused}
-use Rattle.four_receivers.specs.Four.{get, put, soundFour, known, configuring, Boards, boardAt, exchanged, callBy, callOn, Scheduled, ofOne}
-use Rattle.four_receivers.specs.Four.{freshReceiver, heardBy, hearFour}
-use Rattle.four_receivers.specs.Four.Scheduled.{done as first, next}
+use Rattle.four_receivers.specs.Call.{get, put, soundFour, known, configuring, Boards, boardAt, exchanged, callBy, callOn, Scheduled, ofOne}
+use Rattle.four_receivers.specs.Call.{freshReceiver, heardBy, hearFour}
+use Rattle.four_receivers.specs.Call.Scheduled.{done as first, next}
 
 pub got-put : (s : Receiver) (n : ℕ) (x : Sub) → get (put s n x) n ≡ x
 got-put s zero x = refl

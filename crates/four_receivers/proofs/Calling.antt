@@ -13,15 +13,15 @@ use Rattle.parity.specs.Calls.{rootLimit}
 use Rattle.interleaver_spec.specs.Running.{depthLimit}
 use Rattle.subchannel.specs.declared.sub.Sub.{Sub}
 use Rattle.subchannel.specs.declared.sub.Hearing as fixed
-use Rattle.subchannel.specs.Called.{Board, board, toldSub, hearCall, HearingIs}
+use Rattle.subchannel.specs.Call.{Board, board, toldSub, hearCall, HearingIs}
 use Rattle.channel_spec.specs.declared.Answer.the-variants.{Said}
 use Rattle.packet_spec.specs.declared.Judged.the-variants as judge
 use Rattle.four_receivers.specs.declared.Receiver.{Receiver}
 use Rattle.four_receivers.specs.declared.Configuring.{Configuring}
 use Rattle.four_receivers.specs.declared.Hearing.{Hearing}
 use Rattle.subchannel_spec.specs.declared.Configured.the-variants.{Told, Refused}
-use Rattle.four_receivers.specs.Four.{get, put, soundFour, known, configuring, configuringOf, heardBy, hearFour, FourIs}
-use Rattle.four_receivers.specs.Four.{Boards, boardAt, callBy, callOn}
+use Rattle.four_receivers.specs.Call.{get, put, soundFour, known, configuring, configuringOf, heardBy, hearFour, FourIs}
+use Rattle.four_receivers.specs.Call.{Boards, boardAt, callBy, callOn}
 
 pub put-at : (s : Receiver) (x : Sub) {n k : ℕ} → n ≡ k → put s k x ≡ put s n x
 put-at s x e = ap (λ n. put s n x) (sym e)

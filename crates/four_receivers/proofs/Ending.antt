@@ -19,14 +19,14 @@ use Rattle.base.proofs.Calls.{inv-hear}
 use Rattle.base.proofs.Tests.{by-eq}
 use Rattle.packet_spec.specs.Contents.{rawLimit}
 use Rattle.channel_spec.specs.Sender.{wordBytes}
-use Rattle.channel_spec.specs.Channel.{Event}
-use Rattle.channel.specs.Called.{roomy}
-use Rattle.subchannel.specs.Called.{Board, eatByte, owed, handOn, hearCall, Fine}
+use Rattle.channel_spec.specs.Meaning.{Event}
+use Rattle.channel.specs.Call.{roomy}
+use Rattle.subchannel.specs.Call.{Board, eatByte, owed, handOn, hearCall, Fine}
 use Rattle.subchannel.proofs.Fine.{fine-of, fine-roomy, fine-hand, fine-eat}
 use Rattle.subchannel.proofs.Cutting.{hand-one, hear-agrees, hear-yields}
 use Rattle.subchannel_spec.specs.declared.Configured.the-variants.{Told}
-use Rattle.four_receivers.specs.Four.{configuring, Boards, boardAt, exchanged, callOn, Scheduled}
-use Rattle.four_receivers.specs.Four.Scheduled.{done, next}
+use Rattle.four_receivers.specs.Call.{configuring, Boards, boardAt, exchanged, callOn, Scheduled}
+use Rattle.four_receivers.specs.Call.Scheduled.{done, next}
 use Rattle.four_receivers.proofs.Apart.{board-own, sound-at, Live, call-own, live-own, reads-own, reads-other, told-live}
 
 -- sub-channel k's calls are not refused

@@ -1,6 +1,6 @@
 //! One to four fixed sub-channels: the receiver.
 ghost use mathlib.Core.Path.{_≡_};
-ghost use Rattle.four_receivers.specs.Four.{untold, freshReceiver, get, put, soundFour, known, configuring, configuringOf, hearFour, FourIs};
+ghost use Rattle.four_receivers.specs.Call.{untold, freshReceiver, get, put, soundFour, known, configuring, configuringOf, hearFour, FourIs};
 use base::Refusal;
 use channel::Answer;
 use channel::Hunting;

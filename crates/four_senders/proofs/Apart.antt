@@ -23,7 +23,7 @@ use Rattle.subchannel_spec.specs.Settings.{settings, within}
 use Rattle.subchannel_spec.specs.declared.Configured.{Configured}
 use Rattle.subchannel_spec.specs.declared.Configured.the-variants.{Told, Refused}
 use Rattle.four_senders.specs.declared.Sender.{Sender}
-use Rattle.four_senders.specs.Four.{get, put, soundFour, known, configuring, sendFour}
+use Rattle.four_senders.specs.Call.{get, put, soundFour, known, configuring, sendFour}
 use Rattle.four_senders.proofs.Calling.{sound-at}
 
 pub got-put : (s : Sender) (n : ℕ) (x : Settings) → get (put s n x) n ≡ x

@@ -21,7 +21,7 @@ use Rattle.subchannel_spec.specs.declared.Configured.the-variants.{Told, Refuse
 use Rattle.subchannel_sender.specs.Sending.{sending}
 use Rattle.four_senders.specs.declared.Sender.{Sender}
 use Rattle.four_senders.specs.declared.Configuring.{Configuring}
-use Rattle.four_senders.specs.Four.{get, put, soundFour, known, configuring, configuringOf, sendFour}
+use Rattle.four_senders.specs.Call.{get, put, soundFour, known, configuring, configuringOf, sendFour}
 
 pub put-at : (s : Sender) (x : Settings) {n k : ℕ} → n ≡ k → put s k x ≡ put s n x
 put-at s x e = ap (λ n. put s n x) (sym e)

@@ -2,7 +2,7 @@
 ghost use mathlib.Core.Path.{_≡_};
 ghost use Rattle.base.specs.Written.{outcome};
 ghost use Rattle.subchannel_spec.specs.Settings.{settings};
-ghost use Rattle.four_senders.specs.Four.{freshSender, get, put, soundFour, known, configuring, configuringOf, sendFour};
+ghost use Rattle.four_senders.specs.Call.{freshSender, get, put, soundFour, known, configuring, configuringOf, sendFour};
 use base::Refusal;
 use base::Written;
 use subchannel_spec::Configured;

@@ -28,9 +28,9 @@ use Rattle.channel_spec.specs.declared.Answer.the-variants.{Said}
 use Rattle.listing_spec.specs.Lines.{decimal, longest}
 use Rattle.ports_spec.specs.declared.Noted.{Noted}
 use Rattle.board_spec.specs.Text.{sixteenth, shownByte, heading}
-use Rattle.board_spec.specs.Board.{Line, missing, unwatched, restricted, refusedFrame, brokenFrame, cleanBlock, repairedBlock, beyondRepair, lockLost, wrongAt}
-use Rattle.board_spec.specs.Board.{missingWord, unwatchedWord, restrictedWord, refusedWord, cleanWord, repairedWord, beyondWord, lostWord, wrongWord}
-use Rattle.board_spec.specs.Board.{number, written, writtenAll, aheadOf, blockLines}
+use Rattle.board_spec.specs.Meaning.{Line, missing, unwatched, restricted, refusedFrame, brokenFrame, cleanBlock, repairedBlock, beyondRepair, lockLost, wrongAt}
+use Rattle.board_spec.specs.Meaning.{missingWord, unwatchedWord, restrictedWord, refusedWord, cleanWord, repairedWord, beyondWord, lostWord, wrongWord}
+use Rattle.board_spec.specs.Meaning.{number, written, writtenAll, aheadOf, blockLines}
 use Rattle.board_spec.specs.Parts.{ownLead, lead, remark}
 use Rattle.lines.specs.Piece.{pieceOf}
 use Rattle.lines.specs.declared.piece.Piece.{Piece}

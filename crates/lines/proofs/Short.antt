@@ -10,7 +10,7 @@ use Rattle.packet_spec.specs.Port.{class}
 use Rattle.packet_spec.specs.declared.Judged.{Judged}
 use Rattle.packet_spec.specs.declared.Judged.the-variants.{Packet, Refused, Broken}
 use Rattle.packet_spec.specs.Frame.{packet, refusal, broken, delivery}
-use Rattle.channel_spec.specs.Channel.{Event, said, block, lost}
+use Rattle.channel_spec.specs.Meaning.{Event, said, block, lost}
 use Rattle.channel_spec.specs.declared.Condition.the-variants.{Clean, Repaired, Beyond}
 use Rattle.channel_spec.specs.declared.Answer.{Answer}
 use Rattle.channel_spec.specs.declared.Answer.the-variants.{More, Said, Block, LockLost}

@@ -8,7 +8,7 @@ ghost use Rattle.base.specs.Private.{Laid};
 ghost use Rattle.listing_spec.specs.Lines.{longest};
 ghost use Rattle.bid.specs.Line.{feed};
 ghost use Rattle.board_spec.specs.Text.{sixteenth, shownByte, heading};
-ghost use Rattle.board_spec.specs.Board.{restricted, wrongAt, written, writtenAll, aheadOf, blockLines};
+ghost use Rattle.board_spec.specs.Meaning.{restricted, wrongAt, written, writtenAll, aheadOf, blockLines};
 ghost use Rattle.board_spec.specs.Parts.{ownLead, lead, remark};
 ghost use Rattle.channel_spec.specs.declared.Answer.the-variants.{Said};
 ghost use Rattle.lines.specs.Piece.{pieceOf};

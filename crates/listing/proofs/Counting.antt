@@ -21,7 +21,7 @@ use Rattle.listing_spec.specs.declared.Total.{Total}
 use Rattle.listing_spec.specs.declared.Total.the-variants.{Packets, Refusals, Damaged, Lost, Nothing}
 use Rattle.lines.proofs.Short.{line-short}
 use Rattle.listing.specs.declared.lister.Recording.{Recording}
-use Rattle.listing.specs.Printed.{countedIn, counted, lastBy, finishing}
+use Rattle.listing.specs.Call.{countedIn, counted, lastBy, finishing}
 use Rattle.listing.specs.declared.lister.Totals.{Totals}
 
 module _ (a : Answer) (out : List ℕ) {w : Written} {out′ : List ℕ} (room : longest ≤ length out) (e : outcome w out′ ≡ write (line a) out) where

@@ -14,8 +14,8 @@ use lib.Seq.{drop-drop}
 use Rattle.base.specs.Choice.{pick}
 use Rattle.base.specs.Calls.{joined, told, andThen, drain, rest}
 use Rattle.base.proofs.Calls.{law, settled, all-append}
-use Rattle.channel_spec.specs.Channel.{Event}
-use Rattle.channel.specs.Called.{sound, roomy}
+use Rattle.channel_spec.specs.Meaning.{Event}
+use Rattle.channel.specs.Call.{sound, roomy}
 use Rattle.channel_spec.specs.declared.Answer.{Answer}
 use Rattle.listing_spec.specs.Lines.{line, given, lines, longest}
 use Rattle.recording.specs.Deck.{Deck, deckOwes, deckHand, deckEat, deckAll, deckHear}
@@ -23,7 +23,7 @@ use Rattle.recording.proofs.Ears.{deck-hand-one}
 use Rattle.listing.specs.declared.lister.Totals.{Totals}
 use Rattle.listing.specs.declared.lister.Wants.{Wants}
 use Rattle.listing.specs.declared.lister.Wants.the-variants.{More, Room, Refused}
-use Rattle.listing.specs.Printed.{counted, Printed, printed, further, onAnswer, print, near, takesBy, takes}
+use Rattle.listing.specs.Call.{counted, Printed, printed, further, onAnswer, print, near, takesBy, takes}
 use Rattle.listing.specs.Runs.{Lists, ListsAll}
 use Rattle.listing.specs.Runs.Lists.{more, room}
 use Rattle.listing.specs.Runs.ListsAll.{done, piece}

@@ -19,8 +19,8 @@ use Rattle.base.proofs.Calls.{all-append}
 use Rattle.base.proofs.Writing.{write-fits}
 use Rattle.packet_spec.specs.Contents.{rawLimit}
 use Rattle.channel_spec.specs.Sender.{messageBytes, wordBytes}
-use Rattle.channel_spec.specs.Channel.{Event}
-use Rattle.channel.specs.Called.{Board, board, freshReceiver, owedBy}
+use Rattle.channel_spec.specs.Meaning.{Event}
+use Rattle.channel.specs.Call.{Board, board, freshReceiver, owedBy}
 use Rattle.channel_spec.specs.declared.Answer.{Answer}
 use Rattle.channel.proofs.Fine.{fine-is, fine-roomy, fine-fresh}
 use Rattle.listing_spec.specs.declared.Place.{Place}
@@ -30,7 +30,7 @@ use Rattle.listing_spec.specs.Apart.{most, freshSpot, on, wrong, through, nextA
 use Rattle.listing_spec.specs.Lines.{given, line, lines, isPacket, isRefusal, isDamaged, isLost, longest}
 use Rattle.lines.proofs.Short.{line-some, end-short, wrong-short}
 use Rattle.recording.specs.Deck.{Ear, ear, owesBy, earOwes, earHand, earEat, Deck, deck, fresh, deckOwes, deckHand, deckEat, deckAll, deckHear}
-use Rattle.recording.specs.Called.{far}
+use Rattle.recording.specs.Call.{far}
 use Rattle.recording.proofs.Ears.{deck-hand-one}
 use Rattle.recording.proofs.Kept.{FineDeck, Kept, hear-kept}
 use Rattle.recording.proofs.Means.{earAll, means-start, fresh-owes}
@@ -38,7 +38,7 @@ use Rattle.listing.specs.declared.lister.Totals.{Totals}
 use Rattle.listing.specs.declared.lister.Recording.{Recording}
 use Rattle.listing.specs.declared.lister.Wants.{Wants}
 use Rattle.listing.specs.declared.lister.Wants.the-variants.{More, Room, Refused}
-use Rattle.listing.specs.Printed.{noTotals, counted, Printed, printed, further, onAnswer, print, near, takesBy, takes, lastBy, lastOf, finishing}
+use Rattle.listing.specs.Call.{noTotals, counted, Printed, printed, further, onAnswer, print, near, takesBy, takes, lastBy, lastOf, finishing}
 use Rattle.listing.specs.Runs.{Lists, Run, Fair}
 use Rattle.listing.specs.Runs.Lists.{more, room}
 use Rattle.listing.specs.Runs.ListsAll.{done, piece}

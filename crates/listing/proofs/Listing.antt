@@ -18,18 +18,18 @@ use Rattle.base.specs.declared.Written.the-variants.{Wrote}
 use Rattle.base.proofs.Writing.{write-is}
 use Rattle.packet_spec.specs.Contents.{rawLimit}
 use Rattle.channel_spec.specs.Sender.{wordBytes}
-use Rattle.channel_spec.specs.Channel.{Event}
-use Rattle.channel.specs.Called.{board, freshReceiver}
+use Rattle.channel_spec.specs.Meaning.{Event}
+use Rattle.channel.specs.Call.{board, freshReceiver}
 use Rattle.listing_spec.specs.declared.Place.{Place}
 use Rattle.listing_spec.specs.declared.Place.the-variants.{Mode, Mark, Second, Low, High, Inside, Wrong}
 use Rattle.listing_spec.specs.declared.Spot.{Spot}
 use Rattle.listing_spec.specs.Apart.{most, freshSpot, on, wrong, through, nextAt, next, inStream, keep, apart, well}
 use Rattle.listing_spec.specs.Lines.{given, lines, count, one, isPacket, isRefusal, isDamaged, isLost, endLine, wrongLine}
-use Rattle.listing_spec.specs.Listing.{totalLine, heard, lastLine, listed, listing}
+use Rattle.listing_spec.specs.Meaning.{totalLine, heard, lastLine, listed, listing}
 use Rattle.recording.specs.Deck.{Ear, ear, Deck, deck, fresh, deckOwes, deckAll}
 use Rattle.recording.proofs.Means.{earAll, means-start, heard-all, fresh-owes}
 use Rattle.listing.specs.declared.lister.Totals.{Totals}
-use Rattle.listing.specs.Printed.{noTotals, counted, recorded, lastBy, lastOf, finishing}
+use Rattle.listing.specs.Call.{noTotals, counted, recorded, lastBy, lastOf, finishing}
 use Rattle.listing.specs.Runs.{ListsAll}
 use Rattle.listing.proofs.Did.{countAll, Prints, all-prints}
 

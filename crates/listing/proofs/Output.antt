@@ -11,11 +11,11 @@ use lib.ListN.{length, take, drop, length-append, length-drop, take-append-drop}
 use lib.Seq.{drop-drop, drop-at, take-at, length-take-le}
 use borrow.Rule.Slice.PartMut.{putMid}
 use Rattle.base.proofs.Parts.{tail-is, tail-put}
-use Rattle.channel.specs.Called.{sound, roomy}
-use Rattle.recording.specs.Called.{deckOf}
+use Rattle.channel.specs.Call.{sound, roomy}
+use Rattle.recording.specs.Call.{deckOf}
 use Rattle.listing.specs.declared.lister.Recording.{Recording}
 use Rattle.listing.specs.declared.lister.Step.{Step}
-use Rattle.listing.specs.Printed.{Printed, printed, further, print, near, TookIs}
+use Rattle.listing.specs.Call.{Printed, printed, further, print, near, TookIs}
 use Rattle.listing.specs.Private.{StepBy, StepIs}
 
 -- behind i bytes taken and w written the call goes on with what is left

@@ -12,8 +12,8 @@ use mathlib.Core.Option.{Option, some, none}
 use lib.Dec.{leb}
 use lib.ListN.{length, drop}
 use borrow.Author.Tests.{lt-ltb, le-ltb, le-leb, leb-true}
-use Rattle.channel_spec.specs.Channel.{Event}
-use Rattle.channel.specs.Called.{sound, roomy}
+use Rattle.channel_spec.specs.Meaning.{Event}
+use Rattle.channel.specs.Call.{sound, roomy}
 use Rattle.channel_spec.specs.Answer.{answered}
 use Rattle.channel_spec.specs.declared.Answer.{Answer}
 use Rattle.base.proofs.Tests.{and-parts}
@@ -23,14 +23,14 @@ use Rattle.lines.proofs.Short.{line-short, line-some}
 use Rattle.recording.specs.declared.tape.Tape.{Tape}
 use Rattle.recording.specs.declared.tape.Heard.{Heard}
 use Rattle.recording.specs.Deck.{Deck, deckHear}
-use Rattle.recording.specs.Called.{far, deckOf, isMore, tapeCall, NextIs}
+use Rattle.recording.specs.Call.{far, deckOf, isMore, tapeCall, NextIs}
 use Rattle.recording.specs.Private.{Stays, HeardIs}
 use Rattle.recording.proofs.Turn.{more-none, more-some}
 use Rattle.recording.proofs.Next.{next-heard}
 use Rattle.listing.specs.declared.lister.Totals.{Totals}
 use Rattle.listing.specs.declared.lister.Wants.the-variants.{More, Room}
 use Rattle.listing.specs.Private.{Below, StepIs}
-use Rattle.listing.specs.Printed.{counted, Printed, printed, further, onAnswer, print, near}
+use Rattle.listing.specs.Call.{counted, Printed, printed, further, onAnswer, print, near}
 use Rattle.listing.proofs.Counting.{one-most}
 
 -- ---- no number passes its width

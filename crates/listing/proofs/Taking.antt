@@ -4,13 +4,13 @@ use mathlib.Core.Path.{_≡_, refl, sym, subst}
 use mathlib.Core.Bool.{Bool, true, false}
 use mathlib.Core.List.{List}
 use lib.ListN.{length}
-use Rattle.channel.specs.Called.{sound, roomy}
+use Rattle.channel.specs.Call.{sound, roomy}
 use Rattle.recording.specs.Deck.{Deck}
-use Rattle.recording.specs.Called.{deckOf}
+use Rattle.recording.specs.Call.{deckOf}
 use Rattle.listing.specs.declared.lister.Recording.{Recording}
 use Rattle.listing.specs.declared.lister.Took.{Took}
 use Rattle.listing.specs.declared.lister.Wants.the-variants.{Refused}
-use Rattle.listing.specs.Printed.{Printed, printed, print, near, takesBy, takes, TookIs}
+use Rattle.listing.specs.Call.{Printed, printed, print, near, takesBy, takes, TookIs}
 
 module _ (r : Recording) (l k bs out : List ℕ) where
   abbrev m : Deck

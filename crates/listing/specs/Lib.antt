@@ -1,3 +1,3 @@
-pub mod Printed
+pub mod Call
 pub mod Runs
 pub mod Private

@@ -7,11 +7,11 @@ use mathlib.Core.Bool.{Bool, true, false}
 use mathlib.Core.List.{List, _++_}
 use lib.ListN.{length, drop}
 use Rattle.recording.specs.Deck.{Deck}
-use Rattle.recording.specs.Called.{far, deckOf}
+use Rattle.recording.specs.Call.{far, deckOf}
 use Rattle.recording.specs.Private.{Stays}
 use Rattle.listing.specs.declared.lister.Totals.{Totals}
 use Rattle.listing.specs.declared.lister.Step.{Step}
-use Rattle.listing.specs.Printed.{near, printed, further, print}
+use Rattle.listing.specs.Call.{near, printed, further, print}
 
 -- no total is at its width
 abbrev pub Below : Totals → Type 0

@@ -10,7 +10,7 @@ use Rattle.listing.specs.declared.lister.Totals.{Totals}
 use Rattle.listing.specs.declared.lister.Wants.the-variants.{More, Room}
 use Rattle.recording.specs.Deck.{Deck}
 use Rattle.listing_spec.specs.Lines.{longest}
-use Rattle.listing.specs.Printed.{takes}
+use Rattle.listing.specs.Call.{takes}
 
 -- call number i has an output of `rooms i` bytes
 module _ (rooms : ℕ → ℕ) where

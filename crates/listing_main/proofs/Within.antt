@@ -11,15 +11,15 @@ use lib.Dec.{ltb}
 use lib.ListN.{length, drop, length-append, length-drop}
 use Rattle.base.specs.Choice.{pick}
 use Rattle.base.proofs.Calls.{FitsBy, fits}
-use Rattle.channel_spec.specs.Channel.{Event}
-use Rattle.channel.specs.Called.{sound, roomy}
+use Rattle.channel_spec.specs.Meaning.{Event}
+use Rattle.channel.specs.Call.{sound, roomy}
 use Rattle.channel_spec.specs.declared.Answer.{Answer}
 use Rattle.listing_spec.specs.Lines.{line, longest}
 use Rattle.recording.specs.Deck.{Deck, deckOwes, deckHand, deckEat, deckHear}
 use Rattle.recording.proofs.Ears.{deck-hand-one}
 use Rattle.listing.specs.declared.lister.Totals.{Totals}
 use Rattle.listing.specs.declared.lister.Took.{Took}
-use Rattle.listing.specs.Printed.{Printed, print, counted, onAnswer, near, takesBy, takes, TookIs}
+use Rattle.listing.specs.Call.{Printed, print, counted, onAnswer, near, takesBy, takes, TookIs}
 
 by-answer : (o : Option Event) (n : ℕ) (m : Deck) (bs : List ℕ) → FitsBy deckOwes deckHand deckEat deck-hand-one o n m bs → n ≤ length bs
 by-answer none n m bs h = omega (arith, h .0)

@@ -20,14 +20,14 @@ use Rattle.base.specs.Bytes.{Each, Bytes}
 use Rattle.base.specs.Calls.{joined}
 use Rattle.base.specs.Choice.{pick}
 use Rattle.base.proofs.Tests.{by-test}
-use Rattle.channel_spec.specs.Channel.{Event}
+use Rattle.channel_spec.specs.Meaning.{Event}
 use Rattle.listing_spec.specs.declared.Place.{Place}
 use Rattle.listing_spec.specs.declared.Place.the-variants.{Mode, Mark, Second, Low, High, Inside, Wrong}
 use Rattle.listing_spec.specs.declared.Spot.{Spot}
 use Rattle.listing_spec.specs.Apart.{most, freshSpot, on, wrong, left, through, nextAt, inStream, keep, apart, well, onChannel, recordOf, records}
 use Rattle.listing_spec.specs.Described.{firstByte, Described}
 use Rattle.listing_spec.specs.Lines.{lines, wrongLine}
-use Rattle.listing_spec.specs.Listing.{heard, totalLine, lastLine, listed, listing}
+use Rattle.listing_spec.specs.Meaning.{heard, totalLine, lastLine, listed, listing}
 use Rattle.listing_spec.proofs.Apart.{at, before, one-in, record-apart, none-apart, records-apart, records-channel}
 use Rattle.listing_spec.proofs.Offsets.{ended, ended-is, stays}
 

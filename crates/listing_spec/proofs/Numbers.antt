@@ -19,7 +19,7 @@ use Rattle.channel_spec.specs.declared.Condition.the-variants.{Clean, Repaired,
 use Rattle.listing_spec.specs.declared.Place.the-variants.{Inside, Wrong}
 use Rattle.listing_spec.specs.Apart.{nextAt, inStream, apart}
 use Rattle.listing_spec.specs.Lines.{decimal, decimalBy, letter, told, line, lines, count, endLine, wrongLine}
-use Rattle.listing_spec.specs.Listing.{heard, lastLine, listed, listing}
+use Rattle.listing_spec.specs.Meaning.{heard, lastLine, listed, listing}
 
 -- a recording, and what is printed
 abbrev rows : List (List ℕ × List ℕ)

@@ -10,7 +10,7 @@ use lib.ListN.{length}
 use Rattle.packet_spec.specs.Frame.{Told, packet, refusal, broken}
 use Rattle.stream.specs.Sender.{delivered}
 use Rattle.packet_spec.specs.Contents.{Packet}
-use Rattle.channel_spec.specs.Channel.{Event, said, block, lost, frames, blocks, losses}
+use Rattle.channel_spec.specs.Meaning.{Event, said, block, lost, frames, blocks, losses}
 use Rattle.channel_spec.specs.declared.Condition.{Condition}
 use Rattle.channel_spec.specs.declared.Condition.the-variants.{Clean as clean, Repaired as repaired, Beyond as beyond}
 use Rattle.listing_spec.specs.Lines.{isPacket, isRefusal, isDamaged, isLost, count, packetsIn, refusalsIn, damagedIn}

@@ -1,4 +1,4 @@
 pub mod Apart
 pub mod Described
 pub mod Lines
-pub mod Listing
+pub mod Meaning

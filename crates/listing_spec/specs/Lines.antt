@@ -17,7 +17,7 @@ use Rattle.packet_spec.specs.declared.Class.the-variants.{System, Applications,
 use Rattle.packet_spec.specs.declared.Judged.{Judged}
 use Rattle.packet_spec.specs.declared.Judged.the-variants.{Packet, Refused, Broken}
 use Rattle.packet_spec.specs.Frame.{Told, packet, refusal, broken}
-use Rattle.channel_spec.specs.Channel.{Event}
+use Rattle.channel_spec.specs.Meaning.{Event}
 use Rattle.listing_spec.specs.declared.Total.{Total}
 use Rattle.listing_spec.specs.declared.Total.the-variants.{Packets, Refusals, Damaged, Lost, Nothing}
 use Rattle.channel_spec.specs.declared.Condition.{Condition}

@@ -12,14 +12,14 @@ use Rattle.base.proofs.Tests.{by-eq}
 use Rattle.packet_spec.specs.Sender.{Accepted}
 use Rattle.stream.specs.Sender.{delivered}
 use Rattle.channel_spec.specs.Sender.{sentWords}
-use Rattle.channel_spec.specs.Channel.{answers, frames, blocks, losses, FirstMarker}
+use Rattle.channel_spec.specs.Meaning.{answers, frames, blocks, losses, FirstMarker}
 use Rattle.channel_spec.specs.declared.Condition.the-variants.{Clean as clean}
 use Rattle.channel_spec.proofs.Streaming.{whole-stream}
 use Rattle.bid.specs.Line.{feed, Verdict, noBid, refused, accepted, verdict}
 use Rattle.bid.specs.Input.{linesFrom, linesOf, packets, packetsOf}
 use Rattle.bid.proofs.Lines.{lines-feed, lines-other, lines-none, lines-one}
 use Rattle.bid.proofs.Verdicts.{accepted-is}
-use Rattle.office.specs.Desk.{sentFor}
+use Rattle.office.specs.Meaning.{sentFor}
 
 -- the bytes of each line are bytes
 line-bytes : (bs l : List ℕ) → Bytes l → Bytes bs → Each Bytes (linesFrom l bs)

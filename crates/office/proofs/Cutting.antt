@@ -22,8 +22,8 @@ use Rattle.bid.specs.Line.{lineLimit}
 use Rattle.bid.specs.Input.{packetsOf, complaints}
 use Rattle.office.specs.declared.Started.{Started}
 use Rattle.office.specs.declared.Started.the-variants.{Ready}
-use Rattle.office.specs.Desk.{sentFor, Said, Desk, waiting, eat, deskAll, sentBy, complaintsBy}
-use Rattle.office.specs.Called.{holdLimit, outLimit, freshOffice, starting, hearBy, hearCall, endBytes, closeCall, finishBy, finishing, sound, roomy, Fine, first, lastOf}
+use Rattle.office.specs.Meaning.{sentFor, Said, Desk, waiting, eat, deskAll, sentBy, complaintsBy}
+use Rattle.office.specs.Call.{holdLimit, outLimit, freshOffice, starting, hearBy, hearCall, endBytes, closeCall, finishBy, finishing, sound, roomy, Fine, first, lastOf}
 use Rattle.office.proofs.Hearing.{call-on, start-ready}
 use Rattle.office.proofs.Sent.{sent-append, fine-sound, fine-roomy, fine-eat, fine-closed, closed, says, names}
 

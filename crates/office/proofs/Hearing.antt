@@ -35,8 +35,8 @@ use Rattle.office.specs.declared.Started.the-variants.{Ready, Refused as
 use Rattle.office.specs.declared.Answer.the-variants.{More, Refused}
 use Rattle.office.specs.declared.Heard.{Heard}
 use Rattle.office.specs.declared.Ended.{Ended}
-use Rattle.office.specs.Desk.{Said, endingBy, Desk, desk, kept, endingOf, ended, eat}
-use Rattle.office.specs.Called.{heldLimit, holdLimit, outLimit, freshOffice, starting, sound, roomy, hearOn, denied, hearBy, hearCall, lastFeed, endBytes, closeCall, HeardIs, finishBy, finishing}
+use Rattle.office.specs.Meaning.{Said, endingBy, Desk, desk, kept, endingOf, ended, eat}
+use Rattle.office.specs.Call.{heldLimit, holdLimit, outLimit, freshOffice, starting, sound, roomy, hearOn, denied, hearBy, hearCall, lastFeed, endBytes, closeCall, HeardIs, finishBy, finishing}
 use Rattle.office.specs.Private.{EndedIs}
 
 -- ---- bytes of a line stored

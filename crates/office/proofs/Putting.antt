@@ -31,9 +31,9 @@ use Rattle.bid.proofs.Reading.{text-is, bid-found, bid-missed}
 use Rattle.bid.proofs.Verdicts.{judged-empty, judged-long, judged-barred, judged-free, verdict-none, verdict-bid}
 use Rattle.office.specs.declared.Answer.the-variants.{Sent, NoBid as Unread, Refused}
 use Rattle.office.specs.declared.Ended.{Ended}
-use Rattle.office.specs.Desk.{endingBy}
+use Rattle.office.specs.Meaning.{endingBy}
 use Rattle.channel_spec.specs.Sender.{wholeBytes, wholes, restOf, messageBytes}
-use Rattle.office.specs.Called.{heldLimit, holdLimit, outLimit}
+use Rattle.office.specs.Call.{heldLimit, holdLimit, outLimit}
 use Rattle.office.specs.Private.{EndedIs, PutIs}
 use Rattle.channel_spec.proofs.Marking.{marked-length, wholes-length, rest-short}
 

@@ -22,9 +22,9 @@ use Rattle.bid.specs.Line.{feed, lineLimit, Verdict, noBid, refused, accepted, 
 use Rattle.bid.specs.Input.{linesFrom, packets, numbered, complaintsFrom}
 use Rattle.bid.proofs.Verdicts.{verdict-first}
 use Rattle.bid.proofs.Lines.{lines-feed, lines-other, lines-none, lines-one}
-use Rattle.office.specs.Desk.{Spoken, blocks, unread, refusal, Said, putOut, endingBy, Desk, soFar, waiting, kept, endingOf, ended, eat, deskAll, sentBy, complaintsBy}
+use Rattle.office.specs.Meaning.{Spoken, blocks, unread, refusal, Said, putOut, endingBy, Desk, soFar, waiting, kept, endingOf, ended, eat, deskAll, sentBy, complaintsBy}
 use Rattle.channel_spec.specs.Sender.{wholes, restOf, messageBytes}
-use Rattle.office.specs.Called.{heldLimit, holdLimit, sound, roomy, hearOn, endBytes, Fine, lastOf}
+use Rattle.office.specs.Call.{heldLimit, holdLimit, sound, roomy, hearOn, endBytes, Fine, lastOf}
 use Rattle.channel_spec.proofs.Marking.{rest-short, marked-rest}
 use Rattle.office.proofs.Hearing.{eat-feed, eat-other, none-begun, one-begun}
 

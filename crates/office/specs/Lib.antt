@@ -1,3 +1,3 @@
-pub mod Desk
-pub mod Called
+pub mod Meaning
+pub mod Call
 pub mod Private

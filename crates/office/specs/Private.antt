@@ -8,9 +8,9 @@ use lib.ListN.{length, drop}
 use Rattle.base.specs.Written.{copied}
 use Rattle.channel_spec.specs.Sender.{marked}
 use Rattle.office.specs.declared.Ended.{Ended}
-use Rattle.office.specs.Desk.{Ending}
+use Rattle.office.specs.Meaning.{Ending}
 use Rattle.channel_spec.specs.Sender.{wholes, restOf}
-use Rattle.office.specs.Called.{spoken, spokenOut}
+use Rattle.office.specs.Call.{spoken, spokenOut}
 
 -- a line ended
 abbrev pub EndedIs : Ending → List ℕ → Ended → List ℕ → List ℕ → Type 0

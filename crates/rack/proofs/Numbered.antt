@@ -28,19 +28,19 @@ use Rattle.repair.specs.Promise.{Promised}
 use Rattle.repair.specs.Way.{repaired}
 use Rattle.repair.proofs.Apart.{checked-damaged}
 use Rattle.repair.proofs.Promising.{promised-is}
-use Rattle.stream.specs.Called as plain
+use Rattle.stream.specs.Call as plain
 use Rattle.stream.specs.declared.frame.Frame.{Frame}
 use Rattle.stream.specs.declared.frame.Read.{Read}
 use Rattle.channel_spec.specs.declared.Condition.{Condition}
 use Rattle.channel_spec.specs.declared.Condition.the-variants.{Repaired as Mended-block}
-use Rattle.channel.specs.Called as channel
+use Rattle.channel.specs.Call as channel
 use Rattle.channel_spec.specs.Answer.{answered}
 use Rattle.channel.specs.declared.receiver.Receiver.{Receiver}
 use Rattle.channel.specs.declared.answer.Hearing.{Hearing}
 use Rattle.rack.specs.declared.told.Told.{Told}
 use Rattle.rack.specs.Words.{writtenNumber, checkedNumber, mendedNumber, byNumber, making, checking, mending}
 use Rattle.rack.specs.Told.{bare, ofJudged, ofHeard, ofBlock, ofAnswer, ofCall, isSet, flagNumber, frameOf, receiverOf, toldNumbers, streamNumbers, channelNumbers}
-use Rattle.rack.specs.Calls.{left, reading, hearing}
+use Rattle.rack.specs.Call.{left, reading, hearing}
 
 -- ---- words
 pub made-number : (r : ℕ) (message before : List ℕ) {after : List ℕ} {w v : Written} → outcome w after ≡ made r message before → w ≡ v

@@ -2,7 +2,7 @@
 ghost use mathlib.Core.Path.{_≡_};
 ghost use Prim.Native.Nat.{_%_};
 ghost use Rattle.rack.specs.Told.{receiverOf, channelNumbers};
-ghost use Rattle.rack.specs.Calls.{hearing};
+ghost use Rattle.rack.specs.Call.{hearing};
 use crate::told;
 use crate::told::Told;
 use channel::Hunting;

@@ -1,7 +1,7 @@
 //! The plain stream, read with its state as numbers.
 ghost use mathlib.Core.Path.{_≡_};
 ghost use Rattle.rack.specs.Told.{frameOf, streamNumbers};
-ghost use Rattle.rack.specs.Calls.{reading};
+ghost use Rattle.rack.specs.Call.{reading};
 use crate::told;
 use crate::told::Told;
 use stream::Frame;

@@ -9,7 +9,7 @@ use lib.ListN.{length, drop, length-drop}
 use Rattle.base.specs.Calls.{joined, Yields}
 use Rattle.base.proofs.Calls.{yields-within}
 use Rattle.recording.specs.Deck.{Deck, deckOwes, deckHand, deckEat, deckAll, deckHear}
-use Rattle.recording.specs.Called.{far, tapeCall}
+use Rattle.recording.specs.Call.{far, tapeCall}
 use Rattle.recording.proofs.Ears.{deck-hand-one}
 use Rattle.recording.proofs.Kept.{FineDeck, Kept, hear-kept}
 use Rattle.recording.proofs.Next.{tape-agrees}

@@ -7,14 +7,14 @@ use mathlib.Core.Option.{Option, some, none}
 use lib.ListN.{length}
 use Rattle.base.specs.Calls.{With}
 use Rattle.base.proofs.Calls.{with-hear}
-use Rattle.stream.specs.Called.{takeByte}
+use Rattle.stream.specs.Call.{takeByte}
 use Rattle.stream.proofs.Delivery.{there-byte}
-use Rattle.channel_spec.specs.Channel.{Event}
-use Rattle.channel.specs.Called.{Board, heldIn, sound, roomy, ThereEvent}
+use Rattle.channel_spec.specs.Meaning.{Event}
+use Rattle.channel.specs.Call.{Board, heldIn, sound, roomy, ThereEvent}
 use Rattle.channel.proofs.Delivery.{there-as, hand-there, eat-there}
 use Rattle.listing_spec.specs.Apart.{inStream}
 use Rattle.recording.specs.Deck.{withHeld, eatBy, earHand, earEat, Deck, deckOwes, deckHand, byteBy, deckEat}
-use Rattle.recording.specs.Called.{nearSpot, tapeBy, tapeCall, ThereDeck}
+use Rattle.recording.specs.Call.{nearSpot, tapeBy, tapeCall, ThereDeck}
 use Rattle.recording.proofs.Ears.{deck-hand-one}
 
 there-ear : (t : Bool) (c : Board) (b : ℕ) → With ThereEvent (eatBy t c b .0) (eatBy t c b .1 .board)

@@ -9,12 +9,12 @@ use mathlib.Core.List.{List}
 use lib.ListN.{length}
 use Rattle.base.specs.Calls.{joined}
 use Rattle.base.proofs.Calls.{yields-so}
-use Rattle.channel_spec.specs.Channel.{Event}
+use Rattle.channel_spec.specs.Meaning.{Event}
 use Rattle.channel.proofs.Fine.{fine-fresh}
 use Rattle.listing_spec.specs.Apart.{freshSpot, apart, onChannel}
-use Rattle.listing_spec.specs.Listing.{heard}
+use Rattle.listing_spec.specs.Meaning.{heard}
 use Rattle.recording.specs.Deck.{Deck, fresh, deckAll}
-use Rattle.recording.specs.Called.{far, EveryCut}
+use Rattle.recording.specs.Call.{far, EveryCut}
 use Rattle.recording.proofs.Means.{fresh-owes, deck-means}
 use Rattle.recording.proofs.Cutting.{Safe, tape-yields}
 

@@ -19,14 +19,14 @@ use Rattle.base.proofs.Tests.{and-parts}
 use Rattle.packet_spec.specs.Contents.{rawLimit}
 use Rattle.packet_spec.specs.Frame.{Told}
 use Rattle.packet_spec.specs.declared.Judged.{Judged}
-use Rattle.stream.specs.Called.{Held, held, takeByte, readAll, readOn, readCall, ReadIs, sound as soundFrame, answered as heardOf}
+use Rattle.stream.specs.Call.{Held, held, takeByte, readAll, readOn, readCall, ReadIs, sound as soundFrame, answered as heardOf}
 use Rattle.stream.specs.declared.frame.Read.{Read}
 use Rattle.stream.specs.declared.frame.Heard.{Heard}
 use Rattle.stream.specs.declared.frame.Heard.the-variants.{More as NoMore, Said as Says}
 use Rattle.stream.proofs.Fine.{fine-of as frame-fine}
 use Rattle.stream.proofs.Cutting.{read-agrees}
-use Rattle.channel_spec.specs.Channel.{said}
-use Rattle.channel.specs.Called.{Board, board, heldIn, owed, handOn, eatByte, asEvent, hearAll, hearOn, hearCall, HearingIs, sound, roomy}
+use Rattle.channel_spec.specs.Meaning.{said}
+use Rattle.channel.specs.Call.{Board, board, heldIn, owed, handOn, eatByte, asEvent, hearAll, hearOn, hearCall, HearingIs, sound, roomy}
 use Rattle.channel_spec.specs.Answer.{answered}
 use Rattle.channel.specs.declared.receiver.Receiver.{Receiver}
 use Rattle.channel.specs.declared.answer.Hearing.{Hearing}

@@ -12,13 +12,13 @@ use lib.Seq.{drop-drop}
 use Rattle.base.specs.Calls.{after}
 use Rattle.base.proofs.Calls.{after-none, after-after}
 use Rattle.base.proofs.Parts.{tail-is}
-use Rattle.channel_spec.specs.Channel.{Event}
-use Rattle.channel.specs.Called.{sound, roomy}
+use Rattle.channel_spec.specs.Meaning.{Event}
+use Rattle.channel.specs.Call.{sound, roomy}
 use Rattle.channel_spec.specs.Answer.{answered}
 use Rattle.recording.specs.declared.tape.Tape.{Tape}
 use Rattle.recording.specs.declared.tape.Turn.{Turn}
 use Rattle.recording.specs.Deck.{Deck, deckHear}
-use Rattle.recording.specs.Called.{far, deckOf}
+use Rattle.recording.specs.Call.{far, deckOf}
 use Rattle.recording.specs.Private.{TurnBy, Stays, TurnIs, HeardIs}
 
 -- behind i bytes the tape and the buffers stand so, and the call goes on there

@@ -11,7 +11,7 @@ use mathlib.Core.Option.{Option, some, none}
 use lib.ListN.{length}
 use Rattle.base.specs.Calls.{unless, oneMore}
 use Rattle.base.proofs.Calls.{hear-by, FitsBy, fits, inv-hear}
-use Rattle.channel_spec.specs.Channel.{Event}
+use Rattle.channel_spec.specs.Meaning.{Event}
 use Rattle.listing_spec.specs.Apart.{inStream}
 use Rattle.recording.specs.Deck.{Deck, deckOwes, deckHand, byteBy, deckEat, deckHear}
 use Rattle.recording.proofs.Ears.{deck-hand-one}

@@ -12,17 +12,17 @@ use lib.ListN.{length}
 use Rattle.base.specs.Choice.{pick}
 use Rattle.base.specs.Calls.{tell, drain, rest, all}
 use Rattle.packet_spec.specs.Contents.{rawLimit}
-use Rattle.stream.specs.Reader.{waiting}
+use Rattle.stream.specs.Meaning.{waiting}
 use Rattle.stream.proofs.Shown.{shown-plain}
 use Rattle.channel_spec.specs.Sender.{wordBytes}
-use Rattle.channel_spec.specs.Channel.{Event, said, freshChannel as hunts}
-use Rattle.channel.specs.Called.{board, freshReceiver}
+use Rattle.channel_spec.specs.Meaning.{Event, said, freshChannel as hunts}
+use Rattle.channel.specs.Call.{board, freshReceiver}
 use Rattle.channel.proofs.Shown.{shown-all}
 use Rattle.listing_spec.specs.declared.Place.{Place}
 use Rattle.listing_spec.specs.declared.Place.the-variants.{Mode, Mark, Second, Low, High, Inside, Wrong}
 use Rattle.listing_spec.specs.declared.Spot.{Spot}
 use Rattle.listing_spec.specs.Apart.{most, freshSpot, on, wrong, through, nextAt, next, inStream, keep, apart, onChannel}
-use Rattle.listing_spec.specs.Listing.{heard}
+use Rattle.listing_spec.specs.Meaning.{heard}
 use Rattle.recording.specs.Deck.{Ear, ear, earOwes, earHand, earEat, begun, Deck, deck, fresh, deckOwes, deckHand, byteBy, deckEat, deckAll}
 use Rattle.recording.proofs.Ears.{ear-hand-one, channel-all, plain-all}
 

@@ -14,15 +14,15 @@ use mathlib.Core.Option.{Option}
 use lib.ListN.{length}
 use borrow.Author.Tests.{le-leb, leb-true}
 use Rattle.packet_spec.specs.declared.Judged.the-variants.{Refused}
-use Rattle.channel_spec.specs.Channel.{Event}
-use Rattle.channel.specs.Called.{sound, roomy, Fine}
+use Rattle.channel_spec.specs.Meaning.{Event}
+use Rattle.channel.specs.Call.{sound, roomy, Fine}
 use Rattle.channel_spec.specs.declared.Answer.the-variants.{Said}
 use Rattle.channel.proofs.Fine.{fine-of, fine-is, fine-roomy}
 use Rattle.listing_spec.specs.declared.Spot.{Spot}
 use Rattle.recording.specs.declared.tape.Tape.{Tape}
 use Rattle.recording.specs.declared.tape.Heard.{Heard}
 use Rattle.recording.specs.Deck.{Deck, deckHear}
-use Rattle.recording.specs.Called.{far, deckOf, tapeOf, nearSpot, tapeBy, tapeCall, NextIs}
+use Rattle.recording.specs.Call.{far, deckOf, tapeOf, nearSpot, tapeBy, tapeCall, NextIs}
 use Rattle.recording.specs.Private.{HeardIs}
 use Rattle.recording.proofs.Kept.{Kept, hear-kept}
 

@@ -17,7 +17,7 @@ use Rattle.base.specs.Calls.{unless, oneMore, after}
 use Rattle.base.proofs.Calls.{after-none, after-one, one-after, hear-hand, hear-eat}
 use Rattle.base.proofs.Above.{Along, above}
 use Rattle.base.proofs.Tests.{by-le}
-use Rattle.channel_spec.specs.Channel.{Event}
+use Rattle.channel_spec.specs.Meaning.{Event}
 use Rattle.listing_spec.specs.declared.Place.{Place}
 use Rattle.listing_spec.specs.declared.Place.the-variants.{Mode, Mark, Second, Low, High, Inside, Wrong}
 use Rattle.listing_spec.specs.declared.Spot.{Spot}

@@ -15,8 +15,8 @@ use lib.Seq.{length-take-le, drop-append-le, drop-cons}
 use Rattle.base.specs.Calls.{unless, oneMore, after}
 use Rattle.base.proofs.Calls.{after-none, one-after, FitsBy, Fits, fits, inv-hear, hear-eat, hear-end}
 use Rattle.stream.proofs.Fine.{fine-take}
-use Rattle.channel_spec.specs.Channel.{Event, said, block, lost}
-use Rattle.channel.specs.Called.{Board, board, heldIn, sound, roomy, handOn, Fine}
+use Rattle.channel_spec.specs.Meaning.{Event, said, block, lost}
+use Rattle.channel.specs.Call.{Board, board, heldIn, sound, roomy, handOn, Fine}
 use Rattle.channel_spec.specs.Answer.{answered}
 use Rattle.channel.specs.declared.receiver.Receiver.{Receiver}
 use Rattle.channel.specs.declared.answer.Hearing.{Hearing}
@@ -25,7 +25,7 @@ use Rattle.listing_spec.specs.declared.Spot.{Spot}
 use Rattle.listing_spec.specs.Apart.{next, inStream}
 use Rattle.recording.specs.declared.tape.Tape.{Tape}
 use Rattle.recording.specs.Deck.{Ear, ear, owesBy, eatBy, earOwes, earHand, earEat, Deck, deck, deckOwes, deckHand, byteBy, deckEat, deckHear}
-use Rattle.recording.specs.Called.{far, deckOf, isMore}
+use Rattle.recording.specs.Call.{far, deckOf, isMore}
 use Rattle.recording.specs.Private.{earHear, runOf, skipped, EarIs, headed, CallIs, Stays}
 use Rattle.recording.proofs.Ears.{ear-hand-one, deck-hand-one}
 use Rattle.recording.proofs.Spots.{next-near}

@@ -11,9 +11,9 @@ use mathlib.Core.Option.{Option, none}
 use lib.Dec.{eqb}
 use Rattle.base.specs.Calls.{all, hear}
 use Rattle.packet_spec.specs.Frame.{Told}
-use Rattle.stream.specs.Called.{Held, takeByte}
-use Rattle.channel_spec.specs.Channel.{Event}
-use Rattle.channel.specs.Called.{Board, board, heldIn, owed, handOn, eatByte, asEvent, freshReceiver}
+use Rattle.stream.specs.Call.{Held, takeByte}
+use Rattle.channel_spec.specs.Meaning.{Event}
+use Rattle.channel.specs.Call.{Board, board, heldIn, owed, handOn, eatByte, asEvent, freshReceiver}
 use Rattle.listing_spec.specs.declared.Place.{Place}
 use Rattle.listing_spec.specs.declared.Place.the-variants.{Mode, Mark, Second, Low, High, Inside, Wrong}
 use Rattle.listing_spec.specs.declared.Spot.{Spot}

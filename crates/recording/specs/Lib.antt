@@ -1,3 +1,3 @@
 pub mod Deck
-pub mod Called
+pub mod Call
 pub mod Private

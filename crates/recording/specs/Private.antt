@@ -11,8 +11,8 @@ use lib.Dec.{eqb, ltb}
 use lib.ListN.{length, drop}
 use Rattle.base.specs.Choice.{pick}
 use Rattle.base.specs.Calls.{hear, after}
-use Rattle.channel_spec.specs.Channel.{Event}
-use Rattle.channel.specs.Called.{board, sound, roomy}
+use Rattle.channel_spec.specs.Meaning.{Event}
+use Rattle.channel.specs.Call.{board, sound, roomy}
 use Rattle.channel_spec.specs.Answer.{answered}
 use Rattle.channel.specs.declared.receiver.Receiver.{Receiver}
 use Rattle.channel_spec.specs.declared.Answer.{Answer}
@@ -25,7 +25,7 @@ use Rattle.recording.specs.declared.tape.Tape.{Tape}
 use Rattle.recording.specs.declared.tape.Heard.{Heard}
 use Rattle.recording.specs.declared.tape.Turn.{Turn}
 use Rattle.recording.specs.Deck.{Ear, ear, earOwes, earHand, earEat, channelAt, Deck, deckHear}
-use Rattle.recording.specs.Called.{deckOf}
+use Rattle.recording.specs.Call.{deckOf}
 
 -- stream bytes left in the record, this one with them
 abbrev pub leftAt : Place → ℕ

@@ -4,7 +4,7 @@ ghost use mathlib.Core.Bool.{false};
 ghost use Prim.Native.Nat.{_+_, _-_, _*_, _<_, _≤_};
 ghost use lib.Dec.{eqb};
 ghost use Rattle.listing_spec.specs.Apart.{freshSpot, on, wrong, left, next, inStream, well};
-ghost use Rattle.recording.specs.Called.{far};
+ghost use Rattle.recording.specs.Call.{far};
 ghost use Rattle.base.specs.Choice.{pick};
 ghost use Rattle.recording.specs.Deck.{channelAt};
 ghost use Rattle.recording.specs.Private.{leftAt, runOf, onTo, skipped};

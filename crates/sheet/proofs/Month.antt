@@ -14,7 +14,7 @@ use lib.ListN.{length}
 use Rattle.base.specs.Choice.{pick}
 use Rattle.sheet_spec.specs.declared.Row.{Row}
 use Rattle.sheet_spec.specs.Tally.{wide}
-use Rattle.sheet_spec.specs.Month.{Mark, Month, line, lines, portsOf, portLimit, Counting, counts, wrong, refuses, kept, counting}
+use Rattle.sheet_spec.specs.Meaning.{Mark, Month, line, lines, portsOf, portLimit, Counting, counts, wrong, refuses, kept, counting}
 use Rattle.sheet_spec.specs.Rows.{heardRow, noteIn, rowFor, cleared, Run, run, step, steps, settled}
 use Rattle.sheet_spec.proofs.Places.{padded-rows}
 use Rattle.sheet_spec.proofs.Counted.{Fit, counted-is}
@@ -22,7 +22,7 @@ use Rattle.sheet.specs.declared.Sheet.{Sheet}
 use Rattle.sheet.specs.declared.Draft.{Draft}
 use Rattle.sheet.specs.declared.Closed.{Closed}
 use Rattle.sheet.specs.declared.Counted.the-variants.{Counts, Refused}
-use Rattle.sheet.specs.Called.{rowsOf, sheetOf, tidied, beginning, drafted, noting, notings, runOf, answerOf, closed, beyond, closing, recorded}
+use Rattle.sheet.specs.Call.{rowsOf, sheetOf, tidied, beginning, drafted, noting, notings, runOf, answerOf, closed, beyond, closing, recorded}
 
 -- ---- a month's sheet
 pub rows-sheet : (rs : List Row) → length rs ≤ portLimit → rowsOf (sheetOf rs) ≡ rs

@@ -15,7 +15,7 @@ use Rattle.base.specs.Written.{Outcome, outcome, write}
 use Rattle.base.specs.declared.Written.the-variants.{Wrote, Refused as Unwritten}
 use Rattle.sheet_spec.specs.declared.Row.{Row}
 use Rattle.sheet_spec.specs.Tally.{wide}
-use Rattle.sheet_spec.specs.Month.{portLimit}
+use Rattle.sheet_spec.specs.Meaning.{portLimit}
 use Rattle.sheet_spec.specs.Rows.{blank, heardRow, noteIn, rowFor, cleared, padded, paddedTo}
 use Rattle.sheet_spec.specs.Places.{placeFor, isOld, putAt, tab}
 use Rattle.sheet_spec.proofs.Places.{row-is, length-is, old-is, put-all-is, clear-all-is}
@@ -23,7 +23,7 @@ use Rattle.sheet.specs.declared.Sheet.{Sheet}
 use Rattle.sheet.specs.declared.Draft.{Draft}
 use Rattle.sheet.specs.declared.Counted.the-variants.{Counts, Wrong, Refused}
 use Rattle.sheet.specs.declared.rows.Found.{Found}
-use Rattle.sheet.specs.Called.{rowsOf, freshSheet, tidied, beginning, drafted, noting, closed, closing, lineOf, printing}
+use Rattle.sheet.specs.Call.{rowsOf, freshSheet, tidied, beginning, drafted, noting, closed, closing, lineOf, printing}
 use Rattle.sheet.specs.Private.{foundIn}
 
 -- ---- what a packet finds

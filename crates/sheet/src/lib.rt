@@ -1,7 +1,7 @@
 //! The monthly reception sheet (request W13): a line for each port, counted from the delivered packets of many recordings.
 ghost use mathlib.Core.Path.{_≡_};
 ghost use Rattle.base.specs.Written.{outcome};
-ghost use Rattle.sheet.specs.Called.{freshSheet, tidied, beginning, noting, closing, printing};
+ghost use Rattle.sheet.specs.Call.{freshSheet, tidied, beginning, noting, closing, printing};
 use base::Refusal;
 use base::Written;
 use rows::clear_all;

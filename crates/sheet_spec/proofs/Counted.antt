@@ -14,7 +14,7 @@ use lib.Dec.{ltb}
 use lib.ListN.{length}
 use Rattle.sheet_spec.specs.declared.Row.{Row}
 use Rattle.sheet_spec.specs.Tally.{wide}
-use Rattle.sheet_spec.specs.Month.{Mark, Month, addedAll, lines, anyWide, portLimit, Counting, counts, wrong, refuses, ruling, kept, with, rulingOf, counting, monthOf}
+use Rattle.sheet_spec.specs.Meaning.{Mark, Month, addedAll, lines, anyWide, portLimit, Counting, counts, wrong, refuses, ruling, kept, with, rulingOf, counting, monthOf}
 use Rattle.sheet_spec.specs.Rows.{cleared, Run, run, steps, settled}
 use Rattle.sheet_spec.proofs.Running.{notedAll, running, run-is, run-starts, run-ends}
 use Rattle.sheet_spec.proofs.Kept.{Same, steps-same, start-same}

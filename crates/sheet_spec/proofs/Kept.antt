@@ -14,7 +14,7 @@ use Rattle.base.specs.Choice.{pick}
 use Rattle.sheet_spec.specs.declared.Tally.{Tally}
 use Rattle.sheet_spec.specs.declared.Row.{Row}
 use Rattle.sheet_spec.specs.Tally.{plus, one, wide, far}
-use Rattle.sheet_spec.specs.Month.{Mark, added, anyWide, portLimit}
+use Rattle.sheet_spec.specs.Meaning.{Mark, added, anyWide, portLimit}
 use Rattle.sheet_spec.specs.Rows.{blank, verdict, heardRow, noteIn, rowFor, Run, run, step, steps}
 use Rattle.sheet_spec.proofs.Running.{notedAll}
 

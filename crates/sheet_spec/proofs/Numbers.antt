@@ -10,7 +10,7 @@ use mathlib.Core.Bool.{Bool, true, false}
 use mathlib.Core.List.{List, [], _∷_, map}
 use Rattle.sheet_spec.specs.declared.Row.{Row}
 use Rattle.sheet_spec.specs.Tally.{toldFrom, told, tallied, sum}
-use Rattle.sheet_spec.specs.Month.{Mark, numbersOf, numbers, added, addedAll, lines, anyWide, Counting, counts, wrong, refuses, counting, monthOf}
+use Rattle.sheet_spec.specs.Meaning.{Mark, numbersOf, numbers, added, addedAll, lines, anyWide, Counting, counts, wrong, refuses, counting, monthOf}
 use Rattle.sheet_spec.specs.Rows.{row, heardRow, noteIn, rowFor, run, step, steps, settled}
 
 -- a line in numbers: port, delivered, repeated, late, missing, total

@@ -17,7 +17,7 @@ use Rattle.base.specs.Choice.{pick}
 use Rattle.base.specs.Calls.{joined}
 use Rattle.base.proofs.Tests.{by-le}
 use Rattle.sheet_spec.specs.Tally.{nothing, plus, told, sum}
-use Rattle.sheet_spec.specs.Month.{Mark, Month, numbersOf, numbers, added, addedAll, portsOf, with}
+use Rattle.sheet_spec.specs.Meaning.{Mark, Month, numbersOf, numbers, added, addedAll, portsOf, with}
 
 -- all are above a number
 unfoldable pub Above : ℕ → List ℕ → Type 0

@@ -14,7 +14,7 @@ use Rattle.base.proofs.Tests.{by-eq, by-le}
 use Rattle.sheet_spec.specs.declared.Tally.{Tally}
 use Rattle.sheet_spec.specs.declared.Row.{Row}
 use Rattle.sheet_spec.specs.Tally.{nothing}
-use Rattle.sheet_spec.specs.Month.{Mark, Month, numbersOf, numbers, added, addedAll, portsOf, line, lines, with}
+use Rattle.sheet_spec.specs.Meaning.{Mark, Month, numbersOf, numbers, added, addedAll, portsOf, line, lines, with}
 use Rattle.sheet_spec.specs.Rows.{row, blank, heardRow, noteIn, cleared}
 use Rattle.sheet_spec.proofs.Tallies.{after, heard-after, none-after, numbers-with}
 use Rattle.sheet_spec.proofs.Ports.{Above, Rising, In, above-out, rising-out, all-rises, all-snoc, ports-rise, ports-with, absent-before, absent-now}

@@ -18,7 +18,7 @@ use Rattle.ports_spec.specs.declared.Noted.the-variants.{First, InOrder, Repeat
 use Rattle.sheet_spec.specs.declared.Tally.{Tally}
 use Rattle.sheet_spec.specs.declared.Row.{Row}
 use Rattle.sheet_spec.specs.Tally.{toldFrom, told, tallied, nothing, plus, timely, again, behind, one, sum, tally, timelyIn}
-use Rattle.sheet_spec.specs.Month.{Mark, Month, numbersOf, numbers, timelyOf, with}
+use Rattle.sheet_spec.specs.Meaning.{Mark, Month, numbersOf, numbers, timelyOf, with}
 use Rattle.sheet_spec.specs.Rows.{row, heardRow}
 
 -- ---- numbers together

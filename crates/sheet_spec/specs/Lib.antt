@@ -1,5 +1,5 @@
 pub mod Tally
-pub mod Month
+pub mod Meaning
 pub mod Rows
 pub mod Places
 pub mod Recording

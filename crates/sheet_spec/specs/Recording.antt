@@ -5,10 +5,10 @@ use Prim.Native.Nat.{ℕ}
 use mathlib.Core.Bool.{Bool}
 use mathlib.Core.List.{List, [], _∷_}
 use Rattle.packet_spec.specs.Frame.{packet, refusal, broken}
-use Rattle.channel_spec.specs.Channel.{Event, said, block, lost}
+use Rattle.channel_spec.specs.Meaning.{Event, said, block, lost}
 use Rattle.listing_spec.specs.Apart.{freshSpot, apart, well, onChannel}
-use Rattle.listing_spec.specs.Listing.{heard}
-use Rattle.sheet_spec.specs.Month.{Mark}
+use Rattle.listing_spec.specs.Meaning.{heard}
+use Rattle.sheet_spec.specs.Meaning.{Mark}
 
 -- the delivered packets, in order
 unfoldable pub marks : List Event → List Mark

@@ -18,7 +18,7 @@ use Rattle.ports_spec.specs.declared.Noted.the-variants.{First}
 use Rattle.sheet_spec.specs.declared.Tally.{Tally}
 use Rattle.sheet_spec.specs.declared.Row.{Row}
 use Rattle.sheet_spec.specs.Tally.{nothing, plus, one, wide}
-use Rattle.sheet_spec.specs.Month.{Mark, portLimit, Counting, ruling}
+use Rattle.sheet_spec.specs.Meaning.{Mark, portLimit, Counting, ruling}
 
 -- a row
 abbrev pub row : ℕ → Tally → Bool → ℕ → Row

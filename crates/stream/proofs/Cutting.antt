@@ -12,7 +12,7 @@ use Rattle.base.specs.Calls.{joined, owesNone, handsNone, told, Yields}
 use Rattle.base.proofs.Calls.{none-owed, law, yields-all, yields-so}
 use Rattle.packet_spec.specs.Contents.{rawLimit}
 use Rattle.packet_spec.specs.Frame.{Told}
-use Rattle.stream.specs.Called.{Held, held, fresh, takeByte, readAll, readOn, readCall, Fine, EveryCut}
+use Rattle.stream.specs.Call.{Held, held, fresh, takeByte, readAll, readOn, readCall, Fine, EveryCut}
 use Rattle.stream.proofs.Fine.{fine-is, fine-take}
 
 pub read-agrees : (h : Held) (bs : List ℕ) → Fine h → readCall h bs ≡ readOn h bs

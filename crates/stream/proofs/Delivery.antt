@@ -11,7 +11,7 @@ use Rattle.packet_spec.specs.Escape.{flag}
 use Rattle.packet_spec.specs.Contents.{rawLimit}
 use Rattle.packet_spec.specs.Frame.{Told, There}
 use Rattle.packet_spec.proofs.Judging.{payload-there}
-use Rattle.stream.specs.Called.{Held, shut, takeBy, takeByte, sound, readBy, readCall, ThereHeld}
+use Rattle.stream.specs.Call.{Held, shut, takeBy, takeByte, sound, readBy, readCall, ThereHeld}
 
 -- of an answer, if there is one, and the buffer that comes with it
 abbrev pub ThereIf : Option Told → List ℕ → Type 0

@@ -16,7 +16,7 @@ use Rattle.packet_spec.specs.Contents.{rawLimit}
 use Rattle.packet_spec.specs.Escape.{flag}
 use Rattle.packet_spec.proofs.Judging.{length-closed}
 use Rattle.stream.specs.declared.frame.Frame.{Frame}
-use Rattle.stream.specs.Called.{Held, held, begun, placeLimit, lastRaw, store, shut, takeBy, takeByte, sound, Fine}
+use Rattle.stream.specs.Call.{Held, held, begun, placeLimit, lastRaw, store, shut, takeBy, takeByte, sound, Fine}
 use Rattle.stream.proofs.Places.{noticed-within}
 
 pub fine-of : (f : Frame) (l : List ℕ) → sound f ≡ true → rawLimit ≤ length l → Fine (held f l)

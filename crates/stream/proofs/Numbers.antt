@@ -8,8 +8,8 @@ use lib.ListN.{replicate}
 use Rattle.packet_spec.specs.Contents.{rawLimit}
 use Rattle.packet_spec.specs.Escape.{plain, wrongFrom, right, last, scan}
 use Rattle.packet_spec.specs.Frame.{Told, refusal, broken, judgeContents, closedBy, closed, judge}
-use Rattle.stream.specs.Reader.{waiting, reads}
-use Rattle.stream.specs.Called.{held, fresh, placeLimit, takeByte, readAll, sound}
+use Rattle.stream.specs.Meaning.{waiting, reads}
+use Rattle.stream.specs.Call.{held, fresh, placeLimit, takeByte, readAll, sound}
 
 -- the answers of a stream from its start
 abbrev heard : List ℕ → List Told

@@ -21,7 +21,7 @@ use Rattle.packet_spec.specs.Contents.{rawLimit}
 use Rattle.packet_spec.specs.Escape.{wrongFrom, last, byteBefore, wrongBehind}
 use Rattle.packet_spec.proofs.Escaping.{last-at}
 use Rattle.packet_spec.proofs.Places.{wrong-append, wrong-within}
-use Rattle.stream.specs.Called.{Held, noticed, lastRaw, placeLimit, Fine}
+use Rattle.stream.specs.Call.{Held, noticed, lastRaw, placeLimit, Fine}
 use Rattle.stream.specs.Private.{countedBy, placed, looked, gatheredBy}
 use Rattle.stream.specs.declared.frame.Frame.{Frame}
 

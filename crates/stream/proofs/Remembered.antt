@@ -15,8 +15,8 @@ use Rattle.packet_spec.specs.Contents.{rawLimit}
 use Rattle.packet_spec.specs.Escape.{flag, wrongAt, last, BrokenAt}
 use Rattle.packet_spec.specs.Frame.{Told, broken, judge}
 use Rattle.packet_spec.proofs.Faults.{broken-is, broken-there, judge-broken}
-use Rattle.stream.specs.Reader.{Reading, waiting, inside, read, reads}
-use Rattle.stream.specs.Called.{Held, takeByte, EveryCut, heldOf}
+use Rattle.stream.specs.Meaning.{Reading, waiting, inside, read, reads}
+use Rattle.stream.specs.Call.{Held, takeByte, EveryCut, heldOf}
 use Rattle.stream.proofs.Shown.{shown-byte, shown-plain}
 use Rattle.stream.proofs.Cutting.{every-cut-reads}
 

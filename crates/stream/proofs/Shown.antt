@@ -18,8 +18,8 @@ use Rattle.packet_spec.specs.Contents.{rawLimit}
 use Rattle.packet_spec.specs.Frame.{Closed, judge, closed}
 use Rattle.packet_spec.proofs.Places.{wrong-append}
 use Rattle.packet_spec.proofs.Judging.{closed-over, judge-long, judge-is, length-closed}
-use Rattle.stream.specs.Reader.{Reading, waiting, inside, readAt, read, reads}
-use Rattle.stream.specs.Called.{held, begun, noticed, store, shut, takeBy, takeByte, readAll, heldOf}
+use Rattle.stream.specs.Meaning.{Reading, waiting, inside, readAt, read, reads}
+use Rattle.stream.specs.Call.{held, begun, noticed, store, shut, takeBy, takeByte, readAll, heldOf}
 use Rattle.stream.proofs.Places.{before-last}
 
 in-frame : (rs j : List ℕ) (n m place : ℕ) (l : List ℕ) → n ≡ min (length rs) (suc rawLimit) → m ≡ min (length rs) rawLimit

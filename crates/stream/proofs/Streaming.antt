@@ -20,7 +20,7 @@ use Rattle.base.specs.Calls.{tell}
 use Rattle.base.proofs.Calls.{run-append}
 use Rattle.packet_spec.specs.Escape.{flag, NoFlag}
 use Rattle.packet_spec.specs.Frame.{judge}
-use Rattle.stream.specs.Reader.{Reading, waiting, inside, closing, read, reads}
+use Rattle.stream.specs.Meaning.{Reading, waiting, inside, closing, read, reads}
 use Rattle.packet_spec.specs.Sender.{Accepted}
 use Rattle.stream.specs.Sender.{rawOf, framesOf, stream, delivered, openedFrom}
 use Rattle.packet_spec.specs.Contents.{Packet}

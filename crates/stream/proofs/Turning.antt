@@ -29,7 +29,7 @@ use Rattle.stream.specs.declared.frame.Frame.{Frame}
 use Rattle.stream.specs.declared.frame.Read.{Read}
 use Rattle.stream.specs.declared.frame.Turn.{Turn}
 use Rattle.stream.specs.declared.frame.Heard.the-variants.{More, Said}
-use Rattle.stream.specs.Called.{Held, held, begun, placeLimit, noticed, lastRaw, store, shut, takeBy, readOn, sound, readBy, readCall, readOf, ReadIs, Fine}
+use Rattle.stream.specs.Call.{Held, held, begun, placeLimit, noticed, lastRaw, store, shut, takeBy, readOn, sound, readBy, readCall, readOf, ReadIs, Fine}
 use Rattle.stream.specs.Private.{before, countedBy, counted, placed, looked, gatheredBy, gathered, closes, TurnBy, TurnIs}
 use Rattle.stream.proofs.Places.{noticed-none, noticed-more, noticed-within, before-some, before-stored, seenBy, looked-is}
 use Rattle.stream.proofs.Fine.{fine-is, fine-take}

@@ -1,4 +1,4 @@
 pub mod Sender
-pub mod Reader
-pub mod Called
+pub mod Meaning
+pub mod Call
 pub mod Private

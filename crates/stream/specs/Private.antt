@@ -15,7 +15,7 @@ use Rattle.base.specs.UpTo.{upTo}
 use Rattle.base.specs.Calls.{after}
 use Rattle.packet_spec.specs.Contents.{rawLimit}
 use Rattle.packet_spec.specs.Escape.{flag, byteBefore}
-use Rattle.stream.specs.Called.{Held, held, noticed, readOn, sound, ReadIs}
+use Rattle.stream.specs.Call.{Held, held, noticed, readOn, sound, ReadIs}
 use Rattle.stream.specs.declared.frame.Frame.{Frame}
 use Rattle.stream.specs.declared.frame.Turn.{Turn}
 

@@ -6,7 +6,7 @@ ghost use lib.ListN.{length, drop};
 ghost use lib.Seq.{sets};
 ghost use Rattle.packet_spec.specs.Contents.{rawLimit, keyAt, payloadAt};
 ghost use Rattle.packet_spec.specs.Frame.{part};
-ghost use Rattle.stream.specs.Called.{held, fresh, begun, readOn, readCall, sound, ReadIs};
+ghost use Rattle.stream.specs.Call.{held, fresh, begun, readOn, readCall, sound, ReadIs};
 ghost use Rattle.stream.specs.Private.{before, counted, looked, gathered, closes, TurnIs};
 use base::Refusal;
 use packet::Delivery;

@@ -7,7 +7,7 @@ use mathlib.Core.Path.{_≡_, refl, sym, _∙_, ap}
 use mathlib.Core.List.{List, _∷_}
 use Rattle.base.specs.Calls.{joined, told, Yields}
 use Rattle.base.proofs.Calls.{law, yields-all, yields-first}
-use Rattle.subchannel.specs.Called.{Board, eatByte, owed, handOn, hearAll, hearOn, hearCall, Fine}
+use Rattle.subchannel.specs.Call.{Board, eatByte, owed, handOn, hearAll, hearOn, hearCall, Fine}
 use Rattle.subchannel.proofs.Fine.{fine-is, fine-roomy, fine-hand, fine-eat, owed-at}
 
 -- a message byte handed on leaves one less to hand on

@@ -9,18 +9,18 @@ use lib.Dec.{ltb}
 use Rattle.base.specs.Calls.{With}
 use Rattle.base.proofs.Calls.{with-hear}
 use Rattle.packet_spec.specs.Frame.{Told}
-use Rattle.stream.specs.Called.{takeByte}
+use Rattle.stream.specs.Call.{takeByte}
 use Rattle.stream.proofs.Delivery.{ThereIf, there-byte}
 use Rattle.interleaver_spec.specs.Running.{pull}
 use Rattle.interleaver_spec.specs.declared.Back.{Back}
 use Rattle.channel_spec.specs.declared.Hunting.{Hunting}
 use Rattle.channel_spec.specs.Sender.{wordBytes}
-use Rattle.channel_spec.specs.Channel.{isMarker, shift}
-use Rattle.channel.specs.Called.{asEvent, roomy}
+use Rattle.channel_spec.specs.Meaning.{isMarker, shift}
+use Rattle.channel.specs.Call.{asEvent, roomy}
 use Rattle.subchannel_spec.specs.Sender.{groupBytes}
 use Rattle.subchannel.specs.declared.lane.Lane.{Lane}
-use Rattle.subchannel.specs.Called.{Board, heldIn, wordAt, wordOn, groupOn, compareOn, markOn, eatBy, eatByte, owed, handOn}
-use Rattle.subchannel.specs.Called.{sound, hearBy, hearCall, ThereEvent}
+use Rattle.subchannel.specs.Call.{Board, heldIn, wordAt, wordOn, groupOn, compareOn, markOn, eatBy, eatByte, owed, handOn}
+use Rattle.subchannel.specs.Call.{sound, hearBy, hearCall, ThereEvent}
 use Rattle.subchannel.proofs.Cutting.{hand-one}
 
 there-as : (o : Option Told) (c : Board) → ThereIf o (c .recv) → With ThereEvent (asEvent o) c

@@ -17,22 +17,22 @@ use Rattle.packet_spec.specs.Contents.{rawLimit, Packet}
 use Rattle.packet_spec.specs.Escape.{flag}
 use Rattle.packet_spec.specs.Sender.{Accepted}
 use Rattle.parity.specs.Calls.{rootLimit}
-use Rattle.stream.specs.Reader.{waiting, reads}
+use Rattle.stream.specs.Meaning.{waiting, reads}
 use Rattle.stream.specs.Sender.{stream, delivered, openedFrom}
 use Rattle.interleaver_spec.specs.Running.{depthLimit}
 use Rattle.interleaver_spec.specs.declared.Back.{Back}
 use Rattle.channel_spec.specs.Sender.{wordBytes}
-use Rattle.channel_spec.specs.Channel.{Event, frames, blocks, losses, IsWord, FirstMarker}
+use Rattle.channel_spec.specs.Meaning.{Event, frames, blocks, losses, IsWord, FirstMarker}
 use Rattle.channel_spec.specs.declared.Condition.the-variants.{Clean as clean}
 use Rattle.channel_spec.specs.declared.Hunting.{Hunting}
 use Rattle.subchannel_spec.specs.Sender.{closingWords, wordsOf, marked, sent}
 use Rattle.subchannel_spec.specs.Word.{condition, carried}
-use Rattle.subchannel_spec.specs.Sub.{hears, start, answers, wordsGive, silent}
+use Rattle.subchannel_spec.specs.Meaning.{hears, start, answers, wordsGive, silent}
 use Rattle.subchannel_spec.proofs.Streaming.{whole-stream}
 use Rattle.subchannel_spec.proofs.Altered.{earlier-same, others-stay, later-exact}
 use Rattle.subchannel_spec.proofs.Lost.{silent-stays}
 use Rattle.subchannel_spec.proofs.Groups.{hears-append}
-use Rattle.subchannel.specs.Called.{Board, board, toldSub, hearCall, hearAll, EveryCut, boardOf, inUse}
+use Rattle.subchannel.specs.Call.{Board, board, toldSub, hearCall, hearAll, EveryCut, boardOf, inUse}
 use Rattle.subchannel.proofs.Fine.{fine-told}
 use Rattle.subchannel.proofs.Cutting.{hear-settled}
 use Rattle.subchannel.proofs.Shown.{shown-all, in-use}

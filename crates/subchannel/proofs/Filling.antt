@@ -23,7 +23,7 @@ use Rattle.subchannel_spec.specs.Sender.{groupBytes}
 use Rattle.subchannel.specs.declared.lane.Lane.{Lane}
 use Rattle.subchannel.specs.declared.cells.Turned.{Turned}
 use Rattle.subchannel.specs.declared.sub.Sub.{Sub}
-use Rattle.subchannel.specs.Called.{sub, counts, counted, wordAt, grouped, eat}
+use Rattle.subchannel.specs.Call.{sub, counts, counted, wordAt, grouped, eat}
 use Rattle.subchannel.specs.Private.{isSome, TurnedIs, EatenIs, Going, GoesOn, Fills, filled}
 use Rattle.subchannel.proofs.Fine.{pull-placed}
 use Rattle.subchannel.proofs.Steps.{again-full, words-more, eats-brought, eats-group}

@@ -24,15 +24,15 @@ use Rattle.interleaver_spec.specs.Running.{depthLimit, size, pull, gave, beyond
 use Rattle.interleaver_spec.specs.declared.Back.{Back}
 use Rattle.channel_spec.specs.declared.Hunting.{Hunting}
 use Rattle.channel_spec.specs.Sender.{wordBytes}
-use Rattle.channel_spec.specs.Channel.{shift, isMarker}
-use Rattle.channel.specs.Called.{roomy}
+use Rattle.channel_spec.specs.Meaning.{shift, isMarker}
+use Rattle.channel.specs.Call.{roomy}
 use Rattle.subchannel_spec.specs.Sender.{messageBytes, groupBytes}
 use Rattle.subchannel_spec.specs.Word.{mend}
 use Rattle.subchannel.specs.declared.counts.Counts.{Counts}
 use Rattle.subchannel.specs.declared.lane.Lane.{Lane}
 use Rattle.subchannel.specs.declared.sub.Sub.{Sub}
-use Rattle.subchannel.specs.Called.{Board, board, sub, counts, toldSub, heldIn, moved, huntOn, wordAt, mendIn, wordOn, groupOn, compareOn, markOn}
-use Rattle.subchannel.specs.Called.{behind, eatBy, onBoard, eatByte, owedBy, owed, handed, handOn, soundCounts, soundLane, sound, Fine}
+use Rattle.subchannel.specs.Call.{Board, board, sub, counts, toldSub, heldIn, moved, huntOn, wordAt, mendIn, wordOn, groupOn, compareOn, markOn}
+use Rattle.subchannel.specs.Call.{behind, eatBy, onBoard, eatByte, owedBy, owed, handed, handOn, soundCounts, soundLane, sound, Fine}
 use Rattle.subchannel_spec.specs.Settings.{within}
 
 not-so : (b : Bool) → not b ≡ true → b ≡ false

@@ -25,7 +25,7 @@ use Rattle.packet_spec.specs.declared.Judged.the-variants.{Refused}
 use Rattle.parity.specs.Calls.{rootLimit}
 use Rattle.stream.specs.declared.frame.Read.{Read}
 use Rattle.stream.specs.declared.frame.Heard.the-variants as heard
-use Rattle.stream.specs.Called.{Held, held, takeByte, readOn, readCall, ReadIs, answered as frameAnswered, Fine as FineFrame}
+use Rattle.stream.specs.Call.{Held, held, takeByte, readOn, readCall, ReadIs, answered as frameAnswered, Fine as FineFrame}
 use Rattle.stream.proofs.Fine.{fine-take}
 use Rattle.stream.proofs.Cutting.{read-agrees}
 use Rattle.interleaver_spec.specs.Running.{beyond, matrix, back, freshBack, pull}
@@ -33,8 +33,8 @@ use Rattle.interleaver_spec.specs.declared.Back.{Back}
 use Rattle.channel_spec.specs.declared.Hunting.{Hunting}
 use Rattle.channel_spec.specs.declared.Answer.the-variants.{More, Said}
 use Rattle.channel_spec.specs.Sender.{wordBytes}
-use Rattle.channel_spec.specs.Channel.{Event, shift, isMarker}
-use Rattle.channel.specs.Called.{asEvent, roomy}
+use Rattle.channel_spec.specs.Meaning.{Event, shift, isMarker}
+use Rattle.channel.specs.Call.{asEvent, roomy}
 use Rattle.channel_spec.specs.Answer.{answered}
 use Rattle.subchannel_spec.specs.Sender.{messageBytes, groupBytes}
 use Rattle.subchannel.specs.declared.lane.Lane.{Lane}
@@ -42,9 +42,9 @@ use Rattle.subchannel.specs.declared.lane.Step.{Step}
 use Rattle.subchannel.specs.declared.lane.Eaten.{Eaten}
 use Rattle.subchannel.specs.declared.sub.Sub.{Sub}
 use Rattle.subchannel.specs.declared.sub.Hearing.{Hearing}
-use Rattle.subchannel.specs.Called.{Board, board, sub, Given, huntOn, wordAt, wordOn, groupOn, compareOn, markOn, eatBy, eat, onBoard, eatByte}
-use Rattle.subchannel.specs.Called.{owedBy, owes, owed, handing, handed, handOn, soundLane, sound}
-use Rattle.subchannel.specs.Called.{hearBy, hearOn, hearCall, hearingOf, HearingIs, Fine}
+use Rattle.subchannel.specs.Call.{Board, board, sub, Given, huntOn, wordAt, wordOn, groupOn, compareOn, markOn, eatBy, eat, onBoard, eatByte}
+use Rattle.subchannel.specs.Call.{owedBy, owes, owed, handing, handed, handOn, soundLane, sound}
+use Rattle.subchannel.specs.Call.{hearBy, hearOn, hearCall, hearingOf, HearingIs, Fine}
 use Rattle.subchannel.specs.Private.{isSome, Able, EatenIs, HandedBy, HandedIs, spare, BytesIs, Going}
 use Rattle.subchannel.proofs.Fine.{fine-lane, fine-eat, zero-placed}
 use Rattle.subchannel.proofs.Cutting.{hand-one}

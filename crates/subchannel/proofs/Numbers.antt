@@ -8,16 +8,16 @@ use mathlib.Core.List.{List, [], _∷_, map}
 use lib.ListN.{length}
 use borrow.Author.Tests.{lt-ltb, le-ltb}
 use Rattle.base.specs.Choice.{pick}
-use Rattle.stream.specs.Reader.{Reading}
+use Rattle.stream.specs.Meaning.{Reading}
 use Rattle.interleaver_spec.specs.Running.{matrix, back}
 use Rattle.interleaver_spec.specs.declared.Back.{Back}
 use Rattle.channel_spec.specs.declared.Hunting.{Hunting}
-use Rattle.channel_spec.specs.Channel.{zeros}
-use Rattle.stream.specs.Called.{fresh}
-use Rattle.subchannel_spec.specs.Sub.{inGroup, inMark}
+use Rattle.channel_spec.specs.Meaning.{zeros}
+use Rattle.stream.specs.Call.{fresh}
+use Rattle.subchannel_spec.specs.Meaning.{inGroup, inMark}
 use Rattle.subchannel.specs.declared.sub.Sub.{Sub}
 use Rattle.subchannel.specs.declared.counts.Counts.{Counts}
-use Rattle.subchannel.specs.Called.{sub, lane, counts, sound, boardOf}
+use Rattle.subchannel.specs.Call.{sub, lane, counts, sound, boardOf}
 use Rattle.subchannel_spec.specs.Settings.{settings}
 
 -- settings r and d, counts g m w n, and place p

@@ -20,23 +20,23 @@ use Rattle.base.proofs.Tests.{by-le}
 use Rattle.packet_spec.specs.Contents.{rawLimit}
 use Rattle.packet_spec.specs.Frame.{Told}
 use Rattle.parity.specs.Calls.{rootLimit}
-use Rattle.stream.specs.Reader.{Reading, read, reads}
-use Rattle.stream.specs.Called.{Held, takeByte, heldOf}
+use Rattle.stream.specs.Meaning.{Reading, read, reads}
+use Rattle.stream.specs.Call.{Held, takeByte, heldOf}
 use Rattle.stream.proofs.Shown.{shown-byte, tell-end, held-use, held-st}
 use Rattle.interleaver_spec.specs.Running.{pull}
 use Rattle.interleaver_spec.specs.declared.Back.{Back}
 use Rattle.channel_spec.specs.declared.Hunting.{Hunting}
 use Rattle.channel_spec.specs.Sender.{wordBytes}
-use Rattle.channel_spec.specs.Channel.{Event, said, block, shift, isMarker}
-use Rattle.channel.specs.Called.{asEvent}
+use Rattle.channel_spec.specs.Meaning.{Event, said, block, shift, isMarker}
+use Rattle.channel.specs.Call.{asEvent}
 use Rattle.subchannel_spec.specs.Sender.{messageBytes, groupBytes}
 use Rattle.subchannel_spec.specs.Word.{condition, mend, message}
-use Rattle.subchannel_spec.specs.Sub.{Sub, hunting, inGroup, inMark, silent, whole, worded, takes, hunt, grouping, compared, behindGroup, step, hears}
+use Rattle.subchannel_spec.specs.Meaning.{Sub, hunting, inGroup, inMark, silent, whole, worded, takes, hunt, grouping, compared, behindGroup, step, hears}
 use Rattle.subchannel.specs.declared.lane.Lane.{Lane}
-use Rattle.subchannel.specs.Called.{Board, board, sub, lane, counts, huntOn, mendIn, wordOn, groupOn, compareOn, markOn}
+use Rattle.subchannel.specs.Call.{Board, board, sub, lane, counts, huntOn, mendIn, wordOn, groupOn, compareOn, markOn}
 use Rattle.subchannel_spec.specs.Settings.{settings}
-use Rattle.subchannel.specs.Called.{behind, eatBy, onBoard, eatByte}
-use Rattle.subchannel.specs.Called.{owedBy, owed, handWith, handOn, hearAll, inUse, handedOf, lockedWith, boardOf}
+use Rattle.subchannel.specs.Call.{behind, eatBy, onBoard, eatByte}
+use Rattle.subchannel.specs.Call.{owedBy, owed, handWith, handOn, hearAll, inUse, handedOf, lockedWith, boardOf}
 use Rattle.subchannel.proofs.Fine.{mend-length}
 use Rattle.subchannel.proofs.Cutting.{hand-one}
 

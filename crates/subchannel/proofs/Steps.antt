@@ -33,7 +33,7 @@ use Rattle.channel_spec.specs.declared.Hunting.{Hunting}
 use Rattle.channel_spec.specs.declared.Condition.{Condition}
 use Rattle.channel_spec.specs.declared.Answer.the-variants.{More, Block, LockLost}
 use Rattle.channel_spec.specs.Sender.{wordBytes}
-use Rattle.channel_spec.specs.Channel.{Event, conditionBy, shift, isMarker}
+use Rattle.channel_spec.specs.Meaning.{Event, conditionBy, shift, isMarker}
 use Rattle.channel_spec.specs.Answer.{answered}
 use Rattle.subchannel_spec.specs.Sender.{messageBytes, groupBytes}
 use Rattle.subchannel_spec.specs.Word.{condition, mend}
@@ -42,7 +42,7 @@ use Rattle.subchannel.specs.declared.counts.Counts.{Counts}
 use Rattle.subchannel.specs.declared.lane.Lane.{Lane}
 use Rattle.subchannel.specs.declared.lane.Step.{Step}
 use Rattle.subchannel.specs.declared.cells.Turned.{Turned}
-use Rattle.subchannel.specs.Called.{lane, counts, moved, huntOn, wordAt, mendIn, wordOn, groupOn, compareOn, markOn, grouped, eatBy, eat, owedBy, owes}
+use Rattle.subchannel.specs.Call.{lane, counts, moved, huntOn, wordAt, mendIn, wordOn, groupOn, compareOn, markOn, grouped, eatBy, eat, owedBy, owes}
 use Rattle.subchannel_spec.specs.Settings.{within}
 use Rattle.subchannel.specs.declared.lane.Eaten.{Eaten}
 use Rattle.subchannel.specs.Private.{isSome, orZero, TurnedIs, stepOf, WordIs, EatenIs}

@@ -20,7 +20,7 @@ use Rattle.parity.specs.Calls.{rootLimit}
 use Rattle.interleaver_spec.specs.Running.{depthLimit, matrix, back, beyond}
 use Rattle.interleaver_spec.specs.declared.Back.{Back}
 use Rattle.channel_spec.specs.Sender.{wordBytes}
-use Rattle.channel_spec.specs.Channel.{Event}
+use Rattle.channel_spec.specs.Meaning.{Event}
 use Rattle.channel_spec.specs.Answer.{answered}
 use Rattle.subchannel_spec.specs.Sender.{groupBytes}
 use Rattle.subchannel.specs.declared.lane.Lane.{Lane}
@@ -29,7 +29,7 @@ use Rattle.subchannel.specs.declared.lane.Eaten.{Eaten}
 use Rattle.subchannel.specs.declared.cells.Turned.{Turned}
 use Rattle.subchannel.specs.declared.sub.Sub.{Sub}
 use Rattle.subchannel.specs.declared.sub.Hearing.{Hearing}
-use Rattle.subchannel.specs.Called.{board, sub, counts, counted, Given, owes, hearOn, Fine, HearingIs}
+use Rattle.subchannel.specs.Call.{board, sub, counts, counted, Given, owes, hearOn, Fine, HearingIs}
 
 -- there is one
 abbrev pub isSome : {A : Type 0} → Option A → Bool

@@ -1,7 +1,7 @@
 //! What a sub-channel counts, and its limits.
 ghost use mathlib.Core.Path.{_≡_};
 ghost use Prim.Native.Nat.{_≤_};
-ghost use Rattle.subchannel.specs.Called.{counts, soundCounts};
+ghost use Rattle.subchannel.specs.Call.{counts, soundCounts};
 use crate::sub::Sub;
 
 /// Bytes of the group, bytes of the next marker; bytes in the word buffer, message bytes of it handed on.

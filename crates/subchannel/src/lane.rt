@@ -6,10 +6,10 @@ ghost use lib.Dec.{ltb};
 ghost use mathlib.Core.Option.{some};
 ghost use Rattle.interleaver_spec.specs.Running.{matrix, back, beyond};
 ghost use Rattle.parity.specs.Calls.{rootLimit};
-ghost use Rattle.channel_spec.specs.Channel.{shift, isMarker};
-ghost use Rattle.channel.specs.Called.{roomy};
+ghost use Rattle.channel_spec.specs.Meaning.{shift, isMarker};
+ghost use Rattle.channel.specs.Call.{roomy};
 ghost use Rattle.subchannel_spec.specs.Sender.{messageBytes, groupBytes};
-ghost use Rattle.subchannel.specs.Called.{
+ghost use Rattle.subchannel.specs.Call.{
   counts,
   moved,
   huntOn,

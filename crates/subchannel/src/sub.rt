@@ -1,9 +1,9 @@
 //! One sub-channel: its state by value, the receive buffer and the word buffer lent.
 ghost use mathlib.Core.Path.{_≡_};
 ghost use mathlib.Core.Bool.{true, false};
-ghost use Rattle.channel.specs.Called.{roomy};
+ghost use Rattle.channel.specs.Call.{roomy};
 ghost use Rattle.interleaver_spec.specs.Running.{matrix, back};
-ghost use Rattle.subchannel.specs.Called.{Fine, board, sub, toldSub, owes, sound, hearOn, hearCall, HearingIs};
+ghost use Rattle.subchannel.specs.Call.{Fine, board, sub, toldSub, owes, sound, hearOn, hearCall, HearingIs};
 ghost use Rattle.subchannel.specs.Private.{spare, BytesIs};
 use crate::cells;
 use crate::counts::Counts;

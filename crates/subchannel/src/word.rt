@@ -4,7 +4,7 @@ ghost use Prim.Native.Nat.{_≤_, _<_};
 ghost use lib.ListN.{length, take};
 ghost use Rattle.channel_spec.specs.Sender.{wordBytes};
 ghost use Rattle.subchannel_spec.specs.Word.{condition, mend};
-ghost use Rattle.subchannel.specs.Called.{wordAt, mendIn};
+ghost use Rattle.subchannel.specs.Call.{wordAt, mendIn};
 use crate::sub::Sub;
 use channel::Condition;
 use repair::Mended;

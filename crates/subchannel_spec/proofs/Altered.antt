@@ -21,16 +21,16 @@ use Rattle.packet_spec.specs.Contents.{Packet}
 use Rattle.packet_spec.specs.Escape.{flag}
 use Rattle.packet_spec.specs.Sender.{Accepted}
 use Rattle.parity.specs.Calls.{rootLimit}
-use Rattle.stream.specs.Reader.{Reading, waiting, read, reads}
+use Rattle.stream.specs.Meaning.{Reading, waiting, read, reads}
 use Rattle.stream.specs.Sender.{stream, delivered, openedFrom}
 use Rattle.stream.proofs.Streaming.{synchronised, from-flag}
 use Rattle.interleaver_spec.specs.Running.{fresh, push}
-use Rattle.channel_spec.specs.Channel.{Event, frames, blocks, losses, IsWord, FirstMarker}
+use Rattle.channel_spec.specs.Meaning.{Event, frames, blocks, losses, IsWord, FirstMarker}
 use Rattle.channel_spec.specs.declared.Condition.the-variants.{Clean as clean}
 use Rattle.channel_spec.proofs.Streaming.{first-marker, stream-bytes}
 use Rattle.subchannel_spec.specs.Sender.{groupWords, groupBytes, flagWord, grouped, marked, wordsOf, sent}
 use Rattle.subchannel_spec.specs.Word.{condition, message, carried}
-use Rattle.subchannel_spec.specs.Sub.{whole, answers, wordsGive}
+use Rattle.subchannel_spec.specs.Meaning.{whole, answers, wordsGive}
 use Rattle.subchannel_spec.proofs.Received.{received}
 use Rattle.subchannel_spec.proofs.Streaming.{IsClean, all-clean, frames-given, blocks-given, losses-given}
 use Rattle.subchannel_spec.proofs.Streaming.{answered, answered-each, answered-clean, carries, in-turn, groups}

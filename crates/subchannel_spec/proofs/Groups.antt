@@ -14,14 +14,14 @@ use lib.Dec.{lit<}
 use borrow.Author.Tests.{lt-ltb, le-ltb}
 use Rattle.base.specs.Calls.{andThen, run, tell}
 use Rattle.base.proofs.Calls.{run-append}
-use Rattle.stream.specs.Reader.{Reading}
+use Rattle.stream.specs.Meaning.{Reading}
 use Rattle.interleaver_spec.specs.Running.{pull}
 use Rattle.interleaver_spec.specs.declared.Back.{Back}
-use Rattle.channel_spec.specs.Channel.{Event, zeros}
+use Rattle.channel_spec.specs.Meaning.{Event, zeros}
 use Rattle.channel_spec.specs.declared.Hunting.{Hunting}
 use Rattle.channel_spec.proofs.Streaming.{theMarker}
 use Rattle.subchannel_spec.specs.Sender.{groupBytes, grouped}
-use Rattle.subchannel_spec.specs.Sub.{Sub, inGroup, inMark, takes, grouping, step, hears}
+use Rattle.subchannel_spec.specs.Meaning.{Sub, inGroup, inMark, takes, grouping, step, hears}
 
 -- ---- bytes of words
 -- answers, the word so far, the frame reader

@@ -11,15 +11,15 @@ use mathlib.Core.Bool.{true, false}
 use mathlib.Core.List.{List, [], _∷_, _++_}
 use lib.ListN.{length}
 use Rattle.base.specs.Calls.{andThen, run}
-use Rattle.stream.specs.Reader.{Reading, waiting}
+use Rattle.stream.specs.Meaning.{Reading, waiting}
 use Rattle.interleaver_spec.specs.Running.{freshBack, pull}
 use Rattle.interleaver_spec.specs.declared.Back.{Back}
 use Rattle.channel_spec.specs.Sender.{marker}
-use Rattle.channel_spec.specs.Channel.{Event, lost, isMarker, FirstMarker}
+use Rattle.channel_spec.specs.Meaning.{Event, lost, isMarker, FirstMarker}
 use Rattle.channel_spec.specs.declared.Hunting.{Hunting}
 use Rattle.channel_spec.proofs.Streaming.{bytesOf, theMarker, no-match}
 use Rattle.subchannel_spec.specs.Sender.{groupBytes, grouped}
-use Rattle.subchannel_spec.specs.Sub.{Sub, inGroup, inMark, silent, compared, hears, start, answers}
+use Rattle.subchannel_spec.specs.Meaning.{Sub, inGroup, inMark, silent, compared, hears, start, answers}
 use Rattle.subchannel_spec.proofs.Groups.{Taken, takesAll, hears-append}
 use Rattle.subchannel_spec.proofs.Received.{groups-heard}
 

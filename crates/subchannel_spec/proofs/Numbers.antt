@@ -9,14 +9,14 @@ use mathlib.Core.Path.{_≡_, refl}
 use mathlib.Core.List.{List, [], _∷_, _++_, map}
 use lib.ListN.{length, replicate}
 use Rattle.packet_spec.specs.Escape.{flag}
-use Rattle.stream.specs.Reader.{waiting}
+use Rattle.stream.specs.Meaning.{waiting}
 use Rattle.interleaver_spec.specs.Running.{freshBack}
 use Rattle.channel_spec.specs.Sender as channel
-use Rattle.channel_spec.specs.Channel as received
+use Rattle.channel_spec.specs.Meaning as received
 use Rattle.channel_spec.proofs.Streaming.{theMarker}
 use Rattle.subchannel_spec.specs.Sender.{messageBytes, groupBytes, wordOf, missing, closingWords, completing, wordsOf, grouped}
 use Rattle.subchannel_spec.specs.Word.{condition, mend, message}
-use Rattle.subchannel_spec.specs.Sub.{inGroup, hears, start}
+use Rattle.subchannel_spec.specs.Meaning.{inGroup, hears, start}
 
 pub counts : _≡_ {A = List (List ℕ)} (
     map messageBytes (0 ∷ 1 ∷ 32 ∷ 64 ∷ []) ∷ (groupBytes ∷ []) ∷ map closingWords (0 ∷ 1 ∷ 2 ∷ 64 ∷ [])

@@ -11,16 +11,16 @@ use borrow.Author.Tests.{lt-ltb, le-ltb}
 use Rattle.base.specs.Calls.{run}
 use Rattle.base.specs.Choice.{pick}
 use Rattle.base.proofs.Tests.{by-le}
-use Rattle.stream.specs.Reader.{Reading, waiting}
+use Rattle.stream.specs.Meaning.{Reading, waiting}
 use Rattle.interleaver_spec.specs.Running.{depthLimit, freshBack, pull}
 use Rattle.interleaver_spec.specs.declared.Back.{Back}
 use Rattle.interleaver_spec.proofs.Round.{returned-length}
 use Rattle.channel_spec.specs.Sender.{wordBytes}
-use Rattle.channel_spec.specs.Channel.{Event, FirstMarker}
+use Rattle.channel_spec.specs.Meaning.{Event, FirstMarker}
 use Rattle.channel_spec.specs.declared.Hunting.{Hunting}
 use Rattle.subchannel_spec.specs.Sender.{groupWords, groupBytes, closingWords, grouped}
 use Rattle.subchannel_spec.specs.Word.{cameBack}
-use Rattle.subchannel_spec.specs.Sub.{Sub, inMark, hears, start, answers, wordsGive}
+use Rattle.subchannel_spec.specs.Meaning.{Sub, inMark, hears, start, answers, wordsGive}
 use Rattle.subchannel_spec.proofs.Groups.{takesAll, hears-append}
 use Rattle.subchannel_spec.proofs.Received.{words-heard, groups-heard}
 use Rattle.subchannel_spec.proofs.Streaming.{cut-back, cut-lengths}

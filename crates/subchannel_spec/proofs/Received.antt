@@ -20,19 +20,19 @@ use Rattle.base.specs.Choice.{pick}
 use Rattle.base.proofs.Bytes.{each-append}
 use Rattle.base.proofs.Tests.{by-le}
 use Rattle.repair.proofs.Promising.{left-length}
-use Rattle.stream.specs.Reader.{Reading, waiting}
+use Rattle.stream.specs.Meaning.{Reading, waiting}
 use Rattle.interleaver_spec.specs.Running.{depthLimit, fresh, freshBack, sent, push, pull, closingBytes}
 use Rattle.interleaver_spec.specs.declared.Matrix.{Matrix}
 use Rattle.interleaver_spec.proofs.Calling.{passes, deeper}
 use Rattle.interleaver_spec.proofs.Pushing.{sent-length}
 use Rattle.interleaver_spec.proofs.Round.{there-and-back}
 use Rattle.channel_spec.specs.Sender.{marker, wordBytes}
-use Rattle.channel_spec.specs.Channel.{Event, shift, isMarker, zeros, IsWord, FirstMarker}
+use Rattle.channel_spec.specs.Meaning.{Event, shift, isMarker, zeros, IsWord, FirstMarker}
 use Rattle.channel_spec.specs.declared.Hunting.{Hunting}
 use Rattle.channel_spec.proofs.Streaming.{bytesOf, theMarker, no-match, not-first}
 use Rattle.subchannel_spec.specs.Sender.{groupWords, groupBytes, closingWords, grouped, marked}
 use Rattle.subchannel_spec.specs.Word.{mend}
-use Rattle.subchannel_spec.specs.Sub.{Sub, hunting, inGroup, grown, whole, worded, takes, hunt, hears, start, answers, wordsGive}
+use Rattle.subchannel_spec.specs.Meaning.{Sub, hunting, inGroup, grown, whole, worded, takes, hunt, hears, start, answers, wordsGive}
 use Rattle.subchannel_spec.proofs.Groups.{Taken, takesAll, onward, takes-append, behind, groups-read}
 
 -- ---- hunting

@@ -20,17 +20,17 @@ use Rattle.base.specs.Calls.{joined, run}
 use Rattle.base.specs.Choice.{pick}
 use Rattle.base.proofs.Tests.{by-le}
 use Rattle.parity.specs.Calls.{rootLimit}
-use Rattle.stream.specs.Reader.{waiting}
+use Rattle.stream.specs.Meaning.{waiting}
 use Rattle.interleaver_spec.specs.Places.{cell}
 use Rattle.interleaver_spec.specs.Running.{depthLimit, size, fresh, freshBack, push, pull, gave}
 use Rattle.interleaver_spec.specs.declared.Back.{Back}
 use Rattle.interleaver_spec.proofs.Calling.{passes}
 use Rattle.interleaver_spec.proofs.Round.{returned-told, returned-length}
 use Rattle.channel_spec.specs.Sender.{wordBytes}
-use Rattle.channel_spec.specs.Channel.{Event, IsWord, FirstMarker}
+use Rattle.channel_spec.specs.Meaning.{Event, IsWord, FirstMarker}
 use Rattle.subchannel_spec.specs.Sender.{groupWords, cutUp, flagWord, closingWords, wordsOf, wordsBack, grouped, sent}
 use Rattle.subchannel_spec.specs.Word.{cameBack}
-use Rattle.subchannel_spec.specs.Sub.{Sub, answers, wordsGive}
+use Rattle.subchannel_spec.specs.Meaning.{Sub, answers, wordsGive}
 use Rattle.subchannel_spec.proofs.Groups.{takesAll}
 use Rattle.subchannel_spec.proofs.Received.{words-heard, came-back, groups-heard}
 use Rattle.subchannel_spec.proofs.Streaming.{cut-back, cut-lengths, answered, answered-each, closing, closing-each, in-turn, groups}

@@ -20,7 +20,7 @@ use Rattle.packet_spec.specs.Escape.{flag}
 use Rattle.parity.specs.Calls.{rootLimit}
 use Rattle.interleaver_spec.specs.Running.{fresh, push}
 use Rattle.channel_spec.specs.Sender.{marker, wordBytes}
-use Rattle.channel_spec.specs.Channel.{IsWord}
+use Rattle.channel_spec.specs.Meaning.{IsWord}
 use Rattle.subchannel_spec.specs.Sender.{messageBytes, groupWords, groupBytes, wordOf, missing, filled, cutUp, messagesOf}
 use Rattle.subchannel_spec.specs.Sender.{flagWord, completing, pushed, wordsOf, grouped, sent}
 use Rattle.subchannel_spec.proofs.Received.{joined-length, pushed-length}

@@ -26,17 +26,17 @@ use Rattle.word_spec.proofs.Division.{length-remainder}
 use Rattle.word_spec.proofs.Clean.{parity-clean}
 use Rattle.parity.specs.Calls.{rootLimit}
 use Rattle.repair.proofs.Promising.{clean-left}
-use Rattle.stream.specs.Reader.{Reading, waiting, read, reads}
+use Rattle.stream.specs.Meaning.{Reading, waiting, read, reads}
 use Rattle.stream.specs.Sender.{stream, delivered}
 use Rattle.stream.proofs.Streaming.{stream-read}
 use Rattle.interleaver_spec.specs.Running.{depthLimit}
-use Rattle.channel_spec.specs.Channel.{conditionBy, frames, blocks, losses, IsWord, FirstMarker}
+use Rattle.channel_spec.specs.Meaning.{conditionBy, frames, blocks, losses, IsWord, FirstMarker}
 use Rattle.channel_spec.specs.declared.Condition.the-variants.{Clean as clean}
 use Rattle.channel_spec.proofs.Streaming.{frames-whole, blocks-whole, losses-whole, stream-bytes}
 use Rattle.subchannel_spec.specs.Sender.{messageBytes, groupWords, wordOf, missing, filled, cutUp, messagesOf}
 use Rattle.subchannel_spec.specs.Sender.{flagWord, closingWords, completing, pushed, wordsOf, marked, sent}
 use Rattle.subchannel_spec.specs.Word.{condition, mend, message, carried}
-use Rattle.subchannel_spec.specs.Sub.{whole, answers, wordsGive}
+use Rattle.subchannel_spec.specs.Meaning.{whole, answers, wordsGive}
 use Rattle.subchannel_spec.proofs.Received.{joined-append, received}
 
 -- ---- whole messages, of m bytes

@@ -11,7 +11,7 @@ use Rattle.repair.specs.Promise.{Promised}
 use Rattle.repair.specs.Way.{repaired}
 use Rattle.repair.proofs.Promising.{promised-is}
 use Rattle.repair.proofs.Meeting.{repaired-promised}
-use Rattle.channel_spec.specs.Channel.{conditionBy, asMended, IsWord}
+use Rattle.channel_spec.specs.Meaning.{conditionBy, asMended, IsWord}
 use Rattle.channel_spec.proofs.Words.{promised-by}
 use Rattle.subchannel_spec.specs.Word.{condition, mend}
 

@@ -1,4 +1,4 @@
 pub mod Sender
 pub mod Word
-pub mod Sub
+pub mod Meaning
 pub mod Settings

@@ -10,7 +10,7 @@ use Rattle.repair.specs.Way.{repaired as repairedWord}
 use Rattle.interleaver_spec.specs.Running.{freshBack, pull}
 use Rattle.channel_spec.specs.declared.Condition.{Condition}
 use Rattle.channel_spec.specs.Sender.{wordBytes}
-use Rattle.channel_spec.specs.Channel.{conditionBy}
+use Rattle.channel_spec.specs.Meaning.{conditionBy}
 use Rattle.subchannel_spec.specs.Sender.{messageBytes, cutUp}
 
 -- the answer to a word

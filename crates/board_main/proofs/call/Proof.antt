@@ -1,7 +1,7 @@
 -- `board_main::call` stays within what it is lent.
 use native.Mathlib.Omega.{arith}
 use borrow.Author.Needs.{needs}
-use Rattle.board.specs.Called.{screenOf}
+use Rattle.board.specs.Call.{screenOf}
 use Rattle.board_main.proofs.Within.{call-within}
 use Rattle.board_main.proofs.call.Statement.{statement}
 use Rattle.board_main.proofs.call.Tie as tie

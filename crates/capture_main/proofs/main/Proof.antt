@@ -3,7 +3,7 @@ use Prim.Native.Nat.{_+_}
 use native.Mathlib.Omega.{arith}
 use mathlib.Core.Path.{_≡_}
 use lib.ListN.{length}
-use Rattle.capture_spec.specs.Import.{entryLimit}
+use Rattle.capture_spec.specs.Meaning.{entryLimit}
 use Rattle.packet_spec.specs.Contents.{rawLimit}
 use Rattle.channel_spec.specs.Sender.{wordBytes}
 use borrow.Author.Needs.{needs}

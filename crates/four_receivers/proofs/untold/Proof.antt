@@ -1,8 +1,8 @@
 -- `untold` meets its contract.
 use mathlib.Core.Bool.{false}
 use borrow.Author.Needs.{needs}
-use Rattle.channel_spec.specs.Channel.{zeros}
-use Rattle.subchannel.specs.Called.{sub, lane, counts}
+use Rattle.channel_spec.specs.Meaning.{zeros}
+use Rattle.subchannel.specs.Call.{sub, lane, counts}
 use Rattle.subchannel_spec.specs.Settings.{settings}
 use Rattle.four_receivers.proofs.untold.Statement.{statement}
 use Rattle.four_receivers.proofs.untold.Tie as tie

@@ -1,7 +1,7 @@
 -- `listing_main::call` stays within what it is lent.
 use native.Mathlib.Omega.{arith}
 use borrow.Author.Needs.{needs}
-use Rattle.recording.specs.Called.{deckOf}
+use Rattle.recording.specs.Call.{deckOf}
 use Rattle.listing_main.proofs.Within.{call-within}
 use Rattle.listing_main.proofs.call.Statement.{statement}
 use Rattle.listing_main.proofs.call.Tie as tie

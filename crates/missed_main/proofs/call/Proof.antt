@@ -1,6 +1,6 @@
 -- `missed_main::call` stays within what it is lent.
 use borrow.Author.Needs.{needs}
-use Rattle.recording.specs.Called.{deckOf}
+use Rattle.recording.specs.Call.{deckOf}
 use Rattle.missed_main.proofs.Within.{next-within}
 use Rattle.missed_main.proofs.call.Statement.{statement}
 use Rattle.missed_main.proofs.call.Tie as tie

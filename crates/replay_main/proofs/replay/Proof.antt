@@ -1,7 +1,7 @@
 -- `replay_main::replay` is safe and ends: the buffers keep their lengths, and the reads that may come grow fewer.
 use mathlib.Core.Path.{_≡_}
 use lib.ListN.{length}
-use Rattle.capture_spec.specs.Import.{entryLimit}
+use Rattle.capture_spec.specs.Meaning.{entryLimit}
 use borrow.Author.Needs.{needs}
 use Rattle.replay_main.proofs.replay.Statement.{statement}
 use Rattle.replay_main.proofs.replay.Tie as tie

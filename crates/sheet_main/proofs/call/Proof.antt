@@ -1,6 +1,6 @@
 -- `sheet_main::call` stays within what it is lent.
 use borrow.Author.Needs.{needs}
-use Rattle.recording.specs.Called.{deckOf}
+use Rattle.recording.specs.Call.{deckOf}
 use Rattle.sheet_main.proofs.Within.{next-within}
 use Rattle.sheet_main.proofs.call.Statement.{statement}
 use Rattle.sheet_main.proofs.call.Tie as tie

@@ -4,7 +4,7 @@ use mathlib.Core.Bool.{Bool}
 use borrow.Author.Needs.{needs}
 use borrow.Author.Tests.{ne-eqb}
 use Rattle.base.specs.Choice.{pick}
-use Rattle.capture.specs.Called.{ending}
+use Rattle.capture.specs.Call.{ending}
 use Rattle.capture.specs.declared.reader.Ended.the-variants.{Whole, Refused}
 use Rattle.capture.proofs.reader.ending.Statement.{statement}
 use Rattle.capture.proofs.reader.ending.Tie as tie

@@ -1,7 +1,7 @@
 -- `capture::reader::is_sound` meets its contract: each state by its counts.
 use mathlib.Core.Path.{sym, ap}
 use borrow.Author.Needs.{needs}
-use Rattle.capture.specs.Called.{sound}
+use Rattle.capture.specs.Call.{sound}
 use Rattle.capture.proofs.Steps.{sound-low, sound-high}
 use Rattle.capture.proofs.reader.is_sound.Statement.{statement}
 use Rattle.capture.proofs.reader.is_sound.Tie as tie

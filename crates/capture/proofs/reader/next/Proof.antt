@@ -1,7 +1,7 @@
 -- `capture::reader::next` meets its contract: each answer by its own.
 use mathlib.Core.Path.{sym, ap}
 use borrow.Author.Needs.{needs}
-use Rattle.capture.specs.Called.{next}
+use Rattle.capture.specs.Call.{next}
 use Rattle.capture.proofs.reader.next.Statement.{statement}
 use Rattle.capture.proofs.reader.next.Tie as tie
 

@@ -1,7 +1,7 @@
 -- `office::Office::close` meets its contract: no line is begun, or one.
 use borrow.Author.Needs.{needs}
 use lib.ListN.{length}
-use Rattle.office.specs.Desk.{desk}
+use Rattle.office.specs.Meaning.{desk}
 use Rattle.office.proofs.Hearing.{close-as, none-begun, one-begun}
 use Rattle.office.proofs.Office.close.Statement.{statement}
 use Rattle.office.proofs.Office.close.Tie as tie

@@ -3,7 +3,7 @@ use mathlib.Core.Path.{sym, _∙_}
 use borrow.Author.Needs.{needs}
 use borrow.Author.Tests.{not-true, not-false}
 use lib.ListN.{length}
-use Rattle.office.specs.Desk.{desk}
+use Rattle.office.specs.Meaning.{desk}
 use Rattle.office.proofs.Hearing.{call-unsound, call-cramped, call-short, called-on}
 use Rattle.office.proofs.Office.hear.Statement.{statement}
 use Rattle.office.proofs.Office.hear.Tie as tie

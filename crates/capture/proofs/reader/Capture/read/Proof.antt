@@ -2,7 +2,7 @@
 use mathlib.Core.Path.{sym, _∙_}
 use borrow.Author.Needs.{needs}
 use borrow.Author.Tests.{not-true, not-false}
-use Rattle.capture.specs.Called.{held}
+use Rattle.capture.specs.Call.{held}
 use Rattle.capture.proofs.Hearing.{call-unsound, call-cramped, call-on}
 use Rattle.capture.proofs.reader.Capture.read.Statement.{statement}
 use Rattle.capture.proofs.reader.Capture.read.Tie as tie

@@ -3,7 +3,7 @@ use Prim.Native.Nat.{_-_, _<_, _^_}
 use mathlib.Core.Path.{_≡_, refl, _∙_}
 use native.Mathlib.Omega.{arith}
 use lib.ListN.{length}
-use Rattle.capture.specs.Called.{held}
+use Rattle.capture.specs.Call.{held}
 use Rattle.capture.proofs.Hearing.{Going, going-first, going-next, going-end, going-done}
 use Rattle.capture.proofs.reader.Capture.read_on.Statement.{statement}
 use Rattle.capture.proofs.reader.Capture.read_on.Tie as tie

@@ -1,7 +1,7 @@
 -- `channel::receiver::Receiver::hear` meets its contract: refused with 10, with 11, or let on.
 use mathlib.Core.Path.{sym, _∙_}
 use borrow.Author.Tests.{not-true, not-false}
-use Rattle.channel.specs.Called.{board}
+use Rattle.channel.specs.Call.{board}
 use Rattle.channel.proofs.Hearing.{call-unsound, call-cramped, call-on}
 use borrow.Author.Needs.{needs}
 use Rattle.channel.proofs.receiver.Receiver.hear.Statement.{statement}

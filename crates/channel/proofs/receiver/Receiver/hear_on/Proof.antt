@@ -1,5 +1,5 @@
 -- `channel::receiver::Receiver::hear_on` meets its contract, phase behind phase.
-use Rattle.channel.specs.Called.{board}
+use Rattle.channel.specs.Call.{board}
 use Rattle.channel.proofs.Hearing.{room-word, handed-end, sought-end, filled-end}
 use borrow.Author.Needs.{needs}
 use Rattle.channel.proofs.receiver.Receiver.hear_on.Statement.{statement}

@@ -3,8 +3,8 @@ use native.Mathlib.Omega.{arith}
 use Prim.Native.Nat.{_-_, _≤_}
 use mathlib.Core.Path.{_≡_, refl}
 use lib.ListN.{length}
-use Rattle.recording.specs.Called.{far, deckOf}
-use Rattle.listing.specs.Printed.{print}
+use Rattle.recording.specs.Call.{far, deckOf}
+use Rattle.listing.specs.Call.{print}
 use Rattle.listing.proofs.Output.{Far, far-start, far-asks, far-within, far-length, far-on, far-done}
 use Rattle.listing.proofs.lister.Recording.take_on.Statement.{statement}
 use Rattle.listing.proofs.lister.Recording.take_on.Tie as tie

@@ -4,7 +4,7 @@ use native.Mathlib.Omega.{arith}
 use Prim.Native.Nat.{_-_}
 use mathlib.Core.Path.{_≡_, refl}
 use lib.ListN.{length}
-use Rattle.recording.specs.Called.{deckOf}
+use Rattle.recording.specs.Call.{deckOf}
 use Rattle.recording.proofs.Heard.{So, so-start, so-asks, so-within, so-on, so-done}
 use Rattle.recording.proofs.tape.Tape.hear.Statement.{statement}
 use Rattle.recording.proofs.tape.Tape.hear.Tie as tie

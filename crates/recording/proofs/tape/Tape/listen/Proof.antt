@@ -1,6 +1,6 @@
 -- `recording::tape::Tape::listen` meets its contract, by: is it the channel.
 use borrow.Author.Needs.{needs}
-use Rattle.channel.specs.Called.{board}
+use Rattle.channel.specs.Call.{board}
 use Rattle.recording.proofs.Ears.{listen-on, listen-off, plain-fine}
 use Rattle.recording.proofs.tape.Tape.listen.Statement.{statement}
 use Rattle.recording.proofs.tape.Tape.listen.Tie as tie

@@ -2,7 +2,7 @@
 use mathlib.Core.Path.{sym, _∙_}
 use borrow.Author.Needs.{needs}
 use borrow.Author.Tests.{not-true, not-false}
-use Rattle.stream.specs.Called.{held}
+use Rattle.stream.specs.Call.{held}
 use Rattle.stream.proofs.Turning.{call-unsound, call-cramped, call-on}
 use Rattle.stream.proofs.frame.Frame.read.Statement.{statement}
 use Rattle.stream.proofs.frame.Frame.read.Tie as tie

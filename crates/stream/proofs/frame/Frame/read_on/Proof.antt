@@ -8,7 +8,7 @@ use borrow.Author.Needs.{needs}
 use Rattle.base.specs.Calls.{after}
 use Rattle.base.proofs.Calls.{after-none}
 use Rattle.base.proofs.Parts.{tail-is}
-use Rattle.stream.specs.Called.{held, readOn, sound}
+use Rattle.stream.specs.Call.{held, readOn, sound}
 use Rattle.stream.proofs.Turning.{loop-answer, loop-more, loop-end}
 use Rattle.stream.proofs.frame.Frame.read_on.Statement.{statement}
 use Rattle.stream.proofs.frame.Frame.read_on.Tie as tie

@@ -4,7 +4,7 @@ use Prim.Native.Nat.{ℕ, _≤_}
 use native.Mathlib.Omega.{arith}
 use borrow.Author.Needs.{needs}
 use Rattle.packet_spec.specs.Contents.{rawLimit}
-use Rattle.stream.specs.Called.{held}
+use Rattle.stream.specs.Call.{held}
 use Rattle.stream.proofs.Fine.{fine-of}
 use Rattle.stream.proofs.Runs.{counted-room, before-stops}
 use Rattle.stream.proofs.Turning.{turn-end, turn-answer, turn-opens}

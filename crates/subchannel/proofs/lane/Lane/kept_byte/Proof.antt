@@ -2,7 +2,7 @@
 use mathlib.Core.Path.{_∙_}
 use native.Mathlib.Numerals.{add-one}
 use borrow.Author.Needs.{needs}
-use Rattle.subchannel.specs.Called.{counts, moved}
+use Rattle.subchannel.specs.Call.{counts, moved}
 use Rattle.subchannel.proofs.lane.Lane.kept_byte.Statement.{statement}
 use Rattle.subchannel.proofs.lane.Lane.kept_byte.Tie as tie
 

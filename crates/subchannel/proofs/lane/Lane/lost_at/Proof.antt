@@ -1,7 +1,7 @@
 -- `Lane::lost_at` meets its contract.
 use mathlib.Core.Bool.{true, false}
 use borrow.Author.Needs.{needs}
-use Rattle.subchannel.specs.Called.{lane}
+use Rattle.subchannel.specs.Call.{lane}
 use Rattle.subchannel.proofs.lane.Lane.lost_at.Statement.{statement}
 use Rattle.subchannel.proofs.lane.Lane.lost_at.Tie as tie
 

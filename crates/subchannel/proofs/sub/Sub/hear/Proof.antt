@@ -2,7 +2,7 @@
 use mathlib.Core.Path.{sym, _∙_}
 use borrow.Author.Tests.{not-true, not-false}
 use borrow.Author.Needs.{needs}
-use Rattle.subchannel.specs.Called.{board}
+use Rattle.subchannel.specs.Call.{board}
 use Rattle.subchannel.proofs.Hearing.{call-unsound, call-cramped, call-on}
 use Rattle.subchannel.proofs.sub.Sub.hear.Statement.{statement}
 use Rattle.subchannel.proofs.sub.Sub.hear.Tie as tie

@@ -4,7 +4,7 @@ use mathlib.Core.Path.{_≡_, refl, _∙_}
 use native.Mathlib.Omega.{arith}
 use lib.ListN.{length}
 use Rattle.interleaver_spec.specs.Running.{matrix, back}
-use Rattle.subchannel.specs.Called.{sub}
+use Rattle.subchannel.specs.Call.{sub}
 use Rattle.subchannel.specs.Private.{Going}
 use Rattle.subchannel.proofs.Hearing.{able-of, going-first, going-next, going-end, going-done}
 use Rattle.subchannel.proofs.Filling.{goes-all}

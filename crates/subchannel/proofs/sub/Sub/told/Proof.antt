@@ -1,8 +1,8 @@
 -- `Sub::told` meets its contract.
 use mathlib.Core.Bool.{true, false}
 use borrow.Author.Needs.{needs}
-use Rattle.channel_spec.specs.Channel.{zeros}
-use Rattle.subchannel.specs.Called.{sub, lane}
+use Rattle.channel_spec.specs.Meaning.{zeros}
+use Rattle.subchannel.specs.Call.{sub, lane}
 use Rattle.subchannel_spec.specs.Settings.{settings}
 use Rattle.subchannel.proofs.sub.Sub.told.Statement.{statement}
 use Rattle.subchannel.proofs.sub.Sub.told.Tie as tie

@@ -13,14 +13,14 @@ use mathlib.Core.Option.{Option, some, none}
 use lib.Dec.{ltb}
 use lib.ListN.{length, take, drop}
 use Rattle.base.specs.Choice.{pick}
-use Rattle.channel_spec.specs.Channel.{Event}
-use Rattle.channel.specs.Called.{sound, roomy}
+use Rattle.channel_spec.specs.Meaning.{Event}
+use Rattle.channel.specs.Call.{sound, roomy}
 use Rattle.listing_spec.specs.Lines.{given}
 use Rattle.listing_spec.specs.declared.Spot.{Spot}
 use Rattle.ports_spec.specs.declared.Entry.{Entry}
 use Rattle.ports.specs.ByValue.{freshPorts, soundPorts}
-use Rattle.board_spec.specs.Board.{Line, tableBehind, ending}
-use Rattle.recording.specs.Called.{freshTape, deckOf, tapeOf, nearSpot}
+use Rattle.board_spec.specs.Meaning.{Line, tableBehind, ending}
+use Rattle.recording.specs.Call.{freshTape, deckOf, tapeOf, nearSpot}
 use Rattle.board.specs.declared.owed.Owed.{Owed}
 use Rattle.board.specs.declared.readout.Readout.{Readout}
 use Rattle.board.specs.declared.readout.Wants.{Wants}

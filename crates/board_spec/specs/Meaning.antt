@@ -11,14 +11,14 @@ use lib.Dec.{eqb}
 use Rattle.base.specs.Choice.{pick}
 use Rattle.packet_spec.specs.Contents.{Packet, keyFormat}
 use Rattle.packet_spec.specs.Frame.{packet, refusal, broken}
-use Rattle.channel_spec.specs.Channel.{Event, said, block, lost, answers}
+use Rattle.channel_spec.specs.Meaning.{Event, said, block, lost, answers}
 use Rattle.channel_spec.specs.declared.Condition.{Condition}
 use Rattle.channel_spec.specs.declared.Condition.the-variants.{Clean, Repaired, Beyond}
 use Rattle.bid.specs.Line.{feed, space}
 use Rattle.listing_spec.specs.declared.Spot.{Spot}
 use Rattle.listing_spec.specs.Apart.{freshSpot, apart, well, onChannel}
 use Rattle.listing_spec.specs.Lines.{decimal}
-use Rattle.listing_spec.specs.Listing.{heard}
+use Rattle.listing_spec.specs.Meaning.{heard}
 use Rattle.ports_spec.specs.declared.Entry.{Entry}
 use Rattle.ports_spec.specs.declared.Noted.{Noted}
 use Rattle.ports_spec.specs.declared.Noted.the-variants.{First, InOrder, Repeated, Missing, Late, Refused}

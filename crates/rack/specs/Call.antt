@@ -6,9 +6,9 @@ use mathlib.Core.List.{List}
 use mathlib.Core.Option.{Option}
 use Rattle.base.specs.Choice.{pick}
 use Rattle.packet_spec.specs.Frame as frame
-use Rattle.stream.specs.Called as plain
-use Rattle.channel_spec.specs.Channel.{Event}
-use Rattle.channel.specs.Called.{Board, board, hearCall}
+use Rattle.stream.specs.Call as plain
+use Rattle.channel_spec.specs.Meaning.{Event}
+use Rattle.channel.specs.Call.{Board, board, hearCall}
 use Rattle.channel_spec.specs.Answer.{answered}
 use Rattle.rack.specs.declared.told.Told.{Told}
 use Rattle.rack.specs.Told.{ofHeard, ofAnswer, ofCall, frameOf, receiverOf, streamNumbers, channelNumbers}

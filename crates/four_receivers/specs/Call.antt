@@ -16,11 +16,11 @@ use Rattle.base.specs.Choice.{pick}
 use Rattle.packet_spec.specs.Frame.{refusal}
 use Rattle.parity.specs.Calls.{rootLimit}
 use Rattle.interleaver_spec.specs.Running.{depthLimit, freshBack}
-use Rattle.stream.specs.Called.{fresh}
-use Rattle.channel_spec.specs.Channel.{Event, said, zeros}
+use Rattle.stream.specs.Call.{fresh}
+use Rattle.channel_spec.specs.Meaning.{Event, said, zeros}
 use Rattle.channel_spec.specs.Answer.{answered}
 use Rattle.subchannel.specs.declared.sub.Sub.{Sub}
-use Rattle.subchannel.specs.Called.{Board, board, sub, lane, counts, toldSub, sound, hearCall}
+use Rattle.subchannel.specs.Call.{Board, board, sub, lane, counts, toldSub, sound, hearCall}
 use Rattle.subchannel_spec.specs.Settings.{settings}
 use Rattle.four_receivers.specs.declared.Receiver.{Receiver}
 use Rattle.subchannel_spec.specs.declared.Configured.{Configured}

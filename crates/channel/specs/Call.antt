@@ -19,15 +19,15 @@ use lib.Dec.{eqb, ltb, leb}
 use Rattle.base.specs.Calls.{joined, all, hear, Yields}
 use Rattle.packet_spec.specs.Contents.{rawLimit}
 use Rattle.packet_spec.specs.Frame.{Told, refusal, There}
-use Rattle.stream.specs.Called.{Held, held, fresh, takeByte, heldOf, sound as soundFrame, Fine as FineFrame}
+use Rattle.stream.specs.Call.{Held, held, fresh, takeByte, heldOf, sound as soundFrame, Fine as FineFrame}
 use Rattle.channel_spec.specs.declared.Hunting.{Hunting}
 use Rattle.channel.specs.declared.locked.Locked.{Locked}
 use Rattle.channel.specs.declared.receiver.Receiver.{Receiver}
 use Rattle.channel_spec.specs.Answer.{answered}
 use Rattle.channel.specs.declared.answer.Hearing.{Hearing}
 use Rattle.channel_spec.specs.Sender.{messageBytes, wordBytes}
-use Rattle.channel_spec.specs.Channel.{condition, mend}
-use Rattle.channel_spec.specs.Channel.{Event, said, block, lost, shift, isMarker, zeros, Chan, hunting, inWord, inMark}
+use Rattle.channel_spec.specs.Meaning.{condition, mend}
+use Rattle.channel_spec.specs.Meaning.{Event, said, block, lost, shift, isMarker, zeros, Chan, hunting, inWord, inMark}
 
 -- state, receive buffer and word buffer
 pub record Board : Type 0 where

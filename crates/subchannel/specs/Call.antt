@@ -23,17 +23,17 @@ use Rattle.packet_spec.specs.Contents.{rawLimit}
 use Rattle.packet_spec.specs.Frame.{Told, refusal, There}
 use Rattle.parity.specs.Calls.{rootLimit}
 use Rattle.stream.specs.declared.frame.Frame.{Frame}
-use Rattle.stream.specs.Called.{Held, held, fresh, takeByte, heldOf, sound as soundFrame, Fine as FineFrame}
+use Rattle.stream.specs.Call.{Held, held, fresh, takeByte, heldOf, sound as soundFrame, Fine as FineFrame}
 use Rattle.interleaver_spec.specs.Running.{depthLimit, freshBack, pull, beyond}
 use Rattle.interleaver_spec.specs.declared.Back.{Back}
 use Rattle.channel_spec.specs.declared.Hunting.{Hunting}
 use Rattle.channel_spec.specs.Sender.{wordBytes}
-use Rattle.channel_spec.specs.Channel.{Event, said, block, lost, shift, isMarker, zeros}
-use Rattle.channel.specs.Called.{asEvent, roomy}
+use Rattle.channel_spec.specs.Meaning.{Event, said, block, lost, shift, isMarker, zeros}
+use Rattle.channel.specs.Call.{asEvent, roomy}
 use Rattle.channel_spec.specs.Answer.{answered}
 use Rattle.subchannel_spec.specs.Sender.{messageBytes, groupBytes}
 use Rattle.subchannel_spec.specs.Word.{condition, mend}
-use Rattle.subchannel_spec.specs.Sub as model
+use Rattle.subchannel_spec.specs.Meaning as model
 use Rattle.subchannel_spec.specs.Settings.{settings, within}
 use Rattle.subchannel_spec.specs.declared.Settings.{Settings}
 use Rattle.subchannel.specs.declared.counts.Counts.{Counts}

@@ -17,8 +17,8 @@ use Rattle.base.specs.Calls.{joined, Yields}
 use Rattle.packet_spec.specs.Contents.{rawLimit}
 use Rattle.packet_spec.specs.Frame.{refusal}
 use Rattle.channel_spec.specs.Sender.{wordBytes}
-use Rattle.channel_spec.specs.Channel.{Event, said}
-use Rattle.channel.specs.Called.{board, sound, roomy, freshReceiver, ThereEvent}
+use Rattle.channel_spec.specs.Meaning.{Event, said}
+use Rattle.channel.specs.Call.{board, sound, roomy, freshReceiver, ThereEvent}
 use Rattle.channel_spec.specs.Answer.{answered}
 use Rattle.channel_spec.specs.declared.Answer.{Answer}
 use Rattle.channel_spec.specs.declared.Answer.the-variants.{More, Said, Block, LockLost}

@@ -25,7 +25,7 @@ use Rattle.office.specs.declared.Started.the-variants.{Ready, Refused as
 use Rattle.office.specs.declared.Answer.{Answer}
 use Rattle.office.specs.declared.Answer.the-variants.{More, Sent, NoBid, Refused}
 use Rattle.office.specs.declared.Heard.{Heard}
-use Rattle.office.specs.Desk.{Spoken, blocks, unread, refusal, Said, Desk, desk, eat}
+use Rattle.office.specs.Meaning.{Spoken, blocks, unread, refusal, Said, Desk, desk, eat}
 
 -- bytes held between lines, at most
 abbrev pub heldLimit : ℕ

@@ -12,16 +12,16 @@ use lib.Dec.{ltb, leb}
 use lib.ListN.{length, drop}
 use Rattle.base.specs.Choice.{pick}
 use Rattle.base.specs.Written.{Outcome, write}
-use Rattle.channel_spec.specs.Channel.{Event}
-use Rattle.channel.specs.Called.{sound, roomy}
+use Rattle.channel_spec.specs.Meaning.{Event}
+use Rattle.channel.specs.Call.{sound, roomy}
 use Rattle.channel_spec.specs.declared.Answer.{Answer}
 use Rattle.listing_spec.specs.declared.Spot.{Spot}
 use Rattle.listing_spec.specs.declared.Total.{Total}
 use Rattle.listing_spec.specs.Apart.{well}
 use Rattle.listing_spec.specs.Lines.{line, given, one, totalOf, inPackets, inRefusals, inDamaged, inLost, endLine, wrongLine, longest}
 use Rattle.recording.specs.Deck.{Deck, deckHear}
-use Rattle.recording.specs.Called.{freshTape, far, nearSpot, tapeOf}
-pub use Rattle.recording.specs.Called.{deckOf}
+use Rattle.recording.specs.Call.{freshTape, far, nearSpot, tapeOf}
+pub use Rattle.recording.specs.Call.{deckOf}
 use Rattle.listing.specs.declared.lister.Totals.{Totals}
 use Rattle.listing.specs.declared.lister.Recording.{Recording}
 use Rattle.listing.specs.declared.lister.Wants.{Wants}

@@ -20,9 +20,9 @@ use Rattle.base.specs.Choice.{pick}
 use Rattle.packet_spec.specs.Frame.{Told, packet, refusal, broken, judged, There}
 use Rattle.packet_spec.specs.declared.Judged.{Judged}
 use Rattle.packet_spec.specs.declared.Judged.the-variants as judges
-use Rattle.stream.specs.Called.{answered}
+use Rattle.stream.specs.Call.{answered}
 use Rattle.capture_spec.specs.File.{header}
-use Rattle.capture_spec.specs.Import.{entry, entryLimit, fourAt}
+use Rattle.capture_spec.specs.Meaning.{entry, entryLimit, fourAt}
 use Rattle.capture.specs.Export.{Fetched}
 use Rattle.capture.specs.declared.reader.Capture.{Capture}
 use Rattle.capture.specs.declared.reader.Capture.the-variants.{Header, Head, Record, Behind}

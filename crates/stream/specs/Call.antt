@@ -22,7 +22,7 @@ use Rattle.base.specs.Choice.{pick}
 use Rattle.packet_spec.specs.Contents.{rawLimit}
 use Rattle.packet_spec.specs.Escape.{flag, wrongFrom, wrongAt, byteBefore}
 use Rattle.packet_spec.specs.Frame.{Told, refusal, judged, closed, There}
-use Rattle.stream.specs.Reader.{Reading, waiting, inside}
+use Rattle.stream.specs.Meaning.{Reading, waiting, inside}
 use Rattle.stream.specs.declared.frame.Frame.{Frame}
 use Rattle.stream.specs.declared.frame.Read.{Read}
 use Rattle.stream.specs.declared.frame.Heard.{Heard}

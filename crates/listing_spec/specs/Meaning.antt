@@ -6,8 +6,8 @@ use mathlib.Core.Bool.{Bool, true, false}
 use mathlib.Core.List.{List, _++_, map}
 use lib.ListN.{length}
 use Rattle.base.specs.Choice.{pick}
-use Rattle.stream.specs.Reader.{waiting, reads}
-use Rattle.channel_spec.specs.Channel.{Event, said, answers}
+use Rattle.stream.specs.Meaning.{waiting, reads}
+use Rattle.channel_spec.specs.Meaning.{Event, said, answers}
 use Rattle.listing_spec.specs.declared.Spot.{Spot}
 use Rattle.listing_spec.specs.Apart.{freshSpot, apart, well, onChannel}
 use Rattle.listing_spec.specs.Lines.{lines, count, isPacket, isRefusal, isDamaged, isLost, endLine, wrongLine}

@@ -13,11 +13,11 @@ use lib.ListN.{length}
 use Rattle.base.specs.Calls.{andThen}
 use Rattle.base.specs.Choice.{pick}
 use Rattle.packet_spec.specs.Frame.{Told}
-use Rattle.stream.specs.Reader.{Reading, waiting, reads}
+use Rattle.stream.specs.Meaning.{Reading, waiting, reads}
 use Rattle.interleaver_spec.specs.Running.{freshBack, pull}
 use Rattle.interleaver_spec.specs.declared.Back.{Back}
 use Rattle.channel_spec.specs.Sender.{wordBytes}
-use Rattle.channel_spec.specs.Channel.{Event, said, block, lost, shift, isMarker, zeros}
+use Rattle.channel_spec.specs.Meaning.{Event, said, block, lost, shift, isMarker, zeros}
 use Rattle.channel_spec.specs.declared.Hunting.{Hunting}
 use Rattle.subchannel_spec.specs.Sender.{groupBytes}
 use Rattle.subchannel_spec.specs.Word.{condition, mend, message}

@@ -16,7 +16,7 @@ use Rattle.packet_spec.specs.Frame.{Told}
 use Rattle.repair.specs.declared.Mended.{Mended}
 use Rattle.repair.specs.declared.Mended.the-variants as repair
 use Rattle.repair.specs.Way.{repaired as repairedWord}
-use Rattle.stream.specs.Reader.{Reading, waiting, reads}
+use Rattle.stream.specs.Meaning.{Reading, waiting, reads}
 use Rattle.channel_spec.specs.Sender.{marker, messageBytes, parityBytes, wordBytes}
 use Rattle.channel_spec.specs.declared.Hunting.{Hunting}
 use Rattle.channel_spec.specs.declared.Condition.{Condition}

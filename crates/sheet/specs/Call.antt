@@ -13,7 +13,7 @@ use Rattle.base.specs.Written.{Outcome, refused, write}
 use Rattle.lines.specs.Row.{rowLine}
 use Rattle.sheet_spec.specs.declared.Row.{Row}
 use Rattle.sheet_spec.specs.Tally.{wide}
-use Rattle.sheet_spec.specs.Month.{Mark, portLimit, Counting, counts, wrong, refuses, kept}
+use Rattle.sheet_spec.specs.Meaning.{Mark, portLimit, Counting, counts, wrong, refuses, kept}
 use Rattle.sheet_spec.specs.Rows.{blank, heardRow, noteIn, rowFor, cleared, padded, Run, run, settled}
 use Rattle.sheet.specs.declared.Sheet.{Sheet}
 use Rattle.sheet.specs.declared.Draft.{Draft}
