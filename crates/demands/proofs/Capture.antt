@@ -44,14 +44,14 @@ use Rattle.capture.specs.Call.{Held, Fine, readAll, readCall, finishing, endedA
 use Rattle.capture.specs.declared.reader.Capture.{Capture}
 use Rattle.capture.proofs.Cutting.{read-yields, every-cut}
 use Rattle.capture.proofs.There.{Own, export-there, read-there}
-use Rattle.demands.specs.Table.{Exact}
-use Rattle.demands.specs.Refusals.{ByCall, ByRead}
-use Rattle.demands.specs.Captures.{CaptureBeyond, NoPacket, HeaderMissed, RecordCut, FaultBefore, ByEnd, FetchedHeld, FetchedBoard, FetchedSub, FetchedDeck}
-use Rattle.demands.specs.Captures.{put, entriesBy}
-use Rattle.demands.proofs.Fetching.{packet-there, plain-fetched, board-fetched, sub-fetched, deck-fetched}
-use Rattle.demands.proofs.Fetching.{OwnHeld, OwnBoard, OwnSub, OwnDeck, plain-own, board-own, sub-own, deck-own}
-use Rattle.demands.proofs.Rows.{wrote}
-use Rattle.demands.proofs.Capturing.{enter-exact, import-exact, import-same, end-exact}
+use Rattle.demands_laws.specs.Table.{Exact}
+use Rattle.demands_laws.specs.Refusals.{ByCall, ByRead}
+use Rattle.demands_laws.specs.Captures.{CaptureBeyond, NoPacket, HeaderMissed, RecordCut, FaultBefore, ByEnd, FetchedHeld, FetchedBoard, FetchedSub, FetchedDeck}
+use Rattle.demands_laws.specs.Captures.{put, entriesBy}
+use Rattle.demands_laws.proofs.Fetching.{packet-there, plain-fetched, board-fetched, sub-fetched, deck-fetched}
+use Rattle.demands_laws.proofs.Fetching.{OwnHeld, OwnBoard, OwnSub, OwnDeck, plain-own, board-own, sub-own, deck-own}
+use Rattle.demands_laws.proofs.Rows.{wrote}
+use Rattle.demands_laws.proofs.Capturing.{enter-exact, import-exact, import-same, end-exact}
 
 -- ---- "Export delivered packets as a classic little-endian pcap file, version 2.4, snapshot length 65,535, link type 147": zone "and accuracy are 0"
 pub begins-with : header ≡ four 0xA1B2C3D4 ++ (2 ∷ 0 ∷ 4 ∷ 0 ∷ (four 0 ++ (four 0 ++ (four 65535 ++ four 147))))

@@ -61,16 +61,16 @@ use Rattle.office.specs.declared.Office.{Office}
 use Rattle.office.specs.declared.Started.the-variants.{Refused as StartRefused}
 use Rattle.office.specs.Meaning.{Desk, endingOf, refusal as line-refusal}
 use Rattle.office.specs.Call.{holdLimit, outLimit, starting, denied, hearCall as desk-hear, closeCall, spokenOut, answeredOut, finishing as desk-finish}
-use Rattle.demands.specs.Table.{Exact}
-use Rattle.demands.specs.Desks.{DeskBeyond, DeskShort, lineRows, ByDesk, ByStart, ByLine, BySpoken}
-use Rattle.demands.specs.Refusals.{PlaceBeyond, Unusable, UnfitHead, frameRows, FrameBeyond, Beyond, NextBeyond, TapeBeyond, BoardBeyond, Short, OfFrame, OfCall, ByFrame, ByCall, ByState, ByCheck, ByRepair, ByRead, ByHear, ByNext, ByTake, ByShow}
-use Rattle.demands.proofs.Rows.{row, row-not, not-less, not-same, refuses, wrote, refuses-word, found, repair-as-check, calling-exact, calling-same}
-use Rattle.demands.proofs.Frames.{barred-is, free-is, unfit-is, fit-is, closed-exact, judging-exact, judging-same, judge-exact, undone}
-use Rattle.demands.proofs.Called.{read-given, hear-given, read-exact, read-same, hear-exact, hear-same}
-use Rattle.demands.proofs.Showing.{show-exact, show-same}
-use Rattle.demands.proofs.Taken.{next-exact, next-same, next-given, take-exact, take-same}
-use Rattle.demands.proofs.Desk.{line-exact, office-line-same, office-start-exact, office-start-same, office-hear-exact, office-hear-same, office-close-exact, office-close-same, office-finish-exact, office-finish-same}
-use Rattle.demands.proofs.Desk.{lines-print-exact, lines-print-same, lines-print-end-exact, lines-print-end-same, lines-print-wrong-exact, lines-print-wrong-same}
+use Rattle.demands_laws.specs.Table.{Exact}
+use Rattle.demands_laws.specs.Desks.{DeskBeyond, DeskShort, lineRows, ByDesk, ByStart, ByLine, BySpoken}
+use Rattle.demands_laws.specs.Refusals.{PlaceBeyond, Unusable, UnfitHead, frameRows, FrameBeyond, Beyond, NextBeyond, TapeBeyond, BoardBeyond, Short, OfFrame, OfCall, ByFrame, ByCall, ByState, ByCheck, ByRepair, ByRead, ByHear, ByNext, ByTake, ByShow}
+use Rattle.demands_laws.proofs.Rows.{row, row-not, not-less, not-same, refuses, wrote, refuses-word, found, repair-as-check, calling-exact, calling-same}
+use Rattle.demands_laws.proofs.Frames.{barred-is, free-is, unfit-is, fit-is, closed-exact, judging-exact, judging-same, judge-exact, undone}
+use Rattle.demands_laws.proofs.Called.{read-given, hear-given, read-exact, read-same, hear-exact, hear-same}
+use Rattle.demands_laws.proofs.Showing.{show-exact, show-same}
+use Rattle.demands_laws.proofs.Taken.{next-exact, next-same, next-given, take-exact, take-same}
+use Rattle.demands_laws.proofs.Desk.{line-exact, office-line-same, office-start-exact, office-start-same, office-hear-exact, office-hear-same, office-close-exact, office-close-same, office-finish-exact, office-finish-same}
+use Rattle.demands_laws.proofs.Desk.{lines-print-exact, lines-print-same, lines-print-end-exact, lines-print-end-same, lines-print-wrong-exact, lines-print-wrong-same}
 
 -- ---- "Sender and receiver accept every input and come to an end": of each call that is the first half of its law in Promises. Reading comes to
 -- an end too: the pieces of every byte string, each handed in until "more wanted", from every state and buffers that pass 10 and 11, with a

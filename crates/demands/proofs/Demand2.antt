@@ -88,9 +88,9 @@ use Rattle.listing.proofs.Listing.{listing-printed}
 use Rattle.listing.proofs.Ends.{listing-ends, finish-ends}
 use Rattle.office.specs.Meaning.{Said, Desk}
 use Rattle.office.specs.Call.{hearCall, closeCall}
-use Rattle.demands.proofs.Desk.{office-line-number, office-close-number}
+use Rattle.demands_laws.proofs.Desk.{office-line-number, office-close-number}
 use Rattle.board_spec.proofs.Decimal.{decimal-digits}
-use Rattle.demands.proofs.Trips.{packet-back, judged-back, plain-listed, channel-listed}
+use Rattle.demands_laws.proofs.Trips.{packet-back, judged-back, plain-listed, channel-listed}
 
 -- ---- "for each packet the sender accepts, a packet written and read back is the same packet.": where n bytes are written of a packet (a key
 -- number of a byte, numbers of two bytes, key and payload of bytes), those n bytes, read behind a flag, give that packet and nothing else ..

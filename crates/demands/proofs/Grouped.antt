@@ -31,11 +31,11 @@ use Rattle.subchannel_sender.specs.declared.Counted.the-variants.{Groups, Refus
 use Rattle.subchannel_sender.proofs.Running.{group-state, group-roots, group-depth, group-short, group-long, group-goes, group-placed, groups-sent, sent-long, count-rest, group-first}
 use Rattle.subchannel_sender.proofs.Running.{count-are}
 use Rattle.subchannel.proofs.Fine.{zero-placed}
-use Rattle.demands.specs.Table.{Exact}
-use Rattle.demands.specs.Refusals.{PlaceBeyond, ByGroup, ByCount}
-use Rattle.demands.specs.SubChannels.{groupsPut}
-use Rattle.demands.specs.Captures.{put}
-use Rattle.demands.proofs.Rows.{applies, row, passed, not-less, refuses, wrote, place-beyond, place-within}
+use Rattle.demands_laws.specs.Table.{Exact}
+use Rattle.demands_laws.specs.Refusals.{PlaceBeyond, ByGroup, ByCount}
+use Rattle.demands_laws.specs.SubChannels.{groupsPut}
+use Rattle.demands_laws.specs.Captures.{put}
+use Rattle.demands_laws.proofs.Rows.{applies, row, passed, not-less, refuses, wrote, place-beyond, place-within}
 
 -- ---- the calls' refusals
 module _ (r d : ℕ) (m : Matrix) (bs out : List ℕ) where

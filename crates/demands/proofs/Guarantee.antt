@@ -33,8 +33,8 @@ use Rattle.channel.specs.Call.{EveryCut, boardOf, inUse}
 use Rattle.channel_spec.proofs.Streaming.{wholes, behindWords, frames-wholes, blocks-wholes, losses-wholes, first-markers, sent-messages, sent-each, sent-bytes, sent-some}
 use Rattle.channel_spec.proofs.Streaming.{received as heard-words}
 use Rattle.channel.proofs.Demands.{cut-so, every-cut}
-use Rattle.demands.specs.Guarantee.{altered, Repairable, Received, received}
-use Rattle.demands.proofs.Altered.{altered-is, repairable-half, half-repairable, sent-clean-words, carried-received, answers-received, behind-received, words-received, some-received}
+use Rattle.demands_laws.specs.Guarantee.{altered, Repairable, Received, received}
+use Rattle.demands_laws.proofs.Altered.{altered-is, repairable-half, half-repairable, sent-clean-words, carried-received, answers-received, behind-received, words-received, some-received}
 
 -- ---- "a clean word with 1 to R bytes altered is never clean": the check finds it damaged
 pub never-clean : (r : ℕ) (v : List ℕ) → CleanWord r v → (w : List ℕ) → IsWord w → Bytes w → 0 < altered v w → altered v w ≤ r

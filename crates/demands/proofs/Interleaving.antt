@@ -30,7 +30,7 @@ use Rattle.interleaver_spec.proofs.Pushing.{sent-place}
 use Rattle.interleaver_spec.proofs.Numbers.{first-outputs}
 use Rattle.interleaver_spec.proofs.Round.{output-told, returned-told, returned-length, delayed, there-and-back as round}
 use Rattle.interleaver_spec.proofs.Cutting as cutting
-use Rattle.demands.proofs.Rows.{calling-is}
+use Rattle.demands_laws.proofs.Rows.{calling-is}
 
 -- ---- the equations: "column 53i mod 255 and row (i - 254·INT(i/255)) mod D", cells numbered row by row ..
 pub cell-is : (d i : ℕ) → cell d i ≡ (i - 254 * (i / 255)) % d * 255 + 53 * i % 255

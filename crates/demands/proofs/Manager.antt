@@ -42,9 +42,9 @@ use Rattle.board_spec.proofs.Sixteen.{Good, only-bids}
 use Rattle.board.specs.Call.{freshReadout}
 use Rattle.board.specs.Runs.{EveryShow}
 use Rattle.board.proofs.Demands.{shown-bare}
-use Rattle.demands.specs.Guarantee.{altered, answerFor, Received, received}
+use Rattle.demands_laws.specs.Guarantee.{altered, answerFor, Received, received}
 use Rattle.demands.specs.Way.{Sends, Airs}
-use Rattle.demands.proofs.Framed.{framed-same}
+use Rattle.demands_laws.proofs.Framed.{framed-same}
 use Rattle.demands.proofs.Guarantee.{delivered-as-sent}
 
 -- ---- what is so of the answers that calls give is so of the answers that the bytes mean

@@ -27,10 +27,10 @@ use Rattle.ports_spec.proofs.Signed.{distance-is, distance-only, rule-means, mi
 use Rattle.ports_spec.proofs.Laws.{first-free, free-is, others-noted, others-forgotten, entries-noted, noted-last, noted-first, first-last, only-full, forgotten-none, forgotten-at, forgotten-else, fresh-fit, fresh-none}
 use Rattle.ports_spec.proofs.Refusing.{unfit-is, fit-not, held-is, away-not, full-is, free-not, rule-given, noting-keeps, forgetting-keeps}
 use Rattle.ports_spec.proofs.Keeping.{never-43}
-use Rattle.demands.specs.Table.{Exact}
-use Rattle.demands.specs.Refusals.{ByCall}
+use Rattle.demands_laws.specs.Table.{Exact}
+use Rattle.demands_laws.specs.Refusals.{ByCall}
 use Rattle.demands.specs.Missed.{ByNoted, ByForgot, noteRows, forgetRows}
-use Rattle.demands.proofs.Rows.{over, row, row-not, passed, wrote}
+use Rattle.demands_laws.proofs.Rows.{over, row, row-not, passed, wrote}
 
 -- "Keep beside the packets a small table of ports, up to 16, each with its last sequence number.": a fresh one has 16 places, holds no port
 -- and passes 43

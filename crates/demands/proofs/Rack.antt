@@ -47,10 +47,10 @@ use Rattle.channel_spec.specs.declared.Answer.{Answer}
 use Rattle.rack.specs.Words.{writtenNumber, checkedNumber, mendedNumber, making, checking, mending}
 use Rattle.rack.specs.Told as told
 use Rattle.rack.specs.Call.{readBy, reading, heardBy, hearing}
-use Rattle.demands.specs.Table.{Exact}
-use Rattle.demands.specs.Refusals.{FrameBeyond, Beyond as BeyondState, Short, OfFrame, OfCall, ByFrame}
+use Rattle.demands_laws.specs.Table.{Exact}
+use Rattle.demands_laws.specs.Refusals.{FrameBeyond, Beyond as BeyondState, Short, OfFrame, OfCall, ByFrame}
 use Rattle.demands.specs.Rack.{ByWord, ByCalled, OfReading, OfHearing, heldBy, boardBy}
-use Rattle.demands.proofs.Rows.{first-each}
+use Rattle.demands_laws.proofs.Rows.{first-each}
 use Rattle.demands.proofs.Demand1.{make-refusals, make-keeps-out, check-refusals, repair-refusals, repair-keeps, read-refusals, read-keeps-all, hear-refusals, hear-keeps-all}
 use Rattle.demands.proofs.Demand1.{read-numbers, hear-numbers}
 

@@ -39,7 +39,7 @@ use Rattle.channel.specs.Call.{Board, board, huntOn, wordOn, compareOn, markOn,
 use Rattle.channel.proofs.Cutting.{hand-one, hear-agrees}
 use Rattle.rack.specs.Told.{ofAnswer, receiverOf, channelNumbers}
 use Rattle.rack.specs.Call.{readBy, reading, heardBy, hearing}
-use Rattle.demands.specs.Refusals.{OfFrame, OfCall, ByFrame}
+use Rattle.demands_laws.specs.Refusals.{OfFrame, OfCall, ByFrame}
 use Rattle.demands.specs.Rack.{StandsBy, saidBy, calledBy, readCalled, toldAs, heldBy, channelBy, heardCalled, eventAs, boardBy}
 use Rattle.demands.proofs.Demand1.{read-numbers, read-keeps-all, hear-numbers, hear-keeps-all}
 use Rattle.demands.proofs.Demand3.{plain-cut, plain-payload, every-cut, every-payload}

@@ -42,10 +42,10 @@ use Rattle.sheet.specs.declared.Counted.{Counted}
 use Rattle.sheet.specs.declared.Counted.the-variants.{Counts, Wrong, Refused}
 use Rattle.sheet.specs.Call.{rowsOf, sheetOf, freshSheet, closed, answerOf, beyond, closing, recorded, lineOf, printing}
 use Rattle.sheet.proofs.Month.{rows-sheet, recorded-is, closing-keeps, refused-keeps}
-use Rattle.demands.specs.Table.{Exact}
-use Rattle.demands.specs.Refusals.{ByCall}
+use Rattle.demands_laws.specs.Table.{Exact}
+use Rattle.demands_laws.specs.Refusals.{ByCall}
 use Rattle.demands.specs.Sheet.{ByClosed, closeRows, monthRows, printRows, recordedAll}
-use Rattle.demands.proofs.Rows.{applies, over, row, passed, refuses as refuses-call, not-less, wrote}
+use Rattle.demands_laws.proofs.Rows.{applies, over, row, passed, refuses as refuses-call, not-less, wrote}
 
 -- "From many recordings, print a line for each port, in rising order:": the ports rise, a line each, and are those that a recording that counts
 -- delivered a packet of

@@ -86,13 +86,13 @@ use Rattle.subchannel_sender.proofs.Determined.{sending-keeps}
 use Rattle.four_senders.specs.declared.Sender.{Sender}
 use Rattle.four_senders.specs.Call as senders
 use Rattle.four_senders.proofs.Apart as apart
-use Rattle.demands.specs.Table.{Exact}
-use Rattle.demands.specs.Guarantee.{Received, received}
-use Rattle.demands.specs.Refusals.{Short, OfFrame, OfCall, ByFrame, ByCall, ByHear}
-use Rattle.demands.specs.SubChannels.{SubBeyond, ReceiverBeyond, SenderBeyond, Unknown, OfNumbered, ByConfigure, ByNumbered}
-use Rattle.demands.proofs.Rows.{row, not-less, refuses, wrote}
-use Rattle.demands.proofs.Altered.{unaltered, sent-clean-words, carried-received, answers-received, words-received, many-received}
-use Rattle.demands.proofs.Subs as rows
+use Rattle.demands_laws.specs.Table.{Exact}
+use Rattle.demands_laws.specs.Guarantee.{Received, received}
+use Rattle.demands_laws.specs.Refusals.{Short, OfFrame, OfCall, ByFrame, ByCall, ByHear}
+use Rattle.demands_laws.specs.SubChannels.{SubBeyond, ReceiverBeyond, SenderBeyond, Unknown, OfNumbered, ByConfigure, ByNumbered}
+use Rattle.demands_laws.proofs.Rows.{row, not-less, refuses, wrote}
+use Rattle.demands_laws.proofs.Altered.{unaltered, sent-clean-words, carried-received, answers-received, words-received, many-received}
+use Rattle.demands_laws.proofs.Subs as rows
 
 -- ---- "the sender .. for one to four sub-channels: each has R, a depth and its own stream": configured, a sub-channel sends a stream by its own
 -- settings ..

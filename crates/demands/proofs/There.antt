@@ -27,7 +27,7 @@ use Rattle.office.proofs.Cutting.{bids-cut}
 use Rattle.office.proofs.Board.{packets-accepted}
 use Rattle.board_spec.specs.Typed.{accepting, acceptedLines, Plainly, numbersOf, ByOne, Among}
 use Rattle.demands.specs.Way.{Sends, Airs}
-use Rattle.demands.proofs.Altered.{unaltered, sent-clean-words}
+use Rattle.demands_laws.proofs.Altered.{unaltered, sent-clean-words}
 use Rattle.demands.proofs.Manager.{went-out}
 
 -- every input, however it is cut, with buffers that pass 11 and room that passes 23

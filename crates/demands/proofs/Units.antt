@@ -37,10 +37,10 @@ use Rattle.unit_spec.proofs.Ignored as ignored
 use Rattle.unit_spec.proofs.Round as round
 use Rattle.unit_spec.proofs.Keeping.{written-keeps, read-keeps}
 use Rattle.unit_spec.proofs.Refusing as refusing
-use Rattle.demands.specs.Table.{First, Exact}
-use Rattle.demands.specs.Refusals.{ByCall}
-use Rattle.demands.specs.Units.{writeRows, readRows}
-use Rattle.demands.proofs.UnitRows.{unit-write-exact, unit-read-exact, accepts, unit-written, unit-read}
+use Rattle.demands_laws.specs.Table.{First, Exact}
+use Rattle.demands_laws.specs.Refusals.{ByCall}
+use Rattle.demands_laws.specs.Units.{writeRows, readRows}
+use Rattle.demands_laws.proofs.UnitRows.{unit-write-exact, unit-read-exact, accepts, unit-written, unit-read}
 
 -- neither 0 nor 7
 abbrev Other : ℕ → Type 0

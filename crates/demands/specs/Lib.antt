@@ -1,16 +1,9 @@
 pub mod Means
-pub mod Table
-pub mod Refusals
-pub mod Desks
-pub mod SubChannels
-pub mod Guarantee
 pub mod Way
 pub mod Numbers
 pub mod Telling
 pub mod Printed
 pub mod Requested
 pub mod Missed
-pub mod Units
-pub mod Captures
 pub mod Sheet
 pub mod Rack

@@ -10,7 +10,7 @@ use Rattle.ports_spec.specs.declared.Noted.the-variants.{Refused}
 use Rattle.ports_spec.specs.declared.Forgot.{Forgot}
 use Rattle.ports_spec.specs.declared.Forgot.the-variants.{Refused as Unforgotten}
 use Rattle.ports_spec.specs.Refusing.{Unfit as UnfitTable, Held, Full}
-use Rattle.demands.specs.Table.{Row}
+use Rattle.demands_laws.specs.Table.{Row}
 
 -- a packet to be noted is refused
 abbrev pub ByNoted : Noted × List Entry → ℕ → Type 0

@@ -21,7 +21,7 @@ use Rattle.channel.specs.Call.{Board, board}
 use Rattle.channel_spec.specs.Answer.{answered}
 use Rattle.rack.specs.Told.{ofJudged, ofAnswer, ofCall, frameOf, receiverOf, toldNumbers}
 use Rattle.rack.specs.Call.{reading, hearing}
-use Rattle.demands.specs.Refusals.{OfFrame, OfCall}
+use Rattle.demands_laws.specs.Refusals.{OfFrame, OfCall}
 
 -- a call on a word: 0 and 1 are no refusals, nor is a number above 255
 abbrev pub ByWord : ℕ → ℕ → Type 0

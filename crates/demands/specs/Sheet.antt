@@ -16,7 +16,7 @@ use Rattle.sheet.specs.declared.Draft.{Draft}
 use Rattle.sheet.specs.declared.Closed.{Closed}
 use Rattle.sheet.specs.declared.Counted.the-variants.{Refused}
 use Rattle.sheet.specs.Call.{rowsOf, lineOf, recorded}
-use Rattle.demands.specs.Table.{Row}
+use Rattle.demands_laws.specs.Table.{Row}
 
 -- a recording is refused
 abbrev pub ByClosed : Closed → ℕ → Type 0

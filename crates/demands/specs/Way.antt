@@ -13,7 +13,7 @@ use Rattle.channel_spec.specs.Meaning.{IsWord, FirstMarker}
 use Rattle.bid.specs.Line.{lineLimit}
 use Rattle.office.specs.Meaning.{Said, Desk, waiting, sentBy}
 use Rattle.office.specs.Call.{holdLimit, outLimit, hearCall, closeCall, first, lastOf}
-use Rattle.demands.specs.Guarantee.{Received}
+use Rattle.demands_laws.specs.Guarantee.{Received}
 
 -- the office hears the bytes `input`, cut in some way, from its start, with buffers that pass 11 and each call with room that passes 23, and
 -- then the end of its input; what goes out of all these calls, the last block too, is `out`

@@ -20,8 +20,8 @@ use Rattle.office.specs.declared.Started.the-variants.{Refused as StartRefused}
 use Rattle.office.specs.declared.Answer.the-variants.{Refused}
 use Rattle.office.specs.Meaning.{Spoken, Said, Desk}
 use Rattle.office.specs.Call.{heldLimit, holdLimit, spoken, answered}
-use Rattle.demands.specs.Table.{Row}
-use Rattle.demands.specs.Refusals.{Unusable}
+use Rattle.demands_laws.specs.Table.{Row}
+use Rattle.demands_laws.specs.Refusals.{Unusable}
 
 -- 10 of the office: bytes of a line above 8,205, bytes held above 222
 abbrev pub DeskBeyond : Office → Type 0

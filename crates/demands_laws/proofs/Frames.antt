@@ -31,9 +31,9 @@ use Rattle.packet_spec.specs.Sender.{headFits}
 use Rattle.packet_spec.proofs.Judging.{key-fits}
 use Rattle.packet_spec.proofs.Round.{by-format}
 use Rattle.packet_spec.proofs.Faults.{Scanned, scan-says, broken-followed}
-use Rattle.demands.specs.Table.{Row, Exact}
-use Rattle.demands.specs.Refusals.{Unusable, KeyBeyond, KeyWrong, portAt, payloadOf, bodyRows, contentsRows, frameRows, UnfitHead, OfFrame, OfCall, ByFrame}
-use Rattle.demands.proofs.Rows.{applies, over, row, row-not, passed, not-both, not-less, not-same, first-each}
+use Rattle.demands_laws.specs.Table.{Row, Exact}
+use Rattle.demands_laws.specs.Refusals.{Unusable, KeyBeyond, KeyWrong, portAt, payloadOf, bodyRows, contentsRows, frameRows, UnfitHead, OfFrame, OfCall, ByFrame}
+use Rattle.demands_laws.proofs.Rows.{applies, over, row, row-not, passed, not-both, not-less, not-same, first-each}
 
 pub barred-is : (port : ℕ) → barred port ≡ true → Unusable port
 barred-is port = go (leb 0x7D00 port) refl

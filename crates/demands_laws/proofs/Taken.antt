@@ -30,10 +30,10 @@ use Rattle.listing.specs.declared.lister.Totals.{Totals}
 use Rattle.listing.specs.declared.lister.Wants.the-variants.{Refused}
 use Rattle.listing.specs.Call.{printed, nearTotals, near, takesBy, takes}
 use Rattle.listing.proofs.Ends.{print-not}
-use Rattle.demands.specs.Table.{Exact}
-use Rattle.demands.specs.Refusals.{NextBeyond, TapeBeyond, Short, OfCall, ByFrame, ByNext, ByTake}
-use Rattle.demands.proofs.Rows.{applies, over, passed, not-both}
-use Rattle.demands.proofs.Called.{not-most, beyond, within, short, long, SmallEvent, small-byte, small-as, small-eat, small-hand, event-only, Given, number-given}
+use Rattle.demands_laws.specs.Table.{Exact}
+use Rattle.demands_laws.specs.Refusals.{NextBeyond, TapeBeyond, Short, OfCall, ByFrame, ByNext, ByTake}
+use Rattle.demands_laws.proofs.Rows.{applies, over, passed, not-both}
+use Rattle.demands_laws.proofs.Called.{not-most, beyond, within, short, long, SmallEvent, small-byte, small-as, small-eat, small-hand, event-only, Given, number-given}
 
 -- ---- numbers near their width
 module _ (t : Totals) (room : ℕ) where

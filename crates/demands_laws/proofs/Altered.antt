@@ -35,7 +35,7 @@ use Rattle.channel_spec.proofs.Streaming.{theMarker, behindWords}
 use Rattle.subchannel_spec.specs.Sender.{messageBytes, wordOf}
 use Rattle.subchannel_spec.specs.Word.{condition, mend, carried}
 use Rattle.subchannel_spec.proofs.Streaming.{IsMessage, sent-word}
-use Rattle.demands.specs.Guarantee.{alteredFrom, altered, Repairable, ReceivedFor, Received, answerFor, received}
+use Rattle.demands_laws.specs.Guarantee.{alteredFrom, altered, Repairable, ReceivedFor, Received, answerFor, received}
 
 -- ---- places
 from-is : (n i : ℕ) (v w : List ℕ) → i + n ≡ length v → i + n ≡ length w → alteredFrom i n v w ≡ distance (drop i v) (drop i w)

@@ -33,12 +33,12 @@ use Rattle.office.specs.declared.Started.the-variants.{Ready, Refused as StartR
 use Rattle.office.specs.declared.Answer.the-variants.{Refused}
 use Rattle.office.specs.Meaning.{Spoken, blocks, unread, refusal, Said, endingBy, Desk, soFar, kept, endingOf, ended, eat}
 use Rattle.office.specs.Call.{heldLimit, holdLimit, outLimit, freshOffice, starting, sound, roomy, hearOn, denied, hearBy, hearCall, endBytes, closeCall, spoken, answered, spokenOut, answeredOut, finishBy, finishing}
-use Rattle.demands.specs.Table.{Exact}
-use Rattle.demands.specs.Refusals.{ByCall}
-use Rattle.demands.specs.Desks.{DeskBeyond, DeskShort, Bids, lineRows, OfDesk, ByDesk, ByStart, ByLine, BySpoken}
-use Rattle.demands.proofs.Rows.{applies, over, row, passed, not-less, refuses, wrote, first-each, not-both}
-use Rattle.demands.proofs.Frames.{barred-is, free-is}
-use Rattle.demands.proofs.Called.{not-most}
+use Rattle.demands_laws.specs.Table.{Exact}
+use Rattle.demands_laws.specs.Refusals.{ByCall}
+use Rattle.demands_laws.specs.Desks.{DeskBeyond, DeskShort, Bids, lineRows, OfDesk, ByDesk, ByStart, ByLine, BySpoken}
+use Rattle.demands_laws.proofs.Rows.{applies, over, row, passed, not-less, refuses, wrote, first-each, not-both}
+use Rattle.demands_laws.proofs.Frames.{barred-is, free-is}
+use Rattle.demands_laws.proofs.Called.{not-most}
 
 -- ---- 10 and 11, as facts
 desk-beyond : (s : Office) → sound s ≡ false → DeskBeyond s

@@ -28,10 +28,10 @@ use Rattle.board.specs.declared.readout.Wants.the-variants.{More, Again, Refuse
 use Rattle.board.specs.Source.{Source, boardIn, sourceHear}
 use Rattle.board.specs.Owed.{soundOwed}
 use Rattle.board.specs.Call.{Screen, readoutOf, recvOn, owedOn, part, partly, heardBy, takesOn, nearBy, soundState, takesBy, takes}
-use Rattle.demands.specs.Table.{Exact}
-use Rattle.demands.specs.Refusals.{BoardBeyond, Short, ByShow}
-use Rattle.demands.proofs.Rows.{applies, over, passed, not-both}
-use Rattle.demands.proofs.Called.{not-most, beyond, within, short, long}
+use Rattle.demands_laws.specs.Table.{Exact}
+use Rattle.demands_laws.specs.Refusals.{BoardBeyond, Short, ByShow}
+use Rattle.demands_laws.proofs.Rows.{applies, over, passed, not-both}
+use Rattle.demands_laws.proofs.Called.{not-most, beyond, within, short, long}
 
 -- ---- 10
 module _ (r : Readout) (n : ℕ) where

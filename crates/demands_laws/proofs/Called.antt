@@ -30,10 +30,10 @@ use Rattle.channel_spec.specs.declared.Hunting.{Hunting}
 use Rattle.channel.specs.declared.locked.Locked.{Locked}
 use Rattle.channel.specs.declared.receiver.Receiver.{Receiver}
 use Rattle.channel.proofs.Cutting.{hand-one}
-use Rattle.demands.specs.Table.{Exact}
-use Rattle.demands.specs.Refusals.{FrameBeyond, Beyond, Short, OfFrame, OfCall, ByFrame, ByRead, ByHear}
-use Rattle.demands.proofs.Rows.{applies, over, passed, not-both}
-use Rattle.demands.proofs.Frames.{Small, small, frame-or-call}
+use Rattle.demands_laws.specs.Table.{Exact}
+use Rattle.demands_laws.specs.Refusals.{FrameBeyond, Beyond, Short, OfFrame, OfCall, ByFrame, ByRead, ByHear}
+use Rattle.demands_laws.proofs.Rows.{applies, over, passed, not-both}
+use Rattle.demands_laws.proofs.Frames.{Small, small, frame-or-call}
 
 pub not-most : (a b : ℕ) → leb a b ≡ true → b < a → ⊥
 not-most a b e h = let k : a ≤ b = leb-true a b e in omega arith

@@ -45,12 +45,12 @@ use Rattle.four_receivers.specs.Call as receiver
 use Rattle.four_receivers.proofs.Apart.{sound-at}
 use Rattle.four_senders.specs.declared.Sender.{Sender}
 use Rattle.four_senders.specs.Call as sender
-use Rattle.demands.specs.Table.{Exact}
-use Rattle.demands.specs.Refusals.{PlaceBeyond, Short, OfFrame, OfCall, ByFrame, ByCall, ByHear}
-use Rattle.demands.specs.SubChannels.{SettingsBeyond, CountsBeyond, SubBeyond, ReceiverBeyond, SenderBeyond, Unknown, OfNumbered, ByConfigure, ByNumbered}
-use Rattle.demands.proofs.Rows.{applies, over, row, row-not, passed, not-both, not-less, refuses, wrote, place-beyond, place-within}
-use Rattle.demands.proofs.Frames.{frame-or-call}
-use Rattle.demands.proofs.Called.{not-most, frame-beyond, frame-within, short, long, small-byte, SmallEvent, small-as, event-only, is-hear, Given, number-given}
+use Rattle.demands_laws.specs.Table.{Exact}
+use Rattle.demands_laws.specs.Refusals.{PlaceBeyond, Short, OfFrame, OfCall, ByFrame, ByCall, ByHear}
+use Rattle.demands_laws.specs.SubChannels.{SettingsBeyond, CountsBeyond, SubBeyond, ReceiverBeyond, SenderBeyond, Unknown, OfNumbered, ByConfigure, ByNumbered}
+use Rattle.demands_laws.proofs.Rows.{applies, over, row, row-not, passed, not-both, not-less, refuses, wrote, place-beyond, place-within}
+use Rattle.demands_laws.proofs.Frames.{frame-or-call}
+use Rattle.demands_laws.proofs.Called.{not-most, frame-beyond, frame-within, short, long, small-byte, SmallEvent, small-as, event-only, is-hear, Given, number-given}
 
 -- ---- a test that fails exactly where a row applies
 abbrev Fails : Bool → Type 0 → Type 0

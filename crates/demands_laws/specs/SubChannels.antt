@@ -26,8 +26,8 @@ use Rattle.subchannel_spec.specs.declared.Configured.the-variants.{Refused}
 use Rattle.four_receivers.specs.declared.Receiver.{Receiver}
 use Rattle.subchannel_sender.specs.Sending.{groupSending}
 use Rattle.four_senders.specs.declared.Sender.{Sender}
-use Rattle.demands.specs.Captures.{put}
-use Rattle.demands.specs.Refusals.{PlaceBeyond, FrameBeyond, OfCall}
+use Rattle.demands_laws.specs.Captures.{put}
+use Rattle.demands_laws.specs.Refusals.{PlaceBeyond, FrameBeyond, OfCall}
 
 -- 10: settings that no configuring takes
 abbrev pub SettingsBeyond : Settings → Type 0

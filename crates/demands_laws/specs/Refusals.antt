@@ -47,7 +47,7 @@ use Rattle.listing.specs.declared.lister.Wants.the-variants.{Refused as TakeRef
 use Rattle.board.specs.Call.{Part}
 use Rattle.board.specs.declared.readout.Readout.{Readout}
 use Rattle.board.specs.declared.readout.Wants.the-variants.{Refused as ShowRefused}
-use Rattle.demands.specs.Table.{Row}
+use Rattle.demands_laws.specs.Table.{Row}
 
 -- 10 of the interleaver: a cell place of N or more, at depth 2 or more
 abbrev pub PlaceBeyond : ℕ → ℕ → Type 0

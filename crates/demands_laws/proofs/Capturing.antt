@@ -27,11 +27,11 @@ use Rattle.capture.specs.declared.reader.Capture.{Capture}
 use Rattle.capture.specs.declared.reader.Capture.the-variants.{Header, Head, Record, Behind}
 use Rattle.capture.specs.declared.reader.Ended.the-variants.{Whole, Refused}
 use Rattle.capture.proofs.Entering.{length-record}
-use Rattle.demands.specs.Table.{Exact}
-use Rattle.demands.specs.Refusals.{OfCall, ByCall, ByRead}
-use Rattle.demands.specs.Captures.{CaptureBeyond, NoPacket, HeaderMissed, RecordCut, FaultBefore, ByEnd}
-use Rattle.demands.proofs.Rows.{applies, over, passed, not-both, refuses, wrote}
-use Rattle.demands.proofs.Called.{not-most}
+use Rattle.demands_laws.specs.Table.{Exact}
+use Rattle.demands_laws.specs.Refusals.{OfCall, ByCall, ByRead}
+use Rattle.demands_laws.specs.Captures.{CaptureBeyond, NoPacket, HeaderMissed, RecordCut, FaultBefore, ByEnd}
+use Rattle.demands_laws.proofs.Rows.{applies, over, passed, not-both, refuses, wrote}
+use Rattle.demands_laws.proofs.Called.{not-most}
 
 -- ---- a record written
 pub enter-exact : (i : ℕ) (bs out : List ℕ) → Bytes bs → Exact ByCall (entering i bs out) ((62, NoPacket bs) ∷ (23, length out < length bs + 16) ∷ [])

@@ -26,10 +26,10 @@ use Rattle.unit.proofs.Finding.{length-payload}
 use Rattle.unit_spec.proofs.Refusing.{unfit-is, fit-not, mix-none, mix-some, early-is, early-not, unnamed-is, named-not, differ, alike, unmarked-is, marked-not}
 use Rattle.unit_spec.proofs.Refusing.{length-parts, length-plain}
 use Rattle.unit_spec.proofs.Ways.{writes, written-is}
-use Rattle.demands.specs.Table.{Row, First, Exact}
-use Rattle.demands.specs.Refusals.{ByCall}
-use Rattle.demands.specs.Units.{writeRows, partRows, readRows}
-use Rattle.demands.proofs.Rows.{applies, over, row, not-less, refuses, wrote}
+use Rattle.demands_laws.specs.Table.{Row, First, Exact}
+use Rattle.demands_laws.specs.Refusals.{ByCall}
+use Rattle.demands_laws.specs.Units.{writeRows, partRows, readRows}
+use Rattle.demands_laws.proofs.Rows.{applies, over, row, not-less, refuses, wrote}
 
 pub unit-write-exact : (l : ℕ) (d audio opp fixed out : List ℕ) → Exact ByCall (written l d audio opp fixed out) (writeRows l d audio opp fixed (length out))
 unfolding written

@@ -44,7 +44,7 @@ use Rattle.recording.specs.Call.{nearSpot, tapeBy, tapeCall}
 use Rattle.recording.proofs.Ears.{deck-hand-one}
 use Rattle.capture.specs.Export.{packedPart}
 use Rattle.capture.proofs.There.{Own, packed-there, export-own, own-fetched}
-use Rattle.demands.specs.Captures.{FetchedEvent, FetchedHeld, FetchedBoard, FetchedSub, FetchedDeck}
+use Rattle.demands_laws.specs.Captures.{FetchedEvent, FetchedHeld, FetchedBoard, FetchedSub, FetchedDeck}
 
 -- ---- a frame of m raw bytes
 judge-right : (raw : List ℕ) → length raw ≤ rawLimit → scan raw ≡ Right → judge raw ≡ judgeContents (plain raw)

@@ -28,8 +28,8 @@ use Rattle.repair.specs.declared.Mended.the-variants as repair
 use Rattle.repair.specs.Promise.{Promised}
 use Rattle.interleaver_spec.specs.Running.{beyond, calling}
 use Rattle.interleaver_spec.proofs.Calling.{below, state-refused, depth-refused, output-refused, wrote as fits}
-use Rattle.demands.specs.Table.{Row, First, Exact}
-use Rattle.demands.specs.Refusals.{PlaceBeyond, ByCall, ByState, ByCheck, ByRepair}
+use Rattle.demands_laws.specs.Table.{Row, First, Exact}
+use Rattle.demands_laws.specs.Refusals.{PlaceBeyond, ByCall, ByState, ByCheck, ByRepair}
 
 module _ {A : Type 0} (By : A → ℕ → Type 0) where
   pub applies : {m : ℕ} {C : Type 0} {x : A} (rows : List Row) → ((n : ℕ) → By x n ↔ n ≡ m) → C → Exact By x ((m, C) ∷ rows)

@@ -8,7 +8,7 @@ use Rattle.unit_spec.specs.Tables.{heads, payload, lent}
 use Rattle.unit_spec.specs.Unit.{filled}
 use Rattle.unit_spec.specs.Reading.{headerOf, payloadOf, named, middle}
 use Rattle.unit_spec.specs.Refusing.{Unfit as UnfitLength, NoMix, Early, Unnamed, Disagree, Unmarked, carried}
-use Rattle.demands.specs.Table.{Row}
+use Rattle.demands_laws.specs.Table.{Row}
 
 -- of a call that writes a unit of l bits, with r bytes of output
 abbrev pub writeRows : ℕ → List ℕ → List ℕ → List ℕ → List ℕ → ℕ → List Row

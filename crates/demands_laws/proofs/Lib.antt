@@ -1,0 +1,13 @@
+pub mod Rows
+pub mod Frames
+pub mod Called
+pub mod Desk
+pub mod Subs
+pub mod Taken
+pub mod Showing
+pub mod Capturing
+pub mod Fetching
+pub mod Trips
+pub mod Altered
+pub mod Framed
+pub mod UnitRows
