@@ -23,8 +23,8 @@ use Rattle.board_spec.specs.Text.{shownText, bidText}
 use Rattle.board_spec.specs.Typed.{Plainly, isBid}
 use Rattle.board_spec.specs.Meaning.{Line, bid, missing, unwatched, late, repeated, restricted, refusedFrame, brokenFrame}
 use Rattle.board_spec.specs.Meaning.{cleanBlock, repairedBlock, beyondRepair, lockLost, wrongAt, number, written}
-use Rattle.board_spec.specs.Meaning.{missingWord, unwatchedWord, lateWord, repeatedWord, restrictedWord}
-use Rattle.board_spec.specs.Meaning.{refusedWord, cleanWord, repairedWord, beyondWord, lostWord, wrongWord}
+use Rattle.board_spec.specs.Meaning.{missingText, unwatchedText, lateText, repeatedText, restrictedText}
+use Rattle.board_spec.specs.Meaning.{refusedText, cleanText, repairedText, beyondText, lostText, wrongText}
 use Rattle.board_spec.proofs.Text.{Printable, all-printable, text-apart, text-printable, text-plain}
 use Rattle.board_spec.proofs.Decimal.{printedLimit, IsDigit, decimal-each, decimal-some, number-decimal, decimal-number}
 
@@ -139,20 +139,20 @@ whole-bid p s t f = (
 pub line-printable : (l : Line) → Fits l → Closed (written l)
 unfolding written
 line-printable (bid p s t) f = whole-bid p s t f
-line-printable (missing p n) f = ahead missingWord (all-printable missingWord tt) (ahead (number p space) (one-number p (f .0)) (last-number n (f .1)))
-line-printable (unwatched p) f = ahead unwatchedWord (all-printable unwatchedWord tt) (last-number p f)
-line-printable (late p s t) f = ahead lateWord (all-printable lateWord tt) (whole-bid p s t f)
-line-printable (repeated p s t) f = ahead repeatedWord (all-printable repeatedWord tt) (whole-bid p s t f)
+line-printable (missing p n) f = ahead missingText (all-printable missingText tt) (ahead (number p space) (one-number p (f .0)) (last-number n (f .1)))
+line-printable (unwatched p) f = ahead unwatchedText (all-printable unwatchedText tt) (last-number p f)
+line-printable (late p s t) f = ahead lateText (all-printable lateText tt) (whole-bid p s t f)
+line-printable (repeated p s t) f = ahead repeatedText (all-printable repeatedText tt) (whole-bid p s t f)
 line-printable (restricted p s k) f =
     let both = each-append Printable (number p space) (number s space) (one-number p (f .0)) (one-number s (f .1)) in
-    ahead restrictedWord (all-printable restrictedWord tt) (ahead (number p space ++ number s space) both (last-number k (f .2)))
-line-printable (refusedFrame n) f = ahead refusedWord (all-printable refusedWord tt) (last-number n f)
-line-printable (brokenFrame n) f = ahead refusedWord (all-printable refusedWord tt) (ahead (number 3 space) (one-number 3 (omega arith)) (last-number n f))
-line-printable cleanBlock f = (cleanWord, refl, all-printable cleanWord tt)
-line-printable (repairedBlock n) f = ahead repairedWord (all-printable repairedWord tt) (last-number n f)
-line-printable beyondRepair f = (beyondWord, refl, all-printable beyondWord tt)
-line-printable lockLost f = (lostWord, refl, all-printable lostWord tt)
-line-printable (wrongAt n) f = ahead wrongWord (all-printable wrongWord tt) (last-number n f)
+    ahead restrictedText (all-printable restrictedText tt) (ahead (number p space ++ number s space) both (last-number k (f .2)))
+line-printable (refusedFrame n) f = ahead refusedText (all-printable refusedText tt) (last-number n f)
+line-printable (brokenFrame n) f = ahead refusedText (all-printable refusedText tt) (ahead (number 3 space) (one-number 3 (omega arith)) (last-number n f))
+line-printable cleanBlock f = (cleanText, refl, all-printable cleanText tt)
+line-printable (repairedBlock n) f = ahead repairedText (all-printable repairedText tt) (last-number n f)
+line-printable beyondRepair f = (beyondText, refl, all-printable beyondText tt)
+line-printable lockLost f = (lostText, refl, all-printable lostText tt)
+line-printable (wrongAt n) f = ahead wrongText (all-printable wrongText tt) (last-number n f)
 
 -- ---- a bid's line begins with a digit ..
 first-digit : (w x : List ℕ) → 1 ≤ length w → Each IsDigit w → IsDigit (getD (w ++ x) 0 0)

@@ -30,7 +30,7 @@ use Rattle.ports_spec.specs.declared.Entry.{Entry}
 use Rattle.ports_spec.specs.declared.Noted.{Noted}
 use Rattle.ports_spec.specs.declared.Noted.the-variants.{First, InOrder, Repeated, Missing, Late, Refused}
 use Rattle.board_spec.specs.Text.{heading, shownText, bidText}
-use Rattle.board_spec.specs.Meaning.{Line, restricted, lateWord, repeatedWord, number, written, writtenAll, aheadOf, ownLine, packetLines, eventLines}
+use Rattle.board_spec.specs.Meaning.{Line, restricted, lateText, repeatedText, number, written, writtenAll, aheadOf, ownLine, packetLines, eventLines}
 use Rattle.board_spec.specs.Parts.{ownLead, lead, behind, remark}
 
 -- lines joined
@@ -45,9 +45,9 @@ own-split : (v : Noted) (port sequence : ℕ) (payload : List ℕ)
 unfolding written bidText
 own-split First p s t = append-assoc (heading p s) (shownText t) (feed ∷ [])
 own-split InOrder p s t = append-assoc (heading p s) (shownText t) (feed ∷ [])
-own-split Repeated p s t = ap (λ (x : List ℕ). repeatedWord ++ x) (append-assoc (heading p s) (shownText t) (feed ∷ []))
+own-split Repeated p s t = ap (λ (x : List ℕ). repeatedText ++ x) (append-assoc (heading p s) (shownText t) (feed ∷ []))
 own-split (Missing n) p s t = append-assoc (heading p s) (shownText t) (feed ∷ [])
-own-split Late p s t = ap (λ (x : List ℕ). lateWord ++ x) (append-assoc (heading p s) (shownText t) (feed ∷ []))
+own-split Late p s t = ap (λ (x : List ℕ). lateText ++ x) (append-assoc (heading p s) (shownText t) (feed ∷ []))
 own-split (Refused n) p s t = append-assoc (heading p s) (shownText t) (feed ∷ [])
 
 module _ (v : Noted) (p : Packet) where

@@ -43,49 +43,49 @@ pub data Line : Type 0 where
 
 -- ---- the first words of remarks, as ASCII
 -- `! missing `
-abbrev pub missingWord : List ℕ
-missingWord = 33 ∷ 32 ∷ 109 ∷ 105 ∷ 115 ∷ 115 ∷ 105 ∷ 110 ∷ 103 ∷ 32 ∷ []
+abbrev pub missingText : List ℕ
+missingText = 33 ∷ 32 ∷ 109 ∷ 105 ∷ 115 ∷ 115 ∷ 105 ∷ 110 ∷ 103 ∷ 32 ∷ []
 
 -- `! unwatched `
-abbrev pub unwatchedWord : List ℕ
-unwatchedWord = 33 ∷ 32 ∷ 117 ∷ 110 ∷ 119 ∷ 97 ∷ 116 ∷ 99 ∷ 104 ∷ 101 ∷ 100 ∷ 32 ∷ []
+abbrev pub unwatchedText : List ℕ
+unwatchedText = 33 ∷ 32 ∷ 117 ∷ 110 ∷ 119 ∷ 97 ∷ 116 ∷ 99 ∷ 104 ∷ 101 ∷ 100 ∷ 32 ∷ []
 
 -- `! late `
-abbrev pub lateWord : List ℕ
-lateWord = 33 ∷ 32 ∷ 108 ∷ 97 ∷ 116 ∷ 101 ∷ 32 ∷ []
+abbrev pub lateText : List ℕ
+lateText = 33 ∷ 32 ∷ 108 ∷ 97 ∷ 116 ∷ 101 ∷ 32 ∷ []
 
 -- `! repeated `
-abbrev pub repeatedWord : List ℕ
-repeatedWord = 33 ∷ 32 ∷ 114 ∷ 101 ∷ 112 ∷ 101 ∷ 97 ∷ 116 ∷ 101 ∷ 100 ∷ 32 ∷ []
+abbrev pub repeatedText : List ℕ
+repeatedText = 33 ∷ 32 ∷ 114 ∷ 101 ∷ 112 ∷ 101 ∷ 97 ∷ 116 ∷ 101 ∷ 100 ∷ 32 ∷ []
 
 -- `! restricted `
-abbrev pub restrictedWord : List ℕ
-restrictedWord = 33 ∷ 32 ∷ 114 ∷ 101 ∷ 115 ∷ 116 ∷ 114 ∷ 105 ∷ 99 ∷ 116 ∷ 101 ∷ 100 ∷ 32 ∷ []
+abbrev pub restrictedText : List ℕ
+restrictedText = 33 ∷ 32 ∷ 114 ∷ 101 ∷ 115 ∷ 116 ∷ 114 ∷ 105 ∷ 99 ∷ 116 ∷ 101 ∷ 100 ∷ 32 ∷ []
 
 -- `! frame refused `
-abbrev pub refusedWord : List ℕ
-refusedWord = 33 ∷ 32 ∷ 102 ∷ 114 ∷ 97 ∷ 109 ∷ 101 ∷ 32 ∷ 114 ∷ 101 ∷ 102 ∷ 117 ∷ 115 ∷ 101 ∷ 100 ∷ 32 ∷ []
+abbrev pub refusedText : List ℕ
+refusedText = 33 ∷ 32 ∷ 102 ∷ 114 ∷ 97 ∷ 109 ∷ 101 ∷ 32 ∷ 114 ∷ 101 ∷ 102 ∷ 117 ∷ 115 ∷ 101 ∷ 100 ∷ 32 ∷ []
 
 -- `! block clean`
-abbrev pub cleanWord : List ℕ
-cleanWord = 33 ∷ 32 ∷ 98 ∷ 108 ∷ 111 ∷ 99 ∷ 107 ∷ 32 ∷ 99 ∷ 108 ∷ 101 ∷ 97 ∷ 110 ∷ []
+abbrev pub cleanText : List ℕ
+cleanText = 33 ∷ 32 ∷ 98 ∷ 108 ∷ 111 ∷ 99 ∷ 107 ∷ 32 ∷ 99 ∷ 108 ∷ 101 ∷ 97 ∷ 110 ∷ []
 
 -- `! block repaired `
-abbrev pub repairedWord : List ℕ
-repairedWord = 33 ∷ 32 ∷ 98 ∷ 108 ∷ 111 ∷ 99 ∷ 107 ∷ 32 ∷ 114 ∷ 101 ∷ 112 ∷ 97 ∷ 105 ∷ 114 ∷ 101 ∷ 100 ∷ 32 ∷ []
+abbrev pub repairedText : List ℕ
+repairedText = 33 ∷ 32 ∷ 98 ∷ 108 ∷ 111 ∷ 99 ∷ 107 ∷ 32 ∷ 114 ∷ 101 ∷ 112 ∷ 97 ∷ 105 ∷ 114 ∷ 101 ∷ 100 ∷ 32 ∷ []
 
 -- `! block beyond repair`
-abbrev pub beyondWord : List ℕ
-beyondWord =
+abbrev pub beyondText : List ℕ
+beyondText =
     33 ∷ 32 ∷ 98 ∷ 108 ∷ 111 ∷ 99 ∷ 107 ∷ 32 ∷ 98 ∷ 101 ∷ 121 ∷ 111 ∷ 110 ∷ 100 ∷ 32 ∷ 114 ∷ 101 ∷ 112 ∷ 97 ∷ 105 ∷ 114 ∷ []
 
 -- `! lock lost`
-abbrev pub lostWord : List ℕ
-lostWord = 33 ∷ 32 ∷ 108 ∷ 111 ∷ 99 ∷ 107 ∷ 32 ∷ 108 ∷ 111 ∷ 115 ∷ 116 ∷ []
+abbrev pub lostText : List ℕ
+lostText = 33 ∷ 32 ∷ 108 ∷ 111 ∷ 99 ∷ 107 ∷ 32 ∷ 108 ∷ 111 ∷ 115 ∷ 116 ∷ []
 
 -- `! wrong at `
-abbrev pub wrongWord : List ℕ
-wrongWord = 33 ∷ 32 ∷ 119 ∷ 114 ∷ 111 ∷ 110 ∷ 103 ∷ 32 ∷ 97 ∷ 116 ∷ 32 ∷ []
+abbrev pub wrongText : List ℕ
+wrongText = 33 ∷ 32 ∷ 119 ∷ 114 ∷ 111 ∷ 110 ∷ 103 ∷ 32 ∷ 97 ∷ 116 ∷ 32 ∷ []
 
 -- a number, and the space or the line feed behind it
 abbrev pub number : ℕ → ℕ → List ℕ
@@ -96,18 +96,18 @@ number n b = decimal n ++ (b ∷ [])
 -- `! block beyond repair`, `! lock lost`, `! wrong at OFFSET`, each with its line feed
 unfoldable pub written : Line → List ℕ
 written (bid port sequence payload) = bidText port sequence payload ++ (feed ∷ [])
-written (missing port n) = missingWord ++ number port space ++ number n feed
-written (unwatched port) = unwatchedWord ++ number port feed
-written (late port sequence payload) = lateWord ++ bidText port sequence payload ++ (feed ∷ [])
-written (repeated port sequence payload) = repeatedWord ++ bidText port sequence payload ++ (feed ∷ [])
-written (restricted port sequence key) = restrictedWord ++ number port space ++ number sequence space ++ number key feed
-written (refusedFrame n) = refusedWord ++ number n feed
-written (brokenFrame place) = refusedWord ++ number 3 space ++ number place feed
-written cleanBlock = cleanWord ++ (feed ∷ [])
-written (repairedBlock n) = repairedWord ++ number n feed
-written beyondRepair = beyondWord ++ (feed ∷ [])
-written lockLost = lostWord ++ (feed ∷ [])
-written (wrongAt offset) = wrongWord ++ number offset feed
+written (missing port n) = missingText ++ number port space ++ number n feed
+written (unwatched port) = unwatchedText ++ number port feed
+written (late port sequence payload) = lateText ++ bidText port sequence payload ++ (feed ∷ [])
+written (repeated port sequence payload) = repeatedText ++ bidText port sequence payload ++ (feed ∷ [])
+written (restricted port sequence key) = restrictedText ++ number port space ++ number sequence space ++ number key feed
+written (refusedFrame n) = refusedText ++ number n feed
+written (brokenFrame place) = refusedText ++ number 3 space ++ number place feed
+written cleanBlock = cleanText ++ (feed ∷ [])
+written (repairedBlock n) = repairedText ++ number n feed
+written beyondRepair = beyondText ++ (feed ∷ [])
+written lockLost = lostText ++ (feed ∷ [])
+written (wrongAt offset) = wrongText ++ number offset feed
 
 -- lines, one after the other
 unfoldable pub writtenAll : List Line → List ℕ

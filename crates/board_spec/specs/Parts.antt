@@ -16,15 +16,15 @@ use Rattle.bid.specs.Line.{feed}
 use Rattle.ports_spec.specs.declared.Noted.{Noted}
 use Rattle.ports_spec.specs.declared.Noted.the-variants.{First, InOrder, Repeated, Missing, Late, Refused}
 use Rattle.board_spec.specs.Text.{heading, shownText}
-use Rattle.board_spec.specs.Meaning.{restricted, refusedFrame, brokenFrame, lockLost, lateWord, repeatedWord, written, writtenAll, aheadOf, blockLines}
+use Rattle.board_spec.specs.Meaning.{restricted, refusedFrame, brokenFrame, lockLost, lateText, repeatedText, written, writtenAll, aheadOf, blockLines}
 
 -- a packet's own line up to its text
 abbrev pub ownLead : Noted → ℕ → ℕ → List ℕ
 ownLead First port sequence = heading port sequence
 ownLead InOrder port sequence = heading port sequence
-ownLead Repeated port sequence = repeatedWord ++ heading port sequence
+ownLead Repeated port sequence = repeatedText ++ heading port sequence
 ownLead (Missing n) port sequence = heading port sequence
-ownLead Late port sequence = lateWord ++ heading port sequence
+ownLead Late port sequence = lateText ++ heading port sequence
 ownLead (Refused n) port sequence = heading port sequence
 
 -- all that stands before the text; of a packet for subscribers there is no text

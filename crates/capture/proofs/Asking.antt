@@ -17,7 +17,7 @@ use Rattle.base.specs.declared.Written.the-variants as written
 use Rattle.base.proofs.Parts.{tail-is}
 use Rattle.base.proofs.Tests.{by-test, and-false}
 use Rattle.base.proofs.Writing.{write-short}
-use Rattle.packet_spec.specs.Contents.{Packet, packetOf, plainFormat, keyFormat, keySized, keyAt, keyLength, restLeast, payloadLimit, wordAt, contents, plainly, keyed, unpacked}
+use Rattle.packet_spec.specs.Contents.{Packet, packetOf, plainFormat, keyFormat, keySized, keyAt, keyLength, restLeast, payloadLimit, pairAt, contents, plainly, keyed, unpacked}
 use Rattle.packet_spec.specs.Escape.{flag, escape}
 use Rattle.packet_spec.specs.Frame.{Told, packet, refusal, judged, judgePacket, keyFits, judgeBody}
 use Rattle.packet_spec.specs.Port.{barred}
@@ -48,7 +48,7 @@ ways p P other it =
     go false false false true = it
     go false false false false = other 24 (λ e. omega (arith, e))
 
-module _ (format number : ℕ) (key rest : List ℕ) {port sequence : ℕ} (w : port ≡ wordAt rest 0) (s : sequence ≡ wordAt rest 2) {a : Written} {out : List ℕ}
+module _ (format number : ℕ) (key rest : List ℕ) {port sequence : ℕ} (w : port ≡ pairAt rest 0) (s : sequence ≡ pairAt rest 2) {a : Written} {out : List ℕ}
     (e : outcome a out ≡ writing (packetOf format number key port sequence (take (length rest - 4) (drop 4 rest))) []) where
   abbrev taken : Packet
   taken = unpacked format number key rest

@@ -19,7 +19,7 @@ use Rattle.base.specs.Choice.{pick}
 use Rattle.base.proofs.Bytes.{each-take, each-append-left}
 use Rattle.base.proofs.Calls.{none-owed, with-hear}
 use Rattle.fcs.specs.Fcs.{fcs}
-use Rattle.packet_spec.specs.Contents.{Packet, plainPacket, keyFormat, rawLimit, two, opening, packed, keyAt, payloadAt, wordAt, body}
+use Rattle.packet_spec.specs.Contents.{Packet, plainPacket, keyFormat, rawLimit, two, opening, packed, keyAt, payloadAt, pairAt, body}
 use Rattle.packet_spec.specs.Escape.{plain, scan}
 use Rattle.packet_spec.specs.Frame.{Told, packet, refusal, broken, Closed, judged, delivery, judgeBody, judgeContents, kept, closedBy, closed, part, There}
 use Rattle.packet_spec.specs.Sender.{Accepted}
@@ -79,7 +79,7 @@ Own (broken n) recv = Unit {0}
 
 contents-own : (cs t : List ℕ) → Bytes (cs ++ t) → Own (judgeContents cs) (cs ++ t)
 unfolding judgeContents
-contents-own cs t h = go (ltb (length cs) 8) refl (eqb (fcs (body cs)) (wordAt cs (length cs - 2)))
+contents-own cs t h = go (ltb (length cs) 8) refl (eqb (fcs (body cs)) (pairAt cs (length cs - 2)))
   where
     told : 8 ≤ length cs → (j : Told) → judgeBody (body cs) ≡ j → Own j (cs ++ t)
     told l (refusal n) e = tt

@@ -2,7 +2,7 @@
 ghost use mathlib.Core.Path.{_≡_};
 ghost use Prim.Native.Nat.{_≤_, _<_};
 ghost use lib.ListN.{length};
-ghost use Rattle.packet_spec.specs.Contents.{word, payloadAt, unpacked};
+ghost use Rattle.packet_spec.specs.Contents.{pair, payloadAt, unpacked};
 ghost use Rattle.packet_spec.specs.Frame.{judged};
 ghost use Rattle.capture_spec.specs.Meaning.{entry};
 ghost use Rattle.capture.specs.Export.{packedPart};
@@ -41,8 +41,8 @@ pub fn packed(recv: &[u8], delivery: Delivery) -> &[u8]
 }
 
 // Two bytes as a number, low first.
-fn word(low: u8, high: u8) -> u16
-    ensures { λ r. ⌜ r ≡ word low high ⌝ }
+fn pair(low: u8, high: u8) -> u16
+    ensures { λ r. ⌜ r ≡ pair low high ⌝ }
 {
     low as u16 + 256 * (high as u16)
 }
@@ -59,8 +59,8 @@ fn ask(format: u8, number: u8, key: &[u8], rest: &[u8]) -> Judged
     requires { ⌜ (length (now key) < 256) × (4 ≤ length (now rest)) ⌝ }
     ensures { λ r. ⌜ r ≡ judged (asked (unpacked format number (now (key .entry)) (now (rest .entry)))) ⌝ }
 {
-    let port = word(rest[0], rest[1]);
-    let sequence = word(rest[2], rest[3]);
+    let port = pair(rest[0], rest[1]);
+    let sequence = pair(rest[2], rest[3]);
     let mut nowhere = [0u8; 0];
     match packet::write_as(
         format,

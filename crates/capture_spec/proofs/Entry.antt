@@ -17,7 +17,7 @@ use lib.Seq.{take-append-seam}
 use Rattle.base.specs.Bytes.{Bytes}
 use Rattle.base.specs.Choice.{pick}
 use Rattle.fcs.specs.Fcs.{fcs}
-use Rattle.packet_spec.specs.Contents.{Packet, packed, plainly, keyed, keyAt, keyLength, two, wordAt, withCheck, contents, body}
+use Rattle.packet_spec.specs.Contents.{Packet, packed, plainly, keyed, keyAt, keyLength, two, pairAt, withCheck, contents, body}
 use Rattle.packet_spec.specs.Escape.{escape}
 use Rattle.packet_spec.specs.Frame.{Told, packet, refusal, broken, judgeBody, judgeContents}
 use Rattle.packet_spec.specs.Sender.{Accepted}
@@ -56,7 +56,7 @@ module _ (p : Packet) (a : Accepted p) where
 
   judged-back : judgeBody (body (contents p)) ≡ packet p
   unfolding judgeContents
-  judged-back = go (ltb (length (contents p)) 8) (eqb (fcs (body (contents p))) (wordAt (contents p) (length (contents p) - 2))) (judge-contents p a)
+  judged-back = go (ltb (length (contents p)) 8) (eqb (fcs (body (contents p))) (pairAt (contents p) (length (contents p) - 2))) (judge-contents p a)
     where
       go : (t u : Bool) → pick t (refusal 4) (pick u (judgeBody (body (contents p))) (refusal 5)) ≡ packet p → judgeBody (body (contents p)) ≡ packet p
       go true u e = absurd (packet-not e)

@@ -22,7 +22,7 @@ use Rattle.base.proofs.Lists.{drop-take}
 use Rattle.base.proofs.Tests.{by-le, and-parts}
 use Rattle.fcs.specs.Fcs.{fcs}
 use Rattle.packet_spec.specs.Port.{barred}
-use Rattle.packet_spec.specs.Contents.{Packet, plainFormat, keyFormat, keyLeast, keyMost, keySized, keyAt, restLeast, keyLength, payloadLimit, rawLimit, word, wordAt, unpacked, plainly, keyed, body}
+use Rattle.packet_spec.specs.Contents.{Packet, plainFormat, keyFormat, keyLeast, keyMost, keySized, keyAt, restLeast, keyLength, payloadLimit, rawLimit, pair, pairAt, unpacked, plainly, keyed, body}
 use Rattle.packet_spec.specs.Escape.{escape, plain, scan}
 use Rattle.packet_spec.specs.Frame.{Told, packet, refusal, broken, number, kept, judgePacket, keyFits, judgeBody, judgeContents, closedBy, closed, judging, judge}
 use Rattle.packet_spec.specs.declared.Escapes.{Escapes}
@@ -99,14 +99,14 @@ module _ (cs : List ℕ) (long : 8 ≤ length cs) where
 
   -- a packet taken apart at the port's place
   packet-exact : (format number : ℕ) (key : List ℕ) (at : ℕ) → portAt cs ≡ at → at + 2 ≤ length cs - 2
-      → Exact ByFrame (judgePacket (unpacked format number key (drop at (body cs)))) ((7, Unusable (wordAt cs (portAt cs))) ∷ (8, payloadLimit < length (escape (payloadOf cs))) ∷ [])
+      → Exact ByFrame (judgePacket (unpacked format number key (drop at (body cs)))) ((7, Unusable (pairAt cs (portAt cs))) ∷ (8, payloadLimit < length (escape (payloadOf cs))) ∷ [])
   packet-exact format number key at e h =
       let a : getD (drop at (body cs)) 0 0 ≡ getD cs at 0 = getD-drop at (body cs) 0 0 ∙ ap (λ (i : ℕ). getD (body cs) i 0) (add-zero at) ∙ body-at at (omega arith) in
       let b : getD (drop at (body cs)) 1 0 ≡ getD cs (at + 1) 0 = getD-drop at (body cs) 1 0 ∙ body-at (at + 1) (omega arith) in
-      let w : wordAt (drop at (body cs)) 0 ≡ wordAt cs (portAt cs) = (λ i. word (a i) (b i)) ∙ ap (wordAt cs) (sym e) in
+      let w : pairAt (drop at (body cs)) 0 ≡ pairAt cs (portAt cs) = (λ i. pair (a i) (b i)) ∙ ap (pairAt cs) (sym e) in
       let p : drop 4 (drop at (body cs)) ≡ payloadOf cs =
       drop-drop 4 at (body cs) ∙ drop-take (at + 4) (length cs - 2) cs ∙ ap (λ (n : ℕ). take (length cs - 2 - (n + 4)) (drop (n + 4) cs)) (sym e) in
-      row ByFrame (barred (wordAt (drop at (body cs)) 0)) (is 7) (λ t. barred-is _ (ap barred (sym w) ∙ t)) (λ t. free-is _ (ap barred (sym w) ∙ t))
+      row ByFrame (barred (pairAt (drop at (body cs)) 0)) (is 7) (λ t. barred-is _ (ap barred (sym w) ∙ t)) (λ t. free-is _ (ap barred (sym w) ∙ t))
       (row ByFrame (ltb payloadLimit (length (escape (drop 4 (drop at (body cs)))))) (is 8)
       (λ t. subst (λ (l : List ℕ). payloadLimit < length (escape l)) p (ltb-true _ _ t))
       (λ t u. not-less _ _ t (subst (λ (l : List ℕ). payloadLimit < length (escape l)) (sym p) u))
@@ -160,11 +160,11 @@ unfolding judgeContents
 contents-exact cs = go (ltb (length cs) 8) refl
   where
     go : (t : Bool) → ltb (length cs) 8 ≡ t
-        → Exact ByFrame (pick t (refusal 4) (pick (eqb (fcs (body cs)) (wordAt cs (length cs - 2))) (judgeBody (body cs)) (refusal 5))) (contentsRows cs)
+        → Exact ByFrame (pick t (refusal 4) (pick (eqb (fcs (body cs)) (pairAt cs (length cs - 2))) (judgeBody (body cs)) (refusal 5))) (contentsRows cs)
     go true e = applies ByFrame _ (is 4) (ltb-true _ _ e)
     go false e =
         over ByFrame (not-less _ _ e)
-        (row-not ByFrame (eqb (fcs (body cs)) (wordAt cs (length cs - 2))) (is 5) (eqb-false _ _) (λ f. not-same (eqb-true _ _ f))
+        (row-not ByFrame (eqb (fcs (body cs)) (pairAt cs (length cs - 2))) (is 5) (eqb-false _ _) (λ f. not-same (eqb-true _ _ f))
         (body-exact cs (ltb-false _ _ e)))
 
 by-exact : (e : Escapes) (raw recv : List ℕ) → Scanned e raw → Exact ByFrame (closedBy e raw recv .told) (frameRows raw)

@@ -21,7 +21,7 @@ use Rattle.base.specs.Choice.{pick}
 use Rattle.base.specs.Written.{Outcome}
 use Rattle.base.specs.declared.Written.the-variants.{Refused}
 use Rattle.fcs.specs.Fcs.{fcs}
-use Rattle.packet_spec.specs.Contents.{Packet, plainFormat, keyFormat, keyLeast, keyMost, keyAt, keyLength, payloadLimit, rawLimit, wordAt}
+use Rattle.packet_spec.specs.Contents.{Packet, plainFormat, keyFormat, keyLeast, keyMost, keyAt, keyLength, payloadLimit, rawLimit, pairAt}
 use Rattle.packet_spec.specs.Escape.{escape, plain, last, Followed}
 use Rattle.packet_spec.specs.Frame.{Told, refusal, number}
 use Rattle.interleaver_spec.specs.declared.Matrix.{Matrix}
@@ -78,7 +78,7 @@ abbrev pub bodyRows : List ℕ → List Row
 bodyRows cs =
     (6, (getD cs 0 0 ≢ plainFormat) × (getD cs 0 0 ≢ keyFormat)) ∷  -- neither format
     (12, (getD cs 0 0 ≡ keyFormat) × KeyWrong cs) ∷  -- a 0x26 key length outside 2 to 32 or fewer than seven bytes behind the key
-    (7, Unusable (wordAt cs (portAt cs))) ∷  -- port 7D00-7EFF
+    (7, Unusable (pairAt cs (portAt cs))) ∷  -- port 7D00-7EFF
     (8, payloadLimit < length (escape (payloadOf cs))) ∷  -- payload above 8,192 bytes as escaped
     []
 
@@ -86,7 +86,7 @@ bodyRows cs =
 abbrev pub contentsRows : List ℕ → List Row
 contentsRows cs =
     (4, length cs < 8) ∷  -- fewer than 8 bytes after undoing escapes
-    (5, fcs (take (length cs - 2) cs) ≢ wordAt cs (length cs - 2)) ∷  -- check differs
+    (5, fcs (take (length cs - 2) cs) ≢ pairAt cs (length cs - 2)) ∷  -- check differs
     bodyRows cs
 
 -- of raw bytes

@@ -1,5 +1,5 @@
 -- The line of a packet noted, as it is written.
--- words-put, count-put   the words, and words with a number behind them
+-- words-put, count-put   the notedText, and notedText with a number behind them
 -- noted-put              the line from its parts
 -- noted-short            how long it is
 use Prim.Native.Nat.{ℕ, _+_, _≤_}
@@ -12,22 +12,22 @@ use Rattle.base.proofs.Laid.{laid-append}
 use Rattle.listing_spec.specs.Lines.{decimal, longest}
 use Rattle.ports_spec.specs.declared.Noted.{Noted}
 use Rattle.ports_spec.specs.declared.Noted.the-variants.{First, InOrder, Repeated, Missing, Late, Refused}
-use Rattle.lines.specs.Noted.{words, notedLine}
+use Rattle.lines.specs.Noted.{notedText, notedLine}
 use Rattle.listing_spec.proofs.Digits.{digits-short}
 use Rattle.lines.proofs.Writes.{laid-as, Item, Put}
 
--- the words from a place on, within 32 bytes
+-- the notedText from a place on, within 32 bytes
 abbrev Words : List ℕ → ℕ → Noted → List ℕ → ℕ → Type 0
-Words l at n after end = Laid l at (words n) after end × (end ≤ at + 32)
+Words l at n after end = Laid l at (notedText n) after end × (end ≤ at + 32)
 
-pub words-put : {l bs after : List ℕ} {at end : ℕ} {n m : Noted} → Laid l at bs after end → length bs ≤ 32 → bs ≡ words m → n ≡ m → Words l at n after end
-words-put h k e same = (laid-as (laid-as h e) (sym (ap words same)), omega (arith, h .ends, k))
+pub words-put : {l bs after : List ℕ} {at end : ℕ} {n m : Noted} → Laid l at bs after end → length bs ≤ 32 → bs ≡ notedText m → n ≡ m → Words l at n after end
+words-put h k e same = (laid-as (laid-as h e) (sym (ap notedText same)), omega (arith, h .ends, k))
 
-pub count-put : {l l₁ l₂ bs : List ℕ} {at a b : ℕ} {n m : Noted} (k : ℕ) → Laid l at bs l₁ a → length bs ≤ 11 → Item l₁ a k 10 l₂ b → bs ++ (decimal k ++ (10 ∷ [])) ≡ words m → n ≡ m
+pub count-put : {l l₁ l₂ bs : List ℕ} {at a b : ℕ} {n m : Noted} (k : ℕ) → Laid l at bs l₁ a → length bs ≤ 11 → Item l₁ a k 10 l₂ b → bs ++ (decimal k ++ (10 ∷ [])) ≡ notedText m → n ≡ m
     → Words l at n l₂ b
-count-put k u short v e same = (laid-as (laid-as (laid-append u (v .0)) e) (sym (ap words same)), omega (arith, u .ends, short, v .1))
+count-put k u short v e same = (laid-as (laid-as (laid-append u (v .0)) e) (sym (ap notedText same)), omega (arith, u .ends, short, v .1))
 
-parts : (port sequence : ℕ) (n : Noted) → (decimal port ++ (32 ∷ [])) ++ (decimal sequence ++ (32 ∷ [])) ++ words n ≡ notedLine port sequence n
+parts : (port sequence : ℕ) (n : Noted) → (decimal port ++ (32 ∷ [])) ++ (decimal sequence ++ (32 ∷ [])) ++ notedText n ≡ notedLine port sequence n
 unfolding notedLine
 parts port sequence n = simp append-assoc
 
@@ -36,7 +36,7 @@ pub noted-put : {l l₁ l₂ l₃ : List ℕ} {a b c : ℕ} (port sequence : ℕ
 noted-put port sequence n u v w =
     (laid-as (laid-append (laid-append (u .0) (v .0)) (w .0)) (parts port sequence n), omega (arith, u .1, v .1, w .1))
 
-words-short : (n : Noted) → length (words n) ≤ 29
+words-short : (n : Noted) → length (notedText n) ≤ 29
 words-short First = omega arith
 words-short InOrder = omega arith
 words-short Repeated = omega arith
@@ -52,6 +52,6 @@ noted-short port sequence n =
       words-short n,
       digits-short port,
       digits-short sequence,
-      length-append (decimal port) (32 ∷ (decimal sequence ++ 32 ∷ words n)),
-      length-append (decimal sequence) (32 ∷ words n),
+      length-append (decimal port) (32 ∷ (decimal sequence ++ 32 ∷ notedText n)),
+      length-append (decimal sequence) (32 ∷ notedText n),
     )

@@ -29,7 +29,7 @@ use Rattle.listing_spec.specs.Lines.{decimal, longest}
 use Rattle.ports_spec.specs.declared.Noted.{Noted}
 use Rattle.board_spec.specs.Text.{sixteenth, shownByte, heading}
 use Rattle.board_spec.specs.Meaning.{Line, missing, unwatched, restricted, refusedFrame, brokenFrame, cleanBlock, repairedBlock, beyondRepair, lockLost, wrongAt}
-use Rattle.board_spec.specs.Meaning.{missingWord, unwatchedWord, restrictedWord, refusedWord, cleanWord, repairedWord, beyondWord, lostWord, wrongWord}
+use Rattle.board_spec.specs.Meaning.{missingText, unwatchedText, restrictedText, refusedText, cleanText, repairedText, beyondText, lostText, wrongText}
 use Rattle.board_spec.specs.Meaning.{number, written, writtenAll, aheadOf, blockLines}
 use Rattle.board_spec.specs.Parts.{ownLead, lead, remark}
 use Rattle.lines.specs.Piece.{pieceOf}
@@ -87,7 +87,7 @@ pub own-put : {l l₁ l₂ : List ℕ} {at a e : ℕ} (word : List ℕ) (port se
     → Fits l₁ a (heading port sequence) l₂ e 42 → Fits l at (word ++ heading port sequence) l₂ e 53
 own-put word port sequence h u v = wrote 53 (part 42 (begun u) v) (omega (arith, h)) refl
 
-pub restricted-put : {l l₁ l₂ l₃ l₄ : List ℕ} {at a b c e : ℕ} (port sequence key : ℕ) → Laid l at restrictedWord l₁ a → Item l₁ a port 32 l₂ b
+pub restricted-put : {l l₁ l₂ l₃ l₄ : List ℕ} {at a b c e : ℕ} (port sequence key : ℕ) → Laid l at restrictedText l₁ a → Item l₁ a port 32 l₂ b
     → Item l₂ b sequence 32 l₃ c → Item l₃ c key 10 l₄ e → Fits l at (written (restricted port sequence key)) l₄ e 76
 unfolding written
 restricted-put port sequence key u v w x = wrote 76 (part 21 (part 21 (part 21 (begun u) v) w) x) (omega arith) refl
@@ -103,12 +103,12 @@ pub none-ahead : (l : List ℕ) → Ahead l [] l 0
 unfolding writtenAll
 none-ahead l = (laid-none l 0, omega arith)
 
-pub missing-put : {l l₁ l₂ l₃ : List ℕ} {a b e : ℕ} (port n : ℕ) → Laid l 0 missingWord l₁ a → Item l₁ a port 32 l₂ b → Item l₂ b n 10 l₃ e
+pub missing-put : {l l₁ l₂ l₃ : List ℕ} {a b e : ℕ} (port n : ℕ) → Laid l 0 missingText l₁ a → Item l₁ a port 32 l₂ b → Item l₂ b n 10 l₃ e
     → Ahead l (missing port n ∷ []) l₃ e
 unfolding written
 missing-put port n u v w = wrote 52 (part 21 (part 21 (begun u) v) w) (omega arith) (whole-line (missing port n))
 
-pub unwatched-put : {l l₁ l₂ : List ℕ} {a e : ℕ} (port : ℕ) → Laid l 0 unwatchedWord l₁ a → Item l₁ a port 10 l₂ e → Ahead l (unwatched port ∷ []) l₂ e
+pub unwatched-put : {l l₁ l₂ : List ℕ} {a e : ℕ} (port : ℕ) → Laid l 0 unwatchedText l₁ a → Item l₁ a port 10 l₂ e → Ahead l (unwatched port ∷ []) l₂ e
 unfolding written
 unwatched-put port u v = wrote 52 (part 21 (begun u) v) (omega arith) (whole-line (unwatched port))
 
@@ -158,7 +158,7 @@ module _ (b : ℕ) where
   shown-plain n h k = rw (ne-eqb b 92 n, le-leb 32 b h, le-leb b 126 k)
 
 -- answers that are no packet
-module _ {l l₁ l₂ : List ℕ} {a e : ℕ} (u : Laid l 0 refusedWord l₁ a) where
+module _ {l l₁ l₂ : List ℕ} {a e : ℕ} (u : Laid l 0 refusedText l₁ a) where
   pub refused-line : (n : ℕ) → Item l₁ a n 10 l₂ e → Put l (written (refusedFrame n)) l₂ e
   unfolding written
   refused-line n v = count-line n u (omega arith) v
@@ -167,11 +167,11 @@ module _ {l l₁ l₂ : List ℕ} {a e : ℕ} (u : Laid l 0 refusedWord l₁ a) 
   unfolding written
   broken-line place v w = wrote longest (part 21 (part 21 (begun u) v) w) (omega arith) refl
 
-pub wrong-line : {l l₁ l₂ : List ℕ} {a e : ℕ} (n : ℕ) → Laid l 0 wrongWord l₁ a → Item l₁ a n 10 l₂ e → Put l (written (wrongAt n)) l₂ e
+pub wrong-line : {l l₁ l₂ : List ℕ} {a e : ℕ} (n : ℕ) → Laid l 0 wrongText l₁ a → Item l₁ a n 10 l₂ e → Put l (written (wrongAt n)) l₂ e
 unfolding written
 wrong-line n u v = count-line n u (omega arith) v
 
-pub lost-line : {l after : List ℕ} {e : ℕ} → Laid l 0 (lostWord ++ (10 ∷ [])) after e → Put l (written lockLost) after e
+pub lost-line : {l after : List ℕ} {e : ℕ} → Laid l 0 (lostText ++ (10 ∷ [])) after e → Put l (written lockLost) after e
 unfolding written
 lost-line u = word-put u (omega arith)
 
@@ -189,16 +189,16 @@ module _ {l after : List ℕ} {e : ℕ} {b : Bool} {c : Condition} where
   as-told : {d : Bool} {f : Condition} → b ≡ d → c ≡ f → Put l (writtenAll (blockLines d f)) after e → Put l (writtenAll (blockLines b c)) after e
   as-told p q h = (laid-as (h .0) (sym (ap₂ (λ (x : Bool) (y : Condition). writtenAll (blockLines x y)) p q)), h .1)
 
-  pub clean-line : b ≡ true → c ≡ Clean → Laid l 0 (cleanWord ++ (10 ∷ [])) after e → Put l (writtenAll (blockLines b c)) after e
+  pub clean-line : b ≡ true → c ≡ Clean → Laid l 0 (cleanText ++ (10 ∷ [])) after e → Put l (writtenAll (blockLines b c)) after e
   unfolding written
   clean-line p q u = as-told p q (wrote longest (begun u) (omega arith) (whole-line cleanBlock))
 
-  pub repaired-line : {mid : List ℕ} {a : ℕ} (n : ℕ) → b ≡ true → c ≡ Repaired n → Laid l 0 repairedWord mid a → Item mid a n 10 after e
+  pub repaired-line : {mid : List ℕ} {a : ℕ} (n : ℕ) → b ≡ true → c ≡ Repaired n → Laid l 0 repairedText mid a → Item mid a n 10 after e
       → Put l (writtenAll (blockLines b c)) after e
   unfolding written
   repaired-line n p q u v = as-told p q (wrote longest (part 21 (begun u) v) (omega arith) (whole-line (repairedBlock n)))
 
-pub beyond-line : {l after : List ℕ} {e : ℕ} {c : Condition} (b : Bool) → c ≡ Beyond → Laid l 0 (beyondWord ++ (10 ∷ [])) after e
+pub beyond-line : {l after : List ℕ} {e : ℕ} {c : Condition} (b : Bool) → c ≡ Beyond → Laid l 0 (beyondText ++ (10 ∷ [])) after e
     → Put l (writtenAll (blockLines b c)) after e
 unfolding written
 beyond-line b q u = by-case (λ (x : Condition). writtenAll (blockLines b x)) q (wrote longest (begun u) (omega arith) (whole-line beyondRepair))

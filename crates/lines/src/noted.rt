@@ -5,7 +5,7 @@ ghost use lib.ListN.{length};
 ghost use Rattle.base.specs.Private.{Laid};
 ghost use Rattle.base.specs.Written.{outcome, write};
 ghost use Rattle.listing_spec.specs.Lines.{longest};
-ghost use Rattle.lines.specs.Noted.{words, notedLine};
+ghost use Rattle.lines.specs.Noted.{notedText, notedLine};
 use crate::Line;
 use crate::deliver;
 use crate::put_item;
@@ -24,7 +24,7 @@ pub(crate) fn put_word(text: &mut [u8], at: usize, word: &[u8]) -> usize
 // What a packet is to its port.
 fn put_words(text: &mut [u8], at: usize, noted: Noted) -> usize
     requires { ⌜ at + 32 ≤ length (now text) ⌝ }
-    ensures { λ r. ⌜ Laid (now (text .entry)) at (words noted) (now (text .exit)) r × (r ≤ at + 32) ⌝ }
+    ensures { λ r. ⌜ Laid (now (text .entry)) at (notedText noted) (now (text .exit)) r × (r ≤ at + 32) ⌝ }
 {
     match noted {
         Noted::First => put_word(text, at, b"first\n"),

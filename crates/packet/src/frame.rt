@@ -2,7 +2,7 @@
 ghost use mathlib.Core.Path.{_≡_};
 ghost use Prim.Native.Nat.{_+_, _≤_, _<_};
 ghost use lib.ListN.{length};
-ghost use Rattle.packet_spec.specs.Contents.{keySized, word, wordAt, unpacked};
+ghost use Rattle.packet_spec.specs.Contents.{keySized, pair, pairAt, unpacked};
 ghost use Rattle.packet_spec.specs.Frame.{judged, judgePacket, keyFits, judgeBody, judgeContents, closed, judging};
 use crate::escape;
 use crate::port;
@@ -42,18 +42,18 @@ impl Packet {
 }
 
 // Two bytes as a number, low first.
-fn word(low: u8, high: u8) -> u16
-    ensures { λ r. ⌜ r ≡ word low high ⌝ }
+fn pair(low: u8, high: u8) -> u16
+    ensures { λ r. ⌜ r ≡ pair low high ⌝ }
 {
     low as u16 + 256 * (high as u16)
 }
 
 // The number at i.
-fn word_at(cs: &[u8], i: usize) -> u16
+fn pair_at(cs: &[u8], i: usize) -> u16
     requires { ⌜ i + 1 < length (now cs) ⌝ }
-    ensures { λ r. ⌜ r ≡ wordAt (now (cs .entry)) i ⌝ }
+    ensures { λ r. ⌜ r ≡ pairAt (now (cs .entry)) i ⌝ }
 {
-    word(cs[i], cs[i + 1])
+    pair(cs[i], cs[i + 1])
 }
 
 // A byte as a length.
@@ -90,7 +90,7 @@ fn judge_packet(format: u8, number: u8, key: &[u8], rest: &[u8]) -> Judged
     requires { ⌜ (length (now key) < 256) × (4 ≤ length (now rest)) ⌝ }
     ensures { λ r. ⌜ r ≡ judged (judgePacket (unpacked format number (now (key .entry)) (now (rest .entry)))) ⌝ }
 {
-    let port = word_at(rest, 0);
+    let port = pair_at(rest, 0);
     if port::barred(port) {
         return Judged::Refused(Refusal::PORT);
     }
@@ -102,7 +102,7 @@ fn judge_packet(format: u8, number: u8, key: &[u8], rest: &[u8]) -> Judged
         number,
         key: key.len() as u8,
         port,
-        sequence: word_at(rest, 2),
+        sequence: pair_at(rest, 2),
         length: rest.len() - 4,
     })
 }
@@ -135,7 +135,7 @@ fn judge_contents(cs: &[u8]) -> Judged
         return Judged::Refused(Refusal::SHORT);
     }
     let end = n - 2;
-    if fcs::fcs(&cs[..end]) != word_at(cs, end) {
+    if fcs::fcs(&cs[..end]) != pair_at(cs, end) {
         return Judged::Refused(Refusal::CHECK);
     }
     judge_body(&cs[..end])

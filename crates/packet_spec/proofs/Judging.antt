@@ -26,7 +26,7 @@ use Rattle.base.proofs.Parts.{tail-is}
 use Rattle.base.proofs.Tests.{by-le, and-parts}
 use Rattle.fcs.specs.Fcs.{fcs}
 use Rattle.packet_spec.specs.Port.{barred}
-use Rattle.packet_spec.specs.Contents.{Packet, plainFormat, keyFormat, keyLeast, keyMost, keySized, payloadLimit, rawLimit, wordAt, unpacked, keyAt, restLeast, keyLength, plainly, keyed, body}
+use Rattle.packet_spec.specs.Contents.{Packet, plainFormat, keyFormat, keyLeast, keyMost, keySized, payloadLimit, rawLimit, pairAt, unpacked, keyAt, restLeast, keyLength, plainly, keyed, body}
 use Rattle.packet_spec.specs.Escape.{escape, scan, plain}
 use Rattle.packet_spec.specs.Frame.{Told, packet, refusal, broken, judged, number, Closed, kept, judgePacket, keyFits, judgeBody, judgeContents, closedBy, closed, judging, judge, part, There}
 use Rattle.packet_spec.specs.declared.Escapes.{Escapes}
@@ -127,7 +127,7 @@ module _ (bs : List ℕ) {j : Judged} where
       ∙ ap judged (sym (body-keyed bs g f))
 
 -- .. and of what stands behind the head
-module _ (format number : ℕ) (key rest : List ℕ) {port : ℕ} {bar : Bool} (w : port ≡ wordAt rest 0) (b : bar ≡ barred port) where
+module _ (format number : ℕ) (key rest : List ℕ) {port : ℕ} {bar : Bool} (w : port ≡ pairAt rest 0) (b : bar ≡ barred port) where
   abbrev taken : Packet
   taken = unpacked format number key rest
 
@@ -141,7 +141,7 @@ module _ (format number : ℕ) (key rest : List ℕ) {port : ℕ} {bar : Bool} (
     pub rest-payload : payloadLimit < n → Refused 8 ≡ judged (judgePacket taken)
     rest-payload h = ap judged (sym (packet-payload taken (ap barred (sym w) ∙ sym b ∙ t) (omega (arith, as-escaped))))
 
-    pub rest-packet : {k s m : ℕ} → k ≡ length key → s ≡ wordAt rest 2 → m ≡ length rest - 4 → n ≤ payloadLimit
+    pub rest-packet : {k s m : ℕ} → k ≡ length key → s ≡ pairAt rest 2 → m ≡ length rest - 4 → n ≤ payloadLimit
         → Delivered (record { format = format; number = number; key = k; port = port; sequence = s; length = m }) ≡ judged (judgePacket taken)
     rest-packet k s m h =
         (λ i. Delivered (record { format = format; number = number; key = k i; port = w i; sequence = s i; length = (m ∙ sym (length-drop 4 rest)) i }))
@@ -152,11 +152,11 @@ unfolding judgeContents
 judge-short cs h = simp (lt-ltb _ _ h)
 
 module _ (cs : List ℕ) (long : 8 ≤ length cs) where
-  pub judge-check : (fcs (body cs) ≡ wordAt cs (length cs - 2) → ⊥) → judgeContents cs ≡ refusal 5
+  pub judge-check : (fcs (body cs) ≡ pairAt cs (length cs - 2) → ⊥) → judgeContents cs ≡ refusal 5
   unfolding judgeContents
   judge-check n = simp (le-ltb _ _ long, ne-eqb _ _ n)
 
-  pub judge-body : fcs (body cs) ≡ wordAt cs (length cs - 2) → judgeContents cs ≡ judgeBody (body cs)
+  pub judge-body : fcs (body cs) ≡ pairAt cs (length cs - 2) → judgeContents cs ≡ judgeBody (body cs)
   unfolding judgeContents
   judge-body e = simp (le-ltb _ _ long, eq-eqb _ _ e)
 
@@ -270,7 +270,7 @@ there-body bs t h =
 
 there-contents : (cs t : List ℕ) → There (judgeContents cs) (cs ++ t)
 unfolding judgeContents
-there-contents cs t = go (ltb (length cs) 8) (eqb (fcs (body cs)) (wordAt cs (length cs - 2))) refl
+there-contents cs t = go (ltb (length cs) 8) (eqb (fcs (body cs)) (pairAt cs (length cs - 2))) refl
   where
     whole : body cs ++ (drop (length cs - 2) cs ++ t) ≡ cs ++ t
     whole = sym (append-assoc (body cs) (drop (length cs - 2) cs) t) ∙ ap (λ (l : List ℕ). l ++ t) (take-append-drop (length cs - 2) cs)
@@ -305,7 +305,7 @@ kept-body bs after before =
 
 kept-contents : (cs after before : List ℕ) → KeptBy (judgeContents cs) after before
 unfolding judgeContents
-kept-contents cs after before = go (ltb (length cs) 8) (eqb (fcs (body cs)) (wordAt cs (length cs - 2)))
+kept-contents cs after before = go (ltb (length cs) 8) (eqb (fcs (body cs)) (pairAt cs (length cs - 2)))
   where
     go : (short right : Bool) → KeptBy (pick short (refusal 4) (pick right (judgeBody (body cs)) (refusal 5))) after before
     go true r = λ h. absurd (omega arith)

@@ -17,7 +17,7 @@ use Rattle.base.proofs.Lists.{next, over}
 use Rattle.base.proofs.Tests.{by-eq}
 use Rattle.fcs.specs.Fcs.{fcs}
 use Rattle.packet_spec.specs.Port.{barred}
-use Rattle.packet_spec.specs.Contents.{Packet, plainFormat, keyFormat, keyLeast, keyMost, keyAt, restLeast, payloadLimit, rawLimit, two, word, wordAt, head, packed, unpacked, plainly, keyed, withCheck, contents, body}
+use Rattle.packet_spec.specs.Contents.{Packet, plainFormat, keyFormat, keyLeast, keyMost, keyAt, restLeast, payloadLimit, rawLimit, two, pair, pairAt, head, packed, unpacked, plainly, keyed, withCheck, contents, body}
 use Rattle.packet_spec.specs.Escape.{escape, plain, escaped, scan}
 use Rattle.packet_spec.specs.Frame.{Told, packet, refusal, broken, kept, judgeBody, judgeContents, closedBy, closed, judge}
 use Rattle.packet_spec.specs.Sender.{headFits, Accepted}
@@ -26,20 +26,20 @@ use Rattle.packet_spec.specs.declared.Escapes.the-variants.{Right, Unfin
 use Rattle.packet_spec.proofs.Judging.{key-fits, body-ways}
 
 -- two bytes are those of their number
-two-word : (x y : ℕ) → x < 256 → y < 256 → two (word x y) ≡ x ∷ y ∷ []
-two-word x y hx hy =
-    let low : word x y % 256 ≡ x = omega arith in
-    let high : word x y / 256 ≡ y = omega arith in
+two-pair : (x y : ℕ) → x < 256 → y < 256 → two (pair x y) ≡ x ∷ y ∷ []
+two-pair x y hx hy =
+    let low : pair x y % 256 ≡ x = omega arith in
+    let high : pair x y / 256 ≡ y = omega arith in
     λ i. low i ∷ high i ∷ []
 
 -- port, sequence and payload, put together again
-rest-back : (bs : List ℕ) → Bytes bs → 4 ≤ length bs → (two (wordAt bs 0) ++ two (wordAt bs 2)) ++ drop 4 bs ≡ bs
+rest-back : (bs : List ℕ) → Bytes bs → 4 ≤ length bs → (two (pairAt bs 0) ++ two (pairAt bs 2)) ++ drop 4 bs ≡ bs
 rest-back [] h n = absurd (omega (arith, n))
 rest-back (a ∷ []) h n = absurd (omega (arith, n))
 rest-back (a ∷ b ∷ []) h n = absurd (omega (arith, n))
 rest-back (a ∷ b ∷ c ∷ []) h n = absurd (omega (arith, n))
 rest-back (a ∷ b ∷ c ∷ d ∷ l) h n =
-    λ i. (two-word a b (h .0) (h .1 .0) i ++ two-word c d (h .1 .1 .0) (h .1 .1 .1 .0) i) ++ l
+    λ i. (two-pair a b (h .0) (h .1 .0) i ++ two-pair c d (h .1 .1 .0) (h .1 .1 .1 .0) i) ++ l
 
 -- of a packet: the bytes are its own, and the sender accepts it
 abbrev Only : Told → List ℕ → Type 0
@@ -55,10 +55,10 @@ wide (b ∷ bs) (suc i) h = wide bs i (h .1)
 -- a packet taken apart behind a head that fits
 module _ (format number : ℕ) (key rest bs : List ℕ) (whole : head format number key ++ rest ≡ bs) (fits : headFits format number (length key) ≡ true)
     (number-fits : number < 256) (key-bytes : Bytes key) (bytes : Bytes rest) (long : 5 ≤ length rest)
-    (free : barred (wordAt rest 0) ≡ false) (short : length (escape (drop 4 rest)) ≤ payloadLimit) where
+    (free : barred (pairAt rest 0) ≡ false) (short : length (escape (drop 4 rest)) ≤ payloadLimit) where
   only-of : Only (packet (unpacked format number key rest)) bs
   only-of = (
-    append-assoc (head format number key) (two (wordAt rest 0) ++ two (wordAt rest 2)) (drop 4 rest)
+    append-assoc (head format number key) (two (pairAt rest 0) ++ two (pairAt rest 2)) (drop 4 rest)
         ∙ ap (λ (l : List ℕ). head format number key ++ l) (rest-back rest bytes (omega arith)) ∙ whole,
     record {
       some = λ e. omega (arith, length-drop 4 rest);
@@ -104,10 +104,10 @@ body-only bs h n p e =
     (body-ways bs (λ (t : Told). Only t bs) tt tt tt tt (only-plain bs h n) (λ f k. only-keyed bs h f (key-fits bs k)))
 
 -- ---- with the check
-last-two : (bs : List ℕ) → Bytes bs → 2 ≤ length bs → two (wordAt bs (length bs - 2)) ≡ drop (length bs - 2) bs
+last-two : (bs : List ℕ) → Bytes bs → 2 ≤ length bs → two (pairAt bs (length bs - 2)) ≡ drop (length bs - 2) bs
 last-two bs h n =
     let i = length bs - 2 in
-    two-word (getD bs i 0) (getD bs (i + 1) 0) (wide bs i h) (wide bs (i + 1) h)
+    two-pair (getD bs i 0) (getD bs (i + 1) 0) (wide bs i h) (wide bs (i + 1) h)
     ∙ sym (next bs i (omega arith) ∙ ap (λ (l : List ℕ). getD bs i 0 ∷ l) (next bs (i + 1) (omega arith) ∙ ap (λ (l : List ℕ). getD bs (i + 1) 0 ∷ l) (over bs (i + 1 + 1) (omega arith))))
 
 -- of a packet: the contents are its own, and the sender accepts it
@@ -118,9 +118,9 @@ OnlyIn (broken n) cs = Unit {0}
 
 only-contents : (cs : List ℕ) → Bytes cs → OnlyIn (judgeContents cs) cs
 unfolding judgeContents contents withCheck
-only-contents cs h = go (ltb (length cs) 8) refl (eqb (fcs (body cs)) (wordAt cs (length cs - 2))) refl
+only-contents cs h = go (ltb (length cs) 8) refl (eqb (fcs (body cs)) (pairAt cs (length cs - 2))) refl
   where
-    told : (t : Told) → judgeBody (body cs) ≡ t → 8 ≤ length cs → fcs (body cs) ≡ wordAt cs (length cs - 2) → OnlyIn t cs
+    told : (t : Told) → judgeBody (body cs) ≡ t → 8 ≤ length cs → fcs (body cs) ≡ pairAt cs (length cs - 2) → OnlyIn t cs
     told (refusal n) e l f = tt
     told (broken n) e l f = tt
     told (packet p) e l f =
@@ -131,7 +131,7 @@ only-contents cs h = go (ltb (length cs) 8) refl (eqb (fcs (body cs)) (wordAt cs
           o .1,
         )
 
-    go : (t : Bool) → ltb (length cs) 8 ≡ t → (u : Bool) → eqb (fcs (body cs)) (wordAt cs (length cs - 2)) ≡ u
+    go : (t : Bool) → ltb (length cs) 8 ≡ t → (u : Bool) → eqb (fcs (body cs)) (pairAt cs (length cs - 2)) ≡ u
         → OnlyIn (pick t (refusal 4) (pick u (judgeBody (body cs)) (refusal 5))) cs
     go true e u f = tt
     go false e false f = tt

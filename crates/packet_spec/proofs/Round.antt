@@ -21,7 +21,7 @@ use Rattle.base.proofs.Bytes.{each-append}
 use Rattle.base.proofs.Tests.{and-parts}
 use Rattle.fcs.specs.Fcs.{fcs}
 use Rattle.packet_spec.specs.Escape.{escape, escapeByte, plain, wrongFrom, scannedBy, scan, last, right, NoFlag}
-use Rattle.packet_spec.specs.Contents.{Packet, packetOf, plainPacket, keyPacket, plainFormat, keyFormat, keyLeast, keyMost, keySized, payloadLimit, plainLimit, rawLimit, contents, withCheck, packed, unpacked, keyed, keyAt, restLeast, two, wordAt, body}
+use Rattle.packet_spec.specs.Contents.{Packet, packetOf, plainPacket, keyPacket, plainFormat, keyFormat, keyLeast, keyMost, keySized, payloadLimit, plainLimit, rawLimit, contents, withCheck, packed, unpacked, keyed, keyAt, restLeast, two, pairAt, body}
 use Rattle.packet_spec.specs.Frame.{Closed, packet, judge, judgePacket, keyFits, judgeBody, judgeContents, closedBy}
 use Rattle.packet_spec.specs.Sender.{headFits, Accepted}
 use Rattle.packet_spec.specs.declared.Escapes.the-variants.{Right}
@@ -101,8 +101,8 @@ module _ (bs : List ℕ) (n : ℕ) where
   take-behind : take (length (bs ++ two n) - 2) (bs ++ two n) ≡ bs
   take-behind = rw behind (take-append-seam bs (two n))
 
-  word-behind : wordAt (bs ++ two n) (length (bs ++ two n) - 2) ≡ n
-  word-behind = rw (behind, getD-append-seam bs (n % 256) (n / 256 ∷ []) 0, getD-append-add bs (two n) 1 0) (omega arith)
+  pair-behind : pairAt (bs ++ two n) (length (bs ++ two n) - 2) ≡ n
+  pair-behind = rw (behind, getD-append-seam bs (n % 256) (n / 256 ∷ []) 0, getD-append-add bs (two n) 1 0) (omega arith)
 
 -- ---- the two formats
 no-bytes : (l : List ℕ) → length l ≡ 0 → l ≡ []
@@ -141,8 +141,8 @@ module _ (port sequence : ℕ) (payload : List ℕ) where
   apart : (format number : ℕ) (key : List ℕ)
       → unpacked format number key rest ≡ packetOf format number key port sequence payload
   apart format number key =
-      let p : wordAt rest 0 ≡ port = omega arith in
-      let s : wordAt rest 2 ≡ sequence = omega arith in
+      let p : pairAt rest 0 ≡ port = omega arith in
+      let s : pairAt rest 2 ≡ sequence = omega arith in
       λ i. packetOf format number key (p i) (s i) payload
 
   pub packed-key : (number : ℕ) (key : List ℕ) → packed (keyPacket number key port sequence payload) ≡ keyFormat ∷ length key ∷ number ∷ (key ++ rest)
@@ -192,7 +192,7 @@ module _ (p : Packet) (a : Accepted p) where
   unfolding contents withCheck
   judge-contents =
       let n = fcs (packed p) in
-      judge-body (contents p) (omega (arith, length-append (packed p) (two n), packed-length)) (ap fcs body-contents ∙ sym (word-behind (packed p) n))
+      judge-body (contents p) (omega (arith, length-append (packed p) (two n), packed-length)) (ap fcs body-contents ∙ sym (pair-behind (packed p) n))
       ∙ ap judgeBody body-contents ∙ judge-packed
 
 -- ---- the raw bytes of a packet are within the limit

@@ -75,12 +75,12 @@ abbrev pub two : ℕ → List ℕ
 two n = n % 256 ∷ n / 256 ∷ []
 
 -- two bytes as a number, low first
-abbrev pub word : ℕ → ℕ → ℕ
-word low high = low + 256 * high
+abbrev pub pair : ℕ → ℕ → ℕ
+pair low high = low + 256 * high
 
 -- the number at i
-abbrev pub wordAt : List ℕ → ℕ → ℕ
-wordAt cs i = word (getD cs i 0) (getD cs (i + 1) 0)
+abbrev pub pairAt : List ℕ → ℕ → ℕ
+pairAt cs i = pair (getD cs i 0) (getD cs (i + 1) 0)
 
 -- format byte; in format 0x26 key length, key number and key behind it
 abbrev pub head : ℕ → ℕ → List ℕ → List ℕ
@@ -96,7 +96,7 @@ packed p = opening p ++ p .payload
 
 -- what stands behind the head, taken apart: port, sequence, payload
 abbrev pub unpacked : ℕ → ℕ → List ℕ → List ℕ → Packet
-unpacked format number key bs = packetOf format number key (wordAt bs 0) (wordAt bs 2) (drop 4 bs)
+unpacked format number key bs = packetOf format number key (pairAt bs 0) (pairAt bs 2) (drop 4 bs)
 
 -- where the key stands in format 0x26: behind format byte, key length, key number
 abbrev pub keyAt : ℕ

@@ -23,7 +23,7 @@ use Rattle.packet_spec.specs.Contents.{
   restLeast,
   payloadLimit,
   rawLimit,
-  wordAt,
+  pairAt,
   keyLength,
   keyAt,
   payloadAt,
@@ -95,7 +95,7 @@ judgeBody bs =
 unfoldable pub judgeContents : List ℕ → Told
 judgeContents cs =
     pick (ltb (length cs) 8) (refusal 4)
-    (pick (eqb (fcs (body cs)) (wordAt cs (length cs - 2))) (judgeBody (body cs)) (refusal 5))
+    (pick (eqb (fcs (body cs)) (pairAt cs (length cs - 2))) (judgeBody (body cs)) (refusal 5))
 
 -- refused with the raw bytes left as they are
 abbrev pub kept : ℕ → List ℕ → Closed

@@ -19,10 +19,10 @@ judge-contents-spec =
     (λ c κs. search needs)
     (λ c.
     let f = c .before .before in
-    ap judged (sym (judge-check _ (f .before .before .if1 .left) (λ e. c .if2 .taken (f .fcs .ensures ∙ e ∙ sym (c .before .word-at .ensures))))))
+    ap judged (sym (judge-check _ (f .before .before .if1 .left) (λ e. c .if2 .taken (f .fcs .ensures ∙ e ∙ sym (c .before .pair-at .ensures))))))
     (λ c. simp length-take (omega arith))
     (λ c κs. simp length-take (omega arith))
     (λ c.
     let f = c .before .before .before .before in
     c .judge-body .ensures
-    ∙ ap judged (sym (judge-body _ (f .before .before .if1 .left) (sym (f .fcs .ensures) ∙ c .before .before .if2 .left ∙ c .before .before .before .word-at .ensures)))))
+    ∙ ap judged (sym (judge-body _ (f .before .before .if1 .left) (sym (f .fcs .ensures) ∙ c .before .before .if2 .left ∙ c .before .before .before .pair-at .ensures)))))
