@@ -36,7 +36,7 @@ use Rattle.recording.specs.Call.{far}
 use Rattle.recording.proofs.Kept.{Kept, hear-kept}
 use Rattle.board.specs.declared.owed.Owed.{Owed}
 use Rattle.board.specs.declared.readout.Wants.the-variants.{More, Again}
-use Rattle.board.specs.Source.{Source, source, boardIn, sourceOwes, sourceHand, sourceEat, sourceAll, sourceHear}
+use Rattle.board.specs.Source.{Source, source, memoryIn, sourceOwes, sourceHand, sourceEat, sourceAll, sourceHear}
 use Rattle.board.specs.Owed.{alone, withText, owing, forth, forthBy}
 use Rattle.board.specs.Call.{Screen, screen, recvOn, owedOn, Part, part, partly, heardBy, takesOn, nearBy, takes}
 use Rattle.board.specs.Runs.{Shows, more, again, done, piece, Run}
@@ -51,7 +51,7 @@ NearBy false p n = p .offset + n ≤ far
 
 -- n bytes of what comes in may still come
 pub record SafeSource (s : Source) (n : ℕ) : Type 0 where
-  pub fine : Fine (boardIn (s .deck))
+  pub fine : Fine (memoryIn (s .deck))
   pub near : NearBy (s .bare) (s .deck .spot) n
 
 -- of the board
@@ -80,7 +80,7 @@ source-behind : (b : Bool) (m : Deck) (bs : List ℕ) (k : ℕ) → SafeSource (
     → SafeSource (sourceHear (source b m) bs .2) (length (drop (sourceHear (source b m) bs .1) bs) + k)
 source-behind true m bs k i =
     subst (λ (r : Option Event × ℕ × Source). SafeSource (r .2) (length (drop (r .1) bs) + k)) (sym (hear-bare m bs))
-    (record { fine = inv-hear owed handOn eatByte hand-one Fine fine-hand fine-eat (boardIn m) bs (i .fine); near = tt })
+    (record { fine = inv-hear owed handOn eatByte hand-one Fine fine-hand fine-eat (memoryIn m) bs (i .fine); near = tt })
 source-behind false m bs k i =
     subst (λ (r : Option Event × ℕ × Source). SafeSource (r .2) (length (drop (r .1) bs) + k)) (sym (hear-taped m bs)) (taped-behind m bs k i)
 
@@ -112,11 +112,11 @@ table-fit t lost h = h
 pub safe-on : (room : ℕ) (s : Screen) (bs : List ℕ) (k : ℕ) → Safe s (length bs + k) → takes room s bs ≡ takesOn room s bs
 safe-on room s bs k i =
     rw (
-      fine-is (boardIn (s .source .deck)) (i .source .fine),
+      fine-is (memoryIn (s .source .deck)) (i .source .fine),
       near-test (s .source .bare) (s .source .deck .spot) (length bs) k (i .source .near),
       i .fit,
       le-leb (s .owed .piece .length) longest (i .short),
-      fine-roomy (boardIn (s .source .deck)) (i .source .fine),
+      fine-roomy (memoryIn (s .source .deck)) (i .source .fine),
     ) refl
 
 -- .. and behind it the rest may still come

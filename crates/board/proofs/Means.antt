@@ -31,7 +31,7 @@ use Rattle.board_spec.proofs.Split.{all-written, lines-split, remark-is, lead-s
 use Rattle.lines.specs.Piece.{pieceOf}
 use Rattle.board.specs.declared.readout.Wants.{Wants}
 use Rattle.board.specs.declared.readout.Wants.the-variants.{More, Again, Refused}
-use Rattle.board.specs.Source.{Source, boardIn, sourceOwes, sourceHand, sourceEat, sourceAll, sourceHear}
+use Rattle.board.specs.Source.{Source, memoryIn, sourceOwes, sourceHand, sourceEat, sourceAll, sourceHear}
 use Rattle.board.specs.Owed.{alone, nothing, withText, owing, left}
 use Rattle.board.specs.Call.{Screen, screen, readoutOf, recvOn, owedOn, Part, partly, heardBy, takesOn, soundState, takesBy, takes}
 use Rattle.board.specs.Runs.{tableAll, shownBy, meant, Shows, more, again, ShowsAll, done, piece}
@@ -54,14 +54,14 @@ packet-left v p recv h false =
     ∙ ap (λ (t : List ℕ). lead v (delivery p) ++ (shownText t ++ (feed ∷ []))) h
 
 pub owing-left : (b : Bool) (t : List Entry) (e : Event) (s : Source) → ThereIn e s
-    → left (owing b t (given e)) (boardIn (s .deck) .recv) ≡ writtenAll (eventLines b t e)
+    → left (owing b t (given e)) (memoryIn (s .deck) .recv) ≡ writtenAll (eventLines b t e)
 owing-left b t (said (packet p)) s h =
-    packet-left (noting t (p .port) (p .sequence) .0) p (boardIn (s .deck) .recv) (h .0) (eqb (p .format) keyFormat)
+    packet-left (noting t (p .port) (p .sequence) .0) p (memoryIn (s .deck) .recv) (h .0) (eqb (p .format) keyFormat)
     ∙ sym (lines-split (noting t (p .port) (p .sequence) .0) p)
-owing-left b t (said (refusal n)) s h = alone-left (remark b (given (said (refusal n)))) (boardIn (s .deck) .recv) ∙ sym (remark-is b t (said (refusal n)) tt)
-owing-left b t (said (broken n)) s h = alone-left (remark b (given (said (broken n)))) (boardIn (s .deck) .recv) ∙ sym (remark-is b t (said (broken n)) tt)
-owing-left b t (block c) s h = alone-left (remark b (given (block c))) (boardIn (s .deck) .recv) ∙ sym (remark-is b t (block c) tt)
-owing-left b t lost s h = alone-left (remark b (given lost)) (boardIn (s .deck) .recv) ∙ sym (remark-is b t lost tt)
+owing-left b t (said (refusal n)) s h = alone-left (remark b (given (said (refusal n)))) (memoryIn (s .deck) .recv) ∙ sym (remark-is b t (said (refusal n)) tt)
+owing-left b t (said (broken n)) s h = alone-left (remark b (given (said (broken n)))) (memoryIn (s .deck) .recv) ∙ sym (remark-is b t (said (broken n)) tt)
+owing-left b t (block c) s h = alone-left (remark b (given (block c))) (memoryIn (s .deck) .recv) ∙ sym (remark-is b t (block c) tt)
+owing-left b t lost s h = alone-left (remark b (given lost)) (memoryIn (s .deck) .recv) ∙ sym (remark-is b t lost tt)
 
 -- ---- all that is to be shown
 table-append : (t : List Entry) (xs ys : List Event) → tableAll t (xs ++ ys) ≡ tableAll (tableAll t xs) ys
@@ -156,7 +156,7 @@ on-means room s bs w = go (ltb room (length (owedOn s))) refl
         heard-means s bs (sourceHear (s .source) bs) (law sourceOwes sourceHand sourceEat source-hand-one (s .source) bs) (source-there (s .source) bs)
 
 pub takes-means : (room : ℕ) (s : Screen) (bs : List ℕ) → Whole (s .owed) → Means (takes room s bs) bs (meant s bs)
-takes-means room s bs w = go (soundState (readoutOf s) (length bs)) (roomy (recvOn s) (boardIn (s .source .deck) .word))
+takes-means room s bs w = go (soundState (readoutOf s) (length bs)) (roomy (recvOn s) (memoryIn (s .source .deck) .word))
   where
     go : (a b : Bool) → Means (takesBy a b room s bs) bs (meant s bs)
     go false b = refl
@@ -181,7 +181,7 @@ heard-whole s (some e, n, x) = owed-whole (s .blocks) (s .table) e
 
 pub takes-whole : (room : ℕ) (s : Screen) (bs : List ℕ) → Whole (s .owed) → Whole (takes room s bs .screen .owed)
 unfolding takesOn
-takes-whole room s bs w = go (soundState (readoutOf s) (length bs)) (roomy (recvOn s) (boardIn (s .source .deck) .word))
+takes-whole room s bs w = go (soundState (readoutOf s) (length bs)) (roomy (recvOn s) (memoryIn (s .source .deck) .word))
   where
     on : (t : Bool) → ltb room (length (owedOn s)) ≡ t → Whole (pick t (partly room s) (heardBy s (sourceHear (s .source) bs)) .screen .owed)
     on true e = left-by room (s .owed) (recvOn s) w (omega (arith, ltb-true room (length (owedOn s)) e)) .1

@@ -18,7 +18,7 @@ use Rattle.packet_spec.specs.Contents.{keyFormat}
 use Rattle.packet_spec.specs.declared.Delivery.{Delivery}
 use Rattle.packet_spec.specs.declared.Judged.the-variants.{Packet as Delivered, Refused, Broken}
 use Rattle.channel_spec.specs.Meaning.{Event}
-use Rattle.channel.specs.Call.{Board, board, sound, roomy, hearOn, hearCall, HearingIs}
+use Rattle.channel.specs.Call.{Memory, memory, sound, roomy, hearOn, hearCall, HearingIs}
 use Rattle.channel_spec.specs.declared.Answer.{Answer}
 use Rattle.channel_spec.specs.declared.Answer.the-variants.{More, Said, Block, LockLost}
 use Rattle.channel.specs.declared.answer.Hearing.{Hearing}
@@ -39,7 +39,7 @@ use Rattle.recording.specs.Call.{deckOf, nearSpot, tapeCall, NextIs}
 use Rattle.recording.proofs.Next.{next-heard}
 use Rattle.board.specs.declared.owed.Owed.{Owed}
 use Rattle.board.specs.declared.readout.Readout.{Readout}
-use Rattle.board.specs.Source.{Source, source, boardIn, withBoard, sourceHear}
+use Rattle.board.specs.Source.{Source, source, memoryIn, withMemory, sourceHear}
 use Rattle.board.specs.Owed.{alone, nothing, withText, owedPacket, owing, payloadIn, textByte, textPiece, nextPiece, further, forth}
 use Rattle.board.specs.Call.{nearBy, soundState, lastBy, lastLines}
 use Rattle.board.specs.Private.{BareIs, HeardIs, portsBy, answeredBy}
@@ -148,12 +148,12 @@ module _ (r : Readout) {p : Piece} where
       ∙ ap (λ t. pieceOf (writtenAll (lastBy t (r .tape .spot)))) (sym e)
 
 -- ---- what comes in
-pub bare-is : (t : Tape) (recv word bs : List ℕ) {h : Hearing} {l k : List ℕ} → HearingIs (hearCall (board (t .receiver) recv word) bs) h l k
+pub bare-is : (t : Tape) (recv word bs : List ℕ) {h : Hearing} {l k : List ℕ} → HearingIs (hearCall (memory (t .receiver) recv word) bs) h l k
     → BareIs (deckOf t recv word) bs (record { answer = h .answer; taken = h .taken; tape = record { spot = t .spot; channel = t .channel; receiver = h .receiver } }) l k
 bare-is t recv word bs h = (
   ap (λ x. x .answer) (h .0),
   ap (λ x. x .taken) (h .0),
-  (λ i. withBoard (deckOf t recv word) (board (h .0 i .receiver) (h .1 i) (h .2 i))),
+  (λ i. withMemory (deckOf t recv word) (memory (h .0 i .receiver) (h .1 i) (h .2 i))),
 )
 
 module _ (r : Readout) (recv word bs : List ℕ) (ok : soundState r (length bs) ≡ true) (room : roomy recv word ≡ true) where
@@ -166,15 +166,15 @@ module _ (r : Readout) (recv word bs : List ℕ) (ok : soundState r (length bs) 
   near-it : nearBy (r .bare) (r .tape .spot) (length bs) ≡ true
   near-it = and-parts (nearBy (r .bare) (r .tape .spot) (length bs)) _ (and-parts (sound (r .tape .receiver)) _ ok .1) .0
 
-  bare-on : hearCall (boardIn m) bs ≡ hearOn (boardIn m) bs
+  bare-on : hearCall (memoryIn m) bs ≡ hearOn (memoryIn m) bs
   bare-on = rw (sound-receiver, room) refl
 
   pub heard-bare : {h : Heard} {l k : List ℕ} → r .bare ≡ true → BareIs m bs h l k → HeardIs (r .bare) (sourceHear (source (r .bare) m) bs) h l k
   heard-bare {h} {l} {k} e b =
       subst (λ (t : Bool). HeardIs t (sourceHear (source t m) bs) h l k) (sym e)
-      (subst (λ (x : Option Event × ℕ × Source). HeardIs true x h l k) (sym (hear-bare m bs ∙ ap (λ (x : Option Event × ℕ × Board). (x .0, x .1, source true (withBoard m (x .2)))) (sym bare-on))) (
+      (subst (λ (x : Option Event × ℕ × Source). HeardIs true x h l k) (sym (hear-bare m bs ∙ ap (λ (x : Option Event × ℕ × Memory). (x .0, x .1, source true (withMemory m (x .2)))) (sym bare-on))) (
         b .0,
-        (λ i. (hearCall (boardIn m) bs .0, sym (b .1) i, source true (sym (b .2) i))),
+        (λ i. (hearCall (memoryIn m) bs .0, sym (b .1) i, source true (sym (b .2) i))),
       ))
 
   pub heard-taped : {h : Heard} {l k : List ℕ} → r .bare ≡ false → NextIs (tapeCall m bs) h l k → HeardIs (r .bare) (sourceHear (source (r .bare) m) bs) h l k

@@ -26,7 +26,7 @@ use Rattle.board.specs.declared.readout.Readout.{Readout}
 use Rattle.board.specs.declared.readout.Wants.{Wants}
 use Rattle.board.specs.declared.readout.Wants.the-variants.{More, Again, Refused}
 use Rattle.board.specs.declared.readout.Took.{Took}
-use Rattle.board.specs.Source.{Source, source, boardIn, sourceHear}
+use Rattle.board.specs.Source.{Source, source, memoryIn, sourceHear}
 use Rattle.board.specs.Owed.{nothing, owing, left, forthBy, soundOwed}
 
 -- the board, with the buffers lent
@@ -60,7 +60,7 @@ freshReadout bare blocks = record { bare = bare; blocks = blocks; tape = freshTa
 
 -- the receive buffer
 abbrev pub recvOn : Screen → List ℕ
-recvOn s = boardIn (s .source .deck) .recv
+recvOn s = memoryIn (s .source .deck) .recv
 
 -- the text owed
 abbrev pub owedOn : Screen → List ℕ
@@ -107,7 +107,7 @@ takesBy true true room s bs = takesOn room s bs
 
 -- one call
 abbrev pub takes : ℕ → Screen → List ℕ → Part
-takes room s bs = takesBy (soundState (readoutOf s) (length bs)) (roomy (recvOn s) (boardIn (s .source .deck) .word)) room s bs
+takes room s bs = takesBy (soundState (readoutOf s) (length bs)) (roomy (recvOn s) (memoryIn (s .source .deck) .word)) room s bs
 
 -- the code's result of a call
 abbrev pub tookOf : Part → Took
@@ -116,7 +116,7 @@ tookOf p = record { wants = p .wants; taken = p .taken; written = length (p .tex
 -- r is the result, l and k the buffers and out′ the output of a call
 abbrev pub TookIs : Part → Took → List ℕ → List ℕ → List ℕ → List ℕ → Type 0
 TookIs p r l k out out′ =
-    (r ≡ tookOf p) × (l ≡ recvOn (p .screen)) × (k ≡ boardIn (p .screen .source .deck) .word) × (out′ ≡ p .text ++ drop (length (p .text)) out)
+    (r ≡ tookOf p) × (l ≡ recvOn (p .screen)) × (k ≡ memoryIn (p .screen .source .deck) .word) × (out′ ≡ p .text ++ drop (length (p .text)) out)
 
 -- behind the last byte: bare bytes end anywhere
 abbrev pub lastBy : Bool → Spot → List Line

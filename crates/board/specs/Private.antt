@@ -22,7 +22,7 @@ use Rattle.recording.specs.declared.tape.Heard.{Heard}
 use Rattle.recording.specs.Deck.{Deck}
 use Rattle.recording.specs.Call.{deckOf}
 use Rattle.board.specs.declared.readout.Readout.{Readout}
-use Rattle.board.specs.Source.{Source, source, boardIn, withBoard}
+use Rattle.board.specs.Source.{Source, source, memoryIn, withMemory}
 use Rattle.board.specs.Owed.{owing, left, forthBy}
 
 -- as much of the text owed as there is room for
@@ -34,8 +34,8 @@ pub record PutIs (o : Owed) (recv out : List ℕ) (r : Put) (out′ : List ℕ) 
 -- r is what the receiver says of bare bytes, l and k the buffers then
 abbrev pub BareIs : Deck → List ℕ → Heard → List ℕ → List ℕ → Type 0
 BareIs m bs r l k =
-    (r .answer ≡ answered (hearCall (boardIn m) bs .0)) × (r .taken ≡ hearCall (boardIn m) bs .1)
-    × (deckOf (r .tape) l k ≡ withBoard m (hearCall (boardIn m) bs .2))
+    (r .answer ≡ answered (hearCall (memoryIn m) bs .0)) × (r .taken ≡ hearCall (memoryIn m) bs .1)
+    × (deckOf (r .tape) l k ≡ withMemory m (hearCall (memoryIn m) bs .2))
 
 -- .. of what comes in
 abbrev pub HeardIs : Bool → Option Event × ℕ × Source → Heard → List ℕ → List ℕ → Type 0

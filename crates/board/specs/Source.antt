@@ -9,7 +9,7 @@ use mathlib.Core.List.{List}
 use mathlib.Core.Option.{Option}
 use Rattle.base.specs.Calls.{all, hear}
 use Rattle.channel_spec.specs.Meaning.{Event}
-use Rattle.channel.specs.Call.{Board, owed, handOn, eatByte}
+use Rattle.channel.specs.Call.{Memory, owed, handOn, eatByte}
 use Rattle.recording.specs.Deck.{ear, Deck, deck, deckOwes, deckHand, deckEat}
 
 -- bare: bytes as they are; else a recording's
@@ -22,16 +22,16 @@ abbrev pub source : Bool → Deck → Source
 source b m = record { bare = b; deck = m }
 
 -- the receiver with its buffers
-abbrev pub boardIn : Deck → Board
-boardIn m = m .ear .board
+abbrev pub memoryIn : Deck → Memory
+memoryIn m = m .ear .memory
 
 -- .. put back: bare bytes move nothing else
-abbrev pub withBoard : Deck → Board → Deck
-withBoard m c = deck (m .spot) (ear (m .ear .channel) c)
+abbrev pub withMemory : Deck → Memory → Deck
+withMemory m c = deck (m .spot) (ear (m .ear .channel) c)
 
 -- what the receiver makes of a bare byte ..
-abbrev pub barely : Deck → Option Event × Board → Option Event × Source
-barely m r = (r .0, source true (withBoard m (r .1)))
+abbrev pub barely : Deck → Option Event × Memory → Option Event × Source
+barely m r = (r .0, source true (withMemory m (r .1)))
 
 -- .. and the tape of a recording's
 abbrev pub taped : Option Event × Deck → Option Event × Source
@@ -39,17 +39,17 @@ taped r = (r .0, source false (r .1))
 
 -- moves owed, by: is it bare
 abbrev pub owesBy : Bool → Deck → ℕ
-owesBy true m = owed (boardIn m)
+owesBy true m = owed (memoryIn m)
 owesBy false m = deckOwes m
 
 -- one of them
 abbrev pub handBy : Bool → Deck → Option Event × Source
-handBy true m = barely m (handOn (boardIn m))
+handBy true m = barely m (handOn (memoryIn m))
 handBy false m = taped (deckHand m)
 
 -- a byte
 abbrev pub eatBy : Bool → Deck → ℕ → Option Event × Source
-eatBy true m b = barely m (eatByte (boardIn m) b)
+eatBy true m b = barely m (eatByte (memoryIn m) b)
 eatBy false m b = taped (deckEat m b)
 
 -- moves owed

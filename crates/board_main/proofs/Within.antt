@@ -14,7 +14,7 @@ use Rattle.base.proofs.Calls.{FitsBy, fits}
 use Rattle.channel_spec.specs.Meaning.{Event}
 use Rattle.channel.specs.Call.{roomy}
 use Rattle.board.specs.declared.readout.Took.{Took}
-use Rattle.board.specs.Source.{Source, boardIn, sourceOwes, sourceHand, sourceEat, sourceHear}
+use Rattle.board.specs.Source.{Source, memoryIn, sourceOwes, sourceHand, sourceEat, sourceHear}
 use Rattle.board.specs.Call.{Screen, readoutOf, recvOn, owedOn, Part, partly, heardBy, takesOn, soundState, takesBy, takes, TookIs}
 use Rattle.board.proofs.Sources.{source-hand-one}
 
@@ -46,7 +46,7 @@ by-tests true false room s bs = zero-le
 by-tests true true room s bs = takes-on-within room s bs
 
 pub took-within : (room : ℕ) (s : Screen) (bs : List ℕ) → takes room s bs .taken ≤ length bs
-took-within room s bs = by-tests (soundState (readoutOf s) (length bs)) (roomy (recvOn s) (boardIn (s .source .deck) .word)) room s bs
+took-within room s bs = by-tests (soundState (readoutOf s) (length bs)) (roomy (recvOn s) (memoryIn (s .source .deck) .word)) room s bs
 
 -- a call's result, and the output then
 pub call-within : (s : Screen) (bs old : List ℕ) {r : Took} {l k out : List ℕ}

@@ -17,7 +17,7 @@ use Rattle.stream.specs.Meaning.{waiting}
 use Rattle.channel_spec.specs.Sender.{marker, wordBytes, framed}
 use Rattle.channel_spec.specs.Meaning.{Event, lost, Chan, freshChannel, hears, answers, IsWord, wordsGive, FirstMarker}
 use Rattle.channel_spec.proofs.Order.{none-given, first-given, few-given, begun-given, lost-given}
-use Rattle.channel.specs.Call.{EveryCut, boardOf, inUse}
+use Rattle.channel.specs.Call.{EveryCut, memoryOf, inUse}
 use Rattle.channel.proofs.Demands.{cut-so, every-cut}
 
 pub hunting-silent : (bs : List ℕ) → ((xs ys : List ℕ) → bs ≡ xs ++ (marker ++ ys) → ⊥) → EveryCut bs λ es d. (es ≡ []) × (d .st .locked ≡ false)
@@ -25,7 +25,7 @@ hunting-silent bs h =
     let n = none-given bs h .1 in
     cut-so (every-cut bs) λ es d e. (
       e .0 ∙ ap (λ (x : List Event × Chan). x .0) n,
-      ap (λ x. x .0 .locked) (e .1 ∙ ap (λ (x : List Event × Chan). inUse (boardOf (x .1) [] [])) n),
+      ap (λ x. x .0 .locked) (e .1 ∙ ap (λ (x : List Event × Chan). inUse (memoryOf (x .1) [] [])) n),
     )
 
 pub first-begun : (stray bs : List ℕ) → FirstMarker stray (marker ++ bs) → length bs < wordBytes → EveryCut (stray ++ (marker ++ bs)) λ es _. es ≡ []
@@ -44,8 +44,8 @@ module _ (stray : List ℕ) (ws : List (List ℕ)) (some : ws ≢ []) (words : E
   word-begun bs h = cut-so (every-cut ((stray ++ framed ws) ++ (marker ++ bs))) λ es _ e. e .0 ∙ begun-given stray ws some words first bs h
 
   pub lock-lost : (bs cs : List ℕ) → length bs ≡ 4 → bs ≢ marker → EveryCut ((stray ++ framed ws) ++ (bs ++ cs))
-      λ es d. (es ≡ wordsGive ws waiting ++ lost ∷ answers (bs ++ cs)) × (inUse d ≡ inUse (boardOf (hears freshChannel (bs ++ cs) .1) [] []))
+      λ es d. (es ≡ wordsGive ws waiting ++ lost ∷ answers (bs ++ cs)) × (inUse d ≡ inUse (memoryOf (hears freshChannel (bs ++ cs) .1) [] []))
   lock-lost bs cs h n =
       let x = lost-given stray ws some words first bs cs h n in
       cut-so (every-cut ((stray ++ framed ws) ++ (bs ++ cs))) λ es d e.
-      (e .0 ∙ ap (λ (y : List Event × Chan). y .0) x, e .1 ∙ ap (λ (y : List Event × Chan). inUse (boardOf (y .1) [] [])) x)
+      (e .0 ∙ ap (λ (y : List Event × Chan). y .0) x, e .1 ∙ ap (λ (y : List Event × Chan). inUse (memoryOf (y .1) [] [])) x)

@@ -25,43 +25,43 @@ use Rattle.stream.specs.Sender.{delivered, openedFrom}
 use Rattle.channel_spec.specs.Sender.{wordBytes, framed, sentWords, sent}
 use Rattle.channel_spec.specs.Meaning.{condition, Event, Chan, hunting, inWord, inMark, frames, blocks, losses, freshChannel, hears, answers, IsWord, carried, FirstMarker}
 use Rattle.channel_spec.specs.declared.Condition.the-variants.{Clean as clean}
-use Rattle.channel.specs.Call.{Board, board, heldIn, freshReceiver, hearCall, hearAll, EveryCut, boardOf, inUse}
+use Rattle.channel.specs.Call.{Memory, memory, heldIn, freshReceiver, hearCall, hearAll, EveryCut, memoryOf, inUse}
 use Rattle.channel.proofs.Fine.{fine-fresh}
 use Rattle.channel.proofs.Cutting.{hear-settled}
 use Rattle.channel.proofs.Shown.{shown-all, in-use}
 use Rattle.channel_spec.proofs.Streaming.{whole-stream, earlier-same, later-exact, others-clean}
 
 -- what every way yields may be said in other words
-pub cut-so : {bs : List ℕ} {P Q : List Event → Board → Type 0} → EveryCut bs P → ((es : List Event) (d : Board) → P es d → Q es d) → EveryCut bs Q
+pub cut-so : {bs : List ℕ} {P Q : List Event → Memory → Type 0} → EveryCut bs P → ((es : List Event) (d : Memory) → P es d → Q es d) → EveryCut bs Q
 cut-so c f recv word r w pieces cut = yields-so (c recv word r w pieces cut) f
 
 module _ (recv word : List ℕ) (r : rawLimit ≤ length recv) (w : wordBytes ≤ length word) where
-  heard : (ps : List (List ℕ)) → Yields hearCall (board freshReceiver recv word) ps λ es d. (es, d) ≡ hearAll (board freshReceiver recv word) (joined ps)
-  heard = hear-settled (board freshReceiver recv word) refl (fine-fresh recv word r w)
+  heard : (ps : List (List ℕ)) → Yields hearCall (memory freshReceiver recv word) ps λ es d. (es, d) ≡ hearAll (memory freshReceiver recv word) (joined ps)
+  heard = hear-settled (memory freshReceiver recv word) refl (fine-fresh recv word r w)
 
   -- from the same buffers two ways of cutting yield the same, to the last byte of both
   pub same-cut : (ps qs : List (List ℕ)) → joined ps ≡ joined qs
-      → Yields hearCall (board freshReceiver recv word) ps
-      λ es d. Yields hearCall (board freshReceiver recv word) qs
+      → Yields hearCall (memory freshReceiver recv word) ps
+      λ es d. Yields hearCall (memory freshReceiver recv word) qs
       λ fs g. (es ≡ fs) × (d ≡ g)
   same-cut ps qs e =
       yields-so (heard ps) λ es d x. yields-so (heard qs) λ fs g y.
-      let z : _≡_ {A = List Event × Board} (es, d) (fs, g) = x ∙ ap (hearAll (board freshReceiver recv word)) e ∙ sym y in
+      let z : _≡_ {A = List Event × Memory} (es, d) (fs, g) = x ∙ ap (hearAll (memory freshReceiver recv word)) e ∙ sym y in
       (ap (λ q. q .0) z, ap (λ q. q .1) z)
 
 -- every way of cutting yields the list of answers and the final state of the uncut string, which are those of the receiver without a limit,
 -- that has no buffers: what they held before does not matter
-pub every-cut : (bs : List ℕ) → EveryCut bs λ es d. (es ≡ answers bs) × (inUse d ≡ inUse (boardOf (hears freshChannel bs .1) [] []))
+pub every-cut : (bs : List ℕ) → EveryCut bs λ es d. (es ≡ answers bs) × (inUse d ≡ inUse (memoryOf (hears freshChannel bs .1) [] []))
 every-cut bs recv word r w pieces cut =
     let s = shown-all bs freshChannel recv word tt (r, w) in
     yields-so (heard recv word r w pieces) λ es d x.
-    let e : _≡_ {A = List Event × Board} (es, d) (hears freshChannel bs .0, boardOf (hears freshChannel bs .1) (s .0) (s .1)) =
-    x ∙ ap (hearAll (board freshReceiver recv word)) cut ∙ s .2 in
+    let e : _≡_ {A = List Event × Memory} (es, d) (hears freshChannel bs .0, memoryOf (hears freshChannel bs .1) (s .0) (s .1)) =
+    x ∙ ap (hearAll (memory freshReceiver recv word)) cut ∙ s .2 in
     (ap (λ q. q .0) e, ap (λ q. inUse (q .1)) e ∙ in-use (hears freshChannel bs .1) (s .0) (s .1) (s .3))
 
 -- behind every byte string, however cut: where the next message byte is a flag, and told with 3 and a place, the state has that place
-held-told-in : (a : Chan) (j k : List ℕ) → rawLimit ≤ length (boardOf a j k .recv) → (n : ℕ)
-    → takeByte (heldIn (boardOf a j k)) flag .0 ≡ some (broken n) → boardOf a j k .st .frame .place ≡ n
+held-told-in : (a : Chan) (j k : List ℕ) → rawLimit ≤ length (memoryOf a j k .recv) → (n : ℕ)
+    → takeByte (heldIn (memoryOf a j k)) flag .0 ≡ some (broken n) → memoryOf a j k .st .frame .place ≡ n
 held-told-in (hunting f) j k room n t = let z : _≡_ {A = ℕ} 0 1 = cc in absurd (omega arith)
 held-told-in (inWord f w r) j k room n t = held-told r j room n t
 held-told-in (inMark f w m r) j k room n t = held-told r j room n t
@@ -70,8 +70,8 @@ pub remembered-told : (bs : List ℕ) → EveryCut bs λ es d. (n : ℕ) → tak
 remembered-told bs recv word r w pieces cut =
     let s = shown-all bs freshChannel recv word tt (r, w) in
     yields-so (heard recv word r w pieces) λ es d x.
-    let is : d ≡ boardOf (hears freshChannel bs .1) (s .0) (s .1) = ap (λ q. q .1) (x ∙ ap (hearAll (board freshReceiver recv word)) cut ∙ s .2) in
-    subst (λ (c : Board). (n : ℕ) → takeByte (heldIn c) flag .0 ≡ some (broken n) → c .st .frame .place ≡ n) (sym is)
+    let is : d ≡ memoryOf (hears freshChannel bs .1) (s .0) (s .1) = ap (λ q. q .1) (x ∙ ap (hearAll (memory freshReceiver recv word)) cut ∙ s .2) in
+    subst (λ (c : Memory). (n : ℕ) → takeByte (heldIn c) flag .0 ≡ some (broken n) → c .st .frame .place ≡ n) (sym is)
     (held-told-in (hears freshChannel bs .1) (s .0) (s .1) (s .4 .0))
 
 -- let a fresh receiver hear stray bytes and then a sender's whole marked stream, the marker first appearing where that stream begins:

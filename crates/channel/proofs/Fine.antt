@@ -18,12 +18,12 @@ use Rattle.stream.proofs.Fine.{fine-take, fine-of as frame-of, fine-is as frame
 use Rattle.channel_spec.specs.declared.Hunting.{Hunting}
 use Rattle.channel_spec.specs.Sender.{messageBytes, wordBytes}
 use Rattle.channel_spec.specs.Meaning.{shift, isMarker, zeros}
-use Rattle.channel.specs.Call.{Board, board, heldIn, huntingWith, freshReceiver, lockedWith, sound, roomy}
+use Rattle.channel.specs.Call.{Memory, memory, heldIn, huntingWith, freshReceiver, lockedWith, sound, roomy}
 use Rattle.channel.specs.Call.{huntOn, mendIn, wordOn, compareOn, markOn, eatBy, eatByte, owedBy, owed, handOn, Fine}
 use Rattle.channel.proofs.Words.{mendIn-length}
 
 -- the tests of 10 and 11, passed ..
-pub fine-of : (c : Board) → sound (c .st) ≡ true → roomy (c .recv) (c .word) ≡ true → Fine c
+pub fine-of : (c : Memory) → sound (c .st) ≡ true → roomy (c .recv) (c .word) ≡ true → Fine c
 fine-of c s r =
     let p = and-parts _ _ s in
     let l = and-parts (leb (c .st .lock .word) wordBytes) _ (p .1) in
@@ -38,7 +38,7 @@ fine-of c s r =
     }
 
 -- .. and passed only then: 10 ..
-pub fine-is : (c : Board) → Fine c → sound (c .st) ≡ true
+pub fine-is : (c : Memory) → Fine c → sound (c .st) ≡ true
 fine-is c i =
     rw (
       frame-is (heldIn c) (i .frame),
@@ -48,7 +48,7 @@ fine-is c i =
     ) refl
 
 -- .. and 11
-pub fine-roomy : (c : Board) → Fine c → roomy (c .recv) (c .word) ≡ true
+pub fine-roomy : (c : Memory) → Fine c → roomy (c .recv) (c .word) ≡ true
 fine-roomy c i = rw (le-leb rawLimit (length (c .recv)) (i .frame .room), le-leb wordBytes (length (c .word)) (i .room)) refl
 
 fine-hunting : (f : Hunting) (l k : List ℕ) → rawLimit ≤ length l → wordBytes ≤ length k → Fine (huntingWith f l k)
@@ -61,7 +61,7 @@ fine-hunting f l k a b = record {
 }
 
 -- a fresh receiver, with buffers that are long enough
-pub fine-fresh : (l k : List ℕ) → rawLimit ≤ length l → wordBytes ≤ length k → Fine (board freshReceiver l k)
+pub fine-fresh : (l k : List ℕ) → rawLimit ≤ length l → wordBytes ≤ length k → Fine (memory freshReceiver l k)
 fine-fresh l k a b = fine-hunting zeros l k a b
 
 fine-locked : (f : Hunting) (w h m : ℕ) (r : Held) (k : List ℕ)
@@ -69,38 +69,38 @@ fine-locked : (f : Hunting) (w h m : ℕ) (r : Held) (k : List ℕ)
 fine-locked f w h m r k a b c d e = record { frame = d; word = a; marker = c; handed = b; room = e }
 
 -- locked, at the start of a word
-fine-begun : (f : Hunting) (c : Board) → Fine c → Fine (lockedWith f 0 0 0 (heldIn c) (c .word))
+fine-begun : (f : Hunting) (c : Memory) → Fine c → Fine (lockedWith f 0 0 0 (heldIn c) (c .word))
 fine-begun f c i = fine-locked f 0 0 0 (heldIn c) (c .word) (omega arith) (omega arith) (omega arith) (i .frame) (i .room)
 
-fine-hunt : (t : Bool) (f : Hunting) (c : Board) → Fine c → Fine (huntOn t f c)
+fine-hunt : (t : Bool) (f : Hunting) (c : Memory) → Fine c → Fine (huntOn t f c)
 fine-hunt true f c i = fine-begun f c i
 fine-hunt false f c i = record { frame = i .frame; word = i .word; marker = i .marker; handed = i .handed; room = i .room }
 
-fine-compare : (t : Bool) (f : Hunting) (c : Board) → Fine c → Fine (compareOn t f c .1)
+fine-compare : (t : Bool) (f : Hunting) (c : Memory) → Fine c → Fine (compareOn t f c .1)
 fine-compare true f c i = fine-begun f c i
 fine-compare false f c i = fine-hunting _ (c .recv) (c .word) (i .frame .room) (i .room)
 
-fine-mark : (t : Bool) (f : Hunting) (c : Board) → ltb (suc (c .st .lock .marker)) 4 ≡ t → Fine c → Fine (markOn t f c .1)
+fine-mark : (t : Bool) (f : Hunting) (c : Memory) → ltb (suc (c .st .lock .marker)) 4 ≡ t → Fine c → Fine (markOn t f c .1)
 fine-mark true f c e i =
     let l : suc (c .st .lock .marker) < 4 = ltb-true _ _ e in
     fine-locked f _ _ _ (heldIn c) (c .word) (i .word) (i .handed) (omega arith) (i .frame) (i .room)
 fine-mark false f c e i = fine-compare (isMarker f) f c i
 
-fine-word : (t : Bool) (c : Board) (k : List ℕ) → ltb (suc (c .st .lock .word)) wordBytes ≡ t → Fine c → wordBytes ≤ length k → Fine (wordOn t c k .1)
+fine-word : (t : Bool) (c : Memory) (k : List ℕ) → ltb (suc (c .st .lock .word)) wordBytes ≡ t → Fine c → wordBytes ≤ length k → Fine (wordOn t c k .1)
 fine-word true c k e i h =
     let l : suc (c .st .lock .word) < wordBytes = ltb-true _ _ e in
     fine-locked _ _ _ _ (heldIn c) k (omega arith) (i .handed) (i .marker) (i .frame) h
 fine-word false c k e i h =
     fine-locked _ wordBytes 0 0 (heldIn c) (mendIn k) (omega arith) (omega arith) (omega arith) (i .frame) (omega (arith, mendIn-length k))
 
-fine-by : (l t : Bool) (c : Board) (b : ℕ) → Fine c → Fine (eatBy l t c b .1)
+fine-by : (l t : Bool) (c : Memory) (b : ℕ) → Fine c → Fine (eatBy l t c b .1)
 fine-by false t c b i = fine-hunt (isMarker (shift (c .st .hunting) b)) (shift (c .st .hunting) b) c i
 fine-by true true c b i =
     fine-word (ltb (suc (c .st .lock .word)) wordBytes) c (set (c .word) (c .st .lock .word) b) refl i (rw length-set (i .room))
 fine-by true false c b i = fine-mark (ltb (suc (c .st .lock .marker)) 4) (shift (c .st .hunting) b) c refl i
 
 -- a new byte keeps it ..
-pub fine-eat : (c : Board) (b : ℕ) → owed c ≡ 0 → Fine c → Fine (eatByte c b .1)
+pub fine-eat : (c : Memory) (b : ℕ) → owed c ≡ 0 → Fine c → Fine (eatByte c b .1)
 fine-eat c b e i = fine-by (c .st .locked) (ltb (c .st .lock .word) wordBytes) c b i
 
 -- where a message byte is owed, it is one of the 223, and one less is owed behind it
@@ -110,7 +110,7 @@ owed-one true false h n e = absurd (omega arith)
 owed-one false t h n e = absurd (omega arith)
 
 -- .. and so does a stored message byte that is handed on
-pub fine-hand : (c : Board) (n : ℕ) → owed c ≡ suc n → Fine c → Fine (handOn c .1)
+pub fine-hand : (c : Memory) (n : ℕ) → owed c ≡ suc n → Fine c → Fine (handOn c .1)
 fine-hand c n e i =
     let l : c .st .lock .handed < messageBytes = owed-one (c .st .locked) (eqb (c .st .lock .word) wordBytes) (c .st .lock .handed) n e .1 in
     let b : ℕ = getD (c .word) (c .st .lock .handed) 0 in

@@ -43,7 +43,7 @@ use Rattle.channel.specs.declared.answer.Hearing.{Hearing}
 use Rattle.channel.specs.declared.answer.Phase.{Phase}
 use Rattle.channel.specs.declared.hunting.Found.{Found}
 use Rattle.channel_spec.specs.Meaning.{condition, Event, block, shift, isMarker}
-use Rattle.channel.specs.Call.{Board, board, counts, lockedWith, owedBy, owes, asEvent, hearOn, soundLock, sound, roomy, hearBy, hearCall, mendIn, hearingOf, HearingIs}
+use Rattle.channel.specs.Call.{Memory, memory, counts, lockedWith, owedBy, owes, asEvent, hearOn, soundLock, sound, roomy, hearBy, hearCall, mendIn, hearingOf, HearingIs}
 use Rattle.channel.specs.Private.{shifts, later, hunted, ended, PhaseBy, HandedIs, SoughtIs, FilledIs}
 use Rattle.base.proofs.Parts.{lent, back}
 use Rattle.channel.proofs.Words.{mendIn-is}
@@ -151,10 +151,10 @@ said-is none j e = absurd (let z : _≡_ {A = ℕ} 0 1 = cc in omega arith)
 said-is (some t) j e = (t, refl, cc)
 
 module _ (s : Receiver) (l k : List ℕ) (sd : sound s ≡ true) where
-  pub hand-none : {t : Phase} {n : ℕ} → n ≡ owes s → n ≡ 0 → t ≡ record { done = false; answer = More; taken = 0; receiver = s } → HandedIs (board s l k) t l
+  pub hand-none : {t : Phase} {n : ℕ} → n ≡ owes s → n ≡ 0 → t ≡ record { done = false; answer = More; taken = 0; receiver = s } → HandedIs (memory s l k) t l
   hand-none en z e =
-      subst (λ t. HandedIs (board s l k) t l) (sym e) (record {
-        means = λ bs. after-none (hearOn (board s l k) bs);
+      subst (λ t. HandedIs (memory s l k) t l) (sym e) (record {
+        means = λ bs. after-none (hearOn (memory s l k) bs);
         taken = refl;
         lock = sound-lock s sd;
         owed = λ d. sym en ∙ z;
@@ -208,20 +208,20 @@ module _ (s : Receiver) (l k : List ℕ) (sd : sound s ≡ true) where
       abbrev next : Receiver
       next = record { locked = true; hunting = s .hunting; lock = counts (s .lock .word) (s .lock .handed + r .taken) (s .lock .marker); frame = r .frame }
 
-      next-is : board next l′ k ≡ lockedWith (s .hunting) wordBytes (s .lock .handed + got .1) (s .lock .marker) (got .2) k
+      next-is : memory next l′ k ≡ lockedWith (s .hunting) wordBytes (s .lock .handed + got .1) (s .lock .marker) (got .2) k
       next-is = λ i.
-          board (record {
+          memory (record {
             locked = true;
             hunting = s .hunting;
             lock = counts (whole-word i) (s .lock .handed + taken-is i) (s .lock .marker);
             frame = frame-is i;
           }) (recv-is i) k
 
-      runs : (bs : List ℕ) → hearOn (board s l k) bs ≡ onward (s .hunting) (s .lock .marker) k bs (s .lock .handed) got
+      runs : (bs : List ℕ) → hearOn (memory s l k) bs ≡ onward (s .hunting) (s .lock .marker) k bs (s .lock .handed) got
       unfolding got rest
       runs bs =
           (λ i. hearOn
-          (board (record {
+          (memory (record {
             locked = some-owed .0 i;
             hunting = s .hunting;
             lock = counts (whole-word i) (s .lock .handed) (s .lock .marker);
@@ -233,29 +233,29 @@ module _ (s : Receiver) (l k : List ℕ) (sd : sound s ≡ true) where
       next-lock : soundLock (next .lock) ≡ true
       next-lock = lock-sound (s .lock .word) (s .lock .handed + r .taken) (s .lock .marker) (lock-word (s .lock) (sound-lock s sd)) (lock-marker (s .lock) (sound-lock s sd)) taken-within
 
-      pub hand-more : {t : Phase} → r .heard ≡ heard.More → t ≡ record { done = false; answer = More; taken = 0; receiver = next } → HandedIs (board s l k) t l′
+      pub hand-more : {t : Phase} → r .heard ≡ heard.More → t ≡ record { done = false; answer = More; taken = 0; receiver = next } → HandedIs (memory s l k) t l′
       hand-more m p =
           let o : got .0 ≡ none = is-none (got .0) (sym heard-is ∙ m) in
           let w : got .1 ≡ length rest = fits-none (got .0) (got .1) (got .2) rest got-fits (sym heard-is ∙ m) in
           let z : messageBytes - (s .lock .handed + r .taken) ≡ 0 = omega (arith, w, rest-length, taken-is, hand-handed) in
-          subst (λ t. HandedIs (board s l k) t l′) (sym p) (record {
+          subst (λ t. HandedIs (memory s l k) t l′) (sym p) (record {
             means = λ bs.
                 runs bs
                 ∙ ap (λ x. unless (asEvent x) 0 (lockedWith (s .hunting) wordBytes (s .lock .handed + got .1) (s .lock .marker) (got .2) k)
                 (hearOn (lockedWith (s .hunting) wordBytes (s .lock .handed + got .1) (s .lock .marker) (got .2) k) bs)) o
                 ∙ ap (λ c. hearOn c bs) (sym next-is)
-                ∙ after-none (hearOn (board next l′ k) bs);
+                ∙ after-none (hearOn (memory next l′ k) bs);
             taken = refl;
             lock = next-lock;
             owed = λ d. (λ i. owedBy true (eqb (whole-word i) wordBytes) (s .lock .handed + r .taken)) ∙ z;
           })
 
-      pub hand-said : (j : Judged) {t : Phase} → r .heard ≡ heard.Said j → t ≡ record { done = true; answer = Said j; taken = 0; receiver = next } → HandedIs (board s l k) t l′
+      pub hand-said : (j : Judged) {t : Phase} → r .heard ≡ heard.Said j → t ≡ record { done = true; answer = Said j; taken = 0; receiver = next } → HandedIs (memory s l k) t l′
       hand-said j m p =
           let o = said-is (got .0) j (sym heard-is ∙ m) in
-          subst (λ t. HandedIs (board s l k) t l′) (sym p) (record {
+          subst (λ t. HandedIs (memory s l k) t l′) (sym p) (record {
             means = λ bs.
-                let q : hearOn (board s l k) bs ≡ (asEvent (some (o .0)), 0, board next l′ k) =
+                let q : hearOn (memory s l k) bs ≡ (asEvent (some (o .0)), 0, memory next l′ k) =
                 runs bs
                 ∙ ap (λ x. unless (asEvent x) 0 (lockedWith (s .hunting) wordBytes (s .lock .handed + got .1) (s .lock .marker) (got .2) k)
                 (hearOn (lockedWith (s .hunting) wordBytes (s .lock .handed + got .1) (s .lock .marker) (got .2) k) bs)) (o .1)
@@ -275,8 +275,8 @@ module _ (s : Receiver) (bs : List ℕ) (o : s .locked ≡ true) (w : s .lock .w
   none-left : messageBytes - s .lock .handed ≡ 0
   none-left = sym (λ i. owedBy (o i) (eqb (w i) wordBytes) (s .lock .handed)) ∙ z
 
-  board-is : (l k : List ℕ) → board s l k ≡ lockedWith (s .hunting) wordBytes (s .lock .handed) (s .lock .marker) (held (s .frame) l) k
-  board-is l k i = board (record { locked = o i; hunting = s .hunting; lock = counts (w i) (s .lock .handed) (s .lock .marker); frame = s .frame }) l k
+  memory-is : (l k : List ℕ) → memory s l k ≡ lockedWith (s .hunting) wordBytes (s .lock .handed) (s .lock .marker) (held (s .frame) l) k
+  memory-is l k i = memory (record { locked = o i; hunting = s .hunting; lock = counts (w i) (s .lock .handed) (s .lock .marker); frame = s .frame }) l k
 
   pub compare-more : {t : Phase} → s .lock .marker + n < 4
       → t ≡ record {
@@ -291,9 +291,9 @@ module _ (s : Receiver) (bs : List ℕ) (o : s .locked ≡ true) (w : s .lock .w
       let part : take n bs ≡ bs = take-all n bs (omega arith) in
       subst (SoughtIs s bs) (sym e) (record {
         means = λ l k.
-            let q : hearOn (board s l k) bs
-            ≡ (none, n, board (record { locked = true; hunting = f; lock = counts (s .lock .word) (s .lock .handed) (s .lock .marker + n); frame = s .frame }) l k) =
-            ap (λ c. hearOn c bs) (board-is l k)
+            let q : hearOn (memory s l k) bs
+            ≡ (none, n, memory (record { locked = true; hunting = f; lock = counts (s .lock .word) (s .lock .handed) (s .lock .marker + n); frame = s .frame }) l k) =
+            ap (λ c. hearOn c bs) (memory-is l k)
             ∙ mark-part (s .lock .handed) (held (s .frame) l) k none-left bs (s .hunting) (s .lock .marker) (omega arith)
             ∙ (λ i. (
               none,
@@ -306,9 +306,9 @@ module _ (s : Receiver) (bs : List ℕ) (o : s .locked ≡ true) (w : s .lock .w
       })
 
   four : (l k : List ℕ) (t : Bool) → isMarker f ≡ t → 4 ≤ s .lock .marker + n
-      → hearOn (board s l k) bs ≡ behindFour (s .lock .handed) (held (s .frame) l) k none-left (drop n bs) n (comparedOn (s .lock .handed) (held (s .frame) l) k none-left t f)
+      → hearOn (memory s l k) bs ≡ behindFour (s .lock .handed) (held (s .frame) l) k none-left (drop n bs) n (comparedOn (s .lock .handed) (held (s .frame) l) k none-left t f)
   four l k t e h =
-      ap (λ c. hearOn c bs) (board-is l k)
+      ap (λ c. hearOn c bs) (memory-is l k)
       ∙ ap (hearOn (lockedWith (s .hunting) wordBytes (s .lock .handed) (s .lock .marker) (held (s .frame) l) k)) (sym (take-append-drop n bs))
       ∙ go (take n bs) refl
     where
@@ -359,9 +359,9 @@ hunted-within (b ∷ bs) f = by (isMarker (shift f b)) (hunted (shift f b) bs) (
     by false x h = omega arith
 
 module _ (s : Receiver) (bs : List ℕ) (o : s .locked ≡ false) {x : Found} (ex : x ≡ hunted (s .hunting) bs) where
-  hunts : (l k : List ℕ) (t : Bool) → x .found ≡ t → hearOn (board s l k) bs ≡ huntedOn (s .lock) (s .frame) l k bs t (x .taken) (x .hunting)
+  hunts : (l k : List ℕ) (t : Bool) → x .found ≡ t → hearOn (memory s l k) bs ≡ huntedOn (s .lock) (s .frame) l k bs t (x .taken) (x .hunting)
   hunts l k t e =
-      (λ i. hearOn (board (record { locked = o i; hunting = s .hunting; lock = s .lock; frame = s .frame }) l k) bs)
+      (λ i. hearOn (memory (record { locked = o i; hunting = s .hunting; lock = s .lock; frame = s .frame }) l k) bs)
       ∙ hunt-run (s .lock) (s .frame) l k bs (s .hunting)
       ∙ (λ i. huntedOn (s .lock) (s .frame) l k bs (sym ex i .found) (sym ex i .taken) (sym ex i .hunting))
       ∙ ap (λ b. huntedOn (s .lock) (s .frame) l k bs b (x .taken) (x .hunting)) e
@@ -392,7 +392,7 @@ module _ (s : Receiver) (bs : List ℕ) (o : s .locked ≡ false) {x : Found} (e
 pub sought-none : (s : Receiver) (bs : List ℕ) {t : Phase} → s .locked ≡ true → s .lock .word < wordBytes
     → t ≡ record { done = false; answer = More; taken = 0; receiver = s } → SoughtIs s bs t
 sought-none s bs o h e =
-    subst (SoughtIs s bs) (sym e) (record { means = λ l k. after-none (hearOn (board s l k) bs); within = omega arith; ready = λ d. (o, h) })
+    subst (SoughtIs s bs) (sym e) (record { means = λ l k. after-none (hearOn (memory s l k) bs); within = omega arith; ready = λ d. (o, h) })
 
 -- ---- bytes of a word, from `at` on in a piece
 module _ (s : Receiver) (word piece : List ℕ) (at : ℕ) (o : s .locked ≡ true) (w : s .lock .word < wordBytes) (room : wordBytes ≤ length word) (in-piece : at ≤ length piece)
@@ -430,8 +430,8 @@ module _ (s : Receiver) (word piece : List ℕ) (at : ℕ) (o : s .locked ≡ tr
       ∙ copied-fits (take n bs) behind (omega (arith, some-length, en, length-drop (s .lock .word) word)))
       ∙ sym (append-assoc before (take n bs) (drop (length (take n bs)) behind))
 
-  board-at : (l : List ℕ) → board s l word ≡ lockedWith (s .hunting) (length before) (s .lock .handed) (s .lock .marker) (held (s .frame) l) (before ++ behind)
-  board-at l i = board (record { locked = o i; hunting = s .hunting; lock = counts (sym before-length i) (s .lock .handed) (s .lock .marker); frame = s .frame }) l (parts i)
+  memory-at : (l : List ℕ) → memory s l word ≡ lockedWith (s .hunting) (length before) (s .lock .handed) (s .lock .marker) (held (s .frame) l) (before ++ behind)
+  memory-at l i = memory (record { locked = o i; hunting = s .hunting; lock = counts (sym before-length i) (s .lock .handed) (s .lock .marker); frame = s .frame }) l (parts i)
 
   fill-part : s .lock .word + n < wordBytes
       → FilledIs s word bs at (record {
@@ -441,14 +441,14 @@ module _ (s : Receiver) (word piece : List ℕ) (at : ℕ) (o : s .locked ≡ tr
       }) (putMid (s .lock .word) (length word - s .lock .word) word y)
   fill-part h l =
       let part : take n bs ≡ bs = take-all n bs (omega (arith, en)) in
-      let q : hearOn (board s l word) bs
+      let q : hearOn (memory s l word) bs
       ≡ (
         none,
         n,
-        board (record { locked = true; hunting = s .hunting; lock = counts (s .lock .word + n) (s .lock .handed) (s .lock .marker); frame = s .frame }) l
+        memory (record { locked = true; hunting = s .hunting; lock = counts (s .lock .word + n) (s .lock .handed) (s .lock .marker); frame = s .frame }) l
             (putMid (s .lock .word) (length word - s .lock .word) word y),
       ) =
-      (λ i. hearOn (board-at l i) (sym part i))
+      (λ i. hearOn (memory-at l i) (sym part i))
       ∙ word-part (s .hunting) (s .lock .handed) (s .lock .marker) (held (s .frame) l) (take n bs) before behind
       (omega (arith, before-length, some-length)) (omega (arith, some-length, en, length-drop (s .lock .word) word))
       ∙ (λ i. (
@@ -498,15 +498,15 @@ module _ (s : Receiver) (word piece : List ℕ) (at : ℕ) (o : s .locked ≡ tr
         receiver = record { locked = true; hunting = s .hunting; lock = k; frame = s .frame };
       }) z
   fill-whole {a} {k} {z} h ea ek l =
-      let q : hearOn (board s l word) bs
-      ≡ (some (block (condition (before ++ take n bs))), n, board (record { locked = true; hunting = s .hunting; lock = k; frame = s .frame }) l z) =
-      (λ i. hearOn (board-at l i) (sym (take-append-drop n bs) i))
+      let q : hearOn (memory s l word) bs
+      ≡ (some (block (condition (before ++ take n bs))), n, memory (record { locked = true; hunting = s .hunting; lock = k; frame = s .frame }) l z) =
+      (λ i. hearOn (memory-at l i) (sym (take-append-drop n bs) i))
       ∙ word-whole (s .hunting) (s .lock .handed) (s .lock .marker) (held (s .frame) l) (take n bs) before behind (drop n bs)
       (omega (arith, before-length)) (omega (arith, before-length, some-length, en)) (omega (arith, some-length, en, length-drop (s .lock .word) word))
       ∙ (λ i. (
         some (block (condition (before ++ take n bs))),
         some-length i,
-        board (record { locked = true; hunting = s .hunting; lock = sym ek i; frame = s .frame }) l
+        memory (record { locked = true; hunting = s .hunting; lock = sym ek i; frame = s .frame }) l
             (sym (ea .1 ∙ ap mendIn filled-is ∙ mendIn-is (before ++ take n bs) (drop (length (take n bs)) behind) (whole-length h)) i),
       )) in (
         (λ i. record {
@@ -519,37 +519,37 @@ module _ (s : Receiver) (word piece : List ℕ) (at : ℕ) (o : s .locked ≡ tr
       )
 
 -- ---- phase behind phase
-heard-by : {x y : Option Event × ℕ × Board} {r : Hearing} {l k : List ℕ} → x ≡ y → HearingIs y r l k → HearingIs x r l k
+heard-by : {x y : Option Event × ℕ × Memory} {r : Hearing} {l k : List ℕ} → x ≡ y → HearingIs y r l k → HearingIs x r l k
 heard-by {r = r} {l = l} {k = k} p h = subst (λ z. HearingIs z r l k) (sym p) h
 
-module _ (c : Board) (bs : List ℕ) {t : Phase} {l : List ℕ} (h : HandedIs c t l) where
+module _ (c : Memory) (bs : List ℕ) {t : Phase} {l : List ℕ} (h : HandedIs c t l) where
   pub handed-end : {r : Hearing} → t .done ≡ true → r ≡ ended t → HearingIs (hearOn c bs) r l (c .word)
   handed-end d e =
       subst (λ r. HearingIs (hearOn c bs) r l (c .word)) (sym e) (subst (λ b. PhaseBy b c bs t l (c .word)) d (h .means bs))
 
   module _ (d : t .done ≡ false) where
-    handed-on : hearOn c bs ≡ hearOn (board (t .receiver) l (c .word)) bs
+    handed-on : hearOn c bs ≡ hearOn (memory (t .receiver) l (c .word)) bs
     handed-on =
         subst (λ b. PhaseBy b c bs t l (c .word)) d (h .means bs)
-        ∙ ap (λ n. after n (hearOn (board (t .receiver) l (c .word)) (drop n bs))) (h .taken)
-        ∙ sym (after-none (hearOn (board (t .receiver) l (c .word)) bs))
+        ∙ ap (λ n. after n (hearOn (memory (t .receiver) l (c .word)) (drop n bs))) (h .taken)
+        ∙ sym (after-none (hearOn (memory (t .receiver) l (c .word)) bs))
 
     module _ {u : Phase} (g : SoughtIs (t .receiver) bs u) where
       pub sought-end : {r : Hearing} → u .done ≡ true → r ≡ ended u → HearingIs (hearOn c bs) r l (c .word)
       sought-end v e =
           heard-by handed-on
-          (subst (λ r. HearingIs (hearOn (board (t .receiver) l (c .word)) bs) r l (c .word)) (sym e)
-          (subst (λ b. PhaseBy b (board (t .receiver) l (c .word)) bs u l (c .word)) v (g .means l (c .word))))
+          (subst (λ r. HearingIs (hearOn (memory (t .receiver) l (c .word)) bs) r l (c .word)) (sym e)
+          (subst (λ b. PhaseBy b (memory (t .receiver) l (c .word)) bs u l (c .word)) v (g .means l (c .word))))
 
       pub filled-end : {r : Hearing} {k : List ℕ} → u .done ≡ false → FilledIs (u .receiver) (c .word) (drop (u .taken) bs) (u .taken) r k
           → HearingIs (hearOn c bs) r l k
       filled-end v f =
           heard-by
-          (handed-on ∙ subst (λ b. PhaseBy b (board (t .receiver) l (c .word)) bs u l (c .word)) v (g .means l (c .word)))
+          (handed-on ∙ subst (λ b. PhaseBy b (memory (t .receiver) l (c .word)) bs u l (c .word)) v (g .means l (c .word)))
           (f l)
 
 -- ---- the call: refused with 10, with 11, or let on
-module _ (c : Board) (bs : List ℕ) where
+module _ (c : Memory) (bs : List ℕ) where
   pub call-unsound : sound (c .st) ≡ false → HearingIs (hearCall c bs) (hearingOf (hearBy false true c bs)) (c .recv) (c .word)
   call-unsound e = heard-by (ap (λ t. hearBy t (roomy (c .recv) (c .word)) c bs) e) (refl, refl, refl)
 

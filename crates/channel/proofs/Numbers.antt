@@ -9,7 +9,7 @@ use lib.ListN.{length}
 use Rattle.stream.specs.Meaning.{Reading}
 use Rattle.channel_spec.specs.declared.Hunting.{Hunting}
 use Rattle.channel_spec.specs.Meaning.{inWord, inMark}
-use Rattle.channel.specs.Call.{freshReceiver, boardOf}
+use Rattle.channel.specs.Call.{freshReceiver, memoryOf}
 
 pub fresh : freshReceiver ≡ record {
   locked = false;
@@ -20,9 +20,9 @@ pub fresh : freshReceiver ≡ record {
 fresh = refl
 
 -- none of a word is handed on before it is whole ..
-pub in-word : (f : Hunting) (w : List ℕ) (q : Reading) → boardOf (inWord f w q) [] [] .st .lock ≡ record { word = length w; handed = 0; marker = 0 }
+pub in-word : (f : Hunting) (w : List ℕ) (q : Reading) → memoryOf (inWord f w q) [] [] .st .lock ≡ record { word = length w; handed = 0; marker = 0 }
 in-word f w q = refl
 
 -- .. and its 223 message bytes are before the marker bytes behind it are read
-pub in-mark : (f : Hunting) (w : List ℕ) (n : ℕ) (q : Reading) → boardOf (inMark f w n q) [] [] .st .lock ≡ record { word = 255; handed = 223; marker = n }
+pub in-mark : (f : Hunting) (w : List ℕ) (n : ℕ) (q : Reading) → memoryOf (inMark f w n q) [] [] .st .lock ≡ record { word = 255; handed = 223; marker = n }
 in-mark f w n q = refl

@@ -26,27 +26,27 @@ use Rattle.channel_spec.specs.declared.Hunting.{Hunting}
 use Rattle.channel.specs.declared.locked.Locked.{Locked}
 use Rattle.channel.specs.declared.hunting.Found.{Found}
 use Rattle.channel_spec.specs.Meaning.{condition, mend, Event, block, lost, shift, isMarker}
-use Rattle.channel.specs.Call.{Board, board, huntingWith, lockedWith, huntOn, wordOn, compareOn, markOn, eatBy, eatByte, owed, asEvent, handOn, hearOn}
+use Rattle.channel.specs.Call.{Memory, memory, huntingWith, lockedWith, huntOn, wordOn, compareOn, markOn, eatBy, eatByte, owed, asEvent, handOn, hearOn}
 use Rattle.channel.specs.Private.{shifts, later, hunted}
 use Rattle.channel.proofs.Words.{mendIn-is}
 use Rattle.channel.proofs.Cutting.{hand-one}
 use Rattle.channel_spec.specs.Sender.{wordBytes, messageBytes}
 
 -- one new byte, where nothing is owed
-eat-one : (c : Board) (b : ℕ) (bs : List ℕ) → owed c ≡ 0 → hearOn c (b ∷ bs) ≡ unless (eatByte c b .0) 1 (eatByte c b .1) (oneMore (hearOn (eatByte c b .1) bs))
+eat-one : (c : Memory) (b : ℕ) (bs : List ℕ) → owed c ≡ 0 → hearOn c (b ∷ bs) ≡ unless (eatByte c b .0) 1 (eatByte c b .1) (oneMore (hearOn (eatByte c b .1) bs))
 eat-one c b bs o = hear-eat owed handOn eatByte hand-one c b bs o
 
-no-more : (c : Board) → owed c ≡ 0 → hearOn c [] ≡ (none, 0, c)
+no-more : (c : Memory) → owed c ≡ 0 → hearOn c [] ≡ (none, 0, c)
 no-more c o = hear-end owed handOn eatByte hand-one c o
 
 -- ---- a stored word's rest
 module _ (f : Hunting) (m : ℕ) (k bs : List ℕ) where
   -- the call with h message bytes handed on, unless the frame reader has answered
-  abbrev from : ℕ → Option Told → Held → Option Event × ℕ × Board
+  abbrev from : ℕ → Option Told → Held → Option Event × ℕ × Memory
   from h o g = unless (asEvent o) 0 (lockedWith f wordBytes h m g k) (hearOn (lockedWith f wordBytes h m g k) bs)
 
   -- the same behind what it made of the bytes from the h-th on
-  abbrev pub onward : ℕ → Option Told × ℕ × Held → Option Event × ℕ × Board
+  abbrev pub onward : ℕ → Option Told × ℕ × Held → Option Event × ℕ × Memory
   onward h r = from (h + r .1) (r .0) (r .2)
 
   -- this message byte of the word is b
@@ -89,15 +89,15 @@ module _ (h : ℕ) (g : Held) (k : List ℕ) (none-left : messageBytes - h ≡ 0
       ∙ ap oneMore (mark-part v (shift f b) (suc m) (omega arith))
       ∙ (λ i. (none, suc (length v), lockedWith (shifts (shift f b) v) wordBytes h (n i) g k))
 
-  abbrev pub comparedOn : Bool → Hunting → Option Event × Board
+  abbrev pub comparedOn : Bool → Hunting → Option Event × Memory
   comparedOn true f = (none, lockedWith f 0 0 0 g k)
   comparedOn false f = (some lost, huntingWith f (g .recv) k)
 
   -- the call behind four marker bytes, n of them new
-  abbrev pub behindFour : List ℕ → ℕ → Option Event × Board → Option Event × ℕ × Board
+  abbrev pub behindFour : List ℕ → ℕ → Option Event × Memory → Option Event × ℕ × Memory
   behindFour bs n x = unless (x .0) n (x .1) (after n (hearOn (x .1) bs))
 
-  later-four : (bs : List ℕ) (n : ℕ) (x : Option Event × Board) → oneMore (behindFour bs n x) ≡ behindFour bs (suc n) x
+  later-four : (bs : List ℕ) (n : ℕ) (x : Option Event × Memory) → oneMore (behindFour bs n x) ≡ behindFour bs (suc n) x
   later-four bs n (none, c) = after-one n (hearOn c bs)
   later-four bs n (some e, c) = refl
 
@@ -120,11 +120,11 @@ module _ (h : ℕ) (g : Held) (k : List ℕ) (none-left : messageBytes - h ≡ 0
 
 -- ---- hunting
 module _ (lk : Locked) (g : Frame) (l k : List ℕ) where
-  abbrev pub huntingAt : Hunting → Board
-  huntingAt f = board (record { locked = false; hunting = f; lock = lk; frame = g }) l k
+  abbrev pub huntingAt : Hunting → Memory
+  huntingAt f = memory (record { locked = false; hunting = f; lock = lk; frame = g }) l k
 
   -- the call behind what hunting finds
-  abbrev pub huntedOn : List ℕ → Bool → ℕ → Hunting → Option Event × ℕ × Board
+  abbrev pub huntedOn : List ℕ → Bool → ℕ → Hunting → Option Event × ℕ × Memory
   huntedOn bs true n f = after n (hearOn (lockedWith f 0 0 0 (held g l) k) (drop n bs))
   huntedOn bs false n f = (none, n, huntingAt f)
 
@@ -147,7 +147,7 @@ module _ (lk : Locked) (g : Frame) (l k : List ℕ) where
       eat-one (huntingAt f) b bs refl ∙ hunted-by (isMarker (shift f b)) f (shift f b) b bs (hunted (shift f b) bs) (hunt-run bs (shift f b))
 
 -- ---- bytes of a word
-abbrev moved : Option Event × Board → List ℕ → Option Event × ℕ × Board
+abbrev moved : Option Event × Memory → List ℕ → Option Event × ℕ × Memory
 moved r bs = unless (r .0) 1 (r .1) (oneMore (hearOn (r .1) bs))
 
 module _ (f : Hunting) (h m : ℕ) (g : Held) where

@@ -23,8 +23,8 @@ use Rattle.channel_spec.specs.declared.Hunting.{Hunting}
 use Rattle.channel_spec.specs.Sender.{messageBytes, wordBytes}
 use Rattle.channel_spec.specs.Meaning.{condition, mend, Event, said, block, message, shift, isMarker}
 use Rattle.channel_spec.specs.Meaning.{Chan, hunting, inWord, inMark, whole, hunt, grow, compared, behindWord, step, hears}
-use Rattle.channel.specs.Call.{Board, counts, huntingWith, lockedWith, huntOn, mendIn, wordOn, compareOn, markOn, eatBy, eatByte}
-use Rattle.channel.specs.Call.{owedBy, owed, asEvent, handWith, handOn, hearAll, boardOf, inUse}
+use Rattle.channel.specs.Call.{Memory, counts, huntingWith, lockedWith, huntOn, mendIn, wordOn, compareOn, markOn, eatBy, eatByte}
+use Rattle.channel.specs.Call.{owedBy, owed, asEvent, handWith, handOn, hearAll, memoryOf, inUse}
 use Rattle.channel_spec.proofs.Words.{mend-length}
 use Rattle.channel.proofs.Words.{mendIn-is}
 use Rattle.channel.proofs.Cutting.{hand-one}
@@ -50,9 +50,9 @@ Drained v u z f r j k =
 drained-one : (x : ℕ) (v u z : List ℕ) (f : Hunting) (r : Reading) (j m k : List ℕ) → takeByte (heldOf r j) x ≡ (read r x .0, heldOf (read r x .1) m)
     → Drained v (u ++ x ∷ []) z f (read r x .1) m k → Drained (x ∷ v) u z f r j k
 drained-one x v u z f r j m k p d =
-    let S : Board = lockedWith f wordBytes (length u) 0 (heldOf r j) (u ++ (x ∷ v ++ z)) in
-    let K : Board → List Event × Board = rest owed handOn eatByte [] in
-    let D : Board → List Event × Board = λ c. drain owed handOn eatByte (length v) c K in
+    let S : Memory = lockedWith f wordBytes (length u) 0 (heldOf r j) (u ++ (x ∷ v ++ z)) in
+    let K : Memory → List Event × Memory = rest owed handOn eatByte [] in
+    let D : Memory → List Event × Memory = λ c. drain owed handOn eatByte (length v) c K in
     let n : suc (length u) ≡ length (u ++ x ∷ []) = omega (arith, length-append u (x ∷ [])) in
     let l : u ++ (x ∷ v ++ z) ≡ (u ++ x ∷ []) ++ (v ++ z) = sym (append-snoc u x (v ++ z)) in
     let t : reads r (x ∷ v) .1 ≡ reads (read r x .1) v .1 = tell-end (read r x .0) (reads (read r x .1) v) in
@@ -79,24 +79,24 @@ shown-drain (x ∷ v) u z f r j h e =
 
 -- both buffers pass 11
 abbrev pub Room : Chan → List ℕ → List ℕ → Type 0
-Room a j k = (rawLimit ≤ length (boardOf a j k .recv)) × (wordBytes ≤ length (boardOf a j k .word))
+Room a j k = (rawLimit ≤ length (memoryOf a j k .recv)) × (wordBytes ≤ length (memoryOf a j k .word))
 
-none-owed : (a : Chan) (j k : List ℕ) → Good a → owed (boardOf a j k) ≡ 0
+none-owed : (a : Chan) (j k : List ℕ) → Good a → owed (memoryOf a j k) ≡ 0
 none-owed (hunting f) j k g = refl
 none-owed (inWord f w r) j k g = rw (ne-eqb (length w) wordBytes (λ e. omega arith)) refl
 none-owed (inMark f w n r) j k g = refl
 
 -- where nothing is owed: a byte string ..
-abbrev R : List ℕ → Board → List Event × Board
+abbrev R : List ℕ → Memory → List Event × Memory
 R = rest owed handOn eatByte
 
 -- .. and what is owed, alone
-abbrev D : Board → List Event × Board
+abbrev D : Memory → List Event × Memory
 D c = drain owed handOn eatByte (owed c) c (R [])
 
--- what is shown after a byte: x are the answers and the board, y those of the receiver without a limit
-abbrev pub Now : List Event × Board → List Event × Chan → Type 0
-Now x y = (j : List ℕ) × (k : List ℕ) × (x ≡ (y .0, boardOf (y .1) j k)) × Good (y .1) × Room (y .1) j k
+-- what is shown after a byte: x are the answers and the memory, y those of the receiver without a limit
+abbrev pub Now : List Event × Memory → List Event × Chan → Type 0
+Now x y = (j : List ℕ) × (k : List ℕ) × (x ≡ (y .0, memoryOf (y .1) j k)) × Good (y .1) × Room (y .1) j k
 
 now-hunt : (t : Bool) (f g : Hunting) (j k : List ℕ) → rawLimit ≤ length j → wordBytes ≤ length k
     → Now (D (huntOn t g (huntingWith f j k))) ([], hunt t g)
@@ -105,13 +105,13 @@ now-hunt false f g j k h i = (j, k, refl, tt, (h, i))
 
 now-compare : (t : Bool) (f g : Hunting) (w : List ℕ) (n : ℕ) (r : Reading) (j k : List ℕ)
     → rawLimit ≤ length (heldOf r j .recv) → wordBytes ≤ length (w ++ k)
-    → Now (tell (compareOn t g (boardOf (inMark f w n r) j k) .0) (D (compareOn t g (boardOf (inMark f w n r) j k) .1))) (compared t g r)
+    → Now (tell (compareOn t g (memoryOf (inMark f w n r) j k) .0) (D (compareOn t g (memoryOf (inMark f w n r) j k) .1))) (compared t g r)
 now-compare true f g w n r j k h i = (j, w ++ k, refl, lit< tt, (h, i))
 now-compare false f g w n r j k h i = (heldOf r j .recv, w ++ k, refl, tt, (h, i))
 
 now-mark : (t : Bool) (f g : Hunting) (w : List ℕ) (n : ℕ) (r : Reading) (j k : List ℕ) → ltb (suc n) 4 ≡ t → length w ≡ wordBytes
     → rawLimit ≤ length (heldOf r j .recv) → wordBytes ≤ length (w ++ k)
-    → Now (tell (markOn t g (boardOf (inMark f w n r) j k) .0) (D (markOn t g (boardOf (inMark f w n r) j k) .1))) (behindWord t g w (suc n) r)
+    → Now (tell (markOn t g (memoryOf (inMark f w n r) j k) .0) (D (markOn t g (memoryOf (inMark f w n r) j k) .1))) (behindWord t g w (suc n) r)
 now-mark true f g w n r j k e l h i = (j, k, refl, (l, ltb-true _ _ e), (h, i))
 now-mark false f g w n r j k e l h i = now-compare (isMarker g) f g w n r j k h i
 
@@ -126,7 +126,7 @@ not-whole n f g l h =
 -- what a whole word owes
 whole-owed : (w : List ℕ) (f : Hunting) (r : Reading) (j k : List ℕ) → length w ≡ wordBytes → rawLimit ≤ length (heldOf r j .recv)
     → (m : List ℕ)
-    × (D (lockedWith f wordBytes 0 0 (heldOf r j) (mend w ++ k)) ≡ (map said (reads r (message w) .0), boardOf (inMark f (mend w) 0 (whole w r .1)) m k))
+    × (D (lockedWith f wordBytes 0 0 (heldOf r j) (mend w ++ k)) ≡ (map said (reads r (message w) .0), memoryOf (inMark f (mend w) 0 (whole w r .1)) m k))
     × (rawLimit ≤ length (heldOf (reads r (message w) .1) m .recv))
 whole-owed w f r j k l h =
     let n : length (message w) ≡ messageBytes = length-take-le messageBytes (mend w) (omega (arith, mend-length w)) in
@@ -144,7 +144,7 @@ whole-owed w f r j k l h =
 whole-word : (w : List ℕ) (f : Hunting) (r : Reading) (j k l : List ℕ) → l ≡ w ++ k → length w ≡ wordBytes → rawLimit ≤ length (heldOf r j .recv)
     → (m : List ℕ)
     × (tell (some (block (condition (take wordBytes l)))) (D (lockedWith f wordBytes 0 0 (heldOf r j) (mendIn l)))
-    ≡ (whole w r .0, boardOf (inMark f (mend w) 0 (whole w r .1)) m k))
+    ≡ (whole w r .0, memoryOf (inMark f (mend w) 0 (whole w r .1)) m k))
     × (rawLimit ≤ length (heldOf (reads r (message w) .1) m .recv))
 whole-word w f r j k l e n h =
     let d = whole-owed w f r j k n h in
@@ -157,8 +157,8 @@ whole-word w f r j k l e n h =
 now-word : (t : Bool) (f : Hunting) (w : List ℕ) (r : Reading) (j k : List ℕ) (b : ℕ) → ltb (suc (length w)) wordBytes ≡ t → length w < wordBytes
     → rawLimit ≤ length (heldOf r j .recv) → wordBytes ≤ length (w ++ k)
     → Now
-    (tell (wordOn t (boardOf (inWord f w r) j k) (set (w ++ k) (length w) b) .0)
-    (D (wordOn t (boardOf (inWord f w r) j k) (set (w ++ k) (length w) b) .1)))
+    (tell (wordOn t (memoryOf (inWord f w r) j k) (set (w ++ k) (length w) b) .0)
+    (D (wordOn t (memoryOf (inWord f w r) j k) (set (w ++ k) (length w) b) .1)))
     (grow t f (w ++ b ∷ []) r)
 now-word t f w r j [] b e l h i = absurd (omega (arith, l, i, length-append w []))
 now-word true f w r j (x ∷ k) b e l h i =
@@ -185,31 +185,31 @@ now-word false f w r j (x ∷ k) b e l h i =
     )
 
 -- one byte of the channel receiver
-shown-step : (a : Chan) (j k : List ℕ) (b : ℕ) → Good a → Room a j k → Now (R (b ∷ []) (boardOf a j k)) (step a b)
+shown-step : (a : Chan) (j k : List ℕ) (b : ℕ) → Good a → Room a j k → Now (R (b ∷ []) (memoryOf a j k)) (step a b)
 shown-step (hunting f) j k b g h = now-hunt (isMarker (shift f b)) f (shift f b) j k (h .0) (h .1)
 shown-step (inWord f w r) j k b g h =
     subst
-    (λ t. Now (tell (eatBy true t (boardOf (inWord f w r) j k) b .0) (D (eatBy true t (boardOf (inWord f w r) j k) b .1)))
+    (λ t. Now (tell (eatBy true t (memoryOf (inWord f w r) j k) b .0) (D (eatBy true t (memoryOf (inWord f w r) j k) b .1)))
     (step (inWord f w r) b))
     (sym (lt-ltb (length w) wordBytes g))
     (now-word (ltb (suc (length w)) wordBytes) f w r j k b refl g (h .0) (h .1))
 shown-step (inMark f w n r) j k b g h = now-mark (ltb (suc n) 4) f (shift f b) w n r j k refl (g .0) (h .0) (h .1)
 
-all-rest : (a : Chan) (j k bs : List ℕ) → Good a → hearAll (boardOf a j k) bs ≡ R bs (boardOf a j k)
+all-rest : (a : Chan) (j k bs : List ℕ) → Good a → hearAll (memoryOf a j k) bs ≡ R bs (memoryOf a j k)
 all-rest a j k bs g =
-    ap (λ n. drain owed handOn eatByte n (boardOf a j k) (R bs)) (none-owed a j k g)
+    ap (λ n. drain owed handOn eatByte n (memoryOf a j k) (R bs)) (none-owed a j k g)
 
 -- a byte string, to the channel receiver
-pub shown-all : (bs : List ℕ) (a : Chan) (j k : List ℕ) → Good a → Room a j k → Now (hearAll (boardOf a j k) bs) (hears a bs)
+pub shown-all : (bs : List ℕ) (a : Chan) (j k : List ℕ) → Good a → Room a j k → Now (hearAll (memoryOf a j k) bs) (hears a bs)
 shown-all [] a j k g h = (j, k, all-rest a j k [] g, g, h)
 shown-all (b ∷ bs) a j k g h =
     let s = shown-step a j k b g h in
     let t = shown-all bs (step a b .1) (s .0) (s .1) (s .3) (s .4) in
-    let e : hearAll (boardOf a j k) (b ∷ []) ≡ (step a b .0, boardOf (step a b .1) (s .0) (s .1)) =
+    let e : hearAll (memoryOf a j k) (b ∷ []) ≡ (step a b .0, memoryOf (step a b .1) (s .0) (s .1)) =
     all-rest a j k (b ∷ []) g ∙ s .2 in (
       t .0,
       t .1,
-      all-append owed handOn eatByte (hand-one) (boardOf a j k) (b ∷ []) bs
+      all-append owed handOn eatByte (hand-one) (memoryOf a j k) (b ∷ []) bs
           ∙ (λ i. andThen (e i) (λ c. hearAll c bs))
           ∙ (λ i. (step a b .0 ++ t .2 i .0, t .2 i .1)),
       t .3,
@@ -226,7 +226,7 @@ locked-use f n h m r j w k l =
     )
 
 -- what is in use does not hang on what stands behind it in the buffers
-pub in-use : (a : Chan) (j k : List ℕ) → Good a → inUse (boardOf a j k) ≡ inUse (boardOf a [] [])
+pub in-use : (a : Chan) (j k : List ℕ) → Good a → inUse (memoryOf a j k) ≡ inUse (memoryOf a [] [])
 in-use (hunting f) j k g = refl
 in-use (inWord f w r) j k g = locked-use f (length w) 0 0 r j w k (omega arith)
 in-use (inMark f w n r) j k g = locked-use f wordBytes messageBytes n r j w k (omega arith)

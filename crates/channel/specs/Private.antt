@@ -16,7 +16,7 @@ use Rattle.channel.specs.declared.answer.Phase.{Phase}
 use Rattle.channel.specs.declared.hunting.Found.{Found}
 use Rattle.channel_spec.specs.Sender.{wordBytes}
 use Rattle.channel_spec.specs.Meaning.{shift, isMarker}
-use Rattle.channel.specs.Call.{Board, board, owes, soundLock, hearOn, HearingIs}
+use Rattle.channel.specs.Call.{Memory, memory, owes, soundLock, hearOn, HearingIs}
 
 -- all of some bytes among the last four
 abbrev pub shifts : Hunting → List ℕ → Hunting
@@ -37,12 +37,12 @@ abbrev pub ended : Phase → Hearing
 ended t = record { answer = t .answer; taken = t .taken; receiver = t .receiver }
 
 -- by: does the phase end the call. Else the call goes on behind it
-abbrev pub PhaseBy : Bool → Board → List ℕ → Phase → List ℕ → List ℕ → Type 0
+abbrev pub PhaseBy : Bool → Memory → List ℕ → Phase → List ℕ → List ℕ → Type 0
 PhaseBy true c bs t l k = HearingIs (hearOn c bs) (ended t) l k
-PhaseBy false c bs t l k = hearOn c bs ≡ after (t .taken) (hearOn (board (t .receiver) l k) (drop (t .taken) bs))
+PhaseBy false c bs t l k = hearOn c bs ≡ after (t .taken) (hearOn (memory (t .receiver) l k) (drop (t .taken) bs))
 
 -- the rest of a stored word is handed on: no new byte is taken
-pub record HandedIs (c : Board) (t : Phase) (l : List ℕ) : Type 0 where
+pub record HandedIs (c : Memory) (t : Phase) (l : List ℕ) : Type 0 where
   pub means : (bs : List ℕ) → PhaseBy (t .done) c bs t l (c .word)
   pub taken : t .taken ≡ 0
   pub lock : soundLock (t .receiver .lock) ≡ true
@@ -50,10 +50,10 @@ pub record HandedIs (c : Board) (t : Phase) (l : List ℕ) : Type 0 where
 
 -- whatever the buffers hold, they stay; behind the phase a word is wanted
 pub record SoughtIs (s : Receiver) (bs : List ℕ) (t : Phase) : Type 0 where
-  pub means : (l k : List ℕ) → PhaseBy (t .done) (board s l k) bs t l k
+  pub means : (l k : List ℕ) → PhaseBy (t .done) (memory s l k) bs t l k
   pub within : t .taken ≤ length bs
   pub ready : t .done ≡ false → (t .receiver .locked ≡ true) × (t .receiver .lock .word < wordBytes)
 
 -- bytes of a word, `at` bytes into a piece: whatever the receive buffer holds, it stays
 abbrev pub FilledIs : Receiver → List ℕ → List ℕ → ℕ → Hearing → List ℕ → Type 0
-FilledIs s word bs at r word′ = (l : List ℕ) → HearingIs (after at (hearOn (board s l word) bs)) r l word′
+FilledIs s word bs at r word′ = (l : List ℕ) → HearingIs (after at (hearOn (memory s l word) bs)) r l word′

@@ -5,7 +5,7 @@ ghost use Prim.Native.Nat.{_+_, _≤_, _<_};
 ghost use lib.ListN.{length, drop};
 ghost use Rattle.channel_spec.specs.Sender.{messageBytes, wordBytes};
 ghost use Rattle.channel.specs.Call.{
-  board,
+  memory,
   counts,
   freshReceiver,
   owes,
@@ -97,7 +97,7 @@ impl Receiver {
     // The rest of a stored word goes on to the frame reader, up to the first answer.
     fn hand_on(self, recv: &mut [u8], word: &[u8]) -> Phase
         requires { ⌜ (sound self ≡ true) × (roomy (now recv) (now word) ≡ true) ⌝ }
-        ensures { λ r. ⌜ HandedIs (board self (now (recv .entry)) (now (word .entry))) r (now (recv .exit)) ⌝ }
+        ensures { λ r. ⌜ HandedIs (memory self (now (recv .entry)) (now (word .entry))) r (now (recv .exit)) ⌝ }
     {
         if self.owed() == 0 {
             return Phase::on(0, self);
@@ -249,7 +249,7 @@ impl Receiver {
     // A call behind refusals 10 and 11: a stored word's rest, then bytes up to a word's, then those.
     fn hear_on(self, recv: &mut [u8], word: &mut [u8], piece: &[u8]) -> Hearing
         requires { ⌜ (sound self ≡ true) × (roomy (now recv) (now word) ≡ true) ⌝ }
-        ensures { λ r. ⌜ HearingIs (hearOn (board self (now (recv .entry)) (now (word .entry))) (now (piece .entry)))
+        ensures { λ r. ⌜ HearingIs (hearOn (memory self (now (recv .entry)) (now (word .entry))) (now (piece .entry)))
             r (now (recv .exit)) (now (word .exit)) ⌝ }
     {
         let handed = self.hand_on(recv, word);
@@ -268,7 +268,7 @@ impl Receiver {
 
     /// One call: at most one answer, and no byte behind the one that caused it is taken.
     pub fn hear(self, recv: &mut [u8], word: &mut [u8], piece: &[u8]) -> Hearing
-        ensures { λ r. ⌜ HearingIs (hearCall (board self (now (recv .entry)) (now (word .entry))) (now (piece .entry)))
+        ensures { λ r. ⌜ HearingIs (hearCall (memory self (now (recv .entry)) (now (word .entry))) (now (piece .entry)))
             r (now (recv .exit)) (now (word .exit)) ⌝ }
     {
         if !self.sound() {

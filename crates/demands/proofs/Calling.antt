@@ -28,7 +28,7 @@ use Rattle.packet_spec.specs.Frame.{Told, packet, refusal, broken}
 use Rattle.stream.specs.Call.{Held, takeByte, readAll, readOn, readBy, readCall, sound as soundFrame, Fine as FineFrame}
 use Rattle.stream.proofs.Cutting.{read-agrees, read-law}
 use Rattle.channel_spec.specs.Meaning.{Event}
-use Rattle.channel.specs.Call.{Board, owed, handOn, eatByte, sound, roomy, hearAll, hearOn, hearBy, hearCall, Fine}
+use Rattle.channel.specs.Call.{Memory, owed, handOn, eatByte, sound, roomy, hearAll, hearOn, hearBy, hearCall, Fine}
 use Rattle.channel.proofs.Fine.{fine-of, fine-hand, fine-eat}
 use Rattle.channel.proofs.Cutting.{hand-one, hear-agrees, hear-law}
 use Rattle.subchannel.specs.Call as fixed
@@ -50,7 +50,7 @@ use Rattle.listing.specs.Call.{Printed, printed, further, onAnswer, counted, pr
 use Rattle.listing.proofs.Tags.{wantsTag}
 use Rattle.board.specs.declared.readout.Wants as showing
 use Rattle.board.specs.declared.readout.Wants.the-variants as shows
-use Rattle.board.specs.Source.{Source, boardIn, sourceOwes, sourceHand, sourceEat, sourceAll, sourceHear}
+use Rattle.board.specs.Source.{Source, memoryIn, sourceOwes, sourceHand, sourceEat, sourceAll, sourceHear}
 use Rattle.board.specs.Owed.{nothing}
 use Rattle.board.specs.Call.{Screen, readoutOf, recvOn, owedOn, Part, partly, heardBy, takesOn, soundState}
 use Rattle.board.specs.Call as screen
@@ -91,17 +91,17 @@ module _ {A S : Type 0} (call : Bool → Bool → Option A × ℕ × S) where
 -- ---- on the channel
 -- "with the number of bytes taken": the answer is the first of all, and the others are those of the state that it leaves and the bytes behind
 -- those taken
-pub hear-first : (c : Board) → Fine c → (bs : List ℕ) (e : Event) (n : ℕ) (d : Board) → hearCall c bs ≡ (some e, n, d)
+pub hear-first : (c : Memory) → Fine c → (bs : List ℕ) (e : Event) (n : ℕ) (d : Memory) → hearCall c bs ≡ (some e, n, d)
     → (hearAll c bs .0 ≡ e ∷ hearAll d (drop n bs) .0) × (hearAll c bs .1 ≡ hearAll d (drop n bs) .1)
 hear-first c f bs e n d h = both (hear-law c bs f ∙ ap (λ r. told owed handOn eatByte r bs) h)
 
 -- "It takes no byte behind the one that caused the answer": before that one, byte n, there is no answer ..
-pub hear-stops : (c : Board) (bs : List ℕ) (e : Event) (n : ℕ) (d : Board) → hearCall c bs ≡ (some e, suc n, d) → hearAll c (take n bs) .0 ≡ []
+pub hear-stops : (c : Memory) (bs : List ℕ) (e : Event) (n : ℕ) (d : Memory) → hearCall c bs ≡ (some e, suc n, d) → hearAll c (take n bs) .0 ≡ []
 hear-stops c bs e n d h =
     stops owed handOn eatByte hand-one c bs e n d (past-both (λ s r. hearBy s r c bs) (λ r. refl) refl (sound (c .st)) (roomy (c .recv) (c .word)) h)
 
 -- .. and whatever stands behind it makes no difference
-pub hear-blind : (c : Board) (bs : List ℕ) (e : Event) (n : ℕ) (d : Board) → hearCall c bs ≡ (some e, n, d)
+pub hear-blind : (c : Memory) (bs : List ℕ) (e : Event) (n : ℕ) (d : Memory) → hearCall c bs ≡ (some e, n, d)
     → (cs : List ℕ) → hearCall c (take n bs ++ cs) ≡ (some e, n, d)
 hear-blind c bs e n d h cs =
     as-before (λ s r. hearBy s r c bs) (λ s r. hearBy s r c (take n bs ++ cs)) (λ r. refl) refl (blind owed handOn eatByte hand-one cs c bs e n d)
@@ -109,7 +109,7 @@ hear-blind c bs e n d h cs =
 
 -- "the rest of a stored word is handed on before any new byte is taken": a call begins as a call on no bytes does, and goes on to the bytes
 -- where that gives no answer
-pub hear-owed : (c : Board) (bs : List ℕ) → hearCall c bs ≡ unless (hearCall c [] .0) 0 (hearCall c [] .2) (hearCall (hearCall c [] .2) bs)
+pub hear-owed : (c : Memory) (bs : List ℕ) → hearCall c bs ≡ unless (hearCall c [] .0) 0 (hearCall c [] .2) (hearCall (hearCall c [] .2) bs)
 hear-owed c bs = go (sound (c .st)) (roomy (c .recv) (c .word)) refl refl
   where
     go : (s r : Bool) → sound (c .st) ≡ s → roomy (c .recv) (c .word) ≡ r
@@ -122,28 +122,28 @@ hear-owed c bs = go (sound (c .st)) (roomy (c .recv) (c .word)) refl refl
         (sym (hear-agrees (hearOn c [] .2) bs (inv-hear owed handOn eatByte hand-one Fine fine-hand fine-eat c [] (fine-of c e f))))
 
 -- "It says "more wanted" exactly when all bytes are taken, a stored word is handed on whole and no answer is owed"
-pub hear-wanting : (c : Board) → Fine c → (bs : List ℕ)
+pub hear-wanting : (c : Memory) → Fine c → (bs : List ℕ)
     → (hearCall c bs .0 ≡ none) ↔ ((hearCall c bs .1 ≡ length bs) × (owed (hearCall c bs .2) ≡ 0) × (hearAll c bs .0 ≡ []))
 hear-wanting c f bs = rw (hear-agrees c bs f) (wanting owed handOn eatByte hand-one c bs)
 
 -- ---- on a fixed sub-channel, of any R and depth that pass 10
-pub fixed-first : (c : fixed.Board) → fixed.Fine c → (bs : List ℕ) (e : Event) (n : ℕ) (d : fixed.Board) → fixed.hearCall c bs ≡ (some e, n, d)
+pub fixed-first : (c : fixed.Memory) → fixed.Fine c → (bs : List ℕ) (e : Event) (n : ℕ) (d : fixed.Memory) → fixed.hearCall c bs ≡ (some e, n, d)
     → (fixed.hearAll c bs .0 ≡ e ∷ fixed.hearAll d (drop n bs) .0) × (fixed.hearAll c bs .1 ≡ fixed.hearAll d (drop n bs) .1)
 fixed-first c f bs e n d h = both (fixed-cut.hear-law c bs f ∙ ap (λ r. told fixed.owed fixed.handOn fixed.eatByte r bs) h)
 
-pub fixed-stops : (c : fixed.Board) (bs : List ℕ) (e : Event) (n : ℕ) (d : fixed.Board) → fixed.hearCall c bs ≡ (some e, suc n, d)
+pub fixed-stops : (c : fixed.Memory) (bs : List ℕ) (e : Event) (n : ℕ) (d : fixed.Memory) → fixed.hearCall c bs ≡ (some e, suc n, d)
     → fixed.hearAll c (take n bs) .0 ≡ []
 fixed-stops c bs e n d h =
     stops fixed.owed fixed.handOn fixed.eatByte fixed-cut.hand-one c bs e n d
     (past-both (λ s r. fixed.hearBy s r c bs) (λ r. refl) refl (fixed.sound (c .st)) (roomy (c .recv) (c .word)) h)
 
-pub fixed-blind : (c : fixed.Board) (bs : List ℕ) (e : Event) (n : ℕ) (d : fixed.Board) → fixed.hearCall c bs ≡ (some e, n, d)
+pub fixed-blind : (c : fixed.Memory) (bs : List ℕ) (e : Event) (n : ℕ) (d : fixed.Memory) → fixed.hearCall c bs ≡ (some e, n, d)
     → (cs : List ℕ) → fixed.hearCall c (take n bs ++ cs) ≡ (some e, n, d)
 fixed-blind c bs e n d h cs =
     as-before (λ s r. fixed.hearBy s r c bs) (λ s r. fixed.hearBy s r c (take n bs ++ cs)) (λ r. refl) refl
     (blind fixed.owed fixed.handOn fixed.eatByte fixed-cut.hand-one cs c bs e n d) (fixed.sound (c .st)) (roomy (c .recv) (c .word)) h
 
-pub fixed-owed : (c : fixed.Board) (bs : List ℕ)
+pub fixed-owed : (c : fixed.Memory) (bs : List ℕ)
     → fixed.hearCall c bs ≡ unless (fixed.hearCall c [] .0) 0 (fixed.hearCall c [] .2) (fixed.hearCall (fixed.hearCall c [] .2) bs)
 fixed-owed c bs = go (fixed.sound (c .st)) (roomy (c .recv) (c .word)) refl refl
   where
@@ -158,14 +158,14 @@ fixed-owed c bs = go (fixed.sound (c .st)) (roomy (c .recv) (c .word)) refl refl
         (fixed-cut.hear-agrees (fixed.hearOn c [] .2) bs
         (inv-hear fixed.owed fixed.handOn fixed.eatByte fixed-cut.hand-one fixed.Fine fixed-fine.fine-hand fixed-fine.fine-eat c [] (fixed-fine.fine-of c e f))))
 
-pub fixed-wanting : (c : fixed.Board) → fixed.Fine c → (bs : List ℕ)
+pub fixed-wanting : (c : fixed.Memory) → fixed.Fine c → (bs : List ℕ)
     → (fixed.hearCall c bs .0 ≡ none)
     ↔ ((fixed.hearCall c bs .1 ≡ length bs) × (fixed.owed (fixed.hearCall c bs .2) ≡ 0) × (fixed.hearAll c bs .0 ≡ []))
 fixed-wanting c f bs = rw (fixed-cut.hear-agrees c bs f) (wanting fixed.owed fixed.handOn fixed.eatByte fixed-cut.hand-one c bs)
 
 -- "A piece counts as read when its rest has been handed in until then": the calls come to their end, from every state and buffers that pass 10 and 11,
 -- with a word half handed on too, and their answers are those of the uncut string
-pub fixed-ends : (c : fixed.Board) → fixed.Fine c → (p : List ℕ) (ps : List (List ℕ))
+pub fixed-ends : (c : fixed.Memory) → fixed.Fine c → (p : List ℕ) (ps : List (List ℕ))
     → Yields fixed.hearCall c (p ∷ ps) λ es d. (es, d) ≡ fixed.hearAll c (joined (p ∷ ps))
 fixed-ends = fixed-cut.hear-yields
 
@@ -189,7 +189,7 @@ pub read-wanting : (h : Held) → FineFrame h → (bs : List ℕ) → (readCall 
 read-wanting h f bs = rw (read-agrees h bs f) (none-owing (wanting owesNone handsNone takeByte none-owed h bs))
 
 -- ---- on a recording's bytes, by a call that is not refused: the receiver and both buffers pass, and the offset stays below 2^64
-module _ (m : Deck) (f : Fine (m .ear .board)) (bs : List ℕ) (o : m .spot .offset + length bs ≤ far) where
+module _ (m : Deck) (f : Fine (m .ear .memory)) (bs : List ℕ) (o : m .spot .offset + length bs ≤ far) where
   pub next-first : (e : Event) (n : ℕ) (d : Deck) → tapeCall m bs ≡ (some e, n, d)
       → (deckAll m bs .0 ≡ e ∷ deckAll d (drop n bs) .0) × (deckAll m bs .1 ≡ deckAll d (drop n bs) .1)
   next-first e n d h =
@@ -254,8 +254,8 @@ print-wanting (suc f) room m t bs l =
           (λ p. k v .1 (omega (arith, p .0, d, n), p .1, omega (arith, p .2, a))),
         )
 
-pub take-wanting : (m : Deck) (t : Totals) (room : ℕ) (bs : List ℕ) → sound (m .ear .board .st) ≡ true
-    → near (m .spot) t (length bs) room ≡ true → roomy (m .ear .board .recv) (m .ear .board .word) ≡ true
+pub take-wanting : (m : Deck) (t : Totals) (room : ℕ) (bs : List ℕ) → sound (m .ear .memory .st) ≡ true
+    → near (m .spot) t (length bs) room ≡ true → roomy (m .ear .memory .recv) (m .ear .memory .word) ≡ true
     → let r = listing.takes m t room bs in
     (r .wants ≡ More) ↔ ((r .taken ≡ length bs) × (deckOwes (r .deck) ≡ 0) × (longest ≤ room - length (r .text)))
 take-wanting m t room bs e f g = rw (e, f, g) (print-wanting room room m t bs (omega arith))
@@ -278,7 +278,7 @@ module _ (room : ℕ) (s : Screen) (bs : List ℕ) where
       let w = wanting sourceOwes sourceHand sourceEat source-hand-one (s .source) bs .0 (ap (λ (r : Option Event × ℕ × Source). r .0) q) in
       let taken : n ≡ length bs = sym (ap (λ (r : Option Event × ℕ × Source). r .1) q) ∙ w .0 in
       let left : sourceOwes y ≡ 0 = sym (ap (λ (r : Option Event × ℕ × Source). sourceOwes (r .2)) q) ∙ w .1 in
-      ((λ e. (taken, refl, left-none nothing (boardIn (y .deck) .recv) refl, left, w .2)), (λ p. refl))
+      ((λ e. (taken, refl, left-none nothing (memoryIn (y .deck) .recv) refl, left, w .2)), (λ p. refl))
   heard-wanting (some v, n, y) q = (
     (λ e. absurd (omega (arith, ap showsTag e))),
     (λ p.
@@ -298,7 +298,7 @@ module _ (room : ℕ) (s : Screen) (bs : List ℕ) where
       )
       go false q = heard-wanting (sourceHear (s .source) bs) refl
 
-  pub show-wanting : soundState (readoutOf s) (length bs) ≡ true → roomy (recvOn s) (boardIn (s .source .deck) .word) ≡ true
+  pub show-wanting : soundState (readoutOf s) (length bs) ≡ true → roomy (recvOn s) (memoryIn (s .source .deck) .word) ≡ true
       → (screen.takes room s bs .wants ≡ shows.More) ↔ AllWritten (screen.takes room s bs)
   show-wanting e f = rw (e, f) on-wanting
 

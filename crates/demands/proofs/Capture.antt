@@ -28,7 +28,7 @@ use Rattle.packet_spec.specs.Sender.{Accepted}
 use Rattle.stream.specs.Call as plain
 use Rattle.stream.specs.Call.{Held as FrameHeld}
 use Rattle.channel_spec.specs.Meaning.{Event, said}
-use Rattle.channel.specs.Call.{Board, hearCall}
+use Rattle.channel.specs.Call.{Memory, hearCall}
 use Rattle.subchannel.specs.Call as fixed
 use Rattle.recording.specs.Deck.{Deck}
 use Rattle.recording.specs.Call.{tapeCall}
@@ -46,10 +46,10 @@ use Rattle.capture.proofs.Cutting.{read-yields, every-cut}
 use Rattle.capture.proofs.There.{Own, export-there, read-there}
 use Rattle.demands_laws.specs.Table.{Exact}
 use Rattle.demands_laws.specs.Refusals.{ByCall, ByRead}
-use Rattle.demands_laws.specs.Captures.{CaptureBeyond, NoPacket, HeaderMissed, RecordCut, FaultBefore, ByEnd, FetchedHeld, FetchedBoard, FetchedSub, FetchedDeck}
+use Rattle.demands_laws.specs.Captures.{CaptureBeyond, NoPacket, HeaderMissed, RecordCut, FaultBefore, ByEnd, FetchedHeld, FetchedMemory, FetchedSub, FetchedDeck}
 use Rattle.demands_laws.specs.Captures.{put, entriesBy}
-use Rattle.demands_laws.proofs.Fetching.{packet-there, plain-fetched, board-fetched, sub-fetched, deck-fetched}
-use Rattle.demands_laws.proofs.Fetching.{OwnHeld, OwnBoard, OwnSub, OwnDeck, plain-own, board-own, sub-own, deck-own}
+use Rattle.demands_laws.proofs.Fetching.{packet-there, plain-fetched, memory-fetched, sub-fetched, deck-fetched}
+use Rattle.demands_laws.proofs.Fetching.{OwnHeld, OwnMemory, OwnSub, OwnDeck, plain-own, memory-own, sub-own, deck-own}
 use Rattle.demands_laws.proofs.Rows.{wrote}
 use Rattle.demands_laws.proofs.Capturing.{enter-exact, import-exact, import-same, end-exact}
 
@@ -69,10 +69,10 @@ fetched = export-there
 pub read-fetched : (h : FrameHeld) (bs : List ℕ) → With FetchedHeld (plain.readCall h bs .0) (plain.readCall h bs .2)
 read-fetched = plain-fetched
 
-pub hear-fetched : (c : Board) (bs : List ℕ) → With FetchedBoard (hearCall c bs .0) (hearCall c bs .2)
-hear-fetched = board-fetched
+pub hear-fetched : (c : Memory) (bs : List ℕ) → With FetchedMemory (hearCall c bs .0) (hearCall c bs .2)
+hear-fetched = memory-fetched
 
-pub fixed-fetched : (c : fixed.Board) (bs : List ℕ) → With FetchedSub (fixed.hearCall c bs .0) (fixed.hearCall c bs .2)
+pub fixed-fetched : (c : fixed.Memory) (bs : List ℕ) → With FetchedSub (fixed.hearCall c bs .0) (fixed.hearCall c bs .2)
 fixed-fetched = sub-fetched
 
 pub next-fetched : (m : Deck) (bs : List ℕ) → With FetchedDeck (tapeCall m bs .0) (tapeCall m bs .2)
@@ -99,19 +99,19 @@ pub read-entered : (h : FrameHeld) (bs : List ℕ) (p : Packet) → let recv = p
 read-entered h bs p e b =
     let x = plain.readCall h bs in own-entered p (x .2 .recv) (subst (λ (o : Option Told). With OwnHeld o (x .2)) e (plain-own h bs) b)
 
-pub hear-entered : (c : Board) (bs : List ℕ) (p : Packet) → let recv = hearCall c bs .2 .recv in hearCall c bs .0 ≡ some (said (packet p))
+pub hear-entered : (c : Memory) (bs : List ℕ) (p : Packet) → let recv = hearCall c bs .2 .recv in hearCall c bs .0 ≡ some (said (packet p))
     → Bytes recv → (i : ℕ) (out : List ℕ) → entering i (packedPart (delivery p) recv) out ≡ write (recordOf i (packed p)) out
-hear-entered c bs p e b = let x = hearCall c bs in own-entered p (x .2 .recv) (subst (λ (o : Option Event). With OwnBoard o (x .2)) e (board-own c bs) b)
+hear-entered c bs p e b = let x = hearCall c bs in own-entered p (x .2 .recv) (subst (λ (o : Option Event). With OwnMemory o (x .2)) e (memory-own c bs) b)
 
-pub fixed-entered : (c : fixed.Board) (bs : List ℕ) (p : Packet) → let recv = fixed.hearCall c bs .2 .recv in fixed.hearCall c bs .0 ≡ some (said (packet p))
+pub fixed-entered : (c : fixed.Memory) (bs : List ℕ) (p : Packet) → let recv = fixed.hearCall c bs .2 .recv in fixed.hearCall c bs .0 ≡ some (said (packet p))
     → Bytes recv → (i : ℕ) (out : List ℕ) → entering i (packedPart (delivery p) recv) out ≡ write (recordOf i (packed p)) out
 fixed-entered c bs p e b =
     let x = fixed.hearCall c bs in own-entered p (x .2 .recv) (subst (λ (o : Option Event). With OwnSub o (x .2)) e (sub-own c bs) b)
 
-pub next-entered : (m : Deck) (bs : List ℕ) (p : Packet) → let recv = tapeCall m bs .2 .ear .board .recv in tapeCall m bs .0 ≡ some (said (packet p))
+pub next-entered : (m : Deck) (bs : List ℕ) (p : Packet) → let recv = tapeCall m bs .2 .ear .memory .recv in tapeCall m bs .0 ≡ some (said (packet p))
     → Bytes recv → (i : ℕ) (out : List ℕ) → entering i (packedPart (delivery p) recv) out ≡ write (recordOf i (packed p)) out
 next-entered m bs p e b =
-    let x = tapeCall m bs in own-entered p (x .2 .ear .board .recv) (subst (λ (o : Option Event). With OwnDeck o (x .2)) e (deck-own m bs) b)
+    let x = tapeCall m bs in own-entered p (x .2 .ear .memory .recv) (subst (λ (o : Option Event). With OwnDeck o (x .2)) e (deck-own m bs) b)
 
 -- what is written with room is the result
 put-fits : (bs out : List ℕ) → length bs ≤ length out → put (write bs out) ≡ bs

@@ -41,14 +41,14 @@ use Rattle.stream.specs.Sender.{appending}
 use Rattle.stream.proofs.Cutting.{read-yields}
 use Rattle.stream.proofs.Sending.{appending-keeps}
 use Rattle.channel_spec.specs.Meaning.{said}
-use Rattle.channel.specs.Call.{Board, hearAll, hearCall, Fine}
+use Rattle.channel.specs.Call.{Memory, hearAll, hearCall, Fine}
 use Rattle.channel_spec.specs.Sender.{marker, messageBytes, wordBytes, wordOf, marked, marking, sending}
 use Rattle.channel.proofs.Cutting.{hear-yields}
 use Rattle.channel_sender.proofs.Sending.{marking-keeps, sending-keeps}
 use Rattle.recording.specs.Deck.{Deck}
 use Rattle.recording.specs.Call.{tapeCall}
 use Rattle.board.specs.declared.readout.Wants.the-variants.{Refused as ShowRefused}
-use Rattle.board.specs.Source.{boardIn}
+use Rattle.board.specs.Source.{memoryIn}
 use Rattle.board.specs.Call.{Screen, readoutOf, recvOn, part, takes as shows}
 use Rattle.listing.specs.declared.lister.Totals.{Totals}
 use Rattle.listing.specs.declared.lister.Recording.{Recording}
@@ -75,7 +75,7 @@ use Rattle.demands_laws.proofs.Desk.{lines-print-exact, lines-print-same, lines
 -- ---- "Sender and receiver accept every input and come to an end": of each call that is the first half of its law in Promises. Reading comes to
 -- an end too: the pieces of every byte string, each handed in until "more wanted", from every state and buffers that pass 10 and 11, with a
 -- word half handed on too (that is owed with the first piece); the answers are those of the uncut string ..
-pub hear-ends : (c : Board) → Fine c → (p : List ℕ) (ps : List (List ℕ)) → Yields hearCall c (p ∷ ps) λ es d. (es, d) ≡ hearAll c (joined (p ∷ ps))
+pub hear-ends : (c : Memory) → Fine c → (p : List ℕ) (ps : List (List ℕ)) → Yields hearCall c (p ∷ ps) λ es d. (es, d) ≡ hearAll c (joined (p ∷ ps))
 hear-ends = hear-yields
 
 -- .. and on the plain stream
@@ -105,7 +105,7 @@ raw-refusals = judge-exact
 pub read-numbers : (h : Held) (bs : List ℕ) (t : Told) (n : ℕ) → readCall h bs .0 ≡ some t → ByFrame t n → OfFrame n ⊎ OfCall n
 read-numbers = read-given
 
-pub hear-numbers : (c : Board) (bs : List ℕ) (t : Told) (n : ℕ) → hearCall c bs .0 ≡ some (said t) → ByFrame t n → OfFrame n ⊎ OfCall n
+pub hear-numbers : (c : Memory) (bs : List ℕ) (t : Told) (n : ℕ) → hearCall c bs .0 ≡ some (said t) → ByFrame t n → OfFrame n ⊎ OfCall n
 hear-numbers = hear-given
 
 pub next-numbers : (m : Deck) (bs : List ℕ) (t : Told) (n : ℕ) → tapeCall m bs .0 ≡ some (said t) → ByFrame t n → OfFrame n ⊎ OfCall n
@@ -119,7 +119,7 @@ pub read-refusals : (h : Held) (bs : List ℕ) → Exact ByRead (readCall h bs)
 read-refusals = read-exact
 
 -- and on the channel
-pub hear-refusals : (c : Board) (bs : List ℕ) → Exact ByHear (hearCall c bs)
+pub hear-refusals : (c : Memory) (bs : List ℕ) → Exact ByHear (hearCall c bs)
     ((10, Beyond (c .st)) ∷  -- a count of the state is beyond its limit
     (11, Short (c .recv) (c .word)) ∷  -- receive buffer under 8,272 bytes, word buffer under 255
     [])
@@ -127,15 +127,15 @@ hear-refusals = hear-exact
 
 -- a call on a recording's bytes: both buffers are measured, of a plain stream too
 pub next-refusals : (m : Deck) (bs : List ℕ) → Exact ByNext (tapeCall m bs)
-    ((10, NextBeyond (m .ear .board .st) (m .spot) (length bs)) ∷  -- a count of the state is beyond its limit
-    (11, Short (m .ear .board .recv) (m .ear .board .word)) ∷  -- receive buffer under 8,272 bytes, word buffer under 255
+    ((10, NextBeyond (m .ear .memory .st) (m .spot) (length bs)) ∷  -- a count of the state is beyond its limit
+    (11, Short (m .ear .memory .recv) (m .ear .memory .word)) ∷  -- receive buffer under 8,272 bytes, word buffer under 255
     [])
 next-refusals = next-exact
 
 -- a call on a recording that is listed, and the call that ends it
 pub take-refusals : (m : Deck) (t : Totals) (room : ℕ) (bs : List ℕ) → Exact ByTake (takes m t room bs)
-    ((10, TapeBeyond (m .ear .board .st) (m .spot) t (length bs) room) ∷  -- a count of the state is beyond its limit
-    (11, Short (m .ear .board .recv) (m .ear .board .word)) ∷  -- receive buffer under 8,272 bytes, word buffer under 255
+    ((10, TapeBeyond (m .ear .memory .st) (m .spot) t (length bs) room) ∷  -- a count of the state is beyond its limit
+    (11, Short (m .ear .memory .recv) (m .ear .memory .word)) ∷  -- receive buffer under 8,272 bytes, word buffer under 255
     [])
 take-refusals = take-exact
 
@@ -145,7 +145,7 @@ finish-refusals r out = wrote (lastOf r) out _ refl
 -- a board's call
 pub show-refusals : (room : ℕ) (s : Screen) (bs : List ℕ) → Exact ByShow (shows room s bs)
     ((10, BoardBeyond (readoutOf s) (length bs)) ∷  -- a count of the state is beyond its limit
-    (11, Short (recvOn s) (boardIn (s .source .deck) .word)) ∷  -- receive buffer under 8,272 bytes, word buffer under 255
+    (11, Short (recvOn s) (memoryIn (s .source .deck) .word)) ∷  -- receive buffer under 8,272 bytes, word buffer under 255
     [])
 show-refusals = show-exact
 
@@ -335,7 +335,7 @@ judge-keeps-recv = judging-same
 pub read-keeps-all : (h : Held) (bs : List ℕ) (n : ℕ) → ByRead (readCall h bs) n → readCall h bs ≡ (some (refusal n), 0, h)
 read-keeps-all = read-same
 
-pub hear-keeps-all : (c : Board) (bs : List ℕ) (n : ℕ) → ByHear (hearCall c bs) n → hearCall c bs ≡ (some (said (refusal n)), 0, c)
+pub hear-keeps-all : (c : Memory) (bs : List ℕ) (n : ℕ) → ByHear (hearCall c bs) n → hearCall c bs ≡ (some (said (refusal n)), 0, c)
 hear-keeps-all = hear-same
 
 pub next-keeps-all : (m : Deck) (bs : List ℕ) (n : ℕ) → ByNext (tapeCall m bs) n → tapeCall m bs ≡ (some (said (refusal n)), 0, m)

@@ -46,7 +46,7 @@ use Rattle.stream.proofs.Streaming.{ignored, stream-read, opened-behind, none-o
 use Rattle.channel_spec.specs.Sender.{marker, wordBytes, framed, sentWords, sent}
 use Rattle.channel_spec.specs.Meaning.{condition, Event, lost, frames, blocks, losses, freshChannel, hears, answers, IsWord, carried, wordsGive, FirstMarker}
 use Rattle.channel_spec.specs.declared.Condition.the-variants.{Clean as clean}
-use Rattle.channel.specs.Call.{Board, board, heldIn, freshReceiver, hearCall, EveryCut, ThereEvent, boardOf, inUse}
+use Rattle.channel.specs.Call.{Memory, memory, heldIn, freshReceiver, hearCall, EveryCut, ThereEvent, memoryOf, inUse}
 use Rattle.channel.proofs.Demands as channel
 use Rattle.channel.proofs.Blocks as blocks-law
 use Rattle.channel.proofs.Delivery.{payload-there}
@@ -65,19 +65,19 @@ no-refuser {S} {A} a s p ps P y = go (y .ends .2)
 
 -- ---- "For every received byte string, every way of cutting it yields the list of answers and the final state .. for the uncut string": the
 -- state's numbers, the hunted bytes, and the bytes in use in both buffers ..
-pub every-cut : (bs : List ℕ) → EveryCut bs λ es d. (es ≡ answers bs) × (inUse d ≡ inUse (boardOf (hears freshChannel bs .1) [] []))
+pub every-cut : (bs : List ℕ) → EveryCut bs λ es d. (es ≡ answers bs) × (inUse d ≡ inUse (memoryOf (hears freshChannel bs .1) [] []))
 every-cut = channel.every-cut
 
 -- .. and from the same buffers two ways yield the same, to the last byte of both
 pub same-cut : (recv word : List ℕ) → rawLimit ≤ length recv → wordBytes ≤ length word → (ps qs : List (List ℕ)) → joined ps ≡ joined qs
-    → Yields hearCall (board freshReceiver recv word) ps
-    λ es d. Yields hearCall (board freshReceiver recv word) qs
+    → Yields hearCall (memory freshReceiver recv word) ps
+    λ es d. Yields hearCall (memory freshReceiver recv word) qs
     λ fs g. (es ≡ fs) × (d ≡ g)
 same-cut = channel.same-cut
 
 -- a delivery counts with its payload bytes and its key: they are the parts of the receive buffer that calls of their own hand out; format, key
 -- number, port and sequence stand in the answer itself
-pub every-payload : (c : Board) (bs : List ℕ) → With ThereEvent (hearCall c bs .0) (hearCall c bs .2)
+pub every-payload : (c : Memory) (bs : List ℕ) → With ThereEvent (hearCall c bs .0) (hearCall c bs .2)
 every-payload = payload-there
 
 -- the same of the plain stream
@@ -146,7 +146,7 @@ module _ (stray : List ℕ) (ws : List (List ℕ)) (some-word : ws ≢ []) (word
   -- .. but then; it "drops any open packet and waits for a flag, and hunts with those four bytes as the last ones": what follows is heard as a
   -- fresh receiver hears it behind these four
   pub lock-lost : (bs cs : List ℕ) → length bs ≡ 4 → bs ≢ marker → EveryCut ((stray ++ framed ws) ++ (bs ++ cs))
-      λ es d. (es ≡ wordsGive ws waiting ++ lost ∷ answers (bs ++ cs)) × (inUse d ≡ inUse (boardOf (hears freshChannel (bs ++ cs) .1) [] []))
+      λ es d. (es ≡ wordsGive ws waiting ++ lost ∷ answers (bs ++ cs)) × (inUse d ≡ inUse (memoryOf (hears freshChannel (bs ++ cs) .1) [] []))
   lock-lost = blocks-law.lock-lost stray ws some-word words first
 
 -- ---- "If the 255 bytes of one block are altered at will and no marker is": w as sent becomes v

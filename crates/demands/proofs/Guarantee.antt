@@ -29,7 +29,7 @@ use Rattle.packet_spec.specs.Contents.{Packet}
 use Rattle.stream.proofs.Streaming.{stream-read}
 use Rattle.channel_spec.specs.Sender.{parityBytes, framed, fillers, messagesOf, sentWords, sent}
 use Rattle.channel_spec.specs.Meaning.{zeros, frames, blocks, losses, freshChannel, hears, IsWord, FirstMarker}
-use Rattle.channel.specs.Call.{EveryCut, boardOf, inUse}
+use Rattle.channel.specs.Call.{EveryCut, memoryOf, inUse}
 use Rattle.channel_spec.proofs.Streaming.{wholes, behindWords, frames-wholes, blocks-wholes, losses-wholes, first-markers, sent-messages, sent-each, sent-bytes, sent-some}
 use Rattle.channel_spec.proofs.Streaming.{received as heard-words}
 use Rattle.channel.proofs.Demands.{cut-so, every-cut}
@@ -91,7 +91,7 @@ module _ (stray : List ℕ) (ps : List Packet) (accepted : Each Accepted ps) (fi
   same-state =
       cut-so (every-cut (stray ++ framed vs)) λ es d cut. cut-so (every-cut (stray ++ sent ps)) λ fs g unaltered.
       cut .1
-      ∙ ap (λ x. inUse (boardOf x [] []))
+      ∙ ap (λ x. inUse (memoryOf x [] []))
       (ap (λ x. x .1) heard ∙ behind-received (sentWords ps) vs words came zeros [] waiting
       ∙ sym (ap (λ x. x .1) (heard-words stray (sentWords ps) (sent-some ps accepted) (sent-each ps accepted) first)))
       ∙ sym (unaltered .1)

@@ -32,7 +32,7 @@ use Rattle.stream.specs.Sender.{appending}
 use Rattle.stream.specs.Call as plain
 use Rattle.stream.specs.declared.frame.Heard.the-variants as plain-answer
 use Rattle.channel_spec.specs.Sender.{marking, sending}
-use Rattle.channel.specs.Call.{board, sound, roomy, hearCall}
+use Rattle.channel.specs.Call.{memory, sound, roomy, hearCall}
 use Rattle.channel_spec.specs.Answer.{answered}
 use Rattle.channel_spec.specs.Meaning.{said, block, lost, isMarker}
 use Rattle.channel_spec.specs.declared.Condition.{Condition}
@@ -238,7 +238,7 @@ pub channel-fresh-means : Means channel-fresh.Statement.statement channel-fresh.
 channel-fresh-means = (λ M. channel-fresh.Met.met, λ κs a. tt, λ κs a z ws. (λ p. p, λ p. p))
 
 pub channel-hear-means : Means channel-hear.Statement.statement channel-hear.Kinds.ps channel-hear.Kinds.r channel-hear.Reads.Asked channel-hear.Reads.Learnt
-    λ κs self recv word piece r. let x = hearCall (board self (now (recv .entry)) (now (word .entry))) (now piece) in
+    λ κs self recv word piece r. let x = hearCall (memory self (now (recv .entry)) (now (word .entry))) (now piece) in
     (r ≡ record { answer = answered (x .0); taken = x .1; receiver = x .2 .st }) × (now (recv .exit) ≡ x .2 .recv) × (now (word .exit) ≡ x .2 .word)
 channel-hear-means = (λ M. channel-hear.Met.met, λ κs a. tt, λ κs a z ws. (λ p. p, λ p. p))
 
@@ -287,7 +287,7 @@ pub subchannel-sound-means : Means subchannel-sound.Statement.statement subchann
 subchannel-sound-means = (λ M. subchannel-sound.Met.met, λ κs a. tt, λ κs a z ws. (λ p. p, λ p. p))
 
 pub subchannel-hear-means : Means subchannel-hear.Statement.statement subchannel-hear.Kinds.ps subchannel-hear.Kinds.r subchannel-hear.Reads.Asked subchannel-hear.Reads.Learnt
-    λ κs self recv word piece r. let x = subchannel.hearCall (subchannel.board self (now (recv .entry)) (now (word .entry))) (now piece) in
+    λ κs self recv word piece r. let x = subchannel.hearCall (subchannel.memory self (now (recv .entry)) (now (word .entry))) (now piece) in
     (r ≡ record { answer = answered (x .0); taken = x .1; sub = x .2 .st }) × (now (recv .exit) ≡ x .2 .recv) × (now (word .exit) ≡ x .2 .word)
 subchannel-hear-means = (λ M. subchannel-hear.Met.met, λ κs a. tt, λ κs a z ws. (λ p. p, λ p. p))
 
@@ -480,8 +480,8 @@ recording-fresh-means = (λ M. recording-fresh.Met.met, λ κs a. tt, λ κs a z
 
 pub recording-next-means : Means recording-next.Statement.statement recording-next.Kinds.ps recording-next.Kinds.r recording-next.Reads.Asked recording-next.Reads.Learnt
     λ κs self recv word piece r. let x = tapeCall (deckOf self (now (recv .entry)) (now (word .entry))) (now piece) in
-    (r ≡ record { answer = answered (x .0); taken = x .1; tape = record { spot = x .2 .spot; channel = x .2 .ear .channel; receiver = x .2 .ear .board .st } })
-    × (now (recv .exit) ≡ x .2 .ear .board .recv) × (now (word .exit) ≡ x .2 .ear .board .word)
+    (r ≡ record { answer = answered (x .0); taken = x .1; tape = record { spot = x .2 .spot; channel = x .2 .ear .channel; receiver = x .2 .ear .memory .st } })
+    × (now (recv .exit) ≡ x .2 .ear .memory .recv) × (now (word .exit) ≡ x .2 .ear .memory .word)
 recording-next-means = (λ M. recording-next.Met.met, λ κs a. tt, λ κs a z ws. (λ p. p, λ p. p))
 
 pub recording-may-end-means : Means recording-may-end.Statement.statement recording-may-end.Kinds.ps recording-may-end.Kinds.r recording-may-end.Reads.Asked recording-may-end.Reads.Learnt
@@ -517,7 +517,7 @@ pub listing-take-means : Means listing-take.Statement.statement listing-take.Kin
     λ κs self recv word piece out r.
     let x = recording.takes (recording.deckOf (self .tape) (now (recv .entry)) (now (word .entry))) (self .totals) (length (now (out .entry))) (now piece) in
     (r ≡ record { wants = x .wants; taken = x .taken; written = length (x .text); next = recording.recorded (x .deck) (x .totals) })
-    × (now (recv .exit) ≡ x .deck .ear .board .recv) × (now (word .exit) ≡ x .deck .ear .board .word)
+    × (now (recv .exit) ≡ x .deck .ear .memory .recv) × (now (word .exit) ≡ x .deck .ear .memory .word)
     × (now (out .exit) ≡ x .text ++ drop (length (x .text)) (now (out .entry)))
 listing-take-means = (λ M. listing-take.Met.met, λ κs a. tt, λ κs a z ws. (λ p. p, λ p. p))
 
@@ -566,7 +566,7 @@ pub board-take-means : Means board-take.Statement.statement board-take.Kinds.ps 
     λ κs self recv word piece out r.
     let x = readout.takes (length (now (out .entry))) (readout.screenOf self (now (recv .entry)) (now (word .entry))) (now piece) in
     (r ≡ record { wants = x .wants; taken = x .taken; written = length (x .text); next = readout.readoutOf (x .screen) })
-    × (now (recv .exit) ≡ x .screen .source .deck .ear .board .recv) × (now (word .exit) ≡ x .screen .source .deck .ear .board .word)
+    × (now (recv .exit) ≡ x .screen .source .deck .ear .memory .recv) × (now (word .exit) ≡ x .screen .source .deck .ear .memory .word)
     × (now (out .exit) ≡ x .text ++ drop (length (x .text)) (now (out .entry)))
 board-take-means = (λ M. board-take.Met.met, λ κs a. tt, λ κs a z ws. (λ p. p, λ p. p))
 

@@ -40,7 +40,7 @@ use Rattle.stream.specs.declared.frame.Heard.{Heard}
 use Rattle.stream.specs.declared.frame.Heard.the-variants.{More}
 use Rattle.channel_spec.specs.Meaning.{Event, said, block, lost}
 use Rattle.channel_spec.specs.declared.Condition.the-variants.{Clean, Repaired, Beyond}
-use Rattle.channel.specs.Call.{board, freshReceiver, hearCall}
+use Rattle.channel.specs.Call.{memory, freshReceiver, hearCall}
 use Rattle.channel_spec.specs.Answer.{answered}
 use Rattle.channel.specs.declared.receiver.Receiver.{Receiver}
 use Rattle.channel_spec.specs.declared.Answer.{Answer}
@@ -49,7 +49,7 @@ use Rattle.rack.specs.Told as told
 use Rattle.rack.specs.Call.{readBy, reading, heardBy, hearing}
 use Rattle.demands_laws.specs.Table.{Exact}
 use Rattle.demands_laws.specs.Refusals.{FrameBeyond, Beyond as BeyondState, Short, OfFrame, OfCall, ByFrame}
-use Rattle.demands.specs.Rack.{ByWord, ByCalled, OfReading, OfHearing, heldBy, boardBy}
+use Rattle.demands.specs.Rack.{ByWord, ByCalled, OfReading, OfHearing, heldBy, memoryBy}
 use Rattle.demands_laws.proofs.Rows.{first-each}
 use Rattle.demands.proofs.Demand1.{make-refusals, make-keeps-out, check-refusals, repair-refusals, repair-keeps, read-refusals, read-keeps-all, hear-refusals, hear-keeps-all}
 use Rattle.demands.proofs.Demand1.{read-numbers, hear-numbers}
@@ -188,8 +188,8 @@ pub rack-hear-refusals : (s recv word bs : List ℕ) → Exact ByCalled (hearing
     (11, Short recv word) ∷  -- receive buffer under 8,272 bytes, word buffer under 255
     [])
 rack-hear-refusals s recv word bs =
-    let x = hearCall (board (told.receiverOf s) recv word) bs in
-    let t = hear-refusals (board (told.receiverOf s) recv word) bs in
+    let x = hearCall (memory (told.receiverOf s) recv word) bs in
+    let t = hear-refusals (memory (told.receiverOf s) recv word) bs in
     record {
       says = λ n. (
         λ b. t .says n .0 (b .0, by-event (x .0) n b),
@@ -199,12 +199,12 @@ rack-hear-refusals s recv word bs =
 
 pub rack-hear-keeps : (s recv word bs : List ℕ) (n : ℕ) → ByCalled (hearing s recv word bs .0) n → hearing s recv word bs ≡ (n, s, recv, word)
 rack-hear-keeps s recv word bs n b =
-    let c = board (told.receiverOf s) recv word in
+    let c = memory (told.receiverOf s) recv word in
     ap (heardBy s) (hear-keeps-all c bs n (b .0, by-event (hearCall c bs .0) n b)) ∙ kept n (b .0)
   where
-    kept : (n : ℕ) → OfCall n → heardBy s (some (said (refusal n)), 0, board (told.receiverOf s) recv word) ≡ (n, s, recv, word)
-    kept n (inl e) = subst (λ (m : ℕ). heardBy s (some (said (refusal m)), 0, board (told.receiverOf s) recv word) ≡ (m, s, recv, word)) (sym e) refl
-    kept n (inr e) = subst (λ (m : ℕ). heardBy s (some (said (refusal m)), 0, board (told.receiverOf s) recv word) ≡ (m, s, recv, word)) (sym e) refl
+    kept : (n : ℕ) → OfCall n → heardBy s (some (said (refusal n)), 0, memory (told.receiverOf s) recv word) ≡ (n, s, recv, word)
+    kept n (inl e) = subst (λ (m : ℕ). heardBy s (some (said (refusal m)), 0, memory (told.receiverOf s) recv word) ≡ (m, s, recv, word)) (sym e) refl
+    kept n (inr e) = subst (λ (m : ℕ). heardBy s (some (said (refusal m)), 0, memory (told.receiverOf s) recv word) ≡ (m, s, recv, word)) (sym e) refl
 
 -- ---- request W9, "Show that 9 is never given": the numbers that the two receiving calls give, and 9 is none of them
 -- a frame's answer has a number of frames or of calls
@@ -231,7 +231,7 @@ pub rack-read-numbers : (s recv bs : List ℕ) → OfReading (reading s recv bs 
 rack-read-numbers s recv bs = let h = plain.held (told.frameOf s) recv in told-number (plain.readCall h bs .0) (read-numbers h bs)
 
 pub rack-hear-numbers : (s recv word bs : List ℕ) → OfHearing (hearing s recv word bs .0)
-rack-hear-numbers s recv word bs = let c = board (told.receiverOf s) recv word in event-number (hearCall c bs .0) (hear-numbers c bs)
+rack-hear-numbers s recv word bs = let c = memory (told.receiverOf s) recv word in event-number (hearCall c bs .0) (hear-numbers c bs)
 
 no-nine : (n : ℕ) → OfReading n → n ≢ 9
 no-nine n (inl e) k = omega (arith, e, k)
@@ -274,8 +274,8 @@ pub rack-packet : (s recv bs : List ℕ) → reading s recv bs .0 ≡ 256 → (p
 rack-packet s recv bs k = let h = heldBy (s, recv) in told-packet (plain.readCall h bs .0) (read-numbers h bs) k
 
 pub rack-channel-packet : (s recv word bs : List ℕ) → hearing s recv word bs .0 ≡ 256
-    → (p : Packet) × (hearCall (boardBy (s, recv, word)) bs .0 ≡ some (said (packet p)))
-rack-channel-packet s recv word bs k = let c = boardBy (s, recv, word) in event-packet (hearCall c bs .0) (hear-numbers c bs) k
+    → (p : Packet) × (hearCall (memoryBy (s, recv, word)) bs .0 ≡ some (said (packet p)))
+rack-channel-packet s recv word bs k = let c = memoryBy (s, recv, word) in event-packet (hearCall c bs .0) (hear-numbers c bs) k
 
 -- ---- states as numbers: zeros are fresh
 pub zeros-fresh : (told.frameOf (replicate 12 0) ≡ plain.fresh) × (told.receiverOf (replicate 21 0) ≡ freshReceiver)

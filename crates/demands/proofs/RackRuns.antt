@@ -35,12 +35,12 @@ use Rattle.channel_spec.specs.Meaning.{Event, said, block, lost, shift, isMarke
 use Rattle.channel_spec.specs.declared.Condition.the-variants.{Clean, Repaired, Beyond}
 use Rattle.channel.specs.Call as channel
 use Rattle.channel_spec.specs.Answer as channel-spec
-use Rattle.channel.specs.Call.{Board, board, huntOn, wordOn, compareOn, markOn, eatBy, eatByte, owed, handOn, hearOn, hearBy, hearCall, boardOf}
+use Rattle.channel.specs.Call.{Memory, memory, huntOn, wordOn, compareOn, markOn, eatBy, eatByte, owed, handOn, hearOn, hearBy, hearCall, memoryOf}
 use Rattle.channel.proofs.Cutting.{hand-one, hear-agrees}
 use Rattle.rack.specs.Told.{ofAnswer, receiverOf, channelNumbers}
 use Rattle.rack.specs.Call.{readBy, reading, heardBy, hearing}
 use Rattle.demands_laws.specs.Refusals.{OfFrame, OfCall, ByFrame}
-use Rattle.demands.specs.Rack.{StandsBy, saidBy, calledBy, readCalled, toldAs, heldBy, channelBy, heardCalled, eventAs, boardBy}
+use Rattle.demands.specs.Rack.{StandsBy, saidBy, calledBy, readCalled, toldAs, heldBy, channelBy, heardCalled, eventAs, memoryBy}
 use Rattle.demands.proofs.Demand1.{read-numbers, read-keeps-all, hear-numbers, hear-keeps-all}
 use Rattle.demands.proofs.Demand3.{plain-cut, plain-payload, every-cut, every-payload}
 use Rattle.demands.proofs.Rack.{stream-back, channel-back}
@@ -139,11 +139,11 @@ rack-payload s recv bs p e =
     (part-is _ _ (q .2 .recv) (t .0), part-is _ _ (q .2 .recv) (t .1))
 
 -- .. and on the channel
-pub rack-channel-payload : (s recv word bs : List ℕ) (p : Packet) → hearCall (boardBy (s, recv, word)) bs .0 ≡ some (said (packet p))
+pub rack-channel-payload : (s recv word bs : List ℕ) (p : Packet) → hearCall (memoryBy (s, recv, word)) bs .0 ≡ some (said (packet p))
     → let x = hearing s recv word bs in StandsBy p (x .1) (x .2)
 rack-channel-payload s recv word bs p e =
-    let q = hearCall (boardBy (s, recv, word)) bs in
-    let t = subst (λ (o : Option Event). With channel.ThereEvent o (q .2)) e (every-payload (boardBy (s, recv, word)) bs) in
+    let q = hearCall (memoryBy (s, recv, word)) bs in
+    let t = subst (λ (o : Option Event). With channel.ThereEvent o (q .2)) e (every-payload (memoryBy (s, recv, word)) bs) in
     subst (λ (o : Option Event). let x = heardBy s (o, q .1, q .2) in StandsBy p (x .1) (x .2)) (sym e)
     (part-is _ _ (q .2 .recv) (t .0), part-is _ _ (q .2 .recv) (t .1))
 
@@ -222,38 +222,38 @@ rack-cut bs recv room pieces cut =
 abbrev Four : Hunting → Type 0
 Four f = Bytes (f .a ∷ f .b ∷ f .c ∷ f .d ∷ [])
 
-abbrev Hunted : Board → Type 0
+abbrev Hunted : Memory → Type 0
 Hunted c = Four (c .st .hunting)
 
 shifted : (f : Hunting) (b : ℕ) → IsByte b → Four f → Four (shift f b)
 shifted f b k h = (h .1 .0, (h .1 .1 .0, (h .1 .1 .1 .0, (k, tt))))
 
-hunted-hunt : (t : Bool) (f : Hunting) (c : Board) → Four f → Hunted (huntOn t f c)
+hunted-hunt : (t : Bool) (f : Hunting) (c : Memory) → Four f → Hunted (huntOn t f c)
 hunted-hunt true f c h = h
 hunted-hunt false f c h = h
 
-hunted-word : (t : Bool) (c : Board) (k : List ℕ) → Hunted c → Hunted (wordOn t c k .1)
+hunted-word : (t : Bool) (c : Memory) (k : List ℕ) → Hunted c → Hunted (wordOn t c k .1)
 hunted-word true c k h = h
 hunted-word false c k h = h
 
-hunted-compare : (t : Bool) (f : Hunting) (c : Board) → Four f → Hunted (compareOn t f c .1)
+hunted-compare : (t : Bool) (f : Hunting) (c : Memory) → Four f → Hunted (compareOn t f c .1)
 hunted-compare true f c h = h
 hunted-compare false f c h = h
 
-hunted-mark : (t : Bool) (f : Hunting) (c : Board) → Four f → Hunted (markOn t f c .1)
+hunted-mark : (t : Bool) (f : Hunting) (c : Memory) → Four f → Hunted (markOn t f c .1)
 hunted-mark true f c h = h
 hunted-mark false f c h = hunted-compare (isMarker f) f c h
 
-hunted-eat : (l t : Bool) (c : Board) (b : ℕ) → IsByte b → Hunted c → Hunted (eatBy l t c b .1)
+hunted-eat : (l t : Bool) (c : Memory) (b : ℕ) → IsByte b → Hunted c → Hunted (eatBy l t c b .1)
 hunted-eat false t c b k h = hunted-hunt (isMarker (shift (c .st .hunting) b)) (shift (c .st .hunting) b) c (shifted (c .st .hunting) b k h)
 hunted-eat true true c b k h = hunted-word (ltb (suc (c .st .lock .word)) wordBytes) c (set (c .word) (c .st .lock .word) b) h
 hunted-eat true false c b k h = hunted-mark (ltb (suc (c .st .lock .marker)) 4) (shift (c .st .hunting) b) c (shifted (c .st .hunting) b k h)
 
-hunted-unless : (o : Option Event) (n : ℕ) (d : Board) (r : Option Event × ℕ × Board) → Hunted d → Hunted (r .2) → Hunted (unless o n d r .2)
+hunted-unless : (o : Option Event) (n : ℕ) (d : Memory) (r : Option Event × ℕ × Memory) → Hunted d → Hunted (r .2) → Hunted (unless o n d r .2)
 hunted-unless none n d r i j = j
 hunted-unless (some a) n d r i j = i
 
-hunted-on : (c : Board) (bs : List ℕ) → Bytes bs → Hunted c → Hunted (hearOn c bs .2)
+hunted-on : (c : Memory) (bs : List ℕ) → Bytes bs → Hunted c → Hunted (hearOn c bs .2)
 hunted-on =
     hear-by owed handOn eatByte hand-one (λ c bs r. Bytes bs → Hunted c → Hunted (r .2)) (λ c e k h. h)
     (λ c n bs r e q k h. hunted-unless (handOn c .0) 0 (handOn c .1) r h (q k h))
@@ -261,7 +261,7 @@ hunted-on =
     let j = hunted-eat (c .st .locked) (ltb (c .st .lock .word) wordBytes) c b (k .0) h in
     hunted-unless (eatByte c b .0) 1 (eatByte c b .1) (oneMore r) j (q (k .1) j))
 
-hunted-call : (c : Board) (bs : List ℕ) → Bytes bs → Hunted c → Hunted (hearCall c bs .2)
+hunted-call : (c : Memory) (bs : List ℕ) → Bytes bs → Hunted c → Hunted (hearCall c bs .2)
 hunted-call c bs k h = go (channel.sound (c .st)) (channel.roomy (c .recv) (c .word))
   where
     go : (s r : Bool) → Hunted (hearBy s r c bs .2)
@@ -271,23 +271,23 @@ hunted-call c bs k h = go (channel.sound (c .st)) (channel.roomy (c .recv) (c .w
 
 -- .. and one call of the rack follows the receiver's
 module _ (s recv word : List ℕ) where
-  abbrev Alike : Option Event × ℕ × Board → Type 0
-  Alike q = Follows boardBy eventAs (channelBy (heardBy s q)) q
+  abbrev Alike : Option Event × ℕ × Memory → Type 0
+  Alike q = Follows memoryBy eventAs (channelBy (heardBy s q)) q
 
-  back-by : (o : Option Event) (k : ℕ) (h : Board) → Hunted h
-      → board (receiverOf (channelNumbers k (ofAnswer (channel-spec.answered o)) (h .st))) (h .recv) (h .word) ≡ h
-  back-by o k h u = λ i. board (channel-back k (channel-spec.answered o) (h .st) u i) (h .recv) (h .word)
+  back-by : (o : Option Event) (k : ℕ) (h : Memory) → Hunted h
+      → memory (receiverOf (channelNumbers k (ofAnswer (channel-spec.answered o)) (h .st))) (h .recv) (h .word) ≡ h
+  back-by o k h u = λ i. memory (channel-back k (channel-spec.answered o) (h .st) u i) (h .recv) (h .word)
 
-  frame-alike : (m k : ℕ) (h : Board) → Hunted h → m ≢ 0 → m ≢ 10 → m ≢ 11 → Alike (some (said (refusal m)), k, h)
+  frame-alike : (m k : ℕ) (h : Memory) → Hunted h → m ≢ 0 → m ≢ 10 → m ≢ 11 → Alike (some (said (refusal m)), k, h)
   frame-alike m k h u a b c = rw (ne-eqb m 10 b) (rw (ne-eqb m 11 c) (rw (ne-eqb m 0 a) (refl, refl, back-by (some (said (refusal m))) k h u)))
 
-  call-alike : (m : ℕ) → OfCall m → Alike (some (said (refusal m)), 0, boardBy (s, recv, word))
-  call-alike m (inl e) = subst (λ (m : ℕ). Alike (some (said (refusal m)), 0, boardBy (s, recv, word))) (sym e) (refl, refl, refl)
-  call-alike m (inr e) = subst (λ (m : ℕ). Alike (some (said (refusal m)), 0, boardBy (s, recv, word))) (sym e) (refl, refl, refl)
+  call-alike : (m : ℕ) → OfCall m → Alike (some (said (refusal m)), 0, memoryBy (s, recv, word))
+  call-alike m (inl e) = subst (λ (m : ℕ). Alike (some (said (refusal m)), 0, memoryBy (s, recv, word))) (sym e) (refl, refl, refl)
+  call-alike m (inr e) = subst (λ (m : ℕ). Alike (some (said (refusal m)), 0, memoryBy (s, recv, word))) (sym e) (refl, refl, refl)
 
-  event-alike : (o : Option Event) (k : ℕ) (h : Board) → Hunted h → ((t : Told) (n : ℕ) → o ≡ some (said t) → ByFrame t n → OfFrame n ⊎ OfCall n)
+  event-alike : (o : Option Event) (k : ℕ) (h : Memory) → Hunted h → ((t : Told) (n : ℕ) → o ≡ some (said t) → ByFrame t n → OfFrame n ⊎ OfCall n)
       → ((n : ℕ) → OfCall n → o ≡ some (said (refusal n))
-      → _≡_ {A = Option Event × ℕ × Board} (o, k, h) (some (said (refusal n)), 0, boardBy (s, recv, word)))
+      → _≡_ {A = Option Event × ℕ × Memory} (o, k, h) (some (said (refusal n)), 0, memoryBy (s, recv, word)))
       → Alike (o, k, h)
   event-alike none k h u a b = (refl, refl, back-by none k h u)
   event-alike (some (said (packet p))) k h u a b = (refl, refl, back-by (some (said (packet p))) k h u)
@@ -303,20 +303,20 @@ module _ (s recv word : List ℕ) where
       go (inl (inr c)) = frame-alike m k h u (λ e. omega (arith, e, c)) (λ e. omega (arith, e, c)) (λ e. omega (arith, e, c))
       go (inr c) = subst Alike (sym (b m c refl)) (call-alike m c)
 
-channel-follows : (x : List ℕ × List ℕ × List ℕ) (bs : List ℕ) → Bytes bs → Follows boardBy eventAs (heardCalled x bs) (hearCall (boardBy x) bs)
+channel-follows : (x : List ℕ × List ℕ × List ℕ) (bs : List ℕ) → Bytes bs → Follows memoryBy eventAs (heardCalled x bs) (hearCall (memoryBy x) bs)
 channel-follows x bs k =
-    let c = boardBy x in
+    let c = memoryBy x in
     let q = hearCall c bs in
     event-alike (x .0) (x .1) (x .2) (q .0) (q .1) (q .2) (hunted-call c bs k (omega arith, (omega arith, (omega arith, (omega arith, tt)))))
     (hear-numbers c bs) (λ n o e. hear-keeps-all c bs n (o, e))
 
 -- .. "a stored word is handed on whole" too
-pub rack-channel-wanting : (s recv word bs : List ℕ) → Bytes bs → channel.Fine (boardBy (s, recv, word))
+pub rack-channel-wanting : (s recv word bs : List ℕ) → Bytes bs → channel.Fine (memoryBy (s, recv, word))
     → let x = hearing s recv word bs in
-    (x .0 ≡ 0) ↔ ((getD (x .1) 0 0 ≡ length bs) × (owed (boardBy (x .1, x .2, x .3)) ≡ 0) × (channel.hearAll (boardBy (s, recv, word)) bs .0 ≡ []))
+    (x .0 ≡ 0) ↔ ((getD (x .1) 0 0 ≡ length bs) × (owed (memoryBy (x .1, x .2, x .3)) ≡ 0) × (channel.hearAll (memoryBy (s, recv, word)) bs .0 ≡ []))
 rack-channel-wanting s recv word bs k f =
     let x = hearing s recv word bs in
-    let c = boardBy (s, recv, word) in
+    let c = memoryBy (s, recv, word) in
     let q = hearCall c bs in
     let m = channel-follows (s, recv, word) bs k in
     let w = hear-wanting c f bs in
@@ -327,14 +327,14 @@ rack-channel-wanting s recv word bs k f =
       (λ e. let o = none-said e in (of-none (λ r. getD (r .1) 0 0) o ∙ w .0 o .0, ap owed (m .2) ∙ w .0 o .1, w .0 o .2)),
       (λ p.
           of-none (λ r. r .0)
-          (ap (λ (r : Option Event × ℕ × Board). r .0) (hear-agrees c bs f) ∙ more-iff owed handOn eatByte hand-one c bs .1 (p .2))),
+          (ap (λ (r : Option Event × ℕ × Memory). r .0) (hear-agrees c bs f) ∙ more-iff owed handOn eatByte hand-one c bs .1 (p .2))),
     )
 
 pub rack-channel-cut : (bs recv word : List ℕ) → Bytes bs → rawLimit ≤ length recv → wordBytes ≤ length word → (pieces : List (List ℕ)) → joined pieces ≡ bs
     → Yields heardCalled (replicate 21 0, recv, word) pieces
-    λ ys x. (ys ≡ map eventAs (answers bs)) × (channel.inUse (boardBy x) ≡ channel.inUse (boardOf (hears freshChannel bs .1) [] []))
+    λ ys x. (ys ≡ map eventAs (answers bs)) × (channel.inUse (memoryBy x) ≡ channel.inUse (memoryOf (hears freshChannel bs .1) [] []))
 rack-channel-cut bs recv word k room most pieces cut =
     yields-so
-    (runs boardBy eventAs hearCall heardCalled IsByte channel-follows (replicate 21 0, recv, word) pieces (subst Bytes (sym cut) k)
+    (runs memoryBy eventAs hearCall heardCalled IsByte channel-follows (replicate 21 0, recv, word) pieces (subst Bytes (sym cut) k)
     (every-cut bs recv word room most pieces cut)) λ ys x r.
     (r .1 ∙ ap (map eventAs) (r .2 .0), r .2 .1)

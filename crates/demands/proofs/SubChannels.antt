@@ -70,17 +70,17 @@ use Rattle.subchannel_spec.proofs.Lost as losing
 use Rattle.subchannel_spec.proofs.Order.{few-given}
 use Rattle.subchannel_spec.proofs.Numbers.{begins}
 use Rattle.subchannel_spec.proofs.Returned.{back-is, returned, unaltered as came-unaltered, flat-back, word-place}
-use Rattle.subchannel.specs.Call.{Board, board, toldSub, hearCall, EveryCut, ThereEvent, boardOf, inUse}
+use Rattle.subchannel.specs.Call.{Memory, memory, toldSub, hearCall, EveryCut, ThereEvent, memoryOf, inUse}
 use Rattle.subchannel.proofs.Demands as one
 use Rattle.subchannel.proofs.Delivery.{payload-there}
 use Rattle.subchannel_spec.specs.declared.Configured.the-variants.{Told, Refused}
 use Rattle.four_receivers.specs.declared.Receiver.{Receiver}
-use Rattle.four_receivers.specs.Call.{freshReceiver, Boards, boardAt, exchanged, callOn, Scheduled, ofOne, get, configuring, hearFour}
+use Rattle.four_receivers.specs.Call.{freshReceiver, Memories, memoryAt, exchanged, callOn, Scheduled, ofOne, get, configuring, hearFour}
 use Rattle.four_receivers.proofs.Calling as made
 use Rattle.four_receivers.proofs.Ending as ending
 use Rattle.four_receivers.proofs.Ending.{Ready, schedule-ends}
 use Rattle.four_receivers.proofs.Apart as apart-four
-use Rattle.four_receivers.proofs.Apart.{Live, board-own, call-other, call-own, live-own, alone, configure-own, configure-others, told-means}
+use Rattle.four_receivers.proofs.Apart.{Live, memory-own, call-other, call-own, live-own, alone, configure-own, configure-others, told-means}
 use Rattle.subchannel_sender.specs.Sending.{sending}
 use Rattle.subchannel_sender.proofs.Determined.{sending-keeps}
 use Rattle.four_senders.specs.declared.Sender.{Sender}
@@ -137,10 +137,10 @@ module _ (r d : ℕ) (hr : r ≤ 64) (bs : List ℕ) (b : Bytes bs) where
 pub told-anew : (s : Receiver) (n r d : ℕ) → configuring s n r d .0 ≡ Told → get (configuring s n r d .1) n ≡ toldSub r d
 told-anew s n r d e = configure-own s n r d e .4
 
-pub told-hears : (k r d : ℕ) (s : Boards) → configuring (s .st) k r d .0 ≡ Told → rawLimit ≤ length (s .recv k) → wordBytes ≤ length (s .word k)
-    → {t : Boards} {ps : List (ℕ × List ℕ)} {es : List (ℕ × Event)}
+pub told-hears : (k r d : ℕ) (s : Memories) → configuring (s .st) k r d .0 ≡ Told → rawLimit ≤ length (s .recv k) → wordBytes ≤ length (s .word k)
+    → {t : Memories} {ps : List (ℕ × List ℕ)} {es : List (ℕ × Event)}
     → Scheduled (record { st = configuring (s .st) k r d .1; recv = s .recv; word = s .word }) ps es t
-    → (ofOne k es ≡ answers r d (joined (ofOne k ps))) × (inUse (boardAt t k) ≡ inUse (boardOf r d (hears r d start (joined (ofOne k ps)) .1) [] []))
+    → (ofOne k es ≡ answers r d (joined (ofOne k ps))) × (inUse (memoryAt t k) ≡ inUse (memoryOf r d (hears r d start (joined (ofOne k ps)) .1) [] []))
 told-hears = told-means
 
 -- .. "and that the first marked block starts at row zero": behind the first marker the cells are fresh, at place zero
@@ -175,7 +175,7 @@ module _ (r d : ℕ) (hr : r ≤ 64) (hd : d ≤ 64) where
   lost-state stray rs g l f bs cs h n =
       let x = losing.lock-lost r d stray rs g l f bs cs h n in
       one.cut-so (one.every-cut r d hr hd ((stray ++ grouped (suc g) rs) ++ (bs ++ cs))) λ es c e.
-      (x .0, ap (λ y. y .0 .lane) (e .1) ∙ ap (λ y. boardOf r d (y .1) [] [] .st .lane) (x .2))
+      (x .0, ap (λ y. y .0 .lane) (e .1) ∙ ap (λ y. memoryOf r d (y .1) [] [] .st .lane) (x .2))
 
   -- ---- whole groups of any bytes behind stray bytes, in which order the answers come, of the words as they come out of the receiving side of the
   -- interleaver: "Each whole word gives first a block answer, .. then the answers of its .. message bytes" (paper 01)
@@ -196,7 +196,7 @@ pub hear-others : (s : Receiver) (n k : ℕ) (recv word bs : List ℕ) → k ≤
 hear-others = apart-four.hear-others
 
 -- .. and among the buffers of all four a call on sub-channel n, `callOn`, is that call with that one's two: answer, bytes taken, state, both buffers
-pub call-is : (n : ℕ) (s : Boards) (bs : List ℕ) →
+pub call-is : (n : ℕ) (s : Memories) (bs : List ℕ) →
     let x = hearFour (s .st) n (s .recv n) (s .word n) bs in
     let y = callOn n s bs in
     (y .0 ≡ x .0) × (y .1 ≡ x .1) × (y .2 .st ≡ x .2) × (y .2 .recv n ≡ x .3) × (y .2 .word n ≡ x .4)
@@ -204,24 +204,24 @@ call-is = made.call-is
 
 -- .. so it leaves another's state and buffers where that one is configured, call by call, answered or refused, in the middle of a piece too, and
 -- leaves it configured
-pub call-apart : (k n : ℕ) (s : Boards) (bs : List ℕ) → n ≢ k → Live k s
-    → (boardAt (callOn n s bs .2) k ≡ boardAt s k) × Live k (callOn n s bs .2)
+pub call-apart : (k n : ℕ) (s : Memories) (bs : List ℕ) → n ≢ k → Live k s
+    → (memoryAt (callOn n s bs .2) k ≡ memoryAt s k) × Live k (callOn n s bs .2)
 call-apart = call-other
 
 -- .. a call on that one gives and leaves what it does to it alone ..
-pub call-alone : (k : ℕ) (s : Boards) (bs : List ℕ) → Live k s
-    → ((callOn k s bs .0, callOn k s bs .1, boardAt (callOn k s bs .2) k) ≡ hearCall (boardAt s k) bs) × Live k (callOn k s bs .2)
+pub call-alone : (k : ℕ) (s : Memories) (bs : List ℕ) → Live k s
+    → ((callOn k s bs .0, callOn k s bs .1, memoryAt (callOn k s bs .2) k) ≡ hearCall (memoryAt s k) bs) × Live k (callOn k s bs .2)
 call-alone k s bs l =
-    let x : Option Event × ℕ × Board = hearCall (boardAt s k) bs in
+    let x : Option Event × ℕ × Memory = hearCall (memoryAt s k) bs in
     let e : callOn k s bs ≡ (x .0, x .1, exchanged s k (x .2)) = call-own k s bs l x refl in (
-      ap (λ (y : Option Event × ℕ × Boards). (y .0, y .1, boardAt (y .2) k)) e ∙ (λ i. (x .0, x .1, board-own s k (x .2) i)),
-      subst (λ (y : Option Event × ℕ × Boards). Live k (y .2)) (sym e) (live-own k s bs l),
+      ap (λ (y : Option Event × ℕ × Memories). (y .0, y .1, memoryAt (y .2) k)) e ∙ (λ i. (x .0, x .1, memory-own s k (x .2) i)),
+      subst (λ (y : Option Event × ℕ × Memories). Live k (y .2)) (sym e) (live-own k s bs l),
     )
 
 -- .. so, whatever pieces are scheduled over the four, its answers, final state and buffers are those of its own pieces handed to it alone;
 -- told-hears has what these mean
-pub stands-alone : (k : ℕ) {s t : Boards} {ps : List (ℕ × List ℕ)} {es : List (ℕ × Event)} → Live k s → Scheduled s ps es t
-    → ReadsAll hearCall (boardAt s k) (ofOne k ps) (ofOne k es) (boardAt t k)
+pub stands-alone : (k : ℕ) {s t : Memories} {ps : List (ℕ × List ℕ)} {es : List (ℕ × Event)} → Live k s → Scheduled s ps es t
+    → ReadsAll hearCall (memoryAt s k) (ofOne k ps) (ofOne k es) (memoryAt t k)
 stands-alone = alone
 
 -- .. and configuring one leaves the others
@@ -229,8 +229,8 @@ pub others-kept : (s : Receiver) (n k r d : ℕ) → n ≤ 3 → k ≤ 3 → n �
 others-kept = configure-others
 
 -- .. and every schedule comes to its end, whose pieces are each for a configured sub-channel with buffers that pass 11
-pub schedules-end : (ps : List (ℕ × List ℕ)) (s : Boards) → Each (λ (x : ℕ × List ℕ). Ready s (x .0)) ps
-    → (es : List (ℕ × Event)) × (t : Boards) × Scheduled s ps es t
+pub schedules-end : (ps : List (ℕ × List ℕ)) (s : Memories) → Each (λ (x : ℕ × List ℕ). Ready s (x .0)) ps
+    → (es : List (ℕ × Event)) × (t : Memories) × Scheduled s ps es t
 schedules-end = schedule-ends
 
 -- what these laws ask can be met: a fresh receiver may be told the settings of each, with every R and depth to 64 ..
@@ -238,28 +238,28 @@ pub fresh-told : (n r d : ℕ) → n ≤ 3 → r ≤ 64 → d ≤ 64 → configu
 fresh-told = apart-four.fresh-told
 
 -- .. one that is told is configured, in a state that passes 10 ..
-pub told-live : (k r d : ℕ) (s : Boards) → configuring (s .st) k r d .0 ≡ Told
+pub told-live : (k r d : ℕ) (s : Memories) → configuring (s .st) k r d .0 ≡ Told
     → Live k (record { st = configuring (s .st) k r d .1; recv = s .recv; word = s .word })
 told-live = apart-four.told-live
 
 -- .. stays so while another is told ..
-pub live-kept : (k n r d : ℕ) (s : Boards) → n ≢ k → Live k s → Live k (record { st = configuring (s .st) n r d .1; recv = s .recv; word = s .word })
+pub live-kept : (k n r d : ℕ) (s : Memories) → n ≢ k → Live k s → Live k (record { st = configuring (s .st) n r d .1; recv = s .recv; word = s .word })
 live-kept = apart-four.live-kept
 
 -- .. and with buffers that pass 11 its calls are not refused
-pub told-ready : (k r d : ℕ) (s : Boards) → configuring (s .st) k r d .0 ≡ Told → rawLimit ≤ length (s .recv k) → wordBytes ≤ length (s .word k)
+pub told-ready : (k r d : ℕ) (s : Memories) → configuring (s .st) k r d .0 ≡ Told → rawLimit ≤ length (s .recv k) → wordBytes ≤ length (s .word k)
     → Ready (record { st = configuring (s .st) k r d .1; recv = s .recv; word = s .word }) k
 told-ready = ending.told-ready
 
 module _ (r d : ℕ) (hr : r ≤ 64) (hd : d ≤ 64) where
   -- ---- "Demand 3's cutting .. hold for each": every way of cutting yields the answers and the final state of the uncut string ..
-  pub every-cut : (bs : List ℕ) → EveryCut r d bs λ es c. (es ≡ answers r d bs) × (inUse c ≡ inUse (boardOf r d (hears r d start bs .1) [] []))
+  pub every-cut : (bs : List ℕ) → EveryCut r d bs λ es c. (es ≡ answers r d bs) × (inUse c ≡ inUse (memoryOf r d (hears r d start bs .1) [] []))
   every-cut = one.every-cut r d hr hd
 
   -- .. from the same buffers to the last byte of both
   pub same-cut : (recv word : List ℕ) → rawLimit ≤ length recv → wordBytes ≤ length word → (ps qs : List (List ℕ)) → joined ps ≡ joined qs
-      → Yields hearCall (board (toldSub r d) recv word) ps
-      λ es c. Yields hearCall (board (toldSub r d) recv word) qs
+      → Yields hearCall (memory (toldSub r d) recv word) ps
+      λ es c. Yields hearCall (memory (toldSub r d) recv word) qs
       λ fs e. (es ≡ fs) × (c ≡ e)
   same-cut = one.same-cut r d hr hd
 
@@ -271,20 +271,20 @@ module _ (r d : ℕ) (hr : r ≤ 64) (hd : d ≤ 64) where
 
 -- .. "hold for each": so it is of each of the four, told, in every schedule of pieces over them (these come to their end: schedules-end): where its
 -- own pieces are together stray bytes and then a sender's whole stream, its answers deliver just the sent packets, whatever the others hear
-pub four-delivers : (k r d : ℕ) (s : Boards) → configuring (s .st) k r d .0 ≡ Told → rawLimit ≤ length (s .recv k) → wordBytes ≤ length (s .word k)
+pub four-delivers : (k r d : ℕ) (s : Memories) → configuring (s .st) k r d .0 ≡ Told → rawLimit ≤ length (s .recv k) → wordBytes ≤ length (s .word k)
     → (stray : List ℕ) (ps : List Packet) → Each Accepted ps → FirstMarker stray (sent r d (stream ps))
-    → {t : Boards} {pieces : List (ℕ × List ℕ)} {es : List (ℕ × Event)} → joined (ofOne k pieces) ≡ stray ++ sent r d (stream ps)
+    → {t : Memories} {pieces : List (ℕ × List ℕ)} {es : List (ℕ × Event)} → joined (ofOne k pieces) ≡ stray ++ sent r d (stream ps)
     → Scheduled (record { st = configuring (s .st) k r d .1; recv = s .recv; word = s .word }) pieces es t
     → (frames (ofOne k es) ≡ map delivered ps)
     × (blocks (ofOne k es) ≡ replicate (length (wordsOf r d (stream ps)) - closingWords d) clean) × (losses (ofOne k es) ≡ 0)
 four-delivers k r d s e a b stray ps accepted first {t} {pieces} {es} cut c =
     let o = configure-own (s .st) k r d e in
-    whole-stream r d (o .0) (o .1) stray ps accepted first (s .recv k) (s .word k) a b (ofOne k pieces) cut .always (ofOne k es) (boardAt t k)
-    (subst (λ x. ReadsAll hearCall (board x (s .recv k) (s .word k)) (ofOne k pieces) (ofOne k es) (boardAt t k)) (o .4)
+    whole-stream r d (o .0) (o .1) stray ps accepted first (s .recv k) (s .word k) a b (ofOne k pieces) cut .always (ofOne k es) (memoryAt t k)
+    (subst (λ x. ReadsAll hearCall (memory x (s .recv k) (s .word k)) (ofOne k pieces) (ofOne k es) (memoryAt t k)) (o .4)
     (stands-alone k (told-live k r d s e) c))
 
 -- a delivery counts with its payload bytes and its key: they stand in the receive buffer
-pub every-payload : (c : Board) (bs : List ℕ) → With ThereEvent (hearCall c bs .0) (hearCall c bs .2)
+pub every-payload : (c : Memory) (bs : List ℕ) → With ThereEvent (hearCall c bs .0) (hearCall c bs .2)
 every-payload = payload-there
 
 -- ---- "its recovery after an altered block holds for depth 0 and 1": a block is a word, or a group of four; the words us, one or more, are altered
@@ -394,14 +394,14 @@ module _ (r d : ℕ) (hr : r ≤ 64) (flat : d < 2) (stray : List ℕ) (ps : Lis
       λ es _ x. (x .0, x .1 ∙ (λ i. received (all-back i) (back i)), x .2))
 
 -- ---- "Refusals: 10 also when a group counts more than four words; .. then 11 for its two buffers": one sub-channel's call
-pub sub-hear-refusals : (c : Board) (bs : List ℕ) → Exact ByHear (hearCall c bs)
+pub sub-hear-refusals : (c : Memory) (bs : List ℕ) → Exact ByHear (hearCall c bs)
     ((10, SubBeyond (c .st)) ∷  -- a count of the state is beyond its limit
     (11, Short (c .recv) (c .word)) ∷  -- receive buffer under 8,272 bytes, word buffer under 255
     [])
 sub-hear-refusals = rows.sub-exact
 
 -- the numbers that it gives are 1 to 8 and 12 of a frame, 10 and 11 of the call: 9 is not used (request W9)
-pub sub-hear-numbers : (c : Board) (bs : List ℕ) (t : FrameTold) (n : ℕ) → hearCall c bs .0 ≡ some (said t) → ByFrame t n → OfFrame n ⊎ OfCall n
+pub sub-hear-numbers : (c : Memory) (bs : List ℕ) (t : FrameTold) (n : ℕ) → hearCall c bs .0 ≡ some (said t) → ByFrame t n → OfFrame n ⊎ OfCall n
 sub-hear-numbers = rows.sub-given
 
 -- .. and its sender's: "30 and 32", 23 behind them
@@ -455,7 +455,7 @@ pub sender-configure-refusals : (s : Sender) (n r d : ℕ) → Exact ByConfigure
 sender-configure-refusals = rows.sender-configure-exact
 
 -- ---- a refused call changes nothing: state and buffers as they were, no byte taken or written
-pub sub-hear-keeps-all : (c : Board) (bs : List ℕ) (n : ℕ) → ByHear (hearCall c bs) n → hearCall c bs ≡ (some (said (refusal n)), 0, c)
+pub sub-hear-keeps-all : (c : Memory) (bs : List ℕ) (n : ℕ) → ByHear (hearCall c bs) n → hearCall c bs ≡ (some (said (refusal n)), 0, c)
 sub-hear-keeps-all = rows.sub-same
 
 pub sub-send-keeps-out : (r d : ℕ) (bs out : List ℕ) → Keeps out (sending r d bs out)

@@ -4,7 +4,7 @@
 -- OfReading, OfHearing   the numbers that the two receiving calls give
 -- StandsBy   that a packet's payload and key stand where the numbers say
 -- readCalled, toldAs, heldBy   calls on the plain stream one behind the other, by numbers
--- heardCalled, eventAs, boardBy   .. on the channel
+-- heardCalled, eventAs, memoryBy  .. on the channel
 use Prim.Native.Nat.{ℕ, _≤_, _<_}
 use mathlib.Core.Path.{_≡_}
 use mathlib.Core.Logic.{_⊎_}
@@ -17,7 +17,7 @@ use Rattle.packet_spec.specs.Contents.{Packet}
 use Rattle.packet_spec.specs.Frame.{Told, judged}
 use Rattle.stream.specs.Call.{Held, held}
 use Rattle.channel_spec.specs.Meaning.{Event}
-use Rattle.channel.specs.Call.{Board, board}
+use Rattle.channel.specs.Call.{Memory, memory}
 use Rattle.channel_spec.specs.Answer.{answered}
 use Rattle.rack.specs.Told.{ofJudged, ofAnswer, ofCall, frameOf, receiverOf, toldNumbers}
 use Rattle.rack.specs.Call.{reading, hearing}
@@ -77,5 +77,5 @@ heardCalled x bs = channelBy (hearing (x .0) (x .1) (x .2) bs)
 abbrev pub eventAs : Event → List ℕ
 eventAs e = let a = ofAnswer (answered (some e)) in saying (a .number) (drop 1 (toldNumbers 0 a) ++ (a .repaired ∷ []))
 
-abbrev pub boardBy : List ℕ × List ℕ × List ℕ → Board
-boardBy x = board (receiverOf (x .0)) (x .1) (x .2)
+abbrev pub memoryBy : List ℕ × List ℕ × List ℕ → Memory
+memoryBy x = memory (receiverOf (x .0)) (x .1) (x .2)

@@ -27,7 +27,7 @@ use Rattle.stream.specs.Meaning.{waiting, reads}
 use Rattle.stream.specs.Call.{fresh}
 use Rattle.channel_spec.specs.Meaning.{Event, said, block, lost, zeros}
 use Rattle.channel_spec.specs.declared.Condition.the-variants.{Clean, Repaired, Beyond}
-use Rattle.channel.specs.Call.{board, counts, freshReceiver, hearCall}
+use Rattle.channel.specs.Call.{memory, counts, freshReceiver, hearCall}
 use Rattle.listing_spec.specs.Apart as listed
 use Rattle.listing_spec.specs.Lines.{letter, count}
 use Rattle.listing_spec.specs.Meaning.{lastLine}
@@ -154,7 +154,7 @@ hearNumber (some lost) = 0
 -- .. a call of no bytes, with bytes of a word, message bytes handed on, marker bytes, and a receive buffer and a word buffer of so many bytes
 abbrev pub unheardBy : ℕ → ℕ → ℕ → ℕ → ℕ → ℕ
 unheardBy w h m n k =
-    hearNumber (hearCall (board (record { locked = true; hunting = zeros; lock = counts w h m; frame = fresh }) (replicate n 0) (replicate k 0)) [] .0)
+    hearNumber (hearCall (memory (record { locked = true; hunting = zeros; lock = counts w h m; frame = fresh }) (replicate n 0) (replicate k 0)) [] .0)
 
 -- the bytes 41 42 in a record behind so many stream bytes, at offset 7: the stream bytes among them, and the last line
 abbrev pub behindStream : ℕ → List ℕ

@@ -24,7 +24,7 @@ use Rattle.packet_spec.specs.Frame.{Told, packet, refusal, broken}
 use Rattle.stream.specs.Call.{Held, placeLimit, shut, takeBy, takeByte, readOn, readBy, readCall, sound as soundFrame}
 use Rattle.stream.specs.declared.frame.Frame.{Frame}
 use Rattle.channel_spec.specs.Meaning.{Event, said, block, lost, isMarker, shift}
-use Rattle.channel.specs.Call.{Board, heldIn, wordOn, compareOn, markOn, eatBy, eatByte, owed, asEvent, handOn, soundLock, sound, roomy, hearOn, hearBy, hearCall}
+use Rattle.channel.specs.Call.{Memory, heldIn, wordOn, compareOn, markOn, eatBy, eatByte, owed, asEvent, handOn, soundLock, sound, roomy, hearOn, hearBy, hearCall}
 use Rattle.channel_spec.specs.Sender.{messageBytes, wordBytes}
 use Rattle.channel_spec.specs.declared.Hunting.{Hunting}
 use Rattle.channel.specs.declared.locked.Locked.{Locked}
@@ -135,30 +135,30 @@ pub small-as : {S : Type 0} (o : Option Told) (h : Held) (s : S) → With SmallH
 small-as none h s w = tt
 small-as (some t) h s w = w
 
-small-word : (t : Bool) (c : Board) (k : List ℕ) → With SmallEvent (wordOn t c k .0) (wordOn t c k .1)
+small-word : (t : Bool) (c : Memory) (k : List ℕ) → With SmallEvent (wordOn t c k .0) (wordOn t c k .1)
 small-word true c k = tt
 small-word false c k = tt
 
-small-compare : (t : Bool) (f : Hunting) (c : Board) → With SmallEvent (compareOn t f c .0) (compareOn t f c .1)
+small-compare : (t : Bool) (f : Hunting) (c : Memory) → With SmallEvent (compareOn t f c .0) (compareOn t f c .1)
 small-compare true f c = tt
 small-compare false f c = tt
 
-small-mark : (t : Bool) (f : Hunting) (c : Board) → With SmallEvent (markOn t f c .0) (markOn t f c .1)
+small-mark : (t : Bool) (f : Hunting) (c : Memory) → With SmallEvent (markOn t f c .0) (markOn t f c .1)
 small-mark true f c = tt
 small-mark false f c = small-compare (isMarker f) f c
 
-pub small-eat : (l t : Bool) (c : Board) (b : ℕ) → With SmallEvent (eatBy l t c b .0) (eatBy l t c b .1)
+pub small-eat : (l t : Bool) (c : Memory) (b : ℕ) → With SmallEvent (eatBy l t c b .0) (eatBy l t c b .1)
 small-eat false t c b = tt
 small-eat true true c b = small-word (ltb (suc (c .st .lock .word)) wordBytes) c (set (c .word) (c .st .lock .word) b)
 small-eat true false c b = small-mark (ltb (suc (c .st .lock .marker)) 4) (shift (c .st .hunting) b) c
 
-pub small-hand : (c : Board) → With SmallEvent (handOn c .0) (handOn c .1)
+pub small-hand : (c : Memory) → With SmallEvent (handOn c .0) (handOn c .1)
 small-hand c =
     let b : ℕ = getD (c .word) (c .st .lock .handed) 0 in
     let r = takeByte (heldIn c) b in
     small-as (r .0) (r .1) (handOn c .1) (small-byte (heldIn c) b)
 
-small-hear : (c : Board) (bs : List ℕ) → With SmallEvent (hearOn c bs .0) (hearOn c bs .2)
+small-hear : (c : Memory) (bs : List ℕ) → With SmallEvent (hearOn c bs .0) (hearOn c bs .2)
 small-hear c bs =
     with-hear owed handOn eatByte hand-one SmallEvent small-hand
     (λ d b. small-eat (d .st .locked) (ltb (d .st .lock .word) wordBytes) d b) c bs
@@ -169,7 +169,7 @@ event-only o s n w k e = frame-or-call n (subst (λ (o : Option Event). With Sma
 pub is-hear : {B : Type 0} (c : B) (m n : ℕ) → OfCall m → ByHear {B = B} (some (said (refusal m)), 0, c) n ↔ n ≡ m
 is-hear c m n k = (λ e. let z : m ≡ n = cc in sym z, λ e. (subst OfCall (sym e) k, λ i. some (said (refusal (sym e i)))))
 
-pub hear-exact : (c : Board) (bs : List ℕ) → Exact ByHear (hearCall c bs) ((10, Beyond (c .st)) ∷ (11, Short (c .recv) (c .word)) ∷ [])
+pub hear-exact : (c : Memory) (bs : List ℕ) → Exact ByHear (hearCall c bs) ((10, Beyond (c .st)) ∷ (11, Short (c .recv) (c .word)) ∷ [])
 hear-exact c bs = go (sound (c .st)) (roomy (c .recv) (c .word)) refl refl
   where
     go : (s r : Bool) → sound (c .st) ≡ s → roomy (c .recv) (c .word) ≡ r
@@ -180,7 +180,7 @@ hear-exact c bs = go (sound (c .st)) (roomy (c .recv) (c .word)) refl refl
         over ByHear (within (c .st) e) (over ByHear (long (c .recv) (c .word) f)
         (passed ByHear λ n b. event-only (hearOn c bs .0) (hearOn c bs .2) n (small-hear c bs) (b .0) (b .1)))
 
-pub hear-same : (c : Board) (bs : List ℕ) (n : ℕ) → ByHear (hearCall c bs) n → hearCall c bs ≡ (some (said (refusal n)), 0, c)
+pub hear-same : (c : Memory) (bs : List ℕ) (n : ℕ) → ByHear (hearCall c bs) n → hearCall c bs ≡ (some (said (refusal n)), 0, c)
 hear-same c bs n = go (sound (c .st)) (roomy (c .recv) (c .word))
   where
     go : (s r : Bool) → ByHear (hearBy s r c bs) n → hearBy s r c bs ≡ (some (said (refusal n)), 0, c)
@@ -211,7 +211,7 @@ read-refused h bs n = go (soundFrame (h .st)) (leb rawLimit (length (h .recv)))
 pub read-given : (h : Held) (bs : List ℕ) (t : Told) (n : ℕ) → readCall h bs .0 ≡ some t → ByFrame t n → Given n
 read-given h bs t n e k = number-given t n k (λ m z. read-refused h bs m (e ∙ ap (λ (t : Told). some t) z))
 
-hear-refused : (c : Board) (bs : List ℕ) (n : ℕ) → hearCall c bs .0 ≡ some (said (refusal n)) → Given n
+hear-refused : (c : Memory) (bs : List ℕ) (n : ℕ) → hearCall c bs .0 ≡ some (said (refusal n)) → Given n
 hear-refused c bs n = go (sound (c .st)) (roomy (c .recv) (c .word))
   where
     go : (s r : Bool) → hearBy s r c bs .0 ≡ some (said (refusal n)) → Given n
@@ -219,5 +219,5 @@ hear-refused c bs n = go (sound (c .st)) (roomy (c .recv) (c .word))
     go true false e = let z : 11 ≡ n = cc in inr (inr (sym z))
     go true true e = inl (subst (λ (o : Option Event). With SmallEvent o (hearOn c bs .2)) e (small-hear c bs))
 
-pub hear-given : (c : Board) (bs : List ℕ) (t : Told) (n : ℕ) → hearCall c bs .0 ≡ some (said t) → ByFrame t n → Given n
+pub hear-given : (c : Memory) (bs : List ℕ) (t : Told) (n : ℕ) → hearCall c bs .0 ≡ some (said t) → ByFrame t n → Given n
 hear-given c bs t n e k = number-given t n k (λ m z. hear-refused c bs m (e ∙ ap (λ (t : Told). some (said t)) z))

@@ -25,7 +25,7 @@ use Rattle.recording.specs.Call.{far}
 use Rattle.board.specs.declared.readout.Readout.{Readout}
 use Rattle.board.specs.declared.readout.Wants.{Wants}
 use Rattle.board.specs.declared.readout.Wants.the-variants.{More, Again, Refused}
-use Rattle.board.specs.Source.{Source, boardIn, sourceHear}
+use Rattle.board.specs.Source.{Source, memoryIn, sourceHear}
 use Rattle.board.specs.Owed.{soundOwed}
 use Rattle.board.specs.Call.{Screen, readoutOf, recvOn, owedOn, part, partly, heardBy, takesOn, nearBy, soundState, takesBy, takes}
 use Rattle.demands_laws.specs.Table.{Exact}
@@ -87,7 +87,7 @@ is-show s k n = (λ e. let z : k ≡ n = cc in sym z, λ e i. Refused (sym e i))
 
 module _ (room : ℕ) (s : Screen) (bs : List ℕ) where
   abbrev word : List ℕ
-  word = boardIn (s .source .deck) .word
+  word = memoryIn (s .source .deck) .word
 
   pub show-exact : Exact ByShow (takes room s bs) ((10, BoardBeyond (readoutOf s) (length bs)) ∷ (11, Short (recvOn s) word) ∷ [])
   show-exact = go (soundState (readoutOf s) (length bs)) (roomy (recvOn s) word) refl refl

@@ -34,7 +34,7 @@ use Rattle.subchannel_spec.specs.declared.Settings.{Settings}
 use Rattle.subchannel.specs.declared.counts.Counts.{Counts}
 use Rattle.subchannel.specs.declared.lane.Lane.{Lane}
 use Rattle.subchannel.specs.declared.sub.Sub.{Sub}
-use Rattle.subchannel.specs.Call.{Board, board, heldIn, wordAt, wordOn, groupOn, compareOn, markOn, eatBy, eatByte, owed, handOn}
+use Rattle.subchannel.specs.Call.{Memory, memory, heldIn, wordAt, wordOn, groupOn, compareOn, markOn, eatBy, eatByte, owed, handOn}
 use Rattle.subchannel.specs.Call.{soundCounts, soundLane, sound, hearOn, hearBy, hearCall}
 use Rattle.subchannel_spec.specs.Settings.{within}
 use Rattle.subchannel.proofs.Cutting.{hand-one}
@@ -126,19 +126,19 @@ module _ {B : Type 0} (c : B) where
   small-eat false true true s k w b = small-group (pull (s .settings .depth) k b .0) s w
   small-eat false true false s k w b = small-mark (ltb (suc (s .counts .marker)) 4) (shift (s .hunting) b) s
 
-small-hand : (c : Board) → With SmallEvent (handOn c .0) (handOn c .1)
+small-hand : (c : Memory) → With SmallEvent (handOn c .0) (handOn c .1)
 small-hand c =
     let b : ℕ = getD (c .word) (c .st .lane .counts .handed) 0 in
     let x = takeByte (heldIn c) b in
     small-as (x .0) (x .1) (handOn c .1) (small-byte (heldIn c) b)
 
-small-hear : (c : Board) (bs : List ℕ) → With SmallEvent (hearOn c bs .0) (hearOn c bs .2)
+small-hear : (c : Memory) (bs : List ℕ) → With SmallEvent (hearOn c bs .0) (hearOn c bs .2)
 small-hear c bs =
     with-hear owed handOn eatByte hand-one SmallEvent small-hand
     (λ x b. let s : Lane = x .st .lane in small-eat (eatByte x b .1) (s .lost) (s .locked) (ltb (s .counts .group) groupBytes) s (x .st .back) (x .word) b) c bs
 
 -- ---- one sub-channel's call
-pub sub-exact : (c : Board) (bs : List ℕ) → Exact ByHear (hearCall c bs) ((10, SubBeyond (c .st)) ∷ (11, Short (c .recv) (c .word)) ∷ [])
+pub sub-exact : (c : Memory) (bs : List ℕ) → Exact ByHear (hearCall c bs) ((10, SubBeyond (c .st)) ∷ (11, Short (c .recv) (c .word)) ∷ [])
 sub-exact c bs = go (sound (c .st)) (roomy (c .recv) (c .word)) refl refl
   where
     go : (s r : Bool) → sound (c .st) ≡ s → roomy (c .recv) (c .word) ≡ r
@@ -149,7 +149,7 @@ sub-exact c bs = go (sound (c .st)) (roomy (c .recv) (c .word)) refl refl
         over ByHear (sub-fails (c .st) .1 e) (over ByHear (long (c .recv) (c .word) f)
         (passed ByHear λ n b. event-only (hearOn c bs .0) (hearOn c bs .2) n (small-hear c bs) (b .0) (b .1)))
 
-pub sub-same : (c : Board) (bs : List ℕ) (n : ℕ) → ByHear (hearCall c bs) n → hearCall c bs ≡ (some (said (refusal n)), 0, c)
+pub sub-same : (c : Memory) (bs : List ℕ) (n : ℕ) → ByHear (hearCall c bs) n → hearCall c bs ≡ (some (said (refusal n)), 0, c)
 sub-same c bs n = go (sound (c .st)) (roomy (c .recv) (c .word))
   where
     go : (s r : Bool) → ByHear (hearBy s r c bs) n → hearBy s r c bs ≡ (some (said (refusal n)), 0, c)
@@ -157,7 +157,7 @@ sub-same c bs n = go (sound (c .st)) (roomy (c .recv) (c .word))
     go true false b = λ i. (b .1 i, 0, c)
     go true true b = absurd (event-only (hearOn c bs .0) (hearOn c bs .2) n (small-hear c bs) (b .0) (b .1))
 
-sub-refused : (c : Board) (bs : List ℕ) (n : ℕ) → hearCall c bs .0 ≡ some (said (refusal n)) → Given n
+sub-refused : (c : Memory) (bs : List ℕ) (n : ℕ) → hearCall c bs .0 ≡ some (said (refusal n)) → Given n
 sub-refused c bs n = go (sound (c .st)) (roomy (c .recv) (c .word))
   where
     go : (s r : Bool) → hearBy s r c bs .0 ≡ some (said (refusal n)) → Given n
@@ -165,7 +165,7 @@ sub-refused c bs n = go (sound (c .st)) (roomy (c .recv) (c .word))
     go true false e = let z : 11 ≡ n = cc in inr (inr (sym z))
     go true true e = inl (subst (λ (o : Option Event). With SmallEvent o (hearOn c bs .2)) e (small-hear c bs))
 
-pub sub-given : (c : Board) (bs : List ℕ) (t : Told) (n : ℕ) → hearCall c bs .0 ≡ some (said t) → ByFrame t n → OfFrame n ⊎ OfCall n
+pub sub-given : (c : Memory) (bs : List ℕ) (t : Told) (n : ℕ) → hearCall c bs .0 ≡ some (said t) → ByFrame t n → OfFrame n ⊎ OfCall n
 sub-given c bs t n e k = number-given t n k (λ m z. sub-refused c bs m (e ∙ ap (λ (t : Told). some (said t)) z))
 
 -- ---- configuring: s as it was, and t told
@@ -228,11 +228,11 @@ module _ (s : Receiver) (n : ℕ) (recv word bs : List ℕ) where
   abbrev Result : Type 0
   Result = Option Event × ℕ × Receiver × List ℕ × List ℕ
 
-  abbrev c : Board
-  c = board (receiver.get s n) recv word
+  abbrev c : Memory
+  c = memory (receiver.get s n) recv word
 
   -- a call that passes 10 and 42, by what is left of it
-  abbrev behind : Option Event × ℕ × Board → Result
+  abbrev behind : Option Event × ℕ × Memory → Result
   behind x = (x .0, x .1, receiver.put s n (x .2 .st), x .2 .recv, x .2 .word)
 
   is-number : (m k : ℕ) (x : Result) → x .0 ≡ some (said (refusal m)) → OfNumbered m → ByNumbered x k ↔ k ≡ m

@@ -19,7 +19,7 @@ use Rattle.base.proofs.Tests.{and-parts}
 use Rattle.packet_spec.specs.Frame.{Told, refusal}
 use Rattle.stream.specs.Call.{takeByte}
 use Rattle.channel_spec.specs.Meaning.{Event, said, block, lost}
-use Rattle.channel.specs.Call.{Board, heldIn, handOn, eatByte, sound, roomy}
+use Rattle.channel.specs.Call.{Memory, heldIn, handOn, eatByte, sound, roomy}
 use Rattle.channel_spec.specs.Sender.{wordBytes}
 use Rattle.listing_spec.specs.declared.Spot.{Spot}
 use Rattle.listing_spec.specs.Apart.{inStream}
@@ -74,18 +74,18 @@ small-in (some (said x)) s t w = w
 small-in (some (block x)) s t w = tt
 small-in (some lost) s t w = tt
 
-small-stream : (t : Bool) (c : Board) (b : ℕ) → With SmallEvent (eatBy t c b .0) (eatBy t c b .1)
+small-stream : (t : Bool) (c : Memory) (b : ℕ) → With SmallEvent (eatBy t c b .0) (eatBy t c b .1)
 small-stream true c b = small-in (eatByte c b .0) (eatByte c b .1) (eatBy true c b .1) (small-eat (c .st .locked) (ltb (c .st .lock .word) wordBytes) c b)
 small-stream false c b = let r = takeByte (heldIn c) b in small-as (r .0) (r .1) (eatBy false c b .1) (small-byte (heldIn c) b)
 
 small-deck : (m : Deck) → With SmallEvent (deckHand m .0) (deckHand m .1)
 unfolding earHand
-small-deck m = small-in (handOn (m .ear .board) .0) (handOn (m .ear .board) .1) (deckHand m .1) (small-hand (m .ear .board))
+small-deck m = small-in (handOn (m .ear .memory) .0) (handOn (m .ear .memory) .1) (deckHand m .1) (small-hand (m .ear .memory))
 
 small-record : (t : Bool) (m : Deck) (b : ℕ) → With SmallEvent (byteBy t m b .0) (byteBy t m b .1)
 unfolding earEat
 small-record true m b =
-    small-in (earEat (m .ear) b .0) (earEat (m .ear) b .1) (byteBy true m b .1) (small-stream (m .ear .channel) (m .ear .board) b)
+    small-in (earEat (m .ear) b .0) (earEat (m .ear) b .1) (byteBy true m b .1) (small-stream (m .ear .channel) (m .ear .memory) b)
 small-record false m b = tt
 
 small-heard : (m : Deck) (bs : List ℕ) → With SmallEvent (deckHear m bs .0) (deckHear m bs .2)
@@ -97,29 +97,29 @@ is-next m k n h = (λ e. let z : k ≡ n = cc in sym z, λ e. (subst OfCall (sym
 
 module _ (m : Deck) (bs : List ℕ) where
   abbrev soundly : Bool
-  soundly = sound (m .ear .board .st)
+  soundly = sound (m .ear .memory .st)
 
   abbrev nearly : Bool
   nearly = nearSpot (m .spot) (length bs)
 
   abbrev roomily : Bool
-  roomily = roomy (m .ear .board .recv) (m .ear .board .word)
+  roomily = roomy (m .ear .memory .recv) (m .ear .memory .word)
 
   pub next-exact : Exact ByNext (tapeCall m bs)
-      ((10, NextBeyond (m .ear .board .st) (m .spot) (length bs)) ∷ (11, Short (m .ear .board .recv) (m .ear .board .word)) ∷ [])
+      ((10, NextBeyond (m .ear .memory .st) (m .spot) (length bs)) ∷ (11, Short (m .ear .memory .recv) (m .ear .memory .word)) ∷ [])
   next-exact = go soundly nearly roomily refl refl refl
     where
       go : (s n r : Bool) → soundly ≡ s → nearly ≡ n → roomily ≡ r
           → Exact ByNext (tapeBy s n r m bs)
-          ((10, NextBeyond (m .ear .board .st) (m .spot) (length bs)) ∷ (11, Short (m .ear .board .recv) (m .ear .board .word)) ∷ [])
-      go false n r e f g = applies ByNext _ (λ k. is-next m 10 k (inl refl)) (inl (beyond (m .ear .board .st) e))
+          ((10, NextBeyond (m .ear .memory .st) (m .spot) (length bs)) ∷ (11, Short (m .ear .memory .recv) (m .ear .memory .word)) ∷ [])
+      go false n r e f g = applies ByNext _ (λ k. is-next m 10 k (inl refl)) (inl (beyond (m .ear .memory .st) e))
       go true false r e f g = applies ByNext _ (λ k. is-next m 10 k (inl refl)) (inr (leb-false _ _ f))
       go true true false e f g =
-          over ByNext (⊎-elim (within (m .ear .board .st) e) (not-most _ _ f))
-          (applies ByNext _ (λ k. is-next m 11 k (inr refl)) (short (m .ear .board .recv) (m .ear .board .word) g))
+          over ByNext (⊎-elim (within (m .ear .memory .st) e) (not-most _ _ f))
+          (applies ByNext _ (λ k. is-next m 11 k (inr refl)) (short (m .ear .memory .recv) (m .ear .memory .word) g))
       go true true true e f g =
-          over ByNext (⊎-elim (within (m .ear .board .st) e) (not-most _ _ f))
-          (over ByNext (long (m .ear .board .recv) (m .ear .board .word) g)
+          over ByNext (⊎-elim (within (m .ear .memory .st) e) (not-most _ _ f))
+          (over ByNext (long (m .ear .memory .recv) (m .ear .memory .word) g)
           (passed ByNext λ n b. event-only (deckHear m bs .0) (deckHear m bs .2) n (small-heard m bs) (b .0) (b .1)))
 
   pub next-same : (n : ℕ) → ByNext (tapeCall m bs) n → tapeCall m bs ≡ (some (said (refusal n)), 0, m)
@@ -149,23 +149,23 @@ is-take m t k n = (λ e. let z : k ≡ n = cc in sym z, λ e i. Refused (sym e i
 
 module _ (m : Deck) (t : Totals) (room : ℕ) (bs : List ℕ) where
   pub take-exact : Exact ByTake (takes m t room bs)
-      ((10, TapeBeyond (m .ear .board .st) (m .spot) t (length bs) room) ∷ (11, Short (m .ear .board .recv) (m .ear .board .word)) ∷ [])
-  take-exact = go (sound (m .ear .board .st)) (near (m .spot) t (length bs) room) (roomy (m .ear .board .recv) (m .ear .board .word)) refl refl refl
+      ((10, TapeBeyond (m .ear .memory .st) (m .spot) t (length bs) room) ∷ (11, Short (m .ear .memory .recv) (m .ear .memory .word)) ∷ [])
+  take-exact = go (sound (m .ear .memory .st)) (near (m .spot) t (length bs) room) (roomy (m .ear .memory .recv) (m .ear .memory .word)) refl refl refl
     where
-      go : (s n r : Bool) → sound (m .ear .board .st) ≡ s → near (m .spot) t (length bs) room ≡ n → roomy (m .ear .board .recv) (m .ear .board .word) ≡ r
+      go : (s n r : Bool) → sound (m .ear .memory .st) ≡ s → near (m .spot) t (length bs) room ≡ n → roomy (m .ear .memory .recv) (m .ear .memory .word) ≡ r
           → Exact ByTake (takesBy s n r m t room bs)
-          ((10, TapeBeyond (m .ear .board .st) (m .spot) t (length bs) room) ∷ (11, Short (m .ear .board .recv) (m .ear .board .word)) ∷ [])
-      go false n r e f g = applies ByTake _ (is-take m t 10) (inl (beyond (m .ear .board .st) e))
+          ((10, TapeBeyond (m .ear .memory .st) (m .spot) t (length bs) room) ∷ (11, Short (m .ear .memory .recv) (m .ear .memory .word)) ∷ [])
+      go false n r e f g = applies ByTake _ (is-take m t 10) (inl (beyond (m .ear .memory .st) e))
       go true false r e f g = applies ByTake _ (is-take m t 10) (inr (all-far (m .spot) t (length bs) room f))
       go true true false e f g =
-          over ByTake (⊎-elim (within (m .ear .board .st) e) (all-near (m .spot) t (length bs) room f))
-          (applies ByTake _ (is-take m t 11) (short (m .ear .board .recv) (m .ear .board .word) g))
+          over ByTake (⊎-elim (within (m .ear .memory .st) e) (all-near (m .spot) t (length bs) room f))
+          (applies ByTake _ (is-take m t 11) (short (m .ear .memory .recv) (m .ear .memory .word) g))
       go true true true e f g =
-          over ByTake (⊎-elim (within (m .ear .board .st) e) (all-near (m .spot) t (length bs) room f))
-          (over ByTake (long (m .ear .board .recv) (m .ear .board .word) g) (passed ByTake λ n b. print-not room room m t bs n b))
+          over ByTake (⊎-elim (within (m .ear .memory .st) e) (all-near (m .spot) t (length bs) room f))
+          (over ByTake (long (m .ear .memory .recv) (m .ear .memory .word) g) (passed ByTake λ n b. print-not room room m t bs n b))
 
   pub take-same : (n : ℕ) → ByTake (takes m t room bs) n → takes m t room bs ≡ printed (Refused n) m t
-  take-same n = go (sound (m .ear .board .st)) (near (m .spot) t (length bs) room) (roomy (m .ear .board .recv) (m .ear .board .word))
+  take-same n = go (sound (m .ear .memory .st)) (near (m .spot) t (length bs) room) (roomy (m .ear .memory .recv) (m .ear .memory .word))
     where
       go : (s k r : Bool) → ByTake (takesBy s k r m t room bs) n → takesBy s k r m t room bs ≡ printed (Refused n) m t
       go false k r b = λ i. printed (b i) m t

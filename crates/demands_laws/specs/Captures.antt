@@ -18,8 +18,8 @@ use Rattle.packet_spec.specs.Frame.{Told}
 use Rattle.packet_spec.specs.Sender.{Accepted}
 use Rattle.stream.specs.Call.{Held}
 use Rattle.channel_spec.specs.Meaning.{Event, said, block, lost}
-use Rattle.channel.specs.Call.{Board}
-use Rattle.subchannel.specs.Call.{Board as SubBoard}
+use Rattle.channel.specs.Call.{Memory}
+use Rattle.subchannel.specs.Call.{Memory as SubMemory}
 use Rattle.recording.specs.Deck.{Deck}
 use Rattle.capture.specs.Export.{Fetched, entering}
 use Rattle.capture.specs.declared.reader.Capture.{Capture}
@@ -74,16 +74,16 @@ abbrev pub FetchedHeld : Told → Held → Type 0
 FetchedHeld t h = Fetched t (h .recv)
 
 -- .. of the channel's receiver
-abbrev pub FetchedBoard : Event → Board → Type 0
-FetchedBoard e c = FetchedEvent e (c .recv)
+abbrev pub FetchedMemory : Event → Memory → Type 0
+FetchedMemory e c = FetchedEvent e (c .recv)
 
 -- .. of a fixed sub-channel's
-abbrev pub FetchedSub : Event → SubBoard → Type 0
+abbrev pub FetchedSub : Event → SubMemory → Type 0
 FetchedSub e c = FetchedEvent e (c .recv)
 
 -- .. and of a recording's
 abbrev pub FetchedDeck : Event → Deck → Type 0
-FetchedDeck e m = FetchedEvent e (m .ear .board .recv)
+FetchedDeck e m = FetchedEvent e (m .ear .memory .recv)
 
 -- the bytes that a call wrote, by its answer: a refused one none
 abbrev pub putBy : Written → List ℕ → List ℕ

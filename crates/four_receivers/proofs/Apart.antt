@@ -38,15 +38,15 @@ use Rattle.channel.specs.Call.{roomy}
 use Rattle.subchannel_spec.specs.declared.Settings.{Settings}
 use Rattle.subchannel.specs.declared.lane.Lane.{Lane}
 use Rattle.subchannel.specs.declared.sub.Sub.{Sub}
-use Rattle.subchannel.specs.Call.{Board, board, huntOn, wordAt, wordOn, groupOn, compareOn, markOn, eatBy, owed, handOn, eatByte}
-use Rattle.subchannel.specs.Call.{toldSub, sound, hearBy, hearOn, hearCall, Fine, inUse, boardOf}
+use Rattle.subchannel.specs.Call.{Memory, memory, huntOn, wordAt, wordOn, groupOn, compareOn, markOn, eatBy, owed, handOn, eatByte}
+use Rattle.subchannel.specs.Call.{toldSub, sound, hearBy, hearOn, hearCall, Fine, inUse, memoryOf}
 use Rattle.subchannel.proofs.Fine.{fine-of, fine-is, fine-hand, fine-eat, zero-placed}
 use Rattle.subchannel.proofs.Cutting.{hand-one}
 use Rattle.subchannel.proofs.Demands.{every-cut}
 use Rattle.four_receivers.specs.declared.Receiver.{Receiver}
 use Rattle.subchannel_spec.specs.declared.Configured.{Configured}
 use Rattle.subchannel_spec.specs.declared.Configured.the-variants.{Told, Refused}
-use Rattle.four_receivers.specs.Call.{get, put, soundFour, known, configuring, Boards, boardAt, exchanged, callBy, callOn, Scheduled, ofOne}
+use Rattle.four_receivers.specs.Call.{get, put, soundFour, known, configuring, Memories, memoryAt, exchanged, callBy, callOn, Scheduled, ofOne}
 use Rattle.four_receivers.specs.Call.{freshReceiver, heardBy, hearFour}
 use Rattle.four_receivers.specs.Call.Scheduled.{done as first, next}
 
@@ -75,13 +75,13 @@ got-other s (suc (suc (suc n))) (suc (suc zero)) x h i e = refl
 got-other s (suc (suc (suc n))) (suc (suc (suc k))) x h i e = absurd (e (omega arith))
 
 -- the boards
-pub board-own : (s : Boards) (n : ℕ) (c : Board) → boardAt (exchanged s n c) n ≡ c
-board-own s n c = λ i. board (got-put (s .st) n (c .st) i) (pick (eq-eqb n n refl i) (c .recv) (s .recv n)) (pick (eq-eqb n n refl i) (c .word) (s .word n))
+pub memory-own : (s : Memories) (n : ℕ) (c : Memory) → memoryAt (exchanged s n c) n ≡ c
+memory-own s n c = λ i. memory (got-put (s .st) n (c .st) i) (pick (eq-eqb n n refl i) (c .recv) (s .recv n)) (pick (eq-eqb n n refl i) (c .word) (s .word n))
 
-pub board-other : (s : Boards) (n k : ℕ) (c : Board) → n ≤ 3 → k ≤ 3 → n ≢ k → boardAt (exchanged s n c) k ≡ boardAt s k
-board-other s n k c h i e =
+pub memory-other : (s : Memories) (n k : ℕ) (c : Memory) → n ≤ 3 → k ≤ 3 → n ≢ k → memoryAt (exchanged s n c) k ≡ memoryAt s k
+memory-other s n k c h i e =
     let t : eqb k n ≡ false = ne-eqb k n (λ q. e (sym q)) in
-    λ j. board (got-other (s .st) n k (c .st) h i e j) (pick (t j) (c .recv) (s .recv k)) (pick (t j) (c .word) (s .word k))
+    λ j. memory (got-other (s .st) n k (c .st) h i e j) (pick (t j) (c .recv) (s .recv k)) (pick (t j) (c .word) (s .word k))
 
 both : {a b : Bool} → a ≡ true → b ≡ true → a && b ≡ true
 both p q = rw (p, q) refl
@@ -115,10 +115,10 @@ settings-by false true true s k w b = settings-group (pull (s .settings .depth) 
 settings-by false true false s k w b = settings-mark (ltb (suc (s .counts .marker)) 4) (shift (s .hunting) b) s
 
 -- what is told stays told, and what passes 10 passes it again
-abbrev Kept : Board → Type 0
+abbrev Kept : Memory → Type 0
 Kept c = (sound (c .st) ≡ true) × (c .st .lane .settings .told ≡ true)
 
-kept-hear : (c : Board) (bs : List ℕ) → Fine c → c .st .lane .settings .told ≡ true → Kept (hearOn c bs .2)
+kept-hear : (c : Memory) (bs : List ℕ) → Fine c → c .st .lane .settings .told ≡ true → Kept (hearOn c bs .2)
 kept-hear c bs i e =
     let f : Fine (hearOn c bs .2) = inv-hear owed handOn eatByte hand-one Fine fine-hand fine-eat c bs i in (
       fine-is (hearOn c bs .2) f,
@@ -128,12 +128,12 @@ kept-hear c bs i e =
           ap (λ (y : Settings). y .told) (settings-by (s .lost) (s .locked) (ltb (s .counts .group) groupBytes) s (x .st .back) (x .word) b) ∙ h) c bs e,
     )
 
-kept-call : (c : Board) (bs : List ℕ) → Kept c → Kept (hearCall c bs .2)
+kept-call : (c : Memory) (bs : List ℕ) → Kept c → Kept (hearCall c bs .2)
 kept-call c bs k = go (roomy (c .recv) (c .word)) refl
   where
     go : (t : Bool) → roomy (c .recv) (c .word) ≡ t → Kept (hearCall c bs .2)
-    go true q = subst (λ (x : Option Event × ℕ × Board). Kept (x .2)) (λ i. hearBy (sym (k .0) i) (sym q i) c bs) (kept-hear c bs (fine-of c (k .0) q) (k .1))
-    go false q = subst (λ (x : Option Event × ℕ × Board). Kept (x .2)) (λ i. hearBy (sym (k .0) i) (sym q i) c bs) k
+    go true q = subst (λ (x : Option Event × ℕ × Memory). Kept (x .2)) (λ i. hearBy (sym (k .0) i) (sym q i) c bs) (kept-hear c bs (fine-of c (k .0) q) (k .1))
+    go false q = subst (λ (x : Option Event × ℕ × Memory). Kept (x .2)) (λ i. hearBy (sym (k .0) i) (sym q i) c bs) k
 
 -- the four: what passes 10, of each
 pub sound-at : (s : Receiver) (n : ℕ) → soundFour s ≡ true → sound (get s n) ≡ true
@@ -155,67 +155,67 @@ told-sound r d hr hd =
 
 -- ---- sub-channel k, configured, among the four
 module _ (k : ℕ) where
-  abbrev pub Live : Boards → Type 0
+  abbrev pub Live : Memories → Type 0
   Live s = (soundFour (s .st) ≡ true) × (known (s .st) k ≡ true)
 
   within : (s : Receiver) (n : ℕ) → known s n ≡ true → (n ≤ 3) × (get s n .lane .settings .told ≡ true)
   within s n e = let p = and-parts (leb n 3) _ e in (leb-true _ _ (p .0), p .1)
 
   -- a call on another one
-  pub call-other : (n : ℕ) (s : Boards) (bs : List ℕ) → n ≢ k → Live s → (boardAt (callOn n s bs .2) k ≡ boardAt s k) × Live (callOn n s bs .2)
+  pub call-other : (n : ℕ) (s : Memories) (bs : List ℕ) → n ≢ k → Live s → (memoryAt (callOn n s bs .2) k ≡ memoryAt s k) × Live (callOn n s bs .2)
   call-other n s bs e l = go (known (s .st) n) refl
     where
-      go : (t : Bool) → known (s .st) n ≡ t → (boardAt (callOn n s bs .2) k ≡ boardAt s k) × Live (callOn n s bs .2)
+      go : (t : Bool) → known (s .st) n ≡ t → (memoryAt (callOn n s bs .2) k ≡ memoryAt s k) × Live (callOn n s bs .2)
       go false q =
-          subst (λ (x : Option Event × ℕ × Boards). (boardAt (x .2) k ≡ boardAt s k) × Live (x .2)) (λ i. callBy (sym (l .0) i) (sym q i) n s bs) (refl, l)
+          subst (λ (x : Option Event × ℕ × Memories). (memoryAt (x .2) k ≡ memoryAt s k) × Live (x .2)) (λ i. callBy (sym (l .0) i) (sym q i) n s bs) (refl, l)
       go true q =
-          let c : Board = hearCall (boardAt s n) bs .2 in
+          let c : Memory = hearCall (memoryAt s n) bs .2 in
           let a = within (s .st) n q in
           let b = within (s .st) k (l .1) in
-          let o : boardAt (exchanged s n c) k ≡ boardAt s k = board-other s n k c (a .0) (b .0) e in
-          subst (λ (x : Option Event × ℕ × Boards). (boardAt (x .2) k ≡ boardAt s k) × Live (x .2)) (λ i. callBy (sym (l .0) i) (sym q i) n s bs) (
+          let o : memoryAt (exchanged s n c) k ≡ memoryAt s k = memory-other s n k c (a .0) (b .0) e in
+          subst (λ (x : Option Event × ℕ × Memories). (memoryAt (x .2) k ≡ memoryAt s k) × Live (x .2)) (λ i. callBy (sym (l .0) i) (sym q i) n s bs) (
             o,
             (
-              sound-put (s .st) n (c .st) (l .0) (kept-call (boardAt s n) bs (sound-at (s .st) n (l .0), a .1) .0),
-              ap (λ (x : Board). leb k 3 && (x .st .lane .settings .told)) o ∙ l .1,
+              sound-put (s .st) n (c .st) (l .0) (kept-call (memoryAt s n) bs (sound-at (s .st) n (l .0), a .1) .0),
+              ap (λ (x : Memory). leb k 3 && (x .st .lane .settings .told)) o ∙ l .1,
             ),
           )
 
   -- a call on this one
-  pub call-own : (s : Boards) (bs : List ℕ) → Live s → (x : Option Event × ℕ × Board) → hearCall (boardAt s k) bs ≡ x
+  pub call-own : (s : Memories) (bs : List ℕ) → Live s → (x : Option Event × ℕ × Memory) → hearCall (memoryAt s k) bs ≡ x
       → callOn k s bs ≡ (x .0, x .1, exchanged s k (x .2))
-  call-own s bs l x e = (λ i. callBy (l .0 i) (l .1 i) k s bs) ∙ ap (λ (y : Option Event × ℕ × Board). (y .0, y .1, exchanged s k (y .2))) e
+  call-own s bs l x e = (λ i. callBy (l .0 i) (l .1 i) k s bs) ∙ ap (λ (y : Option Event × ℕ × Memory). (y .0, y .1, exchanged s k (y .2))) e
 
-  pub live-own : (s : Boards) (bs : List ℕ) → Live s → Live (exchanged s k (hearCall (boardAt s k) bs .2))
+  pub live-own : (s : Memories) (bs : List ℕ) → Live s → Live (exchanged s k (hearCall (memoryAt s k) bs .2))
   live-own s bs l =
-      let c : Board = hearCall (boardAt s k) bs .2 in
+      let c : Memory = hearCall (memoryAt s k) bs .2 in
       let b = within (s .st) k (l .1) in
-      let m = kept-call (boardAt s k) bs (sound-at (s .st) k (l .0), b .1) in
-      (sound-put (s .st) k (c .st) (l .0) (m .0), both (le-leb k 3 (b .0)) (ap (λ (x : Board). x .st .lane .settings .told) (board-own s k c) ∙ m .1))
+      let m = kept-call (memoryAt s k) bs (sound-at (s .st) k (l .0), b .1) in
+      (sound-put (s .st) k (c .st) (l .0) (m .0), both (le-leb k 3 (b .0)) (ap (λ (x : Memory). x .st .lane .settings .told) (memory-own s k c) ∙ m .1))
 
   -- a piece for another one, handed in until "more wanted"
-  pub reads-other : (n : ℕ) → n ≢ k → {s t : Boards} {p : List ℕ} {xs : List Event} → Live s → Reads (callOn n) s p xs t
-      → (boardAt t k ≡ boardAt s k) × Live t
+  pub reads-other : (n : ℕ) → n ≢ k → {s t : Memories} {p : List ℕ} {xs : List Event} → Live s → Reads (callOn n) s p xs t
+      → (memoryAt t k ≡ memoryAt s k) × Live t
   reads-other n e {s} {p = p} l (more a q) =
       let c = call-other n s p e l in
-      subst (λ (x : Option Event × ℕ × Boards). (boardAt (x .2) k ≡ boardAt s k) × Live (x .2)) q c
+      subst (λ (x : Option Event × ℕ × Memories). (memoryAt (x .2) k ≡ memoryAt s k) × Live (x .2)) q c
   reads-other n e {s} {p = p} l (answer {a = v} a {t = m} q r) =
-      let c = subst (λ (x : Option Event × ℕ × Boards). (boardAt (x .2) k ≡ boardAt s k) × Live (x .2)) q (call-other n s p e l) in
+      let c = subst (λ (x : Option Event × ℕ × Memories). (memoryAt (x .2) k ≡ memoryAt s k) × Live (x .2)) q (call-other n s p e l) in
       let d = reads-other n e (c .1) r in
       (d .0 ∙ c .0, d .1)
 
   -- a piece for this one
-  own-call : (s : Boards) (p : List ℕ) {t : Boards} {o : Option Event} {a : ℕ} → Live s → callOn k s p ≡ (o, a, t)
-      → (hearCall (boardAt s k) p ≡ (o, a, boardAt t k)) × Live t
+  own-call : (s : Memories) (p : List ℕ) {t : Memories} {o : Option Event} {a : ℕ} → Live s → callOn k s p ≡ (o, a, t)
+      → (hearCall (memoryAt s k) p ≡ (o, a, memoryAt t k)) × Live t
   own-call s p {t} {o} {a} l q =
-      let x : Option Event × ℕ × Board = hearCall (boardAt s k) p in
-      let y : _≡_ {A = Option Event × ℕ × Boards} (x .0, x .1, exchanged s k (x .2)) (o, a, t) = sym (call-own s p l x refl) ∙ q in (
-        (λ i. (x .0, x .1, sym (board-own s k (x .2)) i)) ∙ ap (λ (z : Option Event × ℕ × Boards). (z .0, z .1, boardAt (z .2) k)) y,
-        subst (λ (z : Option Event × ℕ × Boards). Live (z .2)) y (live-own s p l),
+      let x : Option Event × ℕ × Memory = hearCall (memoryAt s k) p in
+      let y : _≡_ {A = Option Event × ℕ × Memories} (x .0, x .1, exchanged s k (x .2)) (o, a, t) = sym (call-own s p l x refl) ∙ q in (
+        (λ i. (x .0, x .1, sym (memory-own s k (x .2)) i)) ∙ ap (λ (z : Option Event × ℕ × Memories). (z .0, z .1, memoryAt (z .2) k)) y,
+        subst (λ (z : Option Event × ℕ × Memories). Live (z .2)) y (live-own s p l),
       )
 
-  pub reads-own : {s t : Boards} {p : List ℕ} {xs : List Event} → Live s → Reads (callOn k) s p xs t
-      → Reads hearCall (boardAt s k) p xs (boardAt t k) × Live t
+  pub reads-own : {s t : Memories} {p : List ℕ} {xs : List Event} → Live s → Reads (callOn k) s p xs t
+      → Reads hearCall (memoryAt s k) p xs (memoryAt t k) × Live t
   reads-own {s} {p = p} l (more a q) = let c = own-call s p l q in (more a (c .0), c .1)
   reads-own {s} {p = p} l (answer a q r) = let c = own-call s p l q in let d = reads-own (c .1) r in (answer a (c .0) (d .0), d .1)
 
@@ -231,8 +231,8 @@ module _ (k : ℕ) where
       ap (λ t. pick t (x ∷ ofOne k (map (λ x. (k, x)) xs ++ ys)) (ofOne k (map (λ x. (k, x)) xs ++ ys))) (eq-eqb k k refl) ∙ ap (λ l. x ∷ l) (of-own xs ys)
 
   -- whatever is scheduled over the four: the answers with this number, and the final state and buffers, are those of its own pieces alone
-  pub alone : {s t : Boards} {ps : List (ℕ × List ℕ)} {es : List (ℕ × Event)} → Live s → Scheduled s ps es t
-      → ReadsAll hearCall (boardAt s k) (ofOne k ps) (ofOne k es) (boardAt t k)
+  pub alone : {s t : Memories} {ps : List (ℕ × List ℕ)} {es : List (ℕ × Event)} → Live s → Scheduled s ps es t
+      → ReadsAll hearCall (memoryAt s k) (ofOne k ps) (ofOne k es) (memoryAt t k)
   alone l first = done
   alone {s} {t} l (next {t = m} {n = n} {p = p} {ps = ps} {xs = xs} {ys = ys} r rs) =
       by-eq n k
@@ -241,25 +241,25 @@ module _ (k : ℕ) where
       let d = alone (c .1) rs in
       let a : ofOne k ((n, p) ∷ ps) ≡ p ∷ ofOne k ps = ap (λ t. pick t (p ∷ ofOne k ps) (ofOne k ps)) (eq-eqb n k e) in
       let b : ofOne k (map (λ x. (n, x)) xs ++ ys) ≡ xs ++ ofOne k ys = ap (λ j. ofOne k (map (λ x. (j, x)) xs ++ ys)) e ∙ of-own xs ys in
-      subst (λ z. ReadsAll hearCall (boardAt s k) z (ofOne k (map (λ x. (n, x)) xs ++ ys)) (boardAt t k)) (sym a)
-      (subst (λ z. ReadsAll hearCall (boardAt s k) (p ∷ ofOne k ps) z (boardAt t k)) (sym b) (piece (c .0) d)))
+      subst (λ z. ReadsAll hearCall (memoryAt s k) z (ofOne k (map (λ x. (n, x)) xs ++ ys)) (memoryAt t k)) (sym a)
+      (subst (λ z. ReadsAll hearCall (memoryAt s k) (p ∷ ofOne k ps) z (memoryAt t k)) (sym b) (piece (c .0) d)))
       (λ e.
       let c = reads-other n e l r in
       let d = alone (c .1) rs in
       let a : ofOne k ((n, p) ∷ ps) ≡ ofOne k ps = ap (λ t. pick t (p ∷ ofOne k ps) (ofOne k ps)) (ne-eqb n k e) in
       let b : ofOne k (map (λ x. (n, x)) xs ++ ys) ≡ ofOne k ys = of-other n e xs ys in
-      subst (λ z. ReadsAll hearCall (boardAt s k) z (ofOne k (map (λ x. (n, x)) xs ++ ys)) (boardAt t k)) (sym a)
-      (subst (λ z. ReadsAll hearCall (boardAt s k) (ofOne k ps) z (boardAt t k)) (sym b)
-      (subst (λ z. ReadsAll hearCall z (ofOne k ps) (ofOne k ys) (boardAt t k)) (c .0) d)))
+      subst (λ z. ReadsAll hearCall (memoryAt s k) z (ofOne k (map (λ x. (n, x)) xs ++ ys)) (memoryAt t k)) (sym a)
+      (subst (λ z. ReadsAll hearCall (memoryAt s k) (ofOne k ps) z (memoryAt t k)) (sym b)
+      (subst (λ z. ReadsAll hearCall z (ofOne k ps) (ofOne k ys) (memoryAt t k)) (c .0) d)))
 
 -- with two lent buffers that pass 11, of a sub-channel that was just told its settings: those of its own bytes, put together
-pub alone-means : (k r d : ℕ) → r ≤ rootLimit → d ≤ depthLimit → {s t : Boards} {ps : List (ℕ × List ℕ)} {es : List (ℕ × Event)} → Live k s
+pub alone-means : (k r d : ℕ) → r ≤ rootLimit → d ≤ depthLimit → {s t : Memories} {ps : List (ℕ × List ℕ)} {es : List (ℕ × Event)} → Live k s
     → get (s .st) k ≡ toldSub r d
     → rawLimit ≤ length (s .recv k) → wordBytes ≤ length (s .word k) → Scheduled s ps es t
-    → (ofOne k es ≡ answers r d (joined (ofOne k ps))) × (inUse (boardAt t k) ≡ inUse (boardOf r d (hears r d start (joined (ofOne k ps)) .1) [] []))
+    → (ofOne k es ≡ answers r d (joined (ofOne k ps))) × (inUse (memoryAt t k) ≡ inUse (memoryOf r d (hears r d start (joined (ofOne k ps)) .1) [] []))
 alone-means k r d hr hd {s} {t} {ps} {es} l e a b c =
-    every-cut r d hr hd (joined (ofOne k ps)) (s .recv k) (s .word k) a b (ofOne k ps) refl .always (ofOne k es) (boardAt t k)
-    (subst (λ x. ReadsAll hearCall (board x (s .recv k) (s .word k)) (ofOne k ps) (ofOne k es) (boardAt t k)) e (alone k l c))
+    every-cut r d hr hd (joined (ofOne k ps)) (s .recv k) (s .word k) a b (ofOne k ps) refl .always (ofOne k es) (memoryAt t k)
+    (subst (λ x. ReadsAll hearCall (memory x (s .recv k) (s .word k)) (ofOne k ps) (ofOne k es) (memoryAt t k)) e (alone k l c))
 
 -- a call by any number leaves the sub-channels of the other numbers, whatever it answers
 pub hear-others : (s : Receiver) (n k : ℕ) (recv word bs : List ℕ) → k ≤ 3 → n ≢ k → get (hearFour s n recv word bs .2) k ≡ get s k
@@ -268,7 +268,7 @@ hear-others s n k recv word bs i e = go (soundFour s) (known s n) refl
     go : (a b : Bool) → known s n ≡ b → get (heardBy a b s n recv word bs .2) k ≡ get s k
     go false b q = refl
     go true false q = refl
-    go true true q = got-other s n k (hearCall (board (get s n) recv word) bs .2 .st) (within k s n q .0) i e
+    go true true q = got-other s n k (hearCall (memory (get s n) recv word) bs .2 .st) (within k s n q .0) i e
 
 -- configuring one sub-channel leaves the others
 pub configure-others : (s : Receiver) (n k r d : ℕ) → n ≤ 3 → k ≤ 3 → n ≢ k → get (configuring s n r d .1) k ≡ get s k
@@ -311,19 +311,19 @@ configure-own s n r d = go (soundFour s) (ltb 3 n) (ltb rootLimit r) (ltb depthL
         )
 
 -- .. so that what it then hears means what it means to one just told
-pub told-means : (k r d : ℕ) (s : Boards) → configuring (s .st) k r d .0 ≡ Told → rawLimit ≤ length (s .recv k) → wordBytes ≤ length (s .word k)
-    → {t : Boards} {ps : List (ℕ × List ℕ)} {es : List (ℕ × Event)}
+pub told-means : (k r d : ℕ) (s : Memories) → configuring (s .st) k r d .0 ≡ Told → rawLimit ≤ length (s .recv k) → wordBytes ≤ length (s .word k)
+    → {t : Memories} {ps : List (ℕ × List ℕ)} {es : List (ℕ × Event)}
     → Scheduled (record { st = configuring (s .st) k r d .1; recv = s .recv; word = s .word }) ps es t
-    → (ofOne k es ≡ answers r d (joined (ofOne k ps))) × (inUse (boardAt t k) ≡ inUse (boardOf r d (hears r d start (joined (ofOne k ps)) .1) [] []))
+    → (ofOne k es ≡ answers r d (joined (ofOne k ps))) × (inUse (memoryAt t k) ≡ inUse (memoryOf r d (hears r d start (joined (ofOne k ps)) .1) [] []))
 told-means k r d s e a b c = let o = configure-own (s .st) k r d e in alone-means k r d (o .0) (o .1) (o .2, o .3) (o .4) a b c
 
 -- .. it is configured then, in a state that passes 10 ..
-pub told-live : (k r d : ℕ) (s : Boards) → configuring (s .st) k r d .0 ≡ Told
+pub told-live : (k r d : ℕ) (s : Memories) → configuring (s .st) k r d .0 ≡ Told
     → Live k (record { st = configuring (s .st) k r d .1; recv = s .recv; word = s .word })
 told-live k r d s e = let o = configure-own (s .st) k r d e in (o .2, o .3)
 
 -- .. and so it is while another is told, or is refused that
-pub live-kept : (k n r d : ℕ) (s : Boards) → n ≢ k → Live k s → Live k (record { st = configuring (s .st) n r d .1; recv = s .recv; word = s .word })
+pub live-kept : (k n r d : ℕ) (s : Memories) → n ≢ k → Live k s → Live k (record { st = configuring (s .st) n r d .1; recv = s .recv; word = s .word })
 live-kept k n r d s e l = go (s .st) l (soundFour (s .st)) (ltb 3 n) (ltb rootLimit r) (ltb depthLimit d) refl refl refl
   where
     go : (t : Receiver) → (soundFour t ≡ true) × (known t k ≡ true) → (a b c f : Bool) → ltb 3 n ≡ b → ltb rootLimit r ≡ c → ltb depthLimit d ≡ f →

@@ -13,7 +13,7 @@ use Rattle.parity.specs.Calls.{rootLimit}
 use Rattle.interleaver_spec.specs.Running.{depthLimit}
 use Rattle.subchannel.specs.declared.sub.Sub.{Sub}
 use Rattle.subchannel.specs.declared.sub.Hearing as fixed
-use Rattle.subchannel.specs.Call.{Board, board, toldSub, hearCall, HearingIs}
+use Rattle.subchannel.specs.Call.{Memory, memory, toldSub, hearCall, HearingIs}
 use Rattle.channel_spec.specs.declared.Answer.the-variants.{Said}
 use Rattle.packet_spec.specs.declared.Judged.the-variants as judge
 use Rattle.four_receivers.specs.declared.Receiver.{Receiver}
@@ -21,7 +21,7 @@ use Rattle.four_receivers.specs.declared.Configuring.{Configuring}
 use Rattle.four_receivers.specs.declared.Hearing.{Hearing}
 use Rattle.subchannel_spec.specs.declared.Configured.the-variants.{Told, Refused}
 use Rattle.four_receivers.specs.Call.{get, put, soundFour, known, configuring, configuringOf, heardBy, hearFour, FourIs}
-use Rattle.four_receivers.specs.Call.{Boards, boardAt, callBy, callOn}
+use Rattle.four_receivers.specs.Call.{Memories, memoryAt, callBy, callOn}
 
 pub put-at : (s : Receiver) (x : Sub) {n k : ℕ} → n ≡ k → put s k x ≡ put s n x
 put-at s x e = ap (λ n. put s n x) (sym e)
@@ -74,10 +74,10 @@ module _ (s : Receiver) (n : ℕ) (l w bs : List ℕ) where
     hear-unknown {r} f p = subst (λ x. FourIs x r l w) (λ i. heardBy (sym e i) (sym f i) s n l w bs) (p, refl, refl)
 
     pub hear-known : {x : Sub} {h : fixed.Hearing} {t : Receiver} {l′ w′ : List ℕ} → known s n ≡ true → x ≡ get s n
-        → HearingIs (hearCall (board x l w) bs) h l′ w′ → t ≡ put s n (h .sub)
+        → HearingIs (hearCall (memory x l w) bs) h l′ w′ → t ≡ put s n (h .sub)
         → FourIs (hearFour s n l w bs) (record { answer = h .answer; taken = h .taken; receiver = t }) l′ w′
     hear-known {x} {h} {t} {l′} {w′} f g q p =
-        let z : HearingIs (hearCall (board (get s n) l w) bs) h l′ w′ = subst (λ y. HearingIs (hearCall (board y l w) bs) h l′ w′) g q in
+        let z : HearingIs (hearCall (memory (get s n) l w) bs) h l′ w′ = subst (λ y. HearingIs (hearCall (memory y l w) bs) h l′ w′) g q in
         subst (λ y. FourIs y (record { answer = h .answer; taken = h .taken; receiver = t }) l′ w′) (λ i. heardBy (sym e i) (sym f i) s n l w bs) (
           (λ i. record { answer = z .0 i .answer; taken = z .0 i .taken; receiver = (p ∙ ap (λ (y : fixed.Hearing). put s n (y .sub)) (z .0)) i }),
           z .1,
@@ -85,7 +85,7 @@ module _ (s : Receiver) (n : ℕ) (l w bs : List ℕ) where
         )
 
 -- a call on sub-channel n among the boards is the call that the code makes, with that sub-channel's buffers: answer, bytes taken, state
-pub call-is : (n : ℕ) (s : Boards) (bs : List ℕ) →
+pub call-is : (n : ℕ) (s : Memories) (bs : List ℕ) →
     let x = hearFour (s .st) n (s .recv n) (s .word n) bs in
     let y = callOn n s bs in
     (y .0 ≡ x .0) × (y .1 ≡ x .1) × (y .2 .st ≡ x .2) × (y .2 .recv n ≡ x .3) × (y .2 .word n ≡ x .4)
@@ -98,5 +98,5 @@ call-is n s bs = go (soundFour (s .st)) (known (s .st) n)
     go false b = (refl, refl, refl, refl, refl)
     go true false = (refl, refl, refl, refl, refl)
     go true true =
-        let c : Board = hearCall (boardAt s n) bs .2 in
+        let c : Memory = hearCall (memoryAt s n) bs .2 in
         (refl, refl, refl, ap (λ t. pick t (c .recv) (s .recv n)) (eq-eqb n n refl), ap (λ t. pick t (c .word) (s .word n)) (eq-eqb n n refl))

@@ -2,7 +2,7 @@
 -- get, put                  a sub-channel of the receiver, by its number
 -- soundFour, known          what 10 and 42 ask
 -- configuring, hearFour     what the two calls answer and leave
--- Boards, callOn            the receiver with each sub-channel's two buffers, and a call on one of them
+-- Memories, callOn          the receiver with each sub-channel's two buffers, and a call on one of them
 -- Scheduled                 pieces, each with its sub-channel's number, handed in until "more wanted"
 -- ofOne                     those of one sub-channel
 use Prim.Native.Nat.{ℕ, zero, suc}
@@ -20,7 +20,7 @@ use Rattle.stream.specs.Call.{fresh}
 use Rattle.channel_spec.specs.Meaning.{Event, said, zeros}
 use Rattle.channel_spec.specs.Answer.{answered}
 use Rattle.subchannel.specs.declared.sub.Sub.{Sub}
-use Rattle.subchannel.specs.Call.{Board, board, sub, lane, counts, toldSub, sound, hearCall}
+use Rattle.subchannel.specs.Call.{Memory, memory, sub, lane, counts, toldSub, sound, hearCall}
 use Rattle.subchannel_spec.specs.Settings.{settings}
 use Rattle.four_receivers.specs.declared.Receiver.{Receiver}
 use Rattle.subchannel_spec.specs.declared.Configured.{Configured}
@@ -65,17 +65,17 @@ configuring s n r d =
     (Refused 10, s)
 
 -- the receiver with each sub-channel's receive buffer and word buffer, by number
-pub record Boards : Type 0 where
+pub record Memories : Type 0 where
   pub st : Receiver
   pub recv : ℕ → List ℕ
   pub word : ℕ → List ℕ
 
 -- sub-channel n, with its buffers
-abbrev pub boardAt : Boards → ℕ → Board
-boardAt s n = board (get (s .st) n) (s .recv n) (s .word n)
+abbrev pub memoryAt : Memories → ℕ → Memory
+memoryAt s n = memory (get (s .st) n) (s .recv n) (s .word n)
 
 -- .. exchanged for c
-abbrev pub exchanged : Boards → ℕ → Board → Boards
+abbrev pub exchanged : Memories → ℕ → Memory → Memories
 exchanged s n c = record {
   st = put (s .st) n (c .st);
   recv = λ k. pick (eqb k n) (c .recv) (s .recv k);
@@ -83,19 +83,19 @@ exchanged s n c = record {
 }
 
 -- by: does it pass 10, does it pass 42. Then 11, as for one sub-channel
-abbrev pub callBy : Bool → Bool → ℕ → Boards → List ℕ → Option Event × ℕ × Boards
+abbrev pub callBy : Bool → Bool → ℕ → Memories → List ℕ → Option Event × ℕ × Memories
 callBy false t n s bs = (some (said (refusal 10)), 0, s)
 callBy true false n s bs = (some (said (refusal 42)), 0, s)
-callBy true true n s bs = let x : Option Event × ℕ × Board = hearCall (boardAt s n) bs in (x .0, x .1, exchanged s n (x .2))
+callBy true true n s bs = let x : Option Event × ℕ × Memory = hearCall (memoryAt s n) bs in (x .0, x .1, exchanged s n (x .2))
 
 -- one call on sub-channel n: 10, 42, 11
-abbrev pub callOn : ℕ → Boards → List ℕ → Option Event × ℕ × Boards
+abbrev pub callOn : ℕ → Memories → List ℕ → Option Event × ℕ × Memories
 callOn n s bs = callBy (soundFour (s .st)) (known (s .st) n) n s bs
 
 -- pieces, each with its sub-channel's number, each handed in until "more wanted": answers, each with that number, and what is behind them
-pub data Scheduled : Boards → List (ℕ × List ℕ) → List (ℕ × Event) → Boards → Type 0 where
-  done : {s : Boards} → Scheduled s [] [] s
-  next : {s t u : Boards} {n : ℕ} {p : List ℕ} {ps : List (ℕ × List ℕ)} {xs : List Event} {ys : List (ℕ × Event)}
+pub data Scheduled : Memories → List (ℕ × List ℕ) → List (ℕ × Event) → Memories → Type 0 where
+  done : {s : Memories} → Scheduled s [] [] s
+  next : {s t u : Memories} {n : ℕ} {p : List ℕ} {ps : List (ℕ × List ℕ)} {xs : List Event} {ys : List (ℕ × Event)}
       → Reads (callOn n) s p xs t → Scheduled t ps ys u → Scheduled s ((n, p) ∷ ps) (map (λ x. (n, x)) xs ++ ys) u
 
 -- those of sub-channel k
@@ -112,7 +112,7 @@ abbrev pub heardBy : Bool → Bool → Receiver → ℕ → List ℕ → List �
 heardBy false t s n recv word bs = (some (said (refusal 10)), 0, s, recv, word)
 heardBy true false s n recv word bs = (some (said (refusal 42)), 0, s, recv, word)
 heardBy true true s n recv word bs =
-    let x : Option Event × ℕ × Board = hearCall (board (get s n) recv word) bs in (x .0, x .1, put s n (x .2 .st), x .2 .recv, x .2 .word)
+    let x : Option Event × ℕ × Memory = hearCall (memory (get s n) recv word) bs in (x .0, x .1, put s n (x .2 .st), x .2 .recv, x .2 .word)
 
 -- the call that is made on sub-channel n: 10, 42, 11
 abbrev pub hearFour : Receiver → ℕ → List ℕ → List ℕ → List ℕ → Option Event × ℕ × Receiver × List ℕ × List ℕ

@@ -93,7 +93,7 @@ print-did (suc f) n m t bs =
     go false d = d
 
 pub takes-did : (n : ℕ) (m : Deck) (t : Totals) (bs : List ℕ) → Did t bs (deckAll m bs) (takes m t n bs)
-takes-did n m t bs = go (sound (m .ear .board .st)) (near (m .spot) t (length bs) n) (roomy (m .ear .board .recv) (m .ear .board .word))
+takes-did n m t bs = go (sound (m .ear .memory .st)) (near (m .spot) t (length bs) n) (roomy (m .ear .memory .recv) (m .ear .memory .word))
   where
     go : (a b c : Bool) → Did t bs (deckAll m bs) (takesBy a b c m t n bs)
     go false b c = none-did t bs m (Refused 10) refl

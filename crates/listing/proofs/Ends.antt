@@ -20,7 +20,7 @@ use Rattle.base.proofs.Writing.{write-fits}
 use Rattle.packet_spec.specs.Contents.{rawLimit}
 use Rattle.channel_spec.specs.Sender.{messageBytes, wordBytes}
 use Rattle.channel_spec.specs.Meaning.{Event}
-use Rattle.channel.specs.Call.{Board, board, freshReceiver, owedBy}
+use Rattle.channel.specs.Call.{Memory, memory, freshReceiver, owedBy}
 use Rattle.channel_spec.specs.declared.Answer.{Answer}
 use Rattle.channel.proofs.Fine.{fine-is, fine-roomy, fine-fresh}
 use Rattle.listing_spec.specs.declared.Place.{Place}
@@ -54,13 +54,13 @@ owes-by true true h = omega arith
 owes-by true false h = omega arith
 owes-by false t h = omega arith
 
-ear-by : (t : Bool) (c : Board) → owesBy t c ≤ messageBytes
+ear-by : (t : Bool) (c : Memory) → owesBy t c ≤ messageBytes
 ear-by true c = owes-by (c .st .locked) (eqb (c .st .lock .word) wordBytes) (c .st .lock .handed)
 ear-by false c = omega arith
 
 few-owed : (d : Ear) → earOwes d ≤ messageBytes
 unfolding earOwes
-few-owed d = ear-by (d .channel) (d .board)
+few-owed d = ear-by (d .channel) (d .memory)
 
 tell-few : (o : Option Event) (r : List Event × Ear) (n : ℕ) → length (r .0) ≤ n → length (tell o r .0) ≤ suc n
 tell-few none r n h = omega arith
@@ -123,9 +123,9 @@ module _ (recv word : List ℕ) (recv-room : rawLimit ≤ length recv) (word-roo
       go e = rw e (omega arith)
   answers-few (b ∷ bs) =
       let q : List ℕ × Spot = apart (next freshSpot b) bs in
-      let d : Ear = ear (eqb b 0x4F) (board freshReceiver recv word) in
+      let d : Ear = ear (eqb b 0x4F) (memory freshReceiver recv word) in
       let s : length (q .0) ≤ most = omega (arith, apart-count bs (next freshSpot b), apart-most bs (next freshSpot b) (most-at Mode freshSpot b (omega arith))) in
-      let e = ap (λ (x : List Event × Deck). length (x .0)) (means-start b bs (ear false (board freshReceiver recv word)) (fresh-owes recv word recv-room word-room false)) in
+      let e = ap (λ (x : List Event × Deck). length (x .0)) (means-start b bs (ear false (memory freshReceiver recv word)) (fresh-owes recv word recv-room word-room false)) in
       omega (arith, e, all-few (q .0) d, fresh-owes recv word recv-room word-room (eqb b 0x4F), s)
 
 -- ---- what a call keeps
@@ -220,7 +220,7 @@ safe-takes m t bs n k a s h =
       damaged = under _ a n (s .damaged) h;
       lost = under _ a n (s .lost) h;
     } in
-    λ j. takesBy (fine-is (m .ear .board) (s .fine) j) (near-is (m .spot) t (length bs) n i j) (fine-roomy (m .ear .board) (s .fine) j) m t n bs
+    λ j. takesBy (fine-is (m .ear .memory) (s .fine) j) (near-is (m .spot) t (length bs) n i j) (fine-roomy (m .ear .memory) (s .fine) j) m t n bs
 
 -- answers counted: no total grows by more than their number
 record Grown (t u : Totals) (n : ℕ) : Type 0 where

@@ -19,7 +19,7 @@ use Rattle.base.proofs.Writing.{write-is}
 use Rattle.packet_spec.specs.Contents.{rawLimit}
 use Rattle.channel_spec.specs.Sender.{wordBytes}
 use Rattle.channel_spec.specs.Meaning.{Event}
-use Rattle.channel.specs.Call.{board, freshReceiver}
+use Rattle.channel.specs.Call.{memory, freshReceiver}
 use Rattle.listing_spec.specs.declared.Place.{Place}
 use Rattle.listing_spec.specs.declared.Place.the-variants.{Mode, Mark, Second, Low, High, Inside, Wrong}
 use Rattle.listing_spec.specs.declared.Spot.{Spot}
@@ -134,10 +134,10 @@ module _ (recv word : List ℕ) (recv-room : rawLimit ≤ length recv) (word-roo
       none-heard e = rw e refl
   listing-shown (b ∷ bs) =
       let q : List ℕ × Spot = apart (next freshSpot b) bs in
-      let x : List Event × Ear = earAll (ear (eqb b 0x4F) (board freshReceiver recv word)) (q .0) in
+      let x : List Event × Ear = earAll (ear (eqb b 0x4F) (memory freshReceiver recv word)) (q .0) in
       let h : x .0 ≡ heard (eqb b 0x4F) (q .0) = heard-all (eqb b 0x4F) recv word (q .0) recv-room word-room in
       let c : q .1 .count ≡ length (q .0) = omega (arith, apart-count bs (next freshSpot b), count-at Mode freshSpot b) in
-      ap shown (means-start b bs (ear false (board freshReceiver recv word)) (fresh-owes recv word recv-room word-room false))
+      ap shown (means-start b bs (ear false (memory freshReceiver recv word)) (fresh-owes recv word recv-room word-room false))
       ∙ ap (λ (l : List ℕ). lines (x .0) ++ l) (last-same (deck (q .1) (x .1)) (length (q .0)) (x .0) c)
       ∙ ap (λ (es : List Event). lines es ++ lastLine (q .1) (length (q .0)) es) h
 

@@ -97,7 +97,7 @@ takesBy true true true m t room bs = print room room m t bs
 -- one call
 abbrev pub takes : Deck → Totals → ℕ → List ℕ → Printed
 takes m t room bs =
-    takesBy (sound (m .ear .board .st)) (near (m .spot) t (length bs) room) (roomy (m .ear .board .recv) (m .ear .board .word)) m t room bs
+    takesBy (sound (m .ear .memory .st)) (near (m .spot) t (length bs) room) (roomy (m .ear .memory .recv) (m .ear .memory .word)) m t room bs
 
 -- the code's state of a deck and totals
 abbrev pub recorded : Deck → Totals → Recording
@@ -110,7 +110,7 @@ tookOf x = record { wants = x .wants; taken = x .taken; written = length (x .tex
 -- r is the result of a call, l and k the receiver's buffers and out the output then, which held old before
 abbrev pub TookIs : Printed → Took → List ℕ → List ℕ → List ℕ → List ℕ → Type 0
 TookIs x r l k old out =
-    (r ≡ tookOf x) × (l ≡ x .deck .ear .board .recv) × (k ≡ x .deck .ear .board .word) × (out ≡ x .text ++ drop (length (x .text)) old)
+    (r ≡ tookOf x) × (l ≡ x .deck .ear .memory .recv) × (k ≡ x .deck .ear .memory .word) × (out ≡ x .text ++ drop (length (x .text)) old)
 
 -- the last line: `E` or `X`, by: may the recording end here
 abbrev pub lastBy : Bool → Recording → List ℕ

@@ -57,7 +57,7 @@ by-tests true true true m t room bs = print-within room room m t bs
 
 pub took-within : (m : Deck) (t : Totals) (room : ℕ) (bs : List ℕ) → takes m t room bs .taken ≤ length bs
 took-within m t room bs =
-    by-tests (sound (m .ear .board .st)) (near (m .spot) t (length bs) room) (roomy (m .ear .board .recv) (m .ear .board .word)) m t room bs
+    by-tests (sound (m .ear .memory .st)) (near (m .spot) t (length bs) room) (roomy (m .ear .memory .recv) (m .ear .memory .word)) m t room bs
 
 -- a call's result, and the output then
 pub call-within : (m : Deck) (t : Totals) (bs old : List ℕ) {r : Took} {l k out : List ℕ}

@@ -36,7 +36,7 @@ next-within m bs h =
     omega (
       arith,
       ap (λ (x : Heard). x .taken) (h .0),
-      by-tests (sound (m .ear .board .st)) (nearSpot (m .spot) (length bs)) (roomy (m .ear .board .recv) (m .ear .board .word)) m bs,
+      by-tests (sound (m .ear .memory .st)) (nearSpot (m .spot) (length bs)) (roomy (m .ear .memory .recv) (m .ear .memory .word)) m bs,
     )
 
 abbrev number : Written → ℕ

@@ -134,11 +134,11 @@ module _ (s recv bs : List ℕ) {f : Frame} (k : f ≡ frameOf s) {r : Read} {l 
 
 -- ---- the channel: g is the receiver, w the word buffer
 module _ (s recv word bs : List ℕ) {g : Receiver} (k : g ≡ receiverOf s) {r : Hearing} {l w : List ℕ} {t : Told}
-    (p : channel.HearingIs (channel.hearCall (channel.board g recv word) bs) r l w) (e : t ≡ ofAnswer (r .answer)) where
-  q′ : channel.HearingIs (channel.hearCall (channel.board (receiverOf s) recv word) bs) r l w
-  q′ = subst (λ (g : Receiver). channel.HearingIs (channel.hearCall (channel.board g recv word) bs) r l w) k p
+    (p : channel.HearingIs (channel.hearCall (channel.memory g recv word) bs) r l w) (e : t ≡ ofAnswer (r .answer)) where
+  q′ : channel.HearingIs (channel.hearCall (channel.memory (receiverOf s) recv word) bs) r l w
+  q′ = subst (λ (g : Receiver). channel.HearingIs (channel.hearCall (channel.memory g recv word) bs) r l w) k p
 
-  meant′ : t ≡ ofAnswer (answered (channel.hearCall (channel.board (receiverOf s) recv word) bs .0))
+  meant′ : t ≡ ofAnswer (answered (channel.hearCall (channel.memory (receiverOf s) recv word) bs .0))
   meant′ = e ∙ ap (λ (r : Hearing). ofAnswer (r .answer)) (q′ .0)
 
   pub heard-kept : ofCall (t .number) ≡ true → (t .number, s, l, w) ≡ hearing s recv word bs

@@ -8,7 +8,7 @@ use Rattle.base.specs.Choice.{pick}
 use Rattle.packet_spec.specs.Frame as frame
 use Rattle.stream.specs.Call as plain
 use Rattle.channel_spec.specs.Meaning.{Event}
-use Rattle.channel.specs.Call.{Board, board, hearCall}
+use Rattle.channel.specs.Call.{Memory, memory, hearCall}
 use Rattle.channel_spec.specs.Answer.{answered}
 use Rattle.rack.specs.declared.told.Told.{Told}
 use Rattle.rack.specs.Told.{ofHeard, ofAnswer, ofCall, frameOf, receiverOf, streamNumbers, channelNumbers}
@@ -28,11 +28,11 @@ abbrev pub reading : List ℕ → List ℕ → List ℕ → ℕ × List ℕ × L
 reading s recv bs = readBy s (plain.readCall (plain.held (frameOf s) recv) bs)
 
 -- by what the receiver makes of the call
-abbrev pub heardBy : List ℕ → Option Event × ℕ × Board → ℕ × List ℕ × List ℕ × List ℕ
+abbrev pub heardBy : List ℕ → Option Event × ℕ × Memory → ℕ × List ℕ × List ℕ × List ℕ
 heardBy s x =
     let t : Told = ofAnswer (answered (x .0)) in
     (t .number, left (t .number) s (channelNumbers (x .1) t (x .2 .st)), x .2 .recv, x .2 .word)
 
 -- of the state's numbers, the receive buffer, the word buffer and a piece: the answer's number, and what the first three then hold
 abbrev pub hearing : List ℕ → List ℕ → List ℕ → List ℕ → ℕ × List ℕ × List ℕ × List ℕ
-hearing s recv word bs = heardBy s (hearCall (board (receiverOf s) recv word) bs)
+hearing s recv word bs = heardBy s (hearCall (memory (receiverOf s) recv word) bs)

@@ -26,7 +26,7 @@ use Rattle.stream.specs.declared.frame.Heard.the-variants.{More as NoMore, Said
 use Rattle.stream.proofs.Fine.{fine-of as frame-fine}
 use Rattle.stream.proofs.Cutting.{read-agrees}
 use Rattle.channel_spec.specs.Meaning.{said}
-use Rattle.channel.specs.Call.{Board, board, heldIn, owed, handOn, eatByte, asEvent, hearAll, hearOn, hearCall, HearingIs, sound, roomy}
+use Rattle.channel.specs.Call.{Memory, memory, heldIn, owed, handOn, eatByte, asEvent, hearAll, hearOn, hearCall, HearingIs, sound, roomy}
 use Rattle.channel_spec.specs.Answer.{answered}
 use Rattle.channel.specs.declared.receiver.Receiver.{Receiver}
 use Rattle.channel.specs.declared.answer.Hearing.{Hearing}
@@ -38,45 +38,45 @@ use Rattle.recording.specs.Deck.{Ear, ear, withHeld, owesBy, earOwes, ea
 use Rattle.recording.specs.Private.{earHear, EarIs, PlainIs}
 
 -- a move that is owed leaves one less
-hand-one-by : (t : Bool) (c : Board) (n : ℕ) → owesBy t c ≡ suc n → owesBy t (handOn c .1) ≡ n
+hand-one-by : (t : Bool) (c : Memory) (n : ℕ) → owesBy t c ≡ suc n → owesBy t (handOn c .1) ≡ n
 hand-one-by true c n e = hand-one c n e
 hand-one-by false c n e = absurd (omega arith)
 
 pub ear-hand-one : (d : Ear) (n : ℕ) → earOwes d ≡ suc n → earOwes (earHand d .1) ≡ n
 unfolding earOwes earHand
-ear-hand-one d n e = hand-one-by (d .channel) (d .board) n e
+ear-hand-one d n e = hand-one-by (d .channel) (d .memory) n e
 
 pub deck-hand-one : (m : Deck) (n : ℕ) → deckOwes m ≡ suc n → deckOwes (deckHand m .1) ≡ n
 deck-hand-one m n e = ear-hand-one (m .ear) n e
 
 -- ---- the opportunistic channel
-abbrev onChannel : Board → Ear
+abbrev onChannel : Memory → Ear
 onChannel c = ear true c
 
-channel-pend : (c : Board) → earOwes (onChannel c) ≡ owed c
+channel-pend : (c : Memory) → earOwes (onChannel c) ≡ owed c
 unfolding earOwes
 channel-pend c = refl
 
-channel-hand : (c : Board) (n : ℕ) → owed c ≡ suc n → earHand (onChannel c) ≡ (handOn c .0, onChannel (handOn c .1))
+channel-hand : (c : Memory) (n : ℕ) → owed c ≡ suc n → earHand (onChannel c) ≡ (handOn c .0, onChannel (handOn c .1))
 unfolding earHand
 channel-hand c n e = refl
 
-channel-eat : (c : Board) (b : ℕ) → earEat (onChannel c) b ≡ (eatByte c b .0, onChannel (eatByte c b .1))
+channel-eat : (c : Memory) (b : ℕ) → earEat (onChannel c) b ≡ (eatByte c b .0, onChannel (eatByte c b .1))
 unfolding earEat
 channel-eat c b = refl
 
-pub channel-hear : (c : Board) (bs : List ℕ) → earHear (ear true c) bs ≡ (hearOn c bs .0, hearOn c bs .1, ear true (hearOn c bs .2))
+pub channel-hear : (c : Memory) (bs : List ℕ) → earHear (ear true c) bs ≡ (hearOn c bs .0, hearOn c bs .1, ear true (hearOn c bs .2))
 channel-hear c bs =
     hear-seen owed handOn eatByte hand-one earOwes earHand earEat ear-hand-one onChannel (λ a. a) (λ o. o) (λ l. l) refl (λ a. refl) refl (λ a xs. refl)
     channel-pend channel-hand channel-eat c bs
 
-pub channel-all : (c : Board) (bs : List ℕ) → all earOwes earHand earEat (ear true c) bs ≡ (hearAll c bs .0, ear true (hearAll c bs .1))
+pub channel-all : (c : Memory) (bs : List ℕ) → all earOwes earHand earEat (ear true c) bs ≡ (hearAll c bs .0, ear true (hearAll c bs .1))
 channel-all c bs =
     all-seen owed handOn eatByte hand-one earOwes earHand earEat ear-hand-one onChannel (λ a. a) (λ o. o) (λ l. l) refl (λ a. refl) refl (λ a xs. refl)
     channel-pend channel-hand channel-eat c bs
 
 -- ---- a plain stream
-module _ (c : Board) where
+module _ (c : Memory) where
   abbrev plain : Held → Ear
   plain h = ear false (withHeld c h)
 
@@ -104,23 +104,23 @@ module _ (c : Board) where
       plain-pend plain-hand plain-eat (heldIn c) bs
 
 -- ---- as the code hears it
-pub listen-channel : (c : Board) (bs : List ℕ) {r : Hearing} {l k : List ℕ} → sound (c .st) ≡ true → roomy (c .recv) (c .word) ≡ true
+pub listen-channel : (c : Memory) (bs : List ℕ) {r : Hearing} {l k : List ℕ} → sound (c .st) ≡ true → roomy (c .recv) (c .word) ≡ true
     → HearingIs (hearCall c bs) r l k → EarIs true (earHear (ear true c) bs) r l k
 listen-channel c bs {r} {l} {k} s q h =
     let j : HearingIs (hearOn c bs) r l k = subst (λ x. HearingIs x r l k) (hear-agrees c bs (fine-of c s q)) h in
     subst (λ x. EarIs true x r l k) (sym (channel-hear c bs)) (
       ap (λ x. x .answer) (j .0),
-      λ i. (hearOn c bs .0, sym (j .0) i .taken, ear true (board (sym (j .0) i .receiver) (sym (j .1) i) (sym (j .2) i))),
+      λ i. (hearOn c bs .0, sym (j .0) i .taken, ear true (memory (sym (j .0) i .receiver) (sym (j .1) i) (sym (j .2) i))),
     )
 
 -- the same, by: is it the channel
-pub listen-on : (t : Bool) (c : Board) (bs : List ℕ) {r : Hearing} {l k : List ℕ} → t ≡ true → sound (c .st) ≡ true → roomy (c .recv) (c .word) ≡ true
+pub listen-on : (t : Bool) (c : Memory) (bs : List ℕ) {r : Hearing} {l k : List ℕ} → t ≡ true → sound (c .st) ≡ true → roomy (c .recv) (c .word) ≡ true
     → HearingIs (hearCall c bs) r l k → EarIs t (earHear (ear t c) bs) r l k
 listen-on t c bs {r} {l} {k} e s q h = subst (λ (u : Bool). EarIs u (earHear (ear u c) bs) r l k) (sym e) (listen-channel c bs s q h)
 
 pub listen-off : (t : Bool) (s : Receiver) (l k bs : List ℕ) {r : Hearing} {l′ : List ℕ} → t ≡ false → PlainIs s l bs r l′
-    → EarIs t (earHear (ear t (board s l k)) bs) r l′ k
-listen-off t s l k bs {r} {l′} e h = subst (λ (u : Bool). EarIs u (earHear (ear u (board s l k)) bs) r l′ k) (sym e) (h k)
+    → EarIs t (earHear (ear t (memory s l k)) bs) r l′ k
+listen-off t s l k bs {r} {l′} e h = subst (λ (u : Bool). EarIs u (earHear (ear u (memory s l k)) bs) r l′ k) (sym e) (h k)
 
 -- what a plain stream asks is among what the channel asks
 pub plain-fine : (s : Receiver) (l k : List ℕ) → sound s ≡ true → roomy l k ≡ true → (soundFrame (s .frame) ≡ true) × (rawLimit ≤ length l)
@@ -153,12 +153,12 @@ module _ (s : Receiver) (bs l : List ℕ) {read : Read} {l′ : List ℕ} (fine 
   listen-plain a e k =
       let x : Option Told × ℕ × Held = readOn (held (s .frame) l) bs in
       let j : ReadIs x read l′ = subst (λ y. ReadIs y read l′) (read-agrees (held (s .frame) l) bs (frame-fine (s .frame) l fine room)) h in
-      subst (λ y. EarIs false y (record { answer = a; taken = read .taken; receiver = kept }) l′ k) (sym (plain-hear (board s l k) bs)) (
+      subst (λ y. EarIs false y (record { answer = a; taken = read .taken; receiver = kept }) l′ k) (sym (plain-hear (memory s l k) bs)) (
         e,
         λ i. (
           asEvent (x .0),
           sym (j .0) i .taken,
-          ear false (board (record { locked = s .locked; hunting = s .hunting; lock = s .lock; frame = sym (j .0) i .frame }) (sym (j .1) i) k),
+          ear false (memory (record { locked = s .locked; hunting = s .hunting; lock = s .lock; frame = sym (j .0) i .frame }) (sym (j .1) i) k),
         ),
       )
 

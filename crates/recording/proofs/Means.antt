@@ -16,7 +16,7 @@ use Rattle.stream.specs.Meaning.{waiting}
 use Rattle.stream.proofs.Shown.{shown-plain}
 use Rattle.channel_spec.specs.Sender.{wordBytes}
 use Rattle.channel_spec.specs.Meaning.{Event, said, freshChannel as hunts}
-use Rattle.channel.specs.Call.{board, freshReceiver}
+use Rattle.channel.specs.Call.{memory, freshReceiver}
 use Rattle.channel.proofs.Shown.{shown-all}
 use Rattle.listing_spec.specs.declared.Place.{Place}
 use Rattle.listing_spec.specs.declared.Place.the-variants.{Mode, Mark, Second, Low, High, Inside, Wrong}
@@ -117,25 +117,25 @@ means bs p g d = drain-means p (apart p bs .1) bs (apart p bs .0) (rest-means bs
 
 -- from the start: the first byte says which stream it is
 pub means-start : (b : ℕ) (bs : List ℕ) (d : Ear) → earOwes d ≡ 0
-    → deckAll (deck freshSpot d) (b ∷ bs) ≡ placed (apart (next freshSpot b) bs .1) (earAll (ear (eqb b 0x4F) (d .board)) (apart (next freshSpot b) bs .0))
+    → deckAll (deck freshSpot d) (b ∷ bs) ≡ placed (apart (next freshSpot b) bs .1) (earAll (ear (eqb b 0x4F) (d .memory)) (apart (next freshSpot b) bs .0))
 unfolding inStream
 means-start b bs d h =
-    ap (λ n. deckDrain n (deck freshSpot d) (deckRest (b ∷ bs))) h ∙ means bs (next freshSpot b) (begun-next freshSpot b) (ear (eqb b 0x4F) (d .board))
+    ap (λ n. deckDrain n (deck freshSpot d) (deckRest (b ∷ bs))) h ∙ means bs (next freshSpot b) (begun-next freshSpot b) (ear (eqb b 0x4F) (d .memory))
 
 -- a fresh receiver's answers, whatever its buffers hold
 pub heard-all : (t : Bool) (recv word ss : List ℕ) → rawLimit ≤ length recv → wordBytes ≤ length word
-    → earAll (ear t (board freshReceiver recv word)) ss .0 ≡ heard t ss
+    → earAll (ear t (memory freshReceiver recv word)) ss .0 ≡ heard t ss
 unfolding heard
 heard-all true recv word ss a b =
     let s = shown-all ss hunts recv word tt (a, b) in
-    ap (λ x. x .0) (channel-all (board freshReceiver recv word) ss) ∙ ap (λ x. x .0) (s .2)
+    ap (λ x. x .0) (channel-all (memory freshReceiver recv word) ss) ∙ ap (λ x. x .0) (s .2)
 heard-all false recv word ss a b =
     let s = shown-plain ss waiting recv a in
-    ap (λ x. x .0) (plain-all (board freshReceiver recv word) ss) ∙ ap (λ x. map said (x .0)) (s .1)
+    ap (λ x. x .0) (plain-all (memory freshReceiver recv word) ss) ∙ ap (λ x. map said (x .0)) (s .1)
 
 module _ (recv word : List ℕ) (recv-room : rawLimit ≤ length recv) (word-room : wordBytes ≤ length word) where
   -- a fresh receiver owes nothing
-  pub fresh-owes : (t : Bool) → earOwes (ear t (board freshReceiver recv word)) ≡ 0
+  pub fresh-owes : (t : Bool) → earOwes (ear t (memory freshReceiver recv word)) ≡ 0
   unfolding earOwes
   fresh-owes true = refl
   fresh-owes false = refl
@@ -151,5 +151,5 @@ module _ (recv word : List ℕ) (recv-room : rawLimit ≤ length recv) (word-roo
       none-heard e = rw e (refl, refl)
   deck-means (b ∷ bs) =
       let q : List ℕ × Spot = apart (next freshSpot b) bs in
-      let e = means-start b bs (ear false (board freshReceiver recv word)) (fresh-owes false) in
+      let e = means-start b bs (ear false (memory freshReceiver recv word)) (fresh-owes false) in
       (ap (λ x. x .0) e ∙ heard-all (eqb b 0x4F) recv word (q .0) recv-room word-room, ap (λ x. x .1 .spot) e)

@@ -72,8 +72,8 @@ module _ (t : Tape) (l k bs : List ℕ) where
         let f : (x .0, r .taken, deckOf (r .tape) l′ k′) ≡ x = sym (h .0 .1) in
         told x let-on (
           (λ i. record { answer = h .0 .0 i; taken = f i .1; tape = tapeOf (f i .2) }),
-          ap (λ y. y .2 .ear .board .recv) f,
-          ap (λ y. y .2 .ear .board .word) f,
+          ap (λ y. y .2 .ear .memory .recv) f,
+          ap (λ y. y .2 .ear .memory .word) f,
         )
 
     -- what is then kept
@@ -83,17 +83,17 @@ module _ (t : Tape) (l k bs : List ℕ) where
         let g : NextIs x r l′ k′ = subst (λ y. NextIs y r l′ k′) let-on h in
         let f : x ≡ (x .0, r .taken, deckOf (r .tape) l′ k′) = λ i. (x .0, sym (g .0) i .taken, deckOf (sym (g .0) i .tape) (sym (g .1) i) (sym (g .2) i)) in
         let c : Kept m bs (r .taken) (deckOf (r .tape) l′ k′) =
-        subst (λ (y : Option Event × ℕ × Deck). Kept m bs (y .1) (y .2)) f (hear-kept m bs (fine-of (m .ear .board) e b)) in (
+        subst (λ (y : Option Event × ℕ × Deck). Kept m bs (y .1) (y .2)) f (hear-kept m bs (fine-of (m .ear .memory) e b)) in (
           (ap (λ y. y .answer) (g .0), f),
           record {
             within = c .within;
             near = c .near;
-            sound = fine-is (deckOf (r .tape) l′ k′ .ear .board) (c .fine);
-            roomy = fine-roomy (deckOf (r .tape) l′ k′ .ear .board) (c .fine);
+            sound = fine-is (deckOf (r .tape) l′ k′ .ear .memory) (c .fine);
+            roomy = fine-roomy (deckOf (r .tape) l′ k′ .ear .memory) (c .fine);
           },
         )
 
 -- behind 10 and 11, as facts, a call hears
-pub tape-agrees : (m : Deck) (bs : List ℕ) → Fine (m .ear .board) → m .spot .offset + length bs ≤ far → tapeCall m bs ≡ deckHear m bs
+pub tape-agrees : (m : Deck) (bs : List ℕ) → Fine (m .ear .memory) → m .spot .offset + length bs ≤ far → tapeCall m bs ≡ deckHear m bs
 tape-agrees m bs f o =
-    let-on (tapeOf m) (m .ear .board .recv) (m .ear .board .word) bs (fine-is (m .ear .board) f) (near-is (m .spot) (length bs) o) (fine-roomy (m .ear .board) f)
+    let-on (tapeOf m) (m .ear .memory .recv) (m .ear .memory .word) bs (fine-is (m .ear .memory) f) (near-is (m .spot) (length bs) o) (fine-roomy (m .ear .memory) f)

@@ -16,7 +16,7 @@ use Rattle.base.specs.Calls.{unless, oneMore, after}
 use Rattle.base.proofs.Calls.{after-none, one-after, FitsBy, Fits, fits, inv-hear, hear-eat, hear-end}
 use Rattle.stream.proofs.Fine.{fine-take}
 use Rattle.channel_spec.specs.Meaning.{Event, said, block, lost}
-use Rattle.channel.specs.Call.{Board, board, heldIn, sound, roomy, handOn, Fine}
+use Rattle.channel.specs.Call.{Memory, memory, heldIn, sound, roomy, handOn, Fine}
 use Rattle.channel_spec.specs.Answer.{answered}
 use Rattle.channel.specs.declared.receiver.Receiver.{Receiver}
 use Rattle.channel.specs.declared.answer.Hearing.{Hearing}
@@ -33,23 +33,23 @@ use Rattle.recording.proofs.Run.{skips, withRest, run-first, run-fits, 
 
 -- ---- refusals 10 and 11
 abbrev pub FineEar : Ear → Type 0
-FineEar d = Fine (d .board)
+FineEar d = Fine (d .memory)
 
-hand-by : (t : Bool) (c : Board) (n : ℕ) → owesBy t c ≡ suc n → Fine c → Fine (handOn c .1)
+hand-by : (t : Bool) (c : Memory) (n : ℕ) → owesBy t c ≡ suc n → Fine c → Fine (handOn c .1)
 hand-by true c n e i = fine-hand c n e i
 hand-by false c n e i = absurd (omega arith)
 
 pub fine-ear-hand : (d : Ear) (n : ℕ) → earOwes d ≡ suc n → FineEar d → FineEar (earHand d .1)
 unfolding earOwes earHand
-fine-ear-hand d n e i = hand-by (d .channel) (d .board) n e i
+fine-ear-hand d n e i = hand-by (d .channel) (d .memory) n e i
 
-eat-by : (t : Bool) (c : Board) (b : ℕ) → owesBy t c ≡ 0 → Fine c → FineEar (eatBy t c b .1)
+eat-by : (t : Bool) (c : Memory) (b : ℕ) → owesBy t c ≡ 0 → Fine c → FineEar (eatBy t c b .1)
 eat-by true c b e i = fine-eat c b e i
 eat-by false c b e i = record { frame = fine-take (heldIn c) b (i .frame); word = i .word; marker = i .marker; handed = i .handed; room = i .room }
 
 pub fine-ear-eat : (d : Ear) (b : ℕ) → earOwes d ≡ 0 → FineEar d → FineEar (earEat d b .1)
 unfolding earOwes earEat
-fine-ear-eat d b e i = eat-by (d .channel) (d .board) b e i
+fine-ear-eat d b e i = eat-by (d .channel) (d .memory) b e i
 
 fine-hear : (d : Ear) (bs : List ℕ) → FineEar d → FineEar (earHear d bs .2)
 fine-hear d bs i = inv-hear earOwes earHand earEat ear-hand-one FineEar fine-ear-hand fine-ear-eat d bs i
@@ -71,9 +71,9 @@ most-fits none j d xs h = omega (arith, h .0)
 most-fits (some a) j d xs h = h
 
 module _ (t : Bool) (s : Receiver) (p : Spot) (l k bs : List ℕ) (n : ℕ) (run : n ≡ runOf p (length bs)) (r : Hearing) (l′ k′ : List ℕ)
-    (call : EarIs t (earHear (ear t (board s l k)) (take (n - 0) bs)) r l′ k′) where
+    (call : EarIs t (earHear (ear t (memory s l k)) (take (n - 0) bs)) r l′ k′) where
   abbrev d : Ear
-  d = ear t (board s l k)
+  d = ear t (memory s l k)
 
   abbrev xs : List ℕ
   xs = take n bs
@@ -82,7 +82,7 @@ module _ (t : Bool) (s : Receiver) (p : Spot) (l k bs : List ℕ) (n : ℕ) (run
   x = earHear d xs
 
   abbrev d′ : Ear
-  d′ = ear t (board (r .receiver) l′ k′)
+  d′ = ear t (memory (r .receiver) l′ k′)
 
   told : EarIs t x r l′ k′
   told = subst (λ (m : ℕ). EarIs t (earHear d (take m bs)) r l′ k′) (sub-zero n) call
@@ -104,8 +104,8 @@ module _ (t : Bool) (s : Receiver) (p : Spot) (l k bs : List ℕ) (n : ℕ) (run
   skip-fine h c = let m = taken-most in (omega arith, omega arith)
 
   -- the state behind it passes 10 and 11
-  behind-fine : sound s ≡ true → roomy l k ≡ true → Fine (board (r .receiver) l′ k′)
-  behind-fine a b = subst (λ (y : Option Event × ℕ × Ear). FineEar (y .2)) (told .1) (fine-hear d xs (fine-of (board s l k) a b))
+  behind-fine : sound s ≡ true → roomy l k ≡ true → Fine (memory (r .receiver) l′ k′)
+  behind-fine a b = subst (λ (y : Option Event × ℕ × Ear). FineEar (y .2)) (told .1) (fine-hear d xs (fine-of (memory s l k) a b))
 
   at-skip : skips p (take (r .taken) xs) ≡ skipped p (r .taken)
   at-skip =
@@ -204,8 +204,8 @@ module _ (t : Bool) (s : Receiver) (p : Spot) (l k bs : List ℕ) (n : ℕ) (run
     turn-stays a b = record {
       within = omega (arith, taken-most);
       near = subst (λ (y : Spot). y .offset ≤ p .offset + r .taken) (sym stands) (omega arith);
-      sound = fine-is (board (r .receiver) l′ k′) (behind-fine a b);
-      roomy = fine-roomy (board (r .receiver) l′ k′) (behind-fine a b);
+      sound = fine-is (memory (r .receiver) l′ k′) (behind-fine a b);
+      roomy = fine-roomy (memory (r .receiver) l′ k′) (behind-fine a b);
     }
 
     module _ (e : isMore (r .answer) ≡ true) (a : sound s ≡ true) (b : roomy l k ≡ true) where

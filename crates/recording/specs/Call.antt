@@ -18,7 +18,7 @@ use Rattle.packet_spec.specs.Contents.{rawLimit}
 use Rattle.packet_spec.specs.Frame.{refusal}
 use Rattle.channel_spec.specs.Sender.{wordBytes}
 use Rattle.channel_spec.specs.Meaning.{Event, said}
-use Rattle.channel.specs.Call.{board, sound, roomy, freshReceiver, ThereEvent}
+use Rattle.channel.specs.Call.{memory, sound, roomy, freshReceiver, ThereEvent}
 use Rattle.channel_spec.specs.Answer.{answered}
 use Rattle.channel_spec.specs.declared.Answer.{Answer}
 use Rattle.channel_spec.specs.declared.Answer.the-variants.{More, Said, Block, LockLost}
@@ -38,11 +38,11 @@ freshTape = record { spot = freshSpot; channel = false; receiver = freshReceiver
 
 -- the deck of a tape and the buffers lent ..
 abbrev pub deckOf : Tape → List ℕ → List ℕ → Deck
-deckOf t recv word = deck (t .spot) (ear (t .channel) (board (t .receiver) recv word))
+deckOf t recv word = deck (t .spot) (ear (t .channel) (memory (t .receiver) recv word))
 
 -- .. and a deck's tape
 abbrev pub tapeOf : Deck → Tape
-tapeOf m = record { spot = m .spot; channel = m .ear .channel; receiver = m .ear .board .st }
+tapeOf m = record { spot = m .spot; channel = m .ear .channel; receiver = m .ear .memory .st }
 
 -- "more wanted"
 abbrev pub isMore : Answer → Bool
@@ -65,7 +65,7 @@ tapeBy true true true m bs = deckHear m bs
 -- one call: the answer (none: "more wanted"), the bytes taken, the deck. Which stream it is comes in with the bytes: both buffers are
 -- measured of a plain stream too
 abbrev pub tapeCall : Deck → List ℕ → Option Event × ℕ × Deck
-tapeCall m bs = tapeBy (sound (m .ear .board .st)) (nearSpot (m .spot) (length bs)) (roomy (m .ear .board .recv) (m .ear .board .word)) m bs
+tapeCall m bs = tapeBy (sound (m .ear .memory .st)) (nearSpot (m .spot) (length bs)) (roomy (m .ear .memory .recv) (m .ear .memory .word)) m bs
 
 -- the code's result of a call
 abbrev pub heardOf : Option Event × ℕ × Deck → Heard
@@ -73,7 +73,7 @@ heardOf x = record { answer = answered (x .0); taken = x .1; tape = tapeOf (x .2
 
 -- r is the result, l the receive buffer and k the word buffer of a call
 abbrev pub NextIs : Option Event × ℕ × Deck → Heard → List ℕ → List ℕ → Type 0
-NextIs x r l k = (r ≡ heardOf x) × (l ≡ x .2 .ear .board .recv) × (k ≡ x .2 .ear .board .word)
+NextIs x r l k = (r ≡ heardOf x) × (l ≡ x .2 .ear .memory .recv) × (k ≡ x .2 .ear .memory .word)
 
 -- a recording is heard from its first byte on, cut in every way, with all buffers that pass 11: the calls come to their end, and P holds of
 -- their answers, and of the deck behind them
@@ -84,4 +84,4 @@ EveryCut file P =
 
 -- a delivered payload and its key stand in the receive buffer that comes back
 abbrev pub ThereDeck : Event → Deck → Type 0
-ThereDeck e m = ThereEvent e (m .ear .board)
+ThereDeck e m = ThereEvent e (m .ear .memory)

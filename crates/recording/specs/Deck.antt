@@ -13,7 +13,7 @@ use Rattle.base.specs.Calls.{all, hear}
 use Rattle.packet_spec.specs.Frame.{Told}
 use Rattle.stream.specs.Call.{Held, takeByte}
 use Rattle.channel_spec.specs.Meaning.{Event}
-use Rattle.channel.specs.Call.{Board, board, heldIn, owed, handOn, eatByte, asEvent, freshReceiver}
+use Rattle.channel.specs.Call.{Memory, memory, heldIn, owed, handOn, eatByte, asEvent, freshReceiver}
 use Rattle.listing_spec.specs.declared.Place.{Place}
 use Rattle.listing_spec.specs.declared.Place.the-variants.{Mode, Mark, Second, Low, High, Inside, Wrong}
 use Rattle.listing_spec.specs.declared.Spot.{Spot}
@@ -22,41 +22,41 @@ use Rattle.listing_spec.specs.Apart.{freshSpot, next, inStream}
 -- which stream it is, and the receiver with its buffers; of a plain stream its frame reader hears
 pub record Ear : Type 0 where
   pub channel : Bool
-  pub board : Board
+  pub memory : Memory
 
 -- the ear of these
-abbrev pub ear : Bool → Board → Ear
-ear t c = record { channel = t; board = c }
+abbrev pub ear : Bool → Memory → Ear
+ear t c = record { channel = t; memory = c }
 
 -- a frame reader put back into the receiver
-abbrev pub withHeld : Board → Held → Board
-withHeld c h = board (record { locked = c .st .locked; hunting = c .st .hunting; lock = c .st .lock; frame = h .st }) (h .recv) (c .word)
+abbrev pub withHeld : Memory → Held → Memory
+withHeld c h = memory (record { locked = c .st .locked; hunting = c .st .hunting; lock = c .st .lock; frame = h .st }) (h .recv) (c .word)
 
 -- what the frame reader says of a byte
-abbrev pub plainly : Option Told × Held → Board → Option Event × Ear
+abbrev pub plainly : Option Told × Held → Memory → Option Event × Ear
 plainly r c = (asEvent (r .0), ear false (withHeld c (r .1)))
 
 -- moves owed, by: is it the opportunistic channel
-abbrev pub owesBy : Bool → Board → ℕ
+abbrev pub owesBy : Bool → Memory → ℕ
 owesBy true c = owed c
 owesBy false c = 0
 
 -- a stream byte, by: is it the opportunistic channel
-abbrev pub eatBy : Bool → Board → ℕ → Option Event × Ear
+abbrev pub eatBy : Bool → Memory → ℕ → Option Event × Ear
 eatBy true c b = (eatByte c b .0, ear true (eatByte c b .1))
 eatBy false c b = plainly (takeByte (heldIn c) b) c
 
 -- moves that the ear owes
 unfoldable pub earOwes : Ear → ℕ
-earOwes d = owesBy (d .channel) (d .board)
+earOwes d = owesBy (d .channel) (d .memory)
 
 -- one of them
 unfoldable pub earHand : Ear → Option Event × Ear
-earHand d = (handOn (d .board) .0, ear (d .channel) (handOn (d .board) .1))
+earHand d = (handOn (d .memory) .0, ear (d .channel) (handOn (d .memory) .1))
 
 -- a stream byte
 unfoldable pub earEat : Ear → ℕ → Option Event × Ear
-earEat d b = eatBy (d .channel) (d .board) b
+earEat d b = eatBy (d .channel) (d .memory) b
 
 -- where the taking apart stands, and the ear
 pub record Deck : Type 0 where
@@ -69,7 +69,7 @@ deck p d = record { spot = p; ear = d }
 
 -- before the first byte, with these buffers
 abbrev pub fresh : List ℕ → List ℕ → Deck
-fresh recv word = deck freshSpot (ear false (board freshReceiver recv word))
+fresh recv word = deck freshSpot (ear false (memory freshReceiver recv word))
 
 -- the first byte says which stream it is; no other byte changes that
 abbrev pub channelAt : Place → ℕ → Bool → Bool
@@ -83,7 +83,7 @@ channelAt Wrong b t = t
 
 -- the ear behind a byte that is no stream byte
 abbrev pub begun : Place → ℕ → Ear → Ear
-begun q b d = ear (channelAt q b (d .channel)) (d .board)
+begun q b d = ear (channelAt q b (d .channel)) (d .memory)
 
 -- moves owed are the ear's
 abbrev pub deckOwes : Deck → ℕ

@@ -12,7 +12,7 @@ use lib.ListN.{length, drop}
 use Rattle.base.specs.Choice.{pick}
 use Rattle.base.specs.Calls.{hear, after}
 use Rattle.channel_spec.specs.Meaning.{Event}
-use Rattle.channel.specs.Call.{board, sound, roomy}
+use Rattle.channel.specs.Call.{memory, sound, roomy}
 use Rattle.channel_spec.specs.Answer.{answered}
 use Rattle.channel.specs.declared.receiver.Receiver.{Receiver}
 use Rattle.channel_spec.specs.declared.Answer.{Answer}
@@ -55,11 +55,11 @@ earHear = hear earOwes earHand earEat
 
 -- r is its result, l and k the buffers then
 abbrev pub EarIs : Bool → Option Event × ℕ × Ear → Hearing → List ℕ → List ℕ → Type 0
-EarIs t x r l k = (r .answer ≡ answered (x .0)) × (x ≡ (x .0, r .taken, ear t (board (r .receiver) l k)))
+EarIs t x r l k = (r .answer ≡ answered (x .0)) × (x ≡ (x .0, r .taken, ear t (memory (r .receiver) l k)))
 
 -- of a plain stream: whatever the word buffer holds, it stays
 abbrev pub PlainIs : Receiver → List ℕ → List ℕ → Hearing → List ℕ → Type 0
-PlainIs s l bs r l′ = (k : List ℕ) → EarIs false (earHear (ear false (board s l k)) bs) r l′ k
+PlainIs s l bs r l′ = (k : List ℕ) → EarIs false (earHear (ear false (memory s l k)) bs) r l′ k
 
 -- behind a byte that is no stream byte
 abbrev pub headed : Tape → ℕ → Tape

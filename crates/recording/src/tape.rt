@@ -5,7 +5,7 @@ ghost use Prim.Native.Nat.{_+_, _≤_, _<_};
 ghost use lib.ListN.{length};
 ghost use Rattle.packet_spec.specs.Contents.{rawLimit};
 ghost use Rattle.stream.specs.Call.{sound as soundFrame};
-ghost use Rattle.channel.specs.Call.{board, sound, roomy};
+ghost use Rattle.channel.specs.Call.{memory, sound, roomy};
 ghost use Rattle.listing_spec.specs.Apart.{inStream, well};
 ghost use Rattle.packet_spec.specs.declared.Judged.the-variants.{Refused};
 ghost use Rattle.channel_spec.specs.declared.Answer.the-variants.{Said};
@@ -125,7 +125,7 @@ impl Tape {
     fn listen(self, recv: &mut [u8], word: &mut [u8], piece: &[u8]) -> Hearing
         requires { ⌜ (sound (self .receiver) ≡ true) × (roomy (now recv) (now word) ≡ true) ⌝ }
         ensures { λ r. ⌜ EarIs (self .channel)
-            (earHear (ear (self .channel) (board (self .receiver) (now (recv .entry)) (now (word .entry)))) (now (piece .entry)))
+            (earHear (ear (self .channel) (memory (self .receiver) (now (recv .entry)) (now (word .entry)))) (now (piece .entry)))
             r (now (recv .exit)) (now (word .exit)) ⌝ }
     {
         let receiver = self.receiver;

@@ -19,16 +19,16 @@ use Rattle.channel_spec.specs.Meaning.{isMarker, shift}
 use Rattle.channel.specs.Call.{asEvent, roomy}
 use Rattle.subchannel_spec.specs.Sender.{groupBytes}
 use Rattle.subchannel.specs.declared.lane.Lane.{Lane}
-use Rattle.subchannel.specs.Call.{Board, heldIn, wordAt, wordOn, groupOn, compareOn, markOn, eatBy, eatByte, owed, handOn}
+use Rattle.subchannel.specs.Call.{Memory, heldIn, wordAt, wordOn, groupOn, compareOn, markOn, eatBy, eatByte, owed, handOn}
 use Rattle.subchannel.specs.Call.{sound, hearBy, hearCall, ThereEvent}
 use Rattle.subchannel.proofs.Cutting.{hand-one}
 
-there-as : (o : Option Told) (c : Board) → ThereIf o (c .recv) → With ThereEvent (asEvent o) c
+there-as : (o : Option Told) (c : Memory) → ThereIf o (c .recv) → With ThereEvent (asEvent o) c
 there-as none c t = tt
 there-as (some a) c t = t
 
 -- a new byte delivers nothing
-module _ (c : Board) where
+module _ (c : Memory) where
   there-word : (t : Bool) (s : Lane) (w : ℕ) (l : List ℕ) → With ThereEvent (wordOn t s w l .0) c
   there-word true s w l = tt
   there-word false s w l = tt
@@ -52,21 +52,21 @@ module _ (c : Board) where
   there-eat false true true s k w b = there-group (pull (s .settings .depth) k b .0) s w
   there-eat false true false s k w b = there-mark (ltb (suc (s .counts .marker)) 4) (shift (s .hunting) b) s
 
-pub hand-there : (c : Board) → With ThereEvent (handOn c .0) (handOn c .1)
+pub hand-there : (c : Memory) → With ThereEvent (handOn c .0) (handOn c .1)
 hand-there c =
     let b : ℕ = getD (c .word) (c .st .lane .counts .handed) 0 in
     there-as (takeByte (heldIn c) b .0) (handOn c .1) (there-byte (heldIn c) b)
 
-pub eat-there : (c : Board) (b : ℕ) → With ThereEvent (eatByte c b .0) (eatByte c b .1)
+pub eat-there : (c : Memory) (b : ℕ) → With ThereEvent (eatByte c b .0) (eatByte c b .1)
 eat-there c b =
     let s : Lane = c .st .lane in
     there-eat (eatByte c b .1) (s .lost) (s .locked) (ltb (s .counts .group) groupBytes) s (c .st .back) (c .word) b
 
-there-by-call : (s r : Bool) (c : Board) (bs : List ℕ) → With ThereEvent (hearBy s r c bs .0) (hearBy s r c bs .2)
+there-by-call : (s r : Bool) (c : Memory) (bs : List ℕ) → With ThereEvent (hearBy s r c bs .0) (hearBy s r c bs .2)
 there-by-call false r c bs = tt
 there-by-call true false c bs = tt
 there-by-call true true c bs = with-hear owed handOn eatByte hand-one ThereEvent hand-there eat-there c bs
 
 -- a delivered payload is the part of the receive buffer that a call of its own hands out
-pub payload-there : (c : Board) (bs : List ℕ) → With ThereEvent (hearCall c bs .0) (hearCall c bs .2)
+pub payload-there : (c : Memory) (bs : List ℕ) → With ThereEvent (hearCall c bs .0) (hearCall c bs .2)
 payload-there c bs = there-by-call (sound (c .st)) (roomy (c .recv) (c .word)) c bs

@@ -32,39 +32,39 @@ use Rattle.subchannel_spec.proofs.Streaming.{whole-stream}
 use Rattle.subchannel_spec.proofs.Altered.{earlier-same, others-stay, later-exact}
 use Rattle.subchannel_spec.proofs.Lost.{silent-stays}
 use Rattle.subchannel_spec.proofs.Groups.{hears-append}
-use Rattle.subchannel.specs.Call.{Board, board, toldSub, hearCall, hearAll, EveryCut, boardOf, inUse}
+use Rattle.subchannel.specs.Call.{Memory, memory, toldSub, hearCall, hearAll, EveryCut, memoryOf, inUse}
 use Rattle.subchannel.proofs.Fine.{fine-told}
 use Rattle.subchannel.proofs.Cutting.{hear-settled}
 use Rattle.subchannel.proofs.Shown.{shown-all, in-use}
 
 -- what every way yields may be said in other words
-pub cut-so : {r d : ℕ} {bs : List ℕ} {P Q : List Event → Board → Type 0}
-    → EveryCut r d bs P → ((es : List Event) (c : Board) → P es c → Q es c) → EveryCut r d bs Q
+pub cut-so : {r d : ℕ} {bs : List ℕ} {P Q : List Event → Memory → Type 0}
+    → EveryCut r d bs P → ((es : List Event) (c : Memory) → P es c → Q es c) → EveryCut r d bs Q
 cut-so c f recv word a b pieces cut = yields-so (c recv word a b pieces cut) f
 
 module _ (r d : ℕ) (hr : r ≤ rootLimit) (hd : d ≤ depthLimit) where
   module _ (recv word : List ℕ) (a : rawLimit ≤ length recv) (b : wordBytes ≤ length word) where
-    heard : (ps : List (List ℕ)) → Yields hearCall (board (toldSub r d) recv word) ps λ es c. (es, c) ≡ hearAll (board (toldSub r d) recv word) (joined ps)
-    heard = hear-settled (board (toldSub r d) recv word) refl (fine-told r d hr hd recv word a b)
+    heard : (ps : List (List ℕ)) → Yields hearCall (memory (toldSub r d) recv word) ps λ es c. (es, c) ≡ hearAll (memory (toldSub r d) recv word) (joined ps)
+    heard = hear-settled (memory (toldSub r d) recv word) refl (fine-told r d hr hd recv word a b)
 
     -- from the same buffers two ways of cutting yield the same, to the last byte of both
     pub same-cut : (ps qs : List (List ℕ)) → joined ps ≡ joined qs
-        → Yields hearCall (board (toldSub r d) recv word) ps
-        λ es c. Yields hearCall (board (toldSub r d) recv word) qs
+        → Yields hearCall (memory (toldSub r d) recv word) ps
+        λ es c. Yields hearCall (memory (toldSub r d) recv word) qs
         λ fs e. (es ≡ fs) × (c ≡ e)
     same-cut ps qs e =
         yields-so (heard ps) λ es c x. yields-so (heard qs) λ fs g y.
-        let z : _≡_ {A = List Event × Board} (es, c) (fs, g) = x ∙ ap (hearAll (board (toldSub r d) recv word)) e ∙ sym y in
+        let z : _≡_ {A = List Event × Memory} (es, c) (fs, g) = x ∙ ap (hearAll (memory (toldSub r d) recv word)) e ∙ sym y in
         (ap (λ q. q .0) z, ap (λ q. q .1) z)
 
   -- every way of cutting yields the list of answers and the final state of the uncut string, which are those of the receiver without a limit,
   -- that has no buffers: what they held before does not matter
-  pub every-cut : (bs : List ℕ) → EveryCut r d bs λ es c. (es ≡ answers r d bs) × (inUse c ≡ inUse (boardOf r d (hears r d start bs .1) [] []))
+  pub every-cut : (bs : List ℕ) → EveryCut r d bs λ es c. (es ≡ answers r d bs) × (inUse c ≡ inUse (memoryOf r d (hears r d start bs .1) [] []))
   every-cut bs recv word a b pieces cut =
       let s = shown-all r d hr bs start recv word tt (a, b) in
       yields-so (heard recv word a b pieces) λ es c x.
-      let e : _≡_ {A = List Event × Board} (es, c) (hears r d start bs .0, boardOf r d (hears r d start bs .1) (s .0) (s .1)) =
-      x ∙ ap (hearAll (board (toldSub r d) recv word)) cut ∙ s .2 in
+      let e : _≡_ {A = List Event × Memory} (es, c) (hears r d start bs .0, memoryOf r d (hears r d start bs .1) (s .0) (s .1)) =
+      x ∙ ap (hearAll (memory (toldSub r d) recv word)) cut ∙ s .2 in
       (ap (λ q. q .0) e, ap (λ q. inUse (q .1)) e ∙ in-use r d hr (hears r d start bs .1) (s .0) (s .1))
 
   -- let a sub-channel that was just told its settings hear stray bytes and then a sender's whole stream, the marker first appearing where it

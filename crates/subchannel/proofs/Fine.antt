@@ -31,8 +31,8 @@ use Rattle.subchannel_spec.specs.Word.{mend}
 use Rattle.subchannel.specs.declared.counts.Counts.{Counts}
 use Rattle.subchannel.specs.declared.lane.Lane.{Lane}
 use Rattle.subchannel.specs.declared.sub.Sub.{Sub}
-use Rattle.subchannel.specs.Call.{Board, board, sub, counts, toldSub, heldIn, moved, huntOn, wordAt, mendIn, wordOn, groupOn, compareOn, markOn}
-use Rattle.subchannel.specs.Call.{behind, eatBy, onBoard, eatByte, owedBy, owed, handed, handOn, soundCounts, soundLane, sound, Fine}
+use Rattle.subchannel.specs.Call.{Memory, memory, sub, counts, toldSub, heldIn, moved, huntOn, wordAt, mendIn, wordOn, groupOn, compareOn, markOn}
+use Rattle.subchannel.specs.Call.{behind, eatBy, inMemory, eatByte, owedBy, owed, handed, handOn, soundCounts, soundLane, sound, Fine}
 use Rattle.subchannel_spec.specs.Settings.{within}
 
 not-so : (b : Bool) → not b ≡ true → b ≡ false
@@ -46,7 +46,7 @@ pub sound-parts : (s : Sub) → sound s ≡ true → (soundLane (s .lane) ≡ tr
 sound-parts s e = let a = and-parts (soundLane (s .lane)) _ e in (a .0, not-so _ (a .1))
 
 -- the tests of 10 and 11, passed ..
-pub fine-of : (c : Board) → sound (c .st) ≡ true → roomy (c .recv) (c .word) ≡ true → Fine c
+pub fine-of : (c : Memory) → sound (c .st) ≡ true → roomy (c .recv) (c .word) ≡ true → Fine c
 fine-of c s r =
     let n : Counts = c .st .lane .counts in
     let a = sound-parts (c .st) s in
@@ -71,11 +71,11 @@ fine-of c s r =
 
 -- .. of the lane, whatever the cells hold ..
 pub fine-lane : (s : Lane) (recv word : List ℕ) → soundLane s ≡ true → roomy recv word ≡ true
-    → (k : Back) → beyond (s .settings .depth) (k .matrix .place) ≡ false → Fine (board (sub s k) recv word)
-fine-lane s recv word sd rm k e = fine-of (board (sub s k) recv word) (both sd (ap not e)) rm
+    → (k : Back) → beyond (s .settings .depth) (k .matrix .place) ≡ false → Fine (memory (sub s k) recv word)
+fine-lane s recv word sd rm k e = fine-of (memory (sub s k) recv word) (both sd (ap not e)) rm
 
 -- .. and passed only then: 10 ..
-pub fine-is : (c : Board) → Fine c → sound (c .st) ≡ true
+pub fine-is : (c : Memory) → Fine c → sound (c .st) ≡ true
 fine-is c i =
     both
     (both (frame-is (heldIn c) (i .frame))
@@ -84,7 +84,7 @@ fine-is c i =
     (ap not (i .place))
 
 -- .. and 11
-pub fine-roomy : (c : Board) → Fine c → roomy (c .recv) (c .word) ≡ true
+pub fine-roomy : (c : Memory) → Fine c → roomy (c .recv) (c .word) ≡ true
 fine-roomy c i = both (le-leb _ _ (i .frame .room)) (le-leb _ _ (i .room))
 
 -- at place 0 no depth is beyond its cells
@@ -93,7 +93,7 @@ zero-placed d = by-le 2 d (λ h. rw (le-leb 2 d h, lt-leb (size d) 0 (omega arit
 
 -- just told
 pub fine-told : (r d : ℕ) → r ≤ rootLimit → d ≤ depthLimit → (recv word : List ℕ) → rawLimit ≤ length recv → wordBytes ≤ length word
-    → Fine (board (toldSub r d) recv word)
+    → Fine (memory (toldSub r d) recv word)
 fine-told r d hr hd recv word a b = record {
   frame = record { stored = refl; raw = omega arith; place = omega arith; room = a };
   parity = hr;
@@ -134,12 +134,12 @@ pull-placed d k b e =
 abbrev Within : ℕ → Counts → Type 0
 Within r n = (n .group ≤ groupBytes) × (n .marker ≤ 3) × (n .word ≤ wordBytes) × (n .handed ≤ messageBytes r)
 
-module _ (c : Board) (i : Fine c) where
+module _ (c : Memory) (i : Fine c) where
   abbrev s : Lane
   s = c .st .lane
 
   fine-moved : (f : Hunting) (n : Counts) (k : Back) (l : List ℕ) → Within (s .settings .parity) n → beyond (s .settings .depth) (k .matrix .place) ≡ false
-      → wordBytes ≤ length l → Fine (board (sub (moved s f n) k) (c .recv) l)
+      → wordBytes ≤ length l → Fine (memory (sub (moved s f n) k) (c .recv) l)
   fine-moved f n k l w p h = record {
     frame = i .frame;
     parity = i .parity;
@@ -152,7 +152,7 @@ module _ (c : Board) (i : Fine c) where
     room = h;
   }
 
-  fine-hunt : (t : Bool) (f : Hunting) → Fine (board (sub (huntOn t f s) (c .st .back)) (c .recv) (c .word))
+  fine-hunt : (t : Bool) (f : Hunting) → Fine (memory (sub (huntOn t f s) (c .st .back)) (c .recv) (c .word))
   fine-hunt true f = record {
     frame = i .frame;
     parity = i .parity;
@@ -167,7 +167,7 @@ module _ (c : Board) (i : Fine c) where
   fine-hunt false f = fine-moved f (s .counts) (c .st .back) (c .word) (i .group, i .marker, i .word, i .handed) (i .place) (i .room)
 
   fine-word : (t : Bool) (w : ℕ) (k : Back) (l : List ℕ) → ltb (suc w) wordBytes ≡ t → s .counts .group < groupBytes
-      → beyond (s .settings .depth) (k .matrix .place) ≡ false → wordBytes ≤ length l → Fine (onBoard (c .recv) (behind k (wordOn t s w l)) .1)
+      → beyond (s .settings .depth) (k .matrix .place) ≡ false → wordBytes ≤ length l → Fine (inMemory (c .recv) (behind k (wordOn t s w l)) .1)
   fine-word true w k l e g p h =
       let m : suc w < wordBytes = ltb-true _ _ e in
       fine-moved _ (counts (suc (s .counts .group)) (s .counts .marker) (suc w) 0) k l (g, i .marker, omega arith, omega arith) p h
@@ -176,13 +176,13 @@ module _ (c : Board) (i : Fine c) where
       (g, i .marker, omega arith, omega arith) p (omega (arith, mendIn-length (s .settings .parity) l))
 
   fine-group : (o : Option ℕ) (k : Back) → s .counts .group < groupBytes → beyond (s .settings .depth) (k .matrix .place) ≡ false
-      → Fine (onBoard (c .recv) (behind k (groupOn o s (c .word))) .1)
+      → Fine (inMemory (c .recv) (behind k (groupOn o s (c .word))) .1)
   fine-group none k g p =
       fine-moved _ (counts (suc (s .counts .group)) (s .counts .marker) (s .counts .word) (s .counts .handed)) k (c .word)
       (g, i .marker, i .word, i .handed) p (i .room)
   fine-group (some y) k g p = fine-word _ (wordAt (s .counts .word)) k (set (c .word) (wordAt (s .counts .word)) y) refl g p (rw length-set (i .room))
 
-  fine-compare : (t : Bool) (f : Hunting) → Fine (board (sub (compareOn t f s .1) (c .st .back)) (c .recv) (c .word))
+  fine-compare : (t : Bool) (f : Hunting) → Fine (memory (sub (compareOn t f s .1) (c .st .back)) (c .recv) (c .word))
   fine-compare true f =
       fine-moved f (counts 0 0 (s .counts .word) (s .counts .handed)) (c .st .back) (c .word) (omega arith, omega arith, i .word, i .handed) (i .place)
       (i .room)
@@ -198,14 +198,14 @@ module _ (c : Board) (i : Fine c) where
     room = i .room;
   }
 
-  fine-mark : (t : Bool) (f : Hunting) → ltb (suc (s .counts .marker)) 4 ≡ t → Fine (board (sub (markOn t f s .1) (c .st .back)) (c .recv) (c .word))
+  fine-mark : (t : Bool) (f : Hunting) → ltb (suc (s .counts .marker)) 4 ≡ t → Fine (memory (sub (markOn t f s .1) (c .st .back)) (c .recv) (c .word))
   fine-mark true f e =
       let m : suc (s .counts .marker) < 4 = ltb-true _ _ e in
       fine-moved f (counts (s .counts .group) (suc (s .counts .marker)) (s .counts .word) (s .counts .handed)) (c .st .back) (c .word)
       (i .group, omega arith, i .word, i .handed) (i .place) (i .room)
   fine-mark false f e = fine-compare (isMarker f) f
 
-  fine-by : (o l t : Bool) (b : ℕ) → ltb (s .counts .group) groupBytes ≡ t → Fine (onBoard (c .recv) (eatBy o l t s (c .st .back) (c .word) b) .1)
+  fine-by : (o l t : Bool) (b : ℕ) → ltb (s .counts .group) groupBytes ≡ t → Fine (inMemory (c .recv) (eatBy o l t s (c .st .back) (c .word) b) .1)
   fine-by true l t b e = i
   fine-by false false t b e = fine-hunt (isMarker (shift (s .hunting) b)) (shift (s .hunting) b)
   fine-by false true true b e =
@@ -214,7 +214,7 @@ module _ (c : Board) (i : Fine c) where
   fine-by false true false b e = fine-mark (ltb (suc (s .counts .marker)) 4) (shift (s .hunting) b) refl
 
 -- a new byte keeps it ..
-pub fine-eat : (c : Board) (b : ℕ) → owed c ≡ 0 → Fine c → Fine (eatByte c b .1)
+pub fine-eat : (c : Memory) (b : ℕ) → owed c ≡ 0 → Fine c → Fine (eatByte c b .1)
 fine-eat c b e i = fine-by c i (c .st .lane .lost) (c .st .lane .locked) (ltb (c .st .lane .counts .group) groupBytes) b refl
 
 -- where a message byte is owed, it is one of the message, and one less is owed behind it
@@ -224,14 +224,14 @@ owed-one false false t m h n e = absurd (omega arith)
 owed-one false true true m h n e = omega arith
 owed-one false true false m h n e = absurd (omega arith)
 
-abbrev pub owed-at : (c : Board) (n : ℕ) → owed c ≡ suc n
+abbrev pub owed-at : (c : Memory) (n : ℕ) → owed c ≡ suc n
     → (owed (handed c (suc (c .st .lane .counts .handed)) (heldIn c)) ≡ n) × (c .st .lane .counts .handed < messageBytes (c .st .lane .settings .parity))
 owed-at c n e =
     let s : Lane = c .st .lane in
     owed-one (s .lost) (s .locked) (eqb (s .counts .word) wordBytes) (messageBytes (s .settings .parity)) (s .counts .handed) n e
 
 -- .. and so does a stored message byte that is handed on
-pub fine-hand : (c : Board) (n : ℕ) → owed c ≡ suc n → Fine c → Fine (handOn c .1)
+pub fine-hand : (c : Memory) (n : ℕ) → owed c ≡ suc n → Fine c → Fine (handOn c .1)
 fine-hand c n e i =
     let h : ℕ = c .st .lane .counts .handed in
     let l = owed-at c n e .1 in record {

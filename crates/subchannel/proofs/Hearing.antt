@@ -42,7 +42,7 @@ use Rattle.subchannel.specs.declared.lane.Step.{Step}
 use Rattle.subchannel.specs.declared.lane.Eaten.{Eaten}
 use Rattle.subchannel.specs.declared.sub.Sub.{Sub}
 use Rattle.subchannel.specs.declared.sub.Hearing.{Hearing}
-use Rattle.subchannel.specs.Call.{Board, board, sub, Given, huntOn, wordAt, wordOn, groupOn, compareOn, markOn, eatBy, eat, onBoard, eatByte}
+use Rattle.subchannel.specs.Call.{Memory, memory, sub, Given, huntOn, wordAt, wordOn, groupOn, compareOn, markOn, eatBy, eat, inMemory, eatByte}
 use Rattle.subchannel.specs.Call.{owedBy, owes, owed, handing, handed, handOn, soundLane, sound}
 use Rattle.subchannel.specs.Call.{hearBy, hearOn, hearCall, hearingOf, HearingIs, Fine}
 use Rattle.subchannel.specs.Private.{isSome, Able, EatenIs, HandedBy, HandedIs, spare, BytesIs, Going}
@@ -50,16 +50,16 @@ use Rattle.subchannel.proofs.Fine.{fine-lane, fine-eat, zero-placed}
 use Rattle.subchannel.proofs.Cutting.{hand-one}
 
 -- ---- the rest of a stored word is what the frame reader makes of it in one call
-module _ (c : Board) (o : c .st .lane .lost ≡ false) (l : c .st .lane .locked ≡ true) (w : c .st .lane .counts .word ≡ wordBytes) (bs : List ℕ) where
+module _ (c : Memory) (o : c .st .lane .lost ≡ false) (l : c .st .lane .locked ≡ true) (w : c .st .lane .counts .word ≡ wordBytes) (bs : List ℕ) where
   abbrev m : ℕ
   m = messageBytes (c .st .lane .settings .parity)
 
   -- the call with h message bytes handed on, unless the frame reader has answered
-  abbrev from : ℕ → Option Told → Held → Option Event × ℕ × Board
+  abbrev from : ℕ → Option Told → Held → Option Event × ℕ × Memory
   from h a g = unless (asEvent a) 0 (handed c h g) (hearOn (handed c h g) bs)
 
   -- the same behind what it made of the bytes from the h-th on
-  abbrev onward : ℕ → Option Told × ℕ × Held → Option Event × ℕ × Board
+  abbrev onward : ℕ → Option Told × ℕ × Held → Option Event × ℕ × Memory
   onward h r = from (h + r .1) (r .0) (r .2)
 
   -- this message byte of the word is b
@@ -114,11 +114,11 @@ module _ (s : Lane) (l w : List ℕ) (sd : soundLane s ≡ true) (rm : roomy l w
   abbrev n : ℕ
   n = messageBytes (s .settings .parity)
 
-  fine-with : (k : Back) → beyond (s .settings .depth) (k .matrix .place) ≡ false → Fine (board (sub s k) l w)
+  fine-with : (k : Back) → beyond (s .settings .depth) (k .matrix .place) ≡ false → Fine (memory (sub s k) l w)
   fine-with = fine-lane s l w sd rm
 
   -- of some cells: what does not hang on them
-  fine-some : Fine (board (sub s freshBack) l w)
+  fine-some : Fine (memory (sub s freshBack) l w)
   fine-some = fine-with freshBack (zero-placed (s .settings .depth))
 
   pub hand-parity : s .settings .parity ≤ rootLimit
@@ -177,7 +177,7 @@ module _ (s : Lane) (l w : List ℕ) (sd : soundLane s ≡ true) (rm : roomy l w
       abbrev next : Lane
       next = handing s (h + r .taken) (r .frame)
 
-      fine-next : (k : Back) → beyond (s .settings .depth) (k .matrix .place) ≡ false → Fine (board (sub next k) l′ w)
+      fine-next : (k : Back) → beyond (s .settings .depth) (k .matrix .place) ≡ false → Fine (memory (sub next k) l′ w)
       fine-next k b = record {
         frame = subst FineFrame (sym held-is) got-fine;
         parity = fine-some .parity;
@@ -192,10 +192,10 @@ module _ (s : Lane) (l w : List ℕ) (sd : soundLane s ≡ true) (rm : roomy l w
 
       -- the call, by what the frame reader answered
       runs : (k : Back) (bs : List ℕ) {a : Option Told} → got .0 ≡ a
-          → hearOn (board (sub s k) l w) bs ≡ unless (asEvent a) 0 (board (sub next k) l′ w) (hearOn (board (sub next k) l′ w) bs)
+          → hearOn (memory (sub s k) l w) bs ≡ unless (asEvent a) 0 (memory (sub next k) l′ w) (hearOn (memory (sub next k) l′ w) bs)
       unfolding got rest
       runs k bs q =
-          let c : Board = board (sub s k) l w in
+          let c : Memory = memory (sub s k) l w in
           hand-run c (some-owed .0) (some-owed .1) (eqb-true _ _ (some-owed .2)) bs (n - h) h (held (s .frame) l) (omega (arith, some-owed .3)) hand-room
           ∙ (λ i. unless (asEvent (q i)) 0 (handed c (h + sym taken-is i) (sym held-is i)) (hearOn (handed c (h + sym taken-is i) (sym held-is i)) bs))
 
@@ -229,7 +229,7 @@ unfolding spare
 spare-long = omega (arith, length-replicate {A = ℕ} rawLimit 0)
 
 -- the receive buffer does not matter, if it is long enough
-pub fine-spare : {s : Sub} {l w : List ℕ} → Fine (board s l w) → Fine (board s spare w)
+pub fine-spare : {s : Sub} {l w : List ℕ} → Fine (memory s l w) → Fine (memory s spare w)
 fine-spare i = record {
   frame = record { stored = i .frame .stored; raw = i .frame .raw; place = i .frame .place; room = spare-long };
   parity = i .parity;
@@ -242,7 +242,7 @@ fine-spare i = record {
   room = i .room;
 }
 
-pub able-of : {c : Board} → Fine c → Able (c .st .lane) (c .word)
+pub able-of : {c : Memory} → Fine c → Able (c .st .lane) (c .word)
 able-of i = record { parity = i .parity; depth = i .depth; group = i .group; marker = i .marker; word = i .word; room = i .room }
 
 -- a new byte that gives no answer leaves nothing owed where nothing was
@@ -289,16 +289,16 @@ none-so : (o : Option Event) → isSome o ≡ false → o ≡ none
 none-so none e = refl
 none-so (some a) e = absurd (false≢true (sym e))
 
-pub going-first : (s : Sub) (w bs : List ℕ) → Fine (board s spare w) → owes (s .lane) ≡ 0 → Going s w bs 0 s w
-going-first s w bs i z = record { within = omega arith; fine = i; owed = z; left = λ l. after-none (hearOn (board s l w) bs) }
+pub going-first : (s : Sub) (w bs : List ℕ) → Fine (memory s spare w) → owes (s .lane) ≡ 0 → Going s w bs 0 s w
+going-first s w bs i z = record { within = omega arith; fine = i; owed = z; left = λ l. after-none (hearOn (memory s l w) bs) }
 
 module _ {s₀ : Sub} {w₀ bs : List ℕ} {i : ℕ} {s : Sub} {w : List ℕ} (g : Going s₀ w₀ bs i s w) where
   -- "more wanted": no byte is left
   pub going-done : length bs ≤ i → BytesIs s₀ w₀ bs (record { answer = More; taken = i; sub = s }) w
   going-done h l =
-      let x : hearOn (board s₀ l w₀) bs ≡ (none, i + 0, board s l w) =
-      g .left l ∙ ap (λ y. after i (hearOn (board s l w) y)) (drop-of-length-le bs h)
-      ∙ ap (after i) (hear-end owed handOn eatByte hand-one (board s l w) (g .owed)) in (
+      let x : hearOn (memory s₀ l w₀) bs ≡ (none, i + 0, memory s l w) =
+      g .left l ∙ ap (λ y. after i (hearOn (memory s l w) y)) (drop-of-length-le bs h)
+      ∙ ap (after i) (hear-end owed handOn eatByte hand-one (memory s l w) (g .owed)) in (
         (λ j. record { answer = More; taken = sym (add-zero i) j; sub = s }) ∙ ap hearingOf (sym x),
         ap (λ y. y .2 .recv) (sym x),
         ap (λ y. y .2 .word) (sym x),
@@ -311,14 +311,14 @@ module _ {s₀ : Sub} {w₀ bs : List ℕ} {i : ℕ} {s : Sub} {w : List ℕ} (g
     abbrev s′ : Sub
     s′ = sub (t .lane) (back (t .again) (matrix (t .place) cs))
 
-    behind-is : (l : List ℕ) → onBoard l x .1 ≡ board s′ l w′
-    behind-is l = sym (λ j. board (sub (e .0 j .lane) (back (e .0 j .again) (matrix (e .0 j .place) (e .1 j)))) l (e .2 j))
+    behind-is : (l : List ℕ) → inMemory l x .1 ≡ memory s′ l w′
+    behind-is l = sym (λ j. memory (sub (e .0 j .lane) (back (e .0 j .again) (matrix (e .0 j .place) (e .1 j)))) l (e .2 j))
 
-    turn : (l : List ℕ) → hearOn (board s₀ l w₀) bs
-        ≡ after i (unless (x .0) 1 (board s′ l w′) (oneMore (hearOn (board s′ l w′) (drop (suc i) bs))))
+    turn : (l : List ℕ) → hearOn (memory s₀ l w₀) bs
+        ≡ after i (unless (x .0) 1 (memory s′ l w′) (oneMore (hearOn (memory s′ l w′) (drop (suc i) bs))))
     turn l =
-        g .left l ∙ ap (λ y. after i (hearOn (board s l w) y)) (drop-cons bs i 0 h)
-        ∙ ap (after i) (hear-eat owed handOn eatByte hand-one (board s l w) (getD bs i 0) (drop (suc i) bs) (g .owed))
+        g .left l ∙ ap (λ y. after i (hearOn (memory s l w) y)) (drop-cons bs i 0 h)
+        ∙ ap (after i) (hear-eat owed handOn eatByte hand-one (memory s l w) (getD bs i 0) (drop (suc i) bs) (g .owed))
         ∙ ap (λ c. after i (unless (x .0) 1 c (oneMore (hearOn c (drop (suc i) bs))))) (behind-is l)
 
     -- a turn without answer
@@ -326,22 +326,22 @@ module _ {s₀ : Sub} {w₀ bs : List ℕ} {i : ℕ} {s : Sub} {w : List ℕ} (g
     going-next d =
         let n : x .0 ≡ none = none-so (x .0) (sym (ap (λ (y : Eaten). y .done) (e .0)) ∙ d) in record {
           within = omega arith;
-          fine = subst Fine (behind-is spare) (fine-eat (board s spare w) (getD bs i 0) (g .owed) (g .fine));
+          fine = subst Fine (behind-is spare) (fine-eat (memory s spare w) (getD bs i 0) (g .owed) (g .fine));
           owed = ap (λ (y : Eaten). owes (y .lane)) (e .0)
               ∙ owes-by (s .lane) (g .owed) (s .lane .lost) (s .lane .locked) (ltb (s .lane .counts .group) groupBytes) (s .back) w (getD bs i 0) n;
           left = λ l.
-              turn l ∙ ap (λ o. after i (unless o 1 (board s′ l w′) (oneMore (hearOn (board s′ l w′) (drop (suc i) bs))))) n
-              ∙ after-more i (hearOn (board s′ l w′) (drop (suc i) bs)) ∙ ap (λ j. after (i + 1) (hearOn (board s′ l w′) (drop j bs))) (sym (add-one i));
+              turn l ∙ ap (λ o. after i (unless o 1 (memory s′ l w′) (oneMore (hearOn (memory s′ l w′) (drop (suc i) bs))))) n
+              ∙ after-more i (hearOn (memory s′ l w′) (drop (suc i) bs)) ∙ ap (λ j. after (i + 1) (hearOn (memory s′ l w′) (drop j bs))) (sym (add-one i));
         }
 
     -- a turn that ends the call
     pub going-end : t .done ≡ true → BytesIs s₀ w₀ bs (record { answer = t .answer; taken = i + 1; sub = s′ }) w′
     going-end d l = by (x .0) refl
       where
-        by : (o : Option Event) → x .0 ≡ o → HearingIs (hearOn (board s₀ l w₀) bs) (record { answer = t .answer; taken = i + 1; sub = s′ }) l w′
+        by : (o : Option Event) → x .0 ≡ o → HearingIs (hearOn (memory s₀ l w₀) bs) (record { answer = t .answer; taken = i + 1; sub = s′ }) l w′
         by none n = absurd (false≢true (sym (ap (λ (y : Eaten). y .done) (e .0) ∙ ap isSome n) ∙ d))
         by (some a) n =
-            let y = turn l ∙ ap (λ o. after i (unless o 1 (board s′ l w′) (oneMore (hearOn (board s′ l w′) (drop (suc i) bs))))) n in (
+            let y = turn l ∙ ap (λ o. after i (unless o 1 (memory s′ l w′) (oneMore (hearOn (memory s′ l w′) (drop (suc i) bs))))) n in (
               (λ j. record { answer = (ap (λ (y : Eaten). y .answer) (e .0) ∙ ap answered n) j; taken = i + 1; sub = s′ }) ∙ ap hearingOf (sym y),
               ap (λ y. y .2 .recv) (sym y),
               ap (λ y. y .2 .word) (sym y),
@@ -349,15 +349,15 @@ module _ {s₀ : Sub} {w₀ bs : List ℕ} {i : ℕ} {s : Sub} {w : List ℕ} (g
 
 -- ---- one behind the other
 module _ (s : Sub) (l w bs : List ℕ) {t : Step} {l′ : List ℕ} (e : HandedIs (s .lane) l w t l′) where
-  pub handed-end : t .done ≡ true → HearingIs (hearOn (board s l w) bs) (record { answer = t .answer; taken = 0; sub = sub (t .lane) (s .back) }) l′ w
+  pub handed-end : t .done ≡ true → HearingIs (hearOn (memory s l w) bs) (record { answer = t .answer; taken = 0; sub = sub (t .lane) (s .back) }) l′ w
   handed-end d = subst (λ b. HandedBy b (s .lane) l w t l′ (s .back) bs) d (e .means (s .back) bs)
 
-  pub bytes-end : {r : Hearing} {w′ : List ℕ} → t .done ≡ false → BytesIs (sub (t .lane) (s .back)) w bs r w′ → HearingIs (hearOn (board s l w) bs) r l′ w′
+  pub bytes-end : {r : Hearing} {w′ : List ℕ} → t .done ≡ false → BytesIs (sub (t .lane) (s .back)) w bs r w′ → HearingIs (hearOn (memory s l w) bs) r l′ w′
   bytes-end {r} {w′} d b =
       subst (λ y. HearingIs y r l′ w′) (sym (subst (λ b. HandedBy b (s .lane) l w t l′ (s .back) bs) d (e .means (s .back) bs))) (b l′)
 
 -- ---- the refusals
-module _ (c : Board) (bs : List ℕ) where
+module _ (c : Memory) (bs : List ℕ) where
   pub call-unsound : sound (c .st) ≡ false
       → HearingIs (hearCall c bs) (record { answer = Said (Refused 10); taken = 0; sub = c .st }) (c .recv) (c .word)
   call-unsound e =

@@ -17,7 +17,7 @@ use Rattle.stream.specs.Call.{fresh}
 use Rattle.subchannel_spec.specs.Meaning.{inGroup, inMark}
 use Rattle.subchannel.specs.declared.sub.Sub.{Sub}
 use Rattle.subchannel.specs.declared.counts.Counts.{Counts}
-use Rattle.subchannel.specs.Call.{sub, lane, counts, sound, boardOf}
+use Rattle.subchannel.specs.Call.{sub, lane, counts, sound, memoryOf}
 use Rattle.subchannel_spec.specs.Settings.{settings}
 
 -- settings r and d, counts g m w n, and place p
@@ -33,7 +33,7 @@ limits = refl
 
 -- none of a word is handed on before it is whole, and then its 255 - R message bytes are: in a group ..
 module _ (r d n : ℕ) (f : Hunting) (k : Back) (w : List ℕ) (q : Reading) where
-  pub in-group : let c : Counts = boardOf r d (inGroup f n k w q) [] [] .st .lane .counts in
+  pub in-group : let c : Counts = memoryOf r d (inGroup f n k w q) [] [] .st .lane .counts in
       (length w < 255 → c ≡ record { group = n; marker = 0; word = length w; handed = 0 })
       × (255 ≤ length w → c ≡ record { group = n; marker = 0; word = length w; handed = 255 - r })
   in-group = (
@@ -42,7 +42,7 @@ module _ (r d n : ℕ) (f : Hunting) (k : Back) (w : List ℕ) (q : Reading) whe
   )
 
   -- .. and behind one, of four words
-  pub in-mark : let c : Counts = boardOf r d (inMark f n k w q) [] [] .st .lane .counts in
+  pub in-mark : let c : Counts = memoryOf r d (inMark f n k w q) [] [] .st .lane .counts in
       (length w < 255 → c ≡ record { group = 1020; marker = n; word = length w; handed = 0 })
       × (255 ≤ length w → c ≡ record { group = 1020; marker = n; word = length w; handed = 255 - r })
   in-mark = (

@@ -33,10 +33,10 @@ use Rattle.subchannel_spec.specs.Sender.{messageBytes, groupBytes}
 use Rattle.subchannel_spec.specs.Word.{condition, mend, message}
 use Rattle.subchannel_spec.specs.Meaning.{Sub, hunting, inGroup, inMark, silent, whole, worded, takes, hunt, grouping, compared, behindGroup, step, hears}
 use Rattle.subchannel.specs.declared.lane.Lane.{Lane}
-use Rattle.subchannel.specs.Call.{Board, board, sub, lane, counts, huntOn, mendIn, wordOn, groupOn, compareOn, markOn}
+use Rattle.subchannel.specs.Call.{Memory, memory, sub, lane, counts, huntOn, mendIn, wordOn, groupOn, compareOn, markOn}
 use Rattle.subchannel_spec.specs.Settings.{settings}
-use Rattle.subchannel.specs.Call.{behind, eatBy, onBoard, eatByte}
-use Rattle.subchannel.specs.Call.{owedBy, owed, handWith, handOn, hearAll, inUse, handedOf, lockedWith, boardOf}
+use Rattle.subchannel.specs.Call.{behind, eatBy, inMemory, eatByte}
+use Rattle.subchannel.specs.Call.{owedBy, owed, handWith, handOn, hearAll, inUse, handedOf, lockedWith, memoryOf}
 use Rattle.subchannel.proofs.Fine.{mend-length}
 use Rattle.subchannel.proofs.Cutting.{hand-one}
 
@@ -53,18 +53,18 @@ tell-said none x t = refl
 tell-said (some a) x t = refl
 
 -- where nothing is owed: a byte string ..
-abbrev R : List ℕ → Board → List Event × Board
+abbrev R : List ℕ → Memory → List Event × Memory
 R = rest owed handOn eatByte
 
 -- .. and what is owed, alone
-abbrev D : Board → List Event × Board
+abbrev D : Memory → List Event × Memory
 D c = drain owed handOn eatByte (owed c) c (R [])
 
 module _ (r d : ℕ) (hr : r ≤ rootLimit) where
   -- ---- a stored word is handed on
   module _ (f : Hunting) (g m : ℕ) (k : Back) where
     -- n message bytes handed on of a whole word
-    abbrev whole-at : ℕ → Held → List ℕ → Board
+    abbrev whole-at : ℕ → Held → List ℕ → Memory
     whole-at n h l = lockedWith r d f (counts g m wordBytes n) k h l
 
     -- the message bytes v, behind those handed on, u, are handed on
@@ -76,8 +76,8 @@ module _ (r d : ℕ) (hr : r ≤ rootLimit) where
     drained-one : (x : ℕ) (v u z : List ℕ) (q : Reading) (j m i : List ℕ) → takeByte (heldOf q j) x ≡ (read q x .0, heldOf (read q x .1) m)
         → Drained v (u ++ x ∷ []) z (read q x .1) m i → Drained (x ∷ v) u z q j i
     drained-one x v u z q j m i p e =
-        let S : Board = whole-at (length u) (heldOf q j) (u ++ (x ∷ v ++ z)) in
-        let E : Board → List Event × Board = λ c. drain owed handOn eatByte (length v) c (R []) in
+        let S : Memory = whole-at (length u) (heldOf q j) (u ++ (x ∷ v ++ z)) in
+        let E : Memory → List Event × Memory = λ c. drain owed handOn eatByte (length v) c (R []) in
         let n : suc (length u) ≡ length (u ++ x ∷ []) = omega (arith, length-append u (x ∷ [])) in
         let l : u ++ (x ∷ v ++ z) ≡ (u ++ x ∷ []) ++ (v ++ z) = sym (append-snoc u x (v ++ z)) in
         let t : reads q (x ∷ v) .1 ≡ reads (read q x .1) v .1 = tell-end (read q x .0) (reads (read q x .1) v) in
@@ -122,7 +122,7 @@ module _ (r d : ℕ) (hr : r ≤ rootLimit) where
 
   -- both buffers pass 11
   abbrev pub Room : Sub → List ℕ → List ℕ → Type 0
-  Room a j l = (rawLimit ≤ length (boardOf r d a j l .recv)) × (wordBytes ≤ length (boardOf r d a j l .word))
+  Room a j l = (rawLimit ≤ length (memoryOf r d a j l .recv)) × (wordBytes ≤ length (memoryOf r d a j l .word))
 
   -- a word so far owes nothing
   settled : (w : List ℕ) → length w ≤ wordBytes → owedBy false true (eqb (length w) wordBytes) (messageBytes r) (handedOf r w) ≡ 0
@@ -133,31 +133,31 @@ module _ (r d : ℕ) (hr : r ≤ rootLimit) where
       ∙ (let z : messageBytes r - messageBytes r ≡ 0 = omega arith in z))
       (λ l. ap (λ t. owedBy false true t (messageBytes r) (handedOf r w)) (ne-eqb (length w) wordBytes (λ e. omega arith)))
 
-  none-owed : (a : Sub) (j l : List ℕ) → Good a → owed (boardOf r d a j l) ≡ 0
+  none-owed : (a : Sub) (j l : List ℕ) → Good a → owed (memoryOf r d a j l) ≡ 0
   none-owed (hunting f) j l g = refl
   none-owed (inGroup f n k w q) j l g = settled w (g .1)
   none-owed (inMark f n k w q) j l g = settled w (g .1)
   none-owed (silent f k) j l g = refl
 
-  -- what is shown after a byte: x are the answers and the board, y those of the one without a limit
-  abbrev pub Now : List Event × Board → List Event × Sub → Type 0
-  Now x y = (j : List ℕ) × (l : List ℕ) × (x ≡ (y .0, boardOf r d (y .1) j l)) × Good (y .1) × Room (y .1) j l
+  -- what is shown after a byte: x are the answers and the memory, y those of the one without a limit
+  abbrev pub Now : List Event × Memory → List Event × Sub → Type 0
+  Now x y = (j : List ℕ) × (l : List ℕ) × (x ≡ (y .0, memoryOf r d (y .1) j l)) × Good (y .1) × Room (y .1) j l
 
   now-hunt : (t : Bool) (f g : Hunting) (j l : List ℕ) → rawLimit ≤ length j → wordBytes ≤ length l
-      → Now (D (board (sub (huntOn t g (boardOf r d (hunting f) j l .st .lane)) (boardOf r d (hunting f) j l .st .back)) j l)) ([], hunt t g)
+      → Now (D (memory (sub (huntOn t g (memoryOf r d (hunting f) j l .st .lane)) (memoryOf r d (hunting f) j l .st .back)) j l)) ([], hunt t g)
   now-hunt true f g j l h i = (j, l, refl, (lit< tt, omega arith), (h, i))
   now-hunt false f g j l h i = (j, l, refl, tt, (h, i))
 
   -- ---- a byte of a group
   module _ (f : Hunting) (n : ℕ) (k : Back) where
     -- the state behind it, by the answers, the word so far and the frame reader
-    abbrev Behind : List Event × Board → List Event × List ℕ × Reading → Type 0
+    abbrev Behind : List Event × Memory → List Event × List ℕ × Reading → Type 0
     Behind x t =
         (j : List ℕ) × (l : List ℕ)
         × (x ≡ (t .0, lockedWith r d f (counts (suc n) 0 (length (t .1)) (handedOf r (t .1))) k (heldOf (t .2) j) (t .1 ++ l)))
         × (length (t .1) ≤ wordBytes) × (rawLimit ≤ length (heldOf (t .2) j .recv)) × (wordBytes ≤ length (t .1 ++ l))
 
-    grouping-now : (x : List Event × Board) (t : List Event × List ℕ × Reading) (s : Bool) → ltb (suc n) groupBytes ≡ s → n < groupBytes
+    grouping-now : (x : List Event × Memory) (t : List Event × List ℕ × Reading) (s : Bool) → ltb (suc n) groupBytes ≡ s → n < groupBytes
         → Behind x t → Now x (t .0, grouping s f (suc n) k (t .1) (t .2))
     grouping-now x t true e h b = (b .0, b .1, b .2, (ltb-true _ _ e, b .3), (b .4, b .5))
     grouping-now x t false e h b =
@@ -177,14 +177,14 @@ module _ (r d : ℕ) (hr : r ≤ rootLimit) where
     word-now : (t : Bool) (v o : ℕ) (u : List ℕ) (q : Reading) (j l : List ℕ) (y b : ℕ) → ltb (suc (length u)) wordBytes ≡ t → length u < wordBytes
         → rawLimit ≤ length (heldOf q j .recv) → wordBytes ≤ length (u ++ b ∷ l)
         → Behind
-        (let x = onBoard (heldOf q j .recv) (behind k (wordOn t (at v o (heldOf q j)) (length u) (set (u ++ b ∷ l) (length u) y))) in tell (x .0) (D (x .1)))
+        (let x = inMemory (heldOf q j .recv) (behind k (wordOn t (at v o (heldOf q j)) (length u) (set (u ++ b ∷ l) (length u) y))) in tell (x .0) (D (x .1)))
         (worded t r (u ++ y ∷ []) q)
     word-now true v o u q j l y b e h hj hw =
         let a : suc (length u) ≡ length (u ++ y ∷ []) = omega (arith, length-append u (y ∷ [])) in
         let m : suc (length u) < wordBytes = ltb-true _ _ e in
         let z : set (u ++ b ∷ l) (length u) y ≡ (u ++ y ∷ []) ++ l = set-append-seam u b l y ∙ sym (append-snoc u y l) in
         let p : handedOf r (u ++ y ∷ []) ≡ 0 = ap (λ t. pick t 0 (messageBytes r)) (lt-ltb (length (u ++ y ∷ [])) wordBytes (omega arith)) in
-        let c : Board = lockedWith r d f (counts (suc n) 0 (suc (length u)) 0) k (heldOf q j) (set (u ++ b ∷ l) (length u) y) in (
+        let c : Memory = lockedWith r d f (counts (suc n) 0 (suc (length u)) 0) k (heldOf q j) (set (u ++ b ∷ l) (length u) y) in (
           j,
           l,
           ap (λ t. drain owed handOn eatByte (owedBy false true t (messageBytes r) 0) c (R [])) (ne-eqb (suc (length u)) wordBytes (λ w. omega arith))
@@ -220,7 +220,7 @@ module _ (r d : ℕ) (hr : r ≤ rootLimit) where
     abbrev Put : List ℕ → Reading → List ℕ → List ℕ → ℕ → ℕ → List ℕ → Type 0
     Put w q j L y p x =
         Behind
-        (let z = onBoard (heldOf q j .recv) (behind k (wordOn (ltb (suc p) wordBytes) (at (length w) (handedOf r w) (heldOf q j)) p (set L p y))) in
+        (let z = inMemory (heldOf q j .recv) (behind k (wordOn (ltb (suc p) wordBytes) (at (length w) (handedOf r w) (heldOf q j)) p (set L p y))) in
         tell (z .0) (D (z .1)))
         (worded (ltb (length x) wordBytes) r x q)
 
@@ -230,7 +230,7 @@ module _ (r d : ℕ) (hr : r ≤ rootLimit) where
     put-now w q j y u (b ∷ l) h hj hw =
         subst
         (λ m. Behind
-        (let z = onBoard (heldOf q j .recv)
+        (let z = inMemory (heldOf q j .recv)
         (behind k (wordOn (ltb (suc (length u)) wordBytes) (at (length w) (handedOf r w) (heldOf q j)) (length u) (set (u ++ b ∷ l) (length u) y))) in
         tell (z .0) (D (z .1)))
         (worded (ltb m wordBytes) r (u ++ y ∷ []) q))
@@ -241,10 +241,10 @@ module _ (r d : ℕ) (hr : r ≤ rootLimit) where
     group-now : (o : Option ℕ) (w : List ℕ) (q : Reading) (j l : List ℕ) → length w ≤ wordBytes → rawLimit ≤ length (heldOf q j .recv)
         → wordBytes ≤ length (w ++ l)
         → Behind
-        (let x = onBoard (heldOf q j .recv) (behind k (groupOn o (at (length w) (handedOf r w) (heldOf q j)) (w ++ l))) in tell (x .0) (D (x .1)))
+        (let x = inMemory (heldOf q j .recv) (behind k (groupOn o (at (length w) (handedOf r w) (heldOf q j)) (w ++ l))) in tell (x .0) (D (x .1)))
         (takes r o w q)
     group-now none w q j l h hj hw =
-        let c : Board = lockedWith r d f (counts (suc n) 0 (length w) (handedOf r w)) k (heldOf q j) (w ++ l) in
+        let c : Memory = lockedWith r d f (counts (suc n) 0 (length w) (handedOf r w)) k (heldOf q j) (w ++ l) in
         (j, l, ap (λ m. drain owed handOn eatByte m c (R [])) (settled w h), h, hj, hw)
     group-now (some y) w q j l h hj hw =
         by-le wordBytes (length w)
@@ -259,31 +259,31 @@ module _ (r d : ℕ) (hr : r ≤ rootLimit) where
   now-compare : (t : Bool) (f g : Hunting) (n : ℕ) (k : Back) (w : List ℕ) (q : Reading) (j l : List ℕ) → length w ≤ wordBytes
       → rawLimit ≤ length (heldOf q j .recv) → wordBytes ≤ length (w ++ l)
       → Now
-      (let x = compareOn t g (boardOf r d (inMark f n k w q) j l .st .lane) in tell (x .0) (D (board (sub (x .1) k) (heldOf q j .recv) (w ++ l))))
+      (let x = compareOn t g (memoryOf r d (inMark f n k w q) j l .st .lane) in tell (x .0) (D (memory (sub (x .1) k) (heldOf q j .recv) (w ++ l))))
       (compared t g k w q)
   now-compare true f g n k w q j l h hj hw =
-      let c : Board = lockedWith r d g (counts 0 0 (length w) (handedOf r w)) k (heldOf q j) (w ++ l) in
+      let c : Memory = lockedWith r d g (counts 0 0 (length w) (handedOf r w)) k (heldOf q j) (w ++ l) in
       (j, l, ap (λ m. drain owed handOn eatByte m c (R [])) (settled w h), (lit< tt, h), (hj, hw))
   now-compare false f g n k w q j l h hj hw = (heldOf q j .recv, w ++ l, refl, tt, (hj, hw))
 
   now-mark : (t : Bool) (f g : Hunting) (n : ℕ) (k : Back) (w : List ℕ) (q : Reading) (j l : List ℕ) → ltb (suc n) 4 ≡ t → length w ≤ wordBytes
       → rawLimit ≤ length (heldOf q j .recv) → wordBytes ≤ length (w ++ l)
       → Now
-      (let x = markOn t g (boardOf r d (inMark f n k w q) j l .st .lane) in tell (x .0) (D (board (sub (x .1) k) (heldOf q j .recv) (w ++ l))))
+      (let x = markOn t g (memoryOf r d (inMark f n k w q) j l .st .lane) in tell (x .0) (D (memory (sub (x .1) k) (heldOf q j .recv) (w ++ l))))
       (behindGroup t g (suc n) k w q)
   now-mark true f g n k w q j l e h hj hw =
-      let c : Board = lockedWith r d g (counts groupBytes (suc n) (length w) (handedOf r w)) k (heldOf q j) (w ++ l) in
+      let c : Memory = lockedWith r d g (counts groupBytes (suc n) (length w) (handedOf r w)) k (heldOf q j) (w ++ l) in
       (j, l, ap (λ m. drain owed handOn eatByte m c (R [])) (settled w h), (ltb-true _ _ e, h), (hj, hw))
   now-mark false f g n k w q j l e h hj hw = now-compare (isMarker g) f g n k w q j l h hj hw
 
   -- one byte
-  shown-step : (a : Sub) (j l : List ℕ) (b : ℕ) → Good a → Room a j l → Now (R (b ∷ []) (boardOf r d a j l)) (step r d a b)
+  shown-step : (a : Sub) (j l : List ℕ) (b : ℕ) → Good a → Room a j l → Now (R (b ∷ []) (memoryOf r d a j l)) (step r d a b)
   shown-step (hunting f) j l b g h = now-hunt (isMarker (shift f b)) f (shift f b) j l (h .0) (h .1)
   shown-step (inGroup f n k w q) j l b g h =
-      let c : Board = boardOf r d (inGroup f n k w q) j l in
+      let c : Memory = memoryOf r d (inGroup f n k w q) j l in
       subst
       (λ t. Now
-      (let x = onBoard (c .recv) (eatBy false true t (c .st .lane) k (w ++ l) b) in tell (x .0) (D (x .1)))
+      (let x = inMemory (c .recv) (eatBy false true t (c .st .lane) k (w ++ l) b) in tell (x .0) (D (x .1)))
       (step r d (inGroup f n k w q) b))
       (sym (lt-ltb n groupBytes (g .0)))
       (grouping-now f n (pull d k b .1) _ (takes r (pull d k b .0) w q) (ltb (suc n) groupBytes) refl (g .0)
@@ -291,19 +291,19 @@ module _ (r d : ℕ) (hr : r ≤ rootLimit) where
   shown-step (inMark f n k w q) j l b g h = now-mark (ltb (suc n) 4) f (shift f b) n k w q j l refl (g .1) (h .0) (h .1)
   shown-step (silent f k) j l b g h = (j, l, refl, tt, h)
 
-  all-rest : (a : Sub) (j l bs : List ℕ) → Good a → hearAll (boardOf r d a j l) bs ≡ R bs (boardOf r d a j l)
-  all-rest a j l bs g = ap (λ n. drain owed handOn eatByte n (boardOf r d a j l) (R bs)) (none-owed a j l g)
+  all-rest : (a : Sub) (j l bs : List ℕ) → Good a → hearAll (memoryOf r d a j l) bs ≡ R bs (memoryOf r d a j l)
+  all-rest a j l bs g = ap (λ n. drain owed handOn eatByte n (memoryOf r d a j l) (R bs)) (none-owed a j l g)
 
   -- a byte string
-  pub shown-all : (bs : List ℕ) (a : Sub) (j l : List ℕ) → Good a → Room a j l → Now (hearAll (boardOf r d a j l) bs) (hears r d a bs)
+  pub shown-all : (bs : List ℕ) (a : Sub) (j l : List ℕ) → Good a → Room a j l → Now (hearAll (memoryOf r d a j l) bs) (hears r d a bs)
   shown-all [] a j l g h = (j, l, all-rest a j l [] g, g, h)
   shown-all (b ∷ bs) a j l g h =
       let s = shown-step a j l b g h in
       let t = shown-all bs (step r d a b .1) (s .0) (s .1) (s .3) (s .4) in
-      let e : hearAll (boardOf r d a j l) (b ∷ []) ≡ (step r d a b .0, boardOf r d (step r d a b .1) (s .0) (s .1)) = all-rest a j l (b ∷ []) g ∙ s .2 in (
+      let e : hearAll (memoryOf r d a j l) (b ∷ []) ≡ (step r d a b .0, memoryOf r d (step r d a b .1) (s .0) (s .1)) = all-rest a j l (b ∷ []) g ∙ s .2 in (
         t .0,
         t .1,
-        all-append owed handOn eatByte hand-one (boardOf r d a j l) (b ∷ []) bs
+        all-append owed handOn eatByte hand-one (memoryOf r d a j l) (b ∷ []) bs
             ∙ (λ i. andThen (e i) (λ c. hearAll c bs))
             ∙ (λ i. (step r d a b .0 ++ t .2 i .0, t .2 i .1)),
         t .3,
@@ -321,7 +321,7 @@ module _ (r d : ℕ) (hr : r ≤ rootLimit) where
       )
 
   -- what is in use does not hang on what stands behind it in the buffers
-  pub in-use : (a : Sub) (j l : List ℕ) → inUse (boardOf r d a j l) ≡ inUse (boardOf r d a [] [])
+  pub in-use : (a : Sub) (j l : List ℕ) → inUse (memoryOf r d a j l) ≡ inUse (memoryOf r d a [] [])
   in-use (hunting f) j l = refl
   in-use (inGroup f n k w q) j l = locked-use f n 0 k w q j l
   in-use (inMark f n k w q) j l = locked-use f groupBytes n k w q j l

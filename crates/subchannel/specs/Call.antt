@@ -1,5 +1,5 @@
 -- One sub-channel as it is called (request W7): its state and its two lent buffers go in and come back, and one call gives at most one answer.
--- Board                  state, receive buffer and word buffer
+-- Memory                 state, receive buffer and word buffer
 -- toldSub                just told its settings
 -- eat, eatByte, handOn   one new byte; one stored message byte handed on
 -- hearAll                what a byte string means: its answers, and state and buffers behind it
@@ -9,7 +9,7 @@
 -- Fine                   states and buffers that pass 10 and 11
 -- ThereEvent             that a delivered payload stands in the receive buffer
 -- inUse                  the final state that counts
--- boardOf                the state of the receiver without a limit, in numbers and the buffers
+-- memoryOf               the state of the receiver without a limit, in numbers and the buffers
 use Prim.Native.Nat.{ℕ, suc, _-_, _≤_}
 use mathlib.Core.Path.{_≡_}
 use mathlib.Core.Bool.{Bool, true, false, _&&_, not}
@@ -42,14 +42,14 @@ use Rattle.subchannel.specs.declared.sub.Sub.{Sub}
 use Rattle.subchannel.specs.declared.sub.Hearing.{Hearing}
 
 -- state, receive buffer and word buffer
-pub record Board : Type 0 where
+pub record Memory : Type 0 where
   pub st : Sub
   pub recv : List ℕ
   pub word : List ℕ
 
 -- .. put together
-abbrev pub board : Sub → List ℕ → List ℕ → Board
-board s recv word = record { st = s; recv = recv; word = word }
+abbrev pub memory : Sub → List ℕ → List ℕ → Memory
+memory s recv word = record { st = s; recv = recv; word = word }
 
 abbrev pub sub : Lane → Back → Sub
 sub s k = record { lane = s; back = k }
@@ -66,7 +66,7 @@ abbrev pub toldSub : ℕ → ℕ → Sub
 toldSub r d = sub (lane (settings true r d) false false zeros (counts 0 0 0 0) fresh) freshBack
 
 -- the frame reader in it
-abbrev pub heldIn : Board → Held
+abbrev pub heldIn : Memory → Held
 heldIn c = held (c .st .lane .frame) (c .recv)
 
 -- with other last four bytes, and counts
@@ -139,11 +139,11 @@ abbrev pub eat : Lane → Back → List ℕ → ℕ → Given
 eat s k w b = eatBy (s .lost) (s .locked) (ltb (s .counts .group) groupBytes) s k w b
 
 -- .. the receive buffer stays
-abbrev pub onBoard : List ℕ → Given → Option Event × Board
-onBoard recv x = (x .0, board (sub (x .1) (x .2)) recv (x .3))
+abbrev pub inMemory : List ℕ → Given → Option Event × Memory
+inMemory recv x = (x .0, memory (sub (x .1) (x .2)) recv (x .3))
 
-abbrev pub eatByte : Board → ℕ → Option Event × Board
-eatByte c b = onBoard (c .recv) (eat (c .st .lane) (c .st .back) (c .word) b)
+abbrev pub eatByte : Memory → ℕ → Option Event × Memory
+eatByte c b = inMemory (c .recv) (eat (c .st .lane) (c .st .back) (c .word) b)
 
 -- message bytes of a stored word that are not handed on yet, by: is lock lost, is it locked, is the word whole
 abbrev pub owedBy : Bool → Bool → Bool → ℕ → ℕ → ℕ
@@ -155,32 +155,32 @@ owedBy false true false m n = 0
 abbrev pub owes : Lane → ℕ
 owes s = owedBy (s .lost) (s .locked) (eqb (s .counts .word) wordBytes) (messageBytes (s .settings .parity)) (s .counts .handed)
 
--- .. of those on the board
-abbrev pub owed : Board → ℕ
+-- .. of those in memory
+abbrev pub owed : Memory → ℕ
 owed c = owes (c .st .lane)
 
 -- n message bytes handed on, and the frame reader behind them
 abbrev pub handing : Lane → ℕ → Frame → Lane
 handing s n h = lane (s .settings) (s .locked) (s .lost) (s .hunting) (counts (s .counts .group) (s .counts .marker) (s .counts .word) n) h
 
--- .. on the board
-abbrev pub handed : Board → ℕ → Held → Board
-handed c n h = board (sub (handing (c .st .lane) n (h .st)) (c .st .back)) (h .recv) (c .word)
+-- .. in memory
+abbrev pub handed : Memory → ℕ → Held → Memory
+handed c n h = memory (sub (handing (c .st .lane) n (h .st)) (c .st .back)) (h .recv) (c .word)
 
 -- by what the frame reader makes of a byte: one more is handed on
-abbrev pub handWith : Option Told × Held → Board → Option Event × Board
+abbrev pub handWith : Option Told × Held → Memory → Option Event × Memory
 handWith x c = (asEvent (x .0), handed c (suc (c .st .lane .counts .handed)) (x .1))
 
 -- one stored message byte is handed on to the frame reader
-abbrev pub handOn : Board → Option Event × Board
+abbrev pub handOn : Memory → Option Event × Memory
 handOn c = handWith (takeByte (heldIn c) (getD (c .word) (c .st .lane .counts .handed) 0)) c
 
 -- a byte string: its answers, and state and buffers behind it
-abbrev pub hearAll : Board → List ℕ → List Event × Board
+abbrev pub hearAll : Memory → List ℕ → List Event × Memory
 hearAll = all owed handOn eatByte
 
 -- one call behind refusals 10 and 11: the answer (none: "more wanted"), the bytes taken, state and buffers
-abbrev pub hearOn : Board → List ℕ → Option Event × ℕ × Board
+abbrev pub hearOn : Memory → List ℕ → Option Event × ℕ × Memory
 hearOn = hear owed handOn eatByte
 
 -- what 10 asks of the counts: "also when a group counts more than four words", marker above 3, word above 255, handed on above 255 - R
@@ -196,32 +196,32 @@ abbrev pub sound : Sub → Bool
 sound s = soundLane (s .lane) && not (beyond (s .lane .settings .depth) (s .back .matrix .place))
 
 -- by: does it pass 10, does it pass 11
-abbrev pub hearBy : Bool → Bool → Board → List ℕ → Option Event × ℕ × Board
+abbrev pub hearBy : Bool → Bool → Memory → List ℕ → Option Event × ℕ × Memory
 hearBy false r c bs = (some (said (refusal 10)), 0, c)
 hearBy true false c bs = (some (said (refusal 11)), 0, c)
 hearBy true true c bs = hearOn c bs
 
 -- one call
-abbrev pub hearCall : Board → List ℕ → Option Event × ℕ × Board
+abbrev pub hearCall : Memory → List ℕ → Option Event × ℕ × Memory
 hearCall c bs = hearBy (sound (c .st)) (roomy (c .recv) (c .word)) c bs
 
 -- the code's result of a call
-abbrev pub hearingOf : Option Event × ℕ × Board → Hearing
+abbrev pub hearingOf : Option Event × ℕ × Memory → Hearing
 hearingOf x = record { answer = answered (x .0); taken = x .1; sub = x .2 .st }
 
 -- r is the result, l the receive buffer and k the word buffer of a call
-abbrev pub HearingIs : Option Event × ℕ × Board → Hearing → List ℕ → List ℕ → Type 0
+abbrev pub HearingIs : Option Event × ℕ × Memory → Hearing → List ℕ → List ℕ → Type 0
 HearingIs x r l k = (r ≡ hearingOf x) × (l ≡ x .2 .recv) × (k ≡ x .2 .word)
 
 -- bs is heard by a sub-channel that was just told r and d, cut in every way, with all buffers that pass 11: the calls come to their end, and P
 -- holds of their answers, and of state and buffers behind them
-abbrev pub EveryCut : ℕ → ℕ → List ℕ → (List Event → Board → Type 0) → Type 0
+abbrev pub EveryCut : ℕ → ℕ → List ℕ → (List Event → Memory → Type 0) → Type 0
 EveryCut r d bs P =
     (recv word : List ℕ) → rawLimit ≤ length recv → wordBytes ≤ length word →
-    (pieces : List (List ℕ)) → joined pieces ≡ bs → Yields hearCall (board (toldSub r d) recv word) pieces P
+    (pieces : List (List ℕ)) → joined pieces ≡ bs → Yields hearCall (memory (toldSub r d) recv word) pieces P
 
 -- state and buffers pass 10 and 11
-pub record Fine (c : Board) : Type 0 where
+pub record Fine (c : Memory) : Type 0 where
   pub frame : FineFrame (heldIn c)
   pub parity : c .st .lane .settings .parity ≤ rootLimit
   pub depth : c .st .lane .settings .depth ≤ depthLimit
@@ -233,13 +233,13 @@ pub record Fine (c : Board) : Type 0 where
   pub room : wordBytes ≤ length (c .word)
 
 -- a delivered payload stands in the receive buffer that comes back
-abbrev pub ThereEvent : Event → Board → Type 0
+abbrev pub ThereEvent : Event → Memory → Type 0
 ThereEvent (said a) c = There a (c .recv)
 ThereEvent (block x) c = Unit {0}
 ThereEvent lost c = Unit {0}
 
 -- the state, and the bytes in use in both buffers: as many as the counts say, from the start
-abbrev pub inUse : Board → Sub × List ℕ × List ℕ
+abbrev pub inUse : Memory → Sub × List ℕ × List ℕ
 inUse c = (c .st, take (c .st .lane .frame .stored) (c .recv), take (c .st .lane .counts .word) (c .word))
 
 -- of a word's bytes so far: a whole word is handed on
@@ -247,12 +247,12 @@ abbrev pub handedOf : ℕ → List ℕ → ℕ
 handedOf r w = pick (ltb (length w) wordBytes) 0 (messageBytes r)
 
 -- locked, in a group or behind one
-abbrev pub lockedWith : ℕ → ℕ → Hunting → Counts → Back → Held → List ℕ → Board
-lockedWith r d f n k h w = board (sub (lane (settings true r d) true false f n (h .st)) k) (h .recv) w
+abbrev pub lockedWith : ℕ → ℕ → Hunting → Counts → Back → Held → List ℕ → Memory
+lockedWith r d f n k h w = memory (sub (lane (settings true r d) true false f n (h .st)) k) (h .recv) w
 
 -- a word's bytes so far stand at the start of the word buffer, a frame's as `heldOf` says; behind them stand the bytes l and j
-abbrev pub boardOf : ℕ → ℕ → model.Sub → List ℕ → List ℕ → Board
-boardOf r d (model.hunting f) j l = board (sub (lane (settings true r d) false false f (counts 0 0 0 0) fresh) freshBack) j l
-boardOf r d (model.inGroup f n k w q) j l = lockedWith r d f (counts n 0 (length w) (handedOf r w)) k (heldOf q j) (w ++ l)
-boardOf r d (model.inMark f n k w q) j l = lockedWith r d f (counts groupBytes n (length w) (handedOf r w)) k (heldOf q j) (w ++ l)
-boardOf r d (model.silent f k) j l = board (sub (lane (settings true r d) false true f (counts 0 0 0 0) fresh) k) j l
+abbrev pub memoryOf : ℕ → ℕ → model.Sub → List ℕ → List ℕ → Memory
+memoryOf r d (model.hunting f) j l = memory (sub (lane (settings true r d) false false f (counts 0 0 0 0) fresh) freshBack) j l
+memoryOf r d (model.inGroup f n k w q) j l = lockedWith r d f (counts n 0 (length w) (handedOf r w)) k (heldOf q j) (w ++ l)
+memoryOf r d (model.inMark f n k w q) j l = lockedWith r d f (counts groupBytes n (length w) (handedOf r w)) k (heldOf q j) (w ++ l)
+memoryOf r d (model.silent f k) j l = memory (sub (lane (settings true r d) false true f (counts 0 0 0 0) fresh) k) j l

@@ -29,7 +29,7 @@ use Rattle.subchannel.specs.declared.lane.Eaten.{Eaten}
 use Rattle.subchannel.specs.declared.cells.Turned.{Turned}
 use Rattle.subchannel.specs.declared.sub.Sub.{Sub}
 use Rattle.subchannel.specs.declared.sub.Hearing.{Hearing}
-use Rattle.subchannel.specs.Call.{board, sub, counts, counted, Given, owes, hearOn, Fine, HearingIs}
+use Rattle.subchannel.specs.Call.{memory, sub, counts, counted, Given, owes, hearOn, Fine, HearingIs}
 
 -- there is one
 abbrev pub isSome : {A : Type 0} → Option A → Bool
@@ -71,13 +71,13 @@ EatenIs x t cells word =
 
 -- a stored word's rest, by: does it end the call. Else the call goes on behind it
 abbrev pub HandedBy : Bool → Lane → List ℕ → List ℕ → Step → List ℕ → Back → List ℕ → Type 0
-HandedBy true s l word t l′ k bs = HearingIs (hearOn (board (sub s k) l word) bs) (record { answer = t .answer; taken = 0; sub = sub (t .lane) k }) l′ word
-HandedBy false s l word t l′ k bs = hearOn (board (sub s k) l word) bs ≡ hearOn (board (sub (t .lane) k) l′ word) bs
+HandedBy true s l word t l′ k bs = HearingIs (hearOn (memory (sub s k) l word) bs) (record { answer = t .answer; taken = 0; sub = sub (t .lane) k }) l′ word
+HandedBy false s l word t l′ k bs = hearOn (memory (sub s k) l word) bs ≡ hearOn (memory (sub (t .lane) k) l′ word) bs
 
 -- the rest of a stored word is handed on: no new byte is taken, and the cells stay, whatever they hold
 pub record HandedIs (s : Lane) (l word : List ℕ) (t : Step) (l′ : List ℕ) : Type 0 where
   pub means : (k : Back) (bs : List ℕ) → HandedBy (t .done) s l word t l′ k bs
-  pub fine : (k : Back) → beyond (s .settings .depth) (k .matrix .place) ≡ false → Fine (board (sub (t .lane) k) l′ word)
+  pub fine : (k : Back) → beyond (s .settings .depth) (k .matrix .place) ≡ false → Fine (memory (sub (t .lane) k) l′ word)
   pub owed : t .done ≡ false → owes (t .lane) ≡ 0
 
 -- some receive buffer that passes 11
@@ -86,14 +86,14 @@ spare = replicate rawLimit 0
 
 -- the bytes of a piece: whatever the receive buffer holds, it stays
 abbrev pub BytesIs : Sub → List ℕ → List ℕ → Hearing → List ℕ → Type 0
-BytesIs s word bs r word′ = (l : List ℕ) → HearingIs (hearOn (board s l word) bs) r l word′
+BytesIs s word bs r word′ = (l : List ℕ) → HearingIs (hearOn (memory s l word) bs) r l word′
 
 -- from byte i on: the state s and the word buffer w there; the call began with s₀ and w₀
 pub record Going (s₀ : Sub) (w₀ bs : List ℕ) (i : ℕ) (s : Sub) (w : List ℕ) : Type 0 where
   pub within : i ≤ length bs
-  pub fine : Fine (board s spare w)
+  pub fine : Fine (memory s spare w)
   pub owed : owes (s .lane) ≡ 0
-  pub left : (l : List ℕ) → hearOn (board s₀ l w₀) bs ≡ after i (hearOn (board s l w) (drop i bs))
+  pub left : (l : List ℕ) → hearOn (memory s₀ l w₀) bs ≡ after i (hearOn (memory s l w) (drop i bs))
 
 -- from byte i to byte j, whatever the call began with
 abbrev pub GoesOn : List ℕ → ℕ → Sub → List ℕ → ℕ → Sub → List ℕ → Type 0

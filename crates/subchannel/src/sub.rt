@@ -3,7 +3,7 @@ ghost use mathlib.Core.Path.{_≡_};
 ghost use mathlib.Core.Bool.{true, false};
 ghost use Rattle.channel.specs.Call.{roomy};
 ghost use Rattle.interleaver_spec.specs.Running.{matrix, back};
-ghost use Rattle.subchannel.specs.Call.{Fine, board, sub, toldSub, owes, sound, hearOn, hearCall, HearingIs};
+ghost use Rattle.subchannel.specs.Call.{Fine, memory, sub, toldSub, owes, sound, hearOn, hearCall, HearingIs};
 ghost use Rattle.subchannel.specs.Private.{spare, BytesIs};
 use crate::cells;
 use crate::counts::Counts;
@@ -99,7 +99,7 @@ impl Sub {
         word: &mut [u8],
         piece: &[u8],
     ) -> Hearing
-        requires { ⌜ Fine (board (sub lane (back passed (matrix first from))) spare (now word)) × (owes lane ≡ 0) ⌝ }
+        requires { ⌜ Fine (memory (sub lane (back passed (matrix first from))) spare (now word)) × (owes lane ≡ 0) ⌝ }
         ensures { λ r. ⌜ BytesIs (sub lane (back passed (matrix first from))) (now (word .entry)) (now (piece .entry)) r (now (word .exit)) ⌝ }
     {
         let mut cells = from;
@@ -146,7 +146,7 @@ impl Sub {
     // A call behind refusals 10 and 11: a stored word's rest, then new bytes.
     pub(crate) fn hear_on(self, recv: &mut [u8], word: &mut [u8], piece: &[u8]) -> Hearing
         requires { ⌜ (sound self ≡ true) × (roomy (now recv) (now word) ≡ true) ⌝ }
-        ensures { λ r. ⌜ HearingIs (hearOn (board self (now (recv .entry)) (now (word .entry))) (now (piece .entry)))
+        ensures { λ r. ⌜ HearingIs (hearOn (memory self (now (recv .entry)) (now (word .entry))) (now (piece .entry)))
             r (now (recv .exit)) (now (word .exit)) ⌝ }
     {
         let lane = self.lane;
@@ -168,7 +168,7 @@ impl Sub {
 
     /// One call: at most one answer, and no byte behind the one that caused it is taken.
     pub fn hear(self, recv: &mut [u8], word: &mut [u8], piece: &[u8]) -> Hearing
-        ensures { λ r. ⌜ HearingIs (hearCall (board self (now (recv .entry)) (now (word .entry))) (now (piece .entry)))
+        ensures { λ r. ⌜ HearingIs (hearCall (memory self (now (recv .entry)) (now (word .entry))) (now (piece .entry)))
             r (now (recv .exit)) (now (word .exit)) ⌝ }
     {
         if !self.sound() {

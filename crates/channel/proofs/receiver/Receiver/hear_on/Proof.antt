@@ -1,5 +1,5 @@
 -- `channel::receiver::Receiver::hear_on` meets its contract, phase behind phase.
-use Rattle.channel.specs.Call.{board}
+use Rattle.channel.specs.Call.{memory}
 use Rattle.channel.proofs.Hearing.{room-word, handed-end, sought-end, filled-end}
 use borrow.Author.Needs.{needs}
 use Rattle.channel.proofs.receiver.Receiver.hear_on.Statement.{statement}
@@ -15,14 +15,14 @@ hear-on-spec =
     (search needs)
     (λ c.
     let s = c .before .before .before .before .before .before .before .before .before .before in
-    handed-end (board (s .args .self) (s .args .recv .now) (s .args .word .now)) (s .args .piece .now) (c .before .before .before .before .hand-on .ensures) (c .before .if1 .taken) (c .ended .ensures))
+    handed-end (memory (s .args .self) (s .args .recv .now) (s .args .word .now)) (s .args .piece .now) (c .before .before .before .before .hand-on .ensures) (c .before .if1 .taken) (c .ended .ensures))
     (λ c κs. let h = c .before .before .before .before .hand-on .ensures in (h .lock, h .owed (c .before .if1 .left)))
     (search needs)
     (search needs)
     (search needs)
     (λ c.
     let s = c .before .before .before .before .before .before .before .before .before .before .before .before .before in
-    sought-end (board (s .args .self) (s .args .recv .now) (s .args .word .now)) (s .args .piece .now) (c .before .before .before .before .before .before .before .hand-on .ensures) (c .before .before .before .before .if1 .left) (c .before .before .seek .ensures) (c .before .if2 .taken) (c .ended2 .ensures))
+    sought-end (memory (s .args .self) (s .args .recv .now) (s .args .word .now)) (s .args .piece .now) (c .before .before .before .before .before .before .before .hand-on .ensures) (c .before .before .before .before .if1 .left) (c .before .before .seek .ensures) (c .before .if2 .taken) (c .ended2 .ensures))
     (λ c κs.
     let s = c .before .before .before .before .before .before .before .before .before .before .before .before .before .before in
     let g = c .before .before .before .seek .ensures in
@@ -33,5 +33,5 @@ hear-on-spec =
     (λ c.
     let h = c .before .before .before .before .before .before .before .before .before .before .before in
     let s = h .before .before .before .before .before .before in
-    filled-end (board (s .args .self) (s .args .recv .now) (s .args .word .now)) (s .args .piece .now) (h .hand-on .ensures) (c .before .before .before .before .before .before .before .before .if1 .left)
+    filled-end (memory (s .args .self) (s .args .recv .now) (s .args .word .now)) (s .args .piece .now) (h .hand-on .ensures) (c .before .before .before .before .before .before .before .before .if1 .left)
     (c .before .before .before .before .before .before .seek .ensures) (c .before .before .before .before .before .if2 .left) (c .before .before .fill .ensures)))

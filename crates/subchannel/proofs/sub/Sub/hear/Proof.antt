@@ -2,7 +2,7 @@
 use mathlib.Core.Path.{sym, _∙_}
 use borrow.Author.Tests.{not-true, not-false}
 use borrow.Author.Needs.{needs}
-use Rattle.subchannel.specs.Call.{board}
+use Rattle.subchannel.specs.Call.{memory}
 use Rattle.subchannel.proofs.Hearing.{call-unsound, call-cramped, call-on}
 use Rattle.subchannel.proofs.sub.Sub.hear.Statement.{statement}
 use Rattle.subchannel.proofs.sub.Sub.hear.Tie as tie
@@ -14,14 +14,14 @@ hear-spec =
     (search needs)
     (λ c.
     let a = c .before .before .before .before .before .args in
-    call-unsound (board (a .self) (a .recv .now) (a .word .now)) (a .piece .now) (sym (c .before .sound .ensures) ∙ not-true _ (c .if1 .taken)))
+    call-unsound (memory (a .self) (a .recv .now) (a .word .now)) (a .piece .now) (sym (c .before .sound .ensures) ∙ not-true _ (c .if1 .taken)))
     (search needs)
     (search needs)
     (search needs)
     (λ c.
     let e = c .before .before .before .before in
     let a = e .before .before .before .before .before .args in
-    call-cramped (board (a .self) (a .recv .now) (a .word .now)) (a .piece .now) (sym (e .before .sound .ensures) ∙ not-false _ (e .if1 .left))
+    call-cramped (memory (a .self) (a .recv .now) (a .word .now)) (a .piece .now) (sym (e .before .sound .ensures) ∙ not-false _ (e .if1 .left))
     (sym (c .before .has-room .ensures) ∙ not-true _ (c .if2 .taken)))
     (λ c κs.
     let t = c .before .before in
@@ -34,5 +34,5 @@ hear-spec =
     let t = h .before .before .before in
     let e = t .before .before .before .before in
     let a = e .before .before .before .before .before .args in
-    call-on (board (a .self) (a .recv .now) (a .word .now)) (a .piece .now) (sym (e .before .sound .ensures) ∙ not-false _ (e .if1 .left))
+    call-on (memory (a .self) (a .recv .now) (a .word .now)) (a .piece .now) (sym (e .before .sound .ensures) ∙ not-false _ (e .if1 .left))
     (sym (t .before .has-room .ensures) ∙ not-false _ (t .if2 .left)) (h .hear-on .ensures)))

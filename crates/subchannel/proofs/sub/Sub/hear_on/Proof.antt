@@ -1,6 +1,6 @@
 -- `Sub::hear_on` meets its contract, one behind the other.
 use borrow.Author.Needs.{needs}
-use Rattle.subchannel.specs.Call.{board}
+use Rattle.subchannel.specs.Call.{memory}
 use Rattle.subchannel.proofs.Fine.{sound-parts}
 use Rattle.subchannel.proofs.Hearing.{fine-spare, handed-end, bytes-end}
 use Rattle.subchannel.proofs.sub.Sub.hear_on.Statement.{statement}
