@@ -17,7 +17,7 @@ use Rattle.ports_spec.specs.declared.Noted.{Noted}
 use Rattle.ports_spec.specs.declared.Noted.the-variants.{First, InOrder, Repeated, Missing, Late}
 use Rattle.sheet_spec.specs.declared.Tally.{Tally}
 use Rattle.sheet_spec.specs.declared.Row.{Row}
-use Rattle.sheet_spec.specs.Tally.{toldFrom, told, tallied, nothing, plus, timely, again, behind, one, sum, tally, timelyIn}
+use Rattle.sheet_spec.specs.Tally.{toldFrom, told, tallied, nothing, plus, timely, repeated, late, one, sum, tally, timelyIn}
 use Rattle.sheet_spec.specs.Meaning.{Mark, Month, numbersOf, numbers, timelyOf, with}
 use Rattle.sheet_spec.specs.Rows.{row, heardRow}
 
@@ -123,33 +123,33 @@ month-loss [] port = refl
 month-loss (ms ∷ month) port = omega (arith, loss (told (numbersOf port ms)), month-loss month port)
 
 -- each packet is one
-unfoldable pub Told : List Noted → Type 0
-Told [] = Unit {0}
-Told (n ∷ ns) = (1 ≡ timely n + again n + behind n) × Told ns
+unfoldable pub OneEach : List Noted → Type 0
+OneEach [] = Unit {0}
+OneEach (n ∷ ns) = (1 ≡ timely n + repeated n + late n) × OneEach ns
 
-rule-one : (last s : ℕ) → 1 ≡ timely (ruled last s) + again (ruled last s) + behind (ruled last s)
+rule-one : (last s : ℕ) → 1 ≡ timely (ruled last s) + repeated (ruled last s) + late (ruled last s)
 rule-one last s = go (eqb (gap last s) 0) (eqb (gap last s) 1) (ltb (gap last s) half)
   where
     go : (a b c : Bool) → 1 ≡ timely (pick a Repeated (pick b InOrder (pick c (Missing (gap last s - 1)) Late)))
-        + again (pick a Repeated (pick b InOrder (pick c (Missing (gap last s - 1)) Late)))
-        + behind (pick a Repeated (pick b InOrder (pick c (Missing (gap last s - 1)) Late)))
+        + repeated (pick a Repeated (pick b InOrder (pick c (Missing (gap last s - 1)) Late)))
+        + late (pick a Repeated (pick b InOrder (pick c (Missing (gap last s - 1)) Late)))
     go true b c = refl
     go false true c = refl
     go false false true = refl
     go false false false = refl
 
-from-told : (last : ℕ) (ss : List ℕ) → Told (toldFrom last ss)
-unfolding Told toldFrom
+from-told : (last : ℕ) (ss : List ℕ) → OneEach (toldFrom last ss)
+unfolding OneEach toldFrom
 from-told last [] = tt
 from-told last (s ∷ ss) = (rule-one last s, from-told (lastBehind last s) ss)
 
-pub all-told : (ss : List ℕ) → Told (told ss)
-unfolding Told told
+pub all-told : (ss : List ℕ) → OneEach (told ss)
+unfolding OneEach told
 all-told [] = tt
 all-told (s ∷ ss) = (refl, from-told s ss)
 
-pub delivered-all : (ns : List Noted) → Told ns → sum ns .delivered ≡ timelyIn ns + sum ns .repeated + sum ns .late
-unfolding sum timelyIn Told
+pub delivered-all : (ns : List Noted) → OneEach ns → sum ns .delivered ≡ timelyIn ns + sum ns .repeated + sum ns .late
+unfolding sum timelyIn OneEach
 delivered-all [] h = refl
 delivered-all (n ∷ ns) h = omega (arith, delivered-all ns (h .1), h .0)
 

@@ -37,13 +37,13 @@ plus a b =
     tallied (a .delivered + b .delivered) (a .repeated + b .repeated) (a .late + b .late) (a .missing + b .missing) (a .total + b .total)
 
 -- so many are missing before it
-abbrev pub before : Noted → ℕ
-before First = 0
-before InOrder = 0
-before Repeated = 0
-before (Missing n) = n
-before Late = 0
-before (Refused n) = 0
+abbrev pub missing : Noted → ℕ
+missing First = 0
+missing InOrder = 0
+missing Repeated = 0
+missing (Missing n) = n
+missing Late = 0
+missing (Refused n) = 0
 
 -- 1 where it is in order, first or after a gap
 abbrev pub timely : Noted → ℕ
@@ -55,26 +55,26 @@ timely Late = 0
 timely (Refused n) = 0
 
 -- 1 where it is repeated
-abbrev pub again : Noted → ℕ
-again First = 0
-again InOrder = 0
-again Repeated = 1
-again (Missing n) = 0
-again Late = 0
-again (Refused n) = 0
+abbrev pub repeated : Noted → ℕ
+repeated First = 0
+repeated InOrder = 0
+repeated Repeated = 1
+repeated (Missing n) = 0
+repeated Late = 0
+repeated (Refused n) = 0
 
 -- 1 where it is late
-abbrev pub behind : Noted → ℕ
-behind First = 0
-behind InOrder = 0
-behind Repeated = 0
-behind (Missing n) = 0
-behind Late = 1
-behind (Refused n) = 0
+abbrev pub late : Noted → ℕ
+late First = 0
+late InOrder = 0
+late Repeated = 0
+late (Missing n) = 0
+late Late = 1
+late (Refused n) = 0
 
 -- one packet's numbers
 abbrev pub one : Noted → Tally
-one n = tallied 1 (again n) (behind n) (before n) (before n + timely n)
+one n = tallied 1 (repeated n) (late n) (missing n) (missing n + timely n)
 
 -- of one packet after the other
 unfoldable pub sum : List Noted → Tally
