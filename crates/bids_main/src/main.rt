@@ -9,7 +9,7 @@ use libc::STDERR_FILENO;
 use libc::STDIN_FILENO;
 use libc::STDOUT_FILENO;
 use office::Answer;
-use office::Heard;
+use office::Hearing;
 use office::Office;
 use office::Started;
 
@@ -224,7 +224,7 @@ fn make_room(recording: bool, stand: Stand, out: &[u8]) -> Place
 }
 
 // Behind an answer.
-fn told(heard: Heard, from: usize, length: usize) -> Stand
+fn told(heard: Hearing, from: usize, length: usize) -> Stand
     requires { ⌜ from ≤ length ⌝ }
 {
     let answer = heard.answer;

@@ -21,7 +21,7 @@ use Rattle.channel_spec.specs.Meaning.{Event}
 use Rattle.channel.specs.Call.{Memory, memory, sound, roomy, hearOn, hearCall, HearingIs}
 use Rattle.channel_spec.specs.declared.Answer.{Answer}
 use Rattle.channel_spec.specs.declared.Answer.the-variants.{More, Said, Block, LockLost}
-use Rattle.channel.specs.declared.answer.Hearing.{Hearing}
+use Rattle.channel.specs.declared.answer.Hearing.{Hearing as ChannelHearing}
 use Rattle.bid.specs.Line.{feed}
 use Rattle.listing_spec.specs.Apart.{well}
 use Rattle.ports_spec.specs.declared.Entry.{Entry}
@@ -32,8 +32,8 @@ use Rattle.board_spec.specs.Meaning.{wrongAt, written, writtenAll}
 use Rattle.board_spec.specs.Parts.{lead, remark}
 use Rattle.lines.specs.declared.piece.Piece.{Piece}
 use Rattle.lines.specs.Piece.{pieceOf}
-use Rattle.recording.specs.declared.tape.Tape.{Tape}
-use Rattle.recording.specs.declared.tape.Heard.{Heard}
+use Rattle.recording.specs.declared.reader.RecordingReader.{RecordingReader}
+use Rattle.recording.specs.declared.reader.Hearing.{Hearing}
 use Rattle.recording.specs.Deck.{Deck}
 use Rattle.recording.specs.Call.{deckOf, nearSpot, tapeCall, NextIs}
 use Rattle.recording.proofs.Next.{next-heard}
@@ -148,7 +148,7 @@ module _ (r : Readout) {p : Piece} where
       ∙ ap (λ t. pieceOf (writtenAll (lastBy t (r .tape .spot)))) (sym e)
 
 -- ---- what comes in
-pub bare-is : (t : Tape) (recv word bs : List ℕ) {h : Hearing} {l k : List ℕ} → HearingIs (hearCall (memory (t .receiver) recv word) bs) h l k
+pub bare-is : (t : RecordingReader) (recv word bs : List ℕ) {h : ChannelHearing} {l k : List ℕ} → HearingIs (hearCall (memory (t .receiver) recv word) bs) h l k
     → BareIs (deckOf t recv word) bs (record { answer = h .answer; taken = h .taken; tape = record { spot = t .spot; channel = t .channel; receiver = h .receiver } }) l k
 bare-is t recv word bs h = (
   ap (λ x. x .answer) (h .0),
@@ -169,7 +169,7 @@ module _ (r : Readout) (recv word bs : List ℕ) (ok : soundState r (length bs) 
   bare-on : hearCall (memoryIn m) bs ≡ hearOn (memoryIn m) bs
   bare-on = rw (sound-receiver, room) refl
 
-  pub heard-bare : {h : Heard} {l k : List ℕ} → r .bare ≡ true → BareIs m bs h l k → HeardIs (r .bare) (sourceHear (source (r .bare) m) bs) h l k
+  pub heard-bare : {h : Hearing} {l k : List ℕ} → r .bare ≡ true → BareIs m bs h l k → HeardIs (r .bare) (sourceHear (source (r .bare) m) bs) h l k
   heard-bare {h} {l} {k} e b =
       subst (λ (t : Bool). HeardIs t (sourceHear (source t m) bs) h l k) (sym e)
       (subst (λ (x : Option Event × ℕ × Source). HeardIs true x h l k) (sym (hear-bare m bs ∙ ap (λ (x : Option Event × ℕ × Memory). (x .0, x .1, source true (withMemory m (x .2)))) (sym bare-on))) (
@@ -177,7 +177,7 @@ module _ (r : Readout) (recv word bs : List ℕ) (ok : soundState r (length bs) 
         (λ i. (hearCall (memoryIn m) bs .0, sym (b .1) i, source true (sym (b .2) i))),
       ))
 
-  pub heard-taped : {h : Heard} {l k : List ℕ} → r .bare ≡ false → NextIs (tapeCall m bs) h l k → HeardIs (r .bare) (sourceHear (source (r .bare) m) bs) h l k
+  pub heard-taped : {h : Hearing} {l k : List ℕ} → r .bare ≡ false → NextIs (tapeCall m bs) h l k → HeardIs (r .bare) (sourceHear (source (r .bare) m) bs) h l k
   heard-taped {h} {l} {k} e n =
       let near : nearSpot (r .tape .spot) (length bs) ≡ true = sym (ap (λ t. nearBy t (r .tape .spot) (length bs)) e) ∙ near-it in
       let c = next-heard (r .tape) recv word bs sound-receiver near room n .0 in

@@ -22,8 +22,8 @@ use Rattle.listing_spec.specs.Lines.{longest, given}
 use Rattle.ports.specs.declared.by_value.Ports.{Ports}
 use Rattle.ports.specs.ByValue.{soundPorts}
 use Rattle.board_spec.specs.Meaning.{tableBehind}
-use Rattle.recording.specs.declared.tape.Tape.{Tape}
-use Rattle.recording.specs.declared.tape.Heard.{Heard}
+use Rattle.recording.specs.declared.reader.RecordingReader.{RecordingReader}
+use Rattle.recording.specs.declared.reader.Hearing.{Hearing}
 use Rattle.recording.specs.Call.{deckOf, isMore}
 use Rattle.board.specs.declared.owed.Owed.{Owed}
 use Rattle.board.specs.declared.owed.Put.{Put}
@@ -40,7 +40,7 @@ use Rattle.board.proofs.Left.{Whole, left-none, left-owes, left-by}
 abbrev owingOf : Readout → Owed → Readout
 owingOf r o = record { bare = r .bare; blocks = r .blocks; tape = r .tape; ports = r .ports; owed = o }
 
-abbrev onTape : Readout → Tape → Readout
+abbrev onTape : Readout → RecordingReader → Readout
 onTape r t = record { bare = r .bare; blocks = r .blocks; tape = t; ports = r .ports; owed = r .owed }
 
 sound-owed : (r : Readout) (n : ℕ) → soundState r n ≡ true → soundOwed (r .owed) ≡ true
@@ -101,7 +101,7 @@ module _ (r : Readout) (recv word bs out : List ℕ) where
           )
 
       -- all that is owed is out, by what is heard
-      heard-took : (o : Option Event) (n : ℕ) (t : Tape) (l k : List ℕ) {x : Readout} → put .written ≡ length T → out′ ≡ T ++ drop (length T) out
+      heard-took : (o : Option Event) (n : ℕ) (t : RecordingReader) (l k : List ℕ) {x : Readout} → put .written ≡ length T → out′ ≡ T ++ drop (length T) out
           → x ≡ answeredBy (onTape r t) (answered o)
           → TookIs (heardBy s (o, n, source (r .bare) (deckOf t l k))) (record { wants = pick (isMore (answered o)) More Again; taken = n; written = put .written; next = x })
           l k out out′
@@ -116,7 +116,7 @@ module _ (r : Readout) (recv word bs out : List ℕ) where
           go (block c) f = λ i. record { wants = Again; taken = n; written = w i; next = f i }
           go lost f = λ i. record { wants = Again; taken = n; written = w i; next = f i }
 
-      module _ {h : Heard} {l k : List ℕ} (all : owes (put .owed) ≡ false)
+      module _ {h : Hearing} {l k : List ℕ} (all : owes (put .owed) ≡ false)
           (heard : HeardIs (r .bare) (sourceHear (source (r .bare) (deckOf (r .tape) recv word)) bs) h l k) {x : Readout} (next : x ≡ answeredBy (onTape r (h .tape)) (h .answer)) where
         over : length T ≤ put .written
         over = omega (arith, ap length (sym rest ∙ left-none (put .owed) recv all), length-drop (put .written) T)

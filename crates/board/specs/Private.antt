@@ -18,7 +18,7 @@ use Rattle.channel_spec.specs.declared.Answer.{Answer}
 use Rattle.channel_spec.specs.declared.Answer.the-variants.{More, Said, Block, LockLost}
 use Rattle.ports.specs.declared.by_value.Ports.{Ports}
 use Rattle.ports_spec.specs.Ports.{noting}
-use Rattle.recording.specs.declared.tape.Heard.{Heard}
+use Rattle.recording.specs.declared.reader.Hearing.{Hearing}
 use Rattle.recording.specs.Deck.{Deck}
 use Rattle.recording.specs.Call.{deckOf}
 use Rattle.board.specs.declared.readout.Readout.{Readout}
@@ -32,13 +32,13 @@ pub record PutIs (o : Owed) (recv out : List ℕ) (r : Put) (out′ : List ℕ) 
   pub output : out′ ≡ take (r .written) (left o recv) ++ drop (r .written) out
 
 -- r is what the receiver says of bare bytes, l and k the buffers then
-abbrev pub BareIs : Deck → List ℕ → Heard → List ℕ → List ℕ → Type 0
+abbrev pub BareIs : Deck → List ℕ → Hearing → List ℕ → List ℕ → Type 0
 BareIs m bs r l k =
     (r .answer ≡ answered (hearCall (memoryIn m) bs .0)) × (r .taken ≡ hearCall (memoryIn m) bs .1)
     × (deckOf (r .tape) l k ≡ withMemory m (hearCall (memoryIn m) bs .2))
 
 -- .. of what comes in
-abbrev pub HeardIs : Bool → Option Event × ℕ × Source → Heard → List ℕ → List ℕ → Type 0
+abbrev pub HeardIs : Bool → Option Event × ℕ × Source → Hearing → List ℕ → List ℕ → Type 0
 HeardIs b x r l k = (r .answer ≡ answered (x .0)) × (x ≡ (x .0, r .taken, source b (deckOf (r .tape) l k)))
 
 -- a packet is noted; nothing else changes the table

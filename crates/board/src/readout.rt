@@ -24,8 +24,8 @@ use packet::Judged;
 use packet::Packet;
 use ports::Noted;
 use ports::Ports;
-use recording::Heard;
-use recording::Tape;
+use recording::Hearing;
+use recording::RecordingReader;
 
 /// A board.
 pub struct Readout {
@@ -33,7 +33,7 @@ pub struct Readout {
     pub bare: bool,
     /// Clean and repaired blocks are told too.
     pub blocks: bool,
-    pub tape: Tape,
+    pub tape: RecordingReader,
     pub ports: Ports,
     pub owed: Owed,
 }
@@ -91,7 +91,7 @@ impl Readout {
         Readout {
             bare,
             blocks,
-            tape: Tape::fresh(),
+            tape: RecordingReader::fresh(),
             ports: Ports::fresh(),
             owed: Owed::nothing(),
         }
@@ -113,7 +113,7 @@ impl Readout {
     }
 
     // With the tape further on.
-    fn on(self, tape: Tape) -> Self
+    fn on(self, tape: RecordingReader) -> Self
         ensures { λ r. ⌜ r ≡ record { bare = self .bare; blocks = self .blocks; tape = tape; ports = self .ports; owed = self .owed } ⌝ }
     {
         let ports = self.ports;
@@ -208,7 +208,7 @@ impl Readout {
     }
 
     // The next answer of bare bytes.
-    fn hear_bare(self, recv: &mut [u8], word: &mut [u8], piece: &[u8]) -> Heard
+    fn hear_bare(self, recv: &mut [u8], word: &mut [u8], piece: &[u8]) -> Hearing
         ensures { λ r. ⌜ BareIs (deckOf (self .tape) (now (recv .entry)) (now (word .entry))) (now (piece .entry)) r (now (recv .exit)) (now (word .exit)) ⌝ }
     {
         let tape = self.tape;
@@ -217,10 +217,10 @@ impl Readout {
         let heard = before.hear(recv, word, piece);
         let answer = heard.answer;
         let receiver = heard.receiver;
-        Heard {
+        Hearing {
             answer,
             taken: heard.taken,
-            tape: Tape {
+            tape: RecordingReader {
                 spot,
                 channel: tape.channel,
                 receiver,
@@ -229,7 +229,7 @@ impl Readout {
     }
 
     // The next answer.
-    fn hear(self, recv: &mut [u8], word: &mut [u8], piece: &[u8]) -> Heard
+    fn hear(self, recv: &mut [u8], word: &mut [u8], piece: &[u8]) -> Hearing
         requires { ⌜ (soundState self (length (now piece)) ≡ true) × (roomy (now recv) (now word) ≡ true) ⌝ }
         ensures { λ r. ⌜ HeardIs (self .bare)
             (sourceHear (source (self .bare) (deckOf (self .tape) (now (recv .entry)) (now (word .entry)))) (now (piece .entry)))

@@ -10,7 +10,7 @@ use lib.ListN.{length}
 use Rattle.base.specs.Calls.{joined, owesNone, handsNone, Yields}
 use Rattle.base.proofs.Calls.{none-owed, yields-all, yields-so}
 use Rattle.capture_spec.specs.Meaning.{entryLimit, fresh, imported}
-use Rattle.capture.specs.declared.reader.Capture.the-variants.{Header}
+use Rattle.capture.specs.declared.reader.CaptureReader.the-variants.{Header}
 use Rattle.capture.specs.Call.{Held, held, takeByte, readAll, readOn, readCall, finishing, endedAs, Fine, EveryCut}
 use Rattle.capture.proofs.Hearing.{fine-fresh, fine-take, fine-all}
 use Rattle.capture.proofs.Following.{in-header, shows-all, ends-as}

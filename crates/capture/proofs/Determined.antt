@@ -10,12 +10,12 @@ use Rattle.capture.proofs.writer.begin.Kinds as begin-kinds
 use Rattle.capture.proofs.writer.begin.Reads as begin-reads
 use Rattle.capture.proofs.writer.enter.Kinds as enter-kinds
 use Rattle.capture.proofs.writer.enter.Reads as enter-reads
-use Rattle.capture.proofs.reader.Capture.fresh.Kinds as fresh-kinds
-use Rattle.capture.proofs.reader.Capture.fresh.Reads as fresh-reads
-use Rattle.capture.proofs.reader.Capture.read.Kinds as read-kinds
-use Rattle.capture.proofs.reader.Capture.read.Reads as read-reads
-use Rattle.capture.proofs.reader.Capture.finish.Kinds as finish-kinds
-use Rattle.capture.proofs.reader.Capture.finish.Reads as finish-reads
+use Rattle.capture.proofs.reader.CaptureReader.fresh.Kinds as fresh-kinds
+use Rattle.capture.proofs.reader.CaptureReader.fresh.Reads as fresh-reads
+use Rattle.capture.proofs.reader.CaptureReader.read.Kinds as read-kinds
+use Rattle.capture.proofs.reader.CaptureReader.read.Reads as read-reads
+use Rattle.capture.proofs.reader.CaptureReader.finish.Kinds as finish-kinds
+use Rattle.capture.proofs.reader.CaptureReader.finish.Reads as finish-reads
 
 pub packed-determined : DeterminedAs packed-kinds.ps packed-kinds.r (λ κs z. now z) packed-reads.Asked packed-reads.Learnt
 packed-determined κs a z z′ ws ws′ pre p q = (same p q, refl)

@@ -22,7 +22,7 @@ use Rattle.capture_spec.specs.File.{header}
 use Rattle.capture_spec.specs.Meaning.{entry, entryLimit, Reading, inHeader, inHead, inRecord, behind, fourAt, headed, read, reads, ends}
 use Rattle.capture_spec.specs.Meaning as import
 use Rattle.capture_spec.proofs.Entry.{entry-ways, entry-long}
-use Rattle.capture.specs.declared.reader.Capture.the-variants.{Header, Head, Record, Behind}
+use Rattle.capture.specs.declared.reader.CaptureReader.the-variants.{Header, Head, Record, Behind}
 use Rattle.capture.specs.Call.{Held, held, says, headedBy, with, takeBy, takeByte, readAll, ending, finishing, endedAs}
 use Rattle.capture.proofs.Hearing.{take-length}
 

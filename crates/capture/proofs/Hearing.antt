@@ -23,8 +23,8 @@ use Rattle.stream.specs.declared.frame.Heard.the-variants.{More, Said}
 use Rattle.capture_spec.specs.File.{header}
 use Rattle.capture_spec.specs.Meaning.{entry, entryLimit, fourAt}
 use Rattle.capture_spec.proofs.Entry.{entry-ways}
-use Rattle.capture.specs.declared.reader.Capture.{Capture}
-use Rattle.capture.specs.declared.reader.Capture.the-variants.{Header, Head, Record, Behind}
+use Rattle.capture.specs.declared.reader.CaptureReader.{CaptureReader}
+use Rattle.capture.specs.declared.reader.CaptureReader.the-variants.{Header, Head, Record, Behind}
 use Rattle.capture.specs.declared.reader.Read.{Read}
 use Rattle.capture.specs.declared.reader.Step.{Step}
 use Rattle.capture.specs.Call.{Held, held, says, next as behind, wholeBy, takeBy, takeByte, readAll, readOn, readCall, sound, Fine, readOf, ReadIs}
@@ -46,7 +46,7 @@ whole-sound n st = go (ltb entryLimit n)
     go true = refl
     go false = entry-ways (take n st) (λ (t : Told). sound (behind (judged t)) ≡ true) refl (λ p l e. refl)
 
-take-sound : (c : Capture) (st : List ℕ) (b : ℕ) → sound c ≡ true → sound (takeBy c st b .1 .st) ≡ true
+take-sound : (c : CaptureReader) (st : List ℕ) (b : ℕ) → sound c ≡ true → sound (takeBy c st b .1 .st) ≡ true
 take-sound (Header k) st b s = go (eqb b (getD header k 0))
   where
     l : k < 24
@@ -64,7 +64,7 @@ take-sound (Record n d) st b s =
 take-sound (Behind f) st b s = s
 
 -- the store stays as long as it was
-pub take-length : (c : Capture) (st : List ℕ) (b : ℕ) → length (takeBy c st b .1 .store) ≡ length st
+pub take-length : (c : CaptureReader) (st : List ℕ) (b : ℕ) → length (takeBy c st b .1 .store) ≡ length st
 take-length (Header k) st b = refl
 take-length (Head k) st b = length-set st k b
 take-length (Record n d) st b = length-set st d b
@@ -96,7 +96,7 @@ pub record Going (h : Held) (piece : List ℕ) (i : ℕ) (t : Held) : Type 0 whe
 pub going-first : (h : Held) (piece : List ℕ) → Fine h → Going h piece 0 h
 going-first h piece f = record { within = omega arith; means = after-none (readOn h piece); fine = f }
 
-module _ {h : Held} {piece : List ℕ} {i : ℕ} {c : Capture} {st : List ℕ} (g : Going h piece i (held c st)) (l : i < length piece)
+module _ {h : Held} {piece : List ℕ} {i : ℕ} {c : CaptureReader} {st : List ℕ} (g : Going h piece i (held c st)) (l : i < length piece)
     {r : Step} {st′ : List ℕ} (s : StepIs (takeByte (held c st) (getD piece i 0)) r st′) where
   abbrev got : Option Told × Held
   got = takeByte (held c st) (getD piece i 0)
@@ -127,7 +127,7 @@ module _ {h : Held} {piece : List ℕ} {i : ℕ} {c : Capture} {st : List ℕ} (
         fine = subst Fine e (fine-take (held c st) (getD piece i 0) (g .fine));
       }
 
-pub going-done : {h : Held} {piece : List ℕ} {i : ℕ} {c : Capture} {st : List ℕ} → Going h piece i (held c st) → length piece ≤ i
+pub going-done : {h : Held} {piece : List ℕ} {i : ℕ} {c : CaptureReader} {st : List ℕ} → Going h piece i (held c st) → length piece ≤ i
     → ReadIs (readOn h piece) (record { heard = More; taken = i; capture = c }) st
 going-done {h} {piece} {i} {c} {st} g l =
     let e : readOn h piece ≡ (none, i, held c st) = g .means ∙ ap (λ (bs : List ℕ). after i (readOn (held c st) bs)) (over piece i l) ∙ (λ j. (none, add-zero i j, held c st)) in

@@ -18,14 +18,14 @@ use Rattle.packet_spec.specs.declared.Judged.{Judged}
 use Rattle.stream.specs.declared.frame.Heard.the-variants.{Said}
 use Rattle.capture_spec.specs.File.{header}
 use Rattle.capture_spec.specs.Meaning.{entry, entryLimit, fourAt}
-use Rattle.capture.specs.declared.reader.Capture.{Capture}
-use Rattle.capture.specs.declared.reader.Capture.the-variants.{Header, Head, Record, Behind}
+use Rattle.capture.specs.declared.reader.CaptureReader.{CaptureReader}
+use Rattle.capture.specs.declared.reader.CaptureReader.the-variants.{Header, Head, Record, Behind}
 use Rattle.capture.specs.declared.reader.Step.{Step}
 use Rattle.capture.specs.Call.{held, next, says, headerBy, headedBy, headBy, wholeBy, recordBy, takeBy, takeByte, sound}
 use Rattle.capture.specs.Private.{stepOf, StepIs}
 
 -- ---- the state's counts
-module _ {c : Capture} where
+module _ {c : CaptureReader} where
   pub sound-low : {f : ℕ} → c ≡ Behind f → f < 60 → false ≡ sound c
   sound-low {f} e h = sym (ap sound e ∙ ap (λ (t : Bool). t && leb f 62) (lt-leb 60 f h))
 
@@ -48,7 +48,7 @@ said-is t e f = f ∙ (λ i. record { done = true; heard = Said (e i); capture =
 
 -- ---- the phases
 -- the header's byte is right
-abbrev onward : ℕ → Option Told × Capture
+abbrev onward : ℕ → Option Told × CaptureReader
 onward k = (none, pick (eqb (k + 1) 24) (Head 0) (Header (k + 1)))
 
 module _ (k b : ℕ) {h : ℕ} (a : h ≡ getD header k 0) where
@@ -66,7 +66,7 @@ module _ (k b : ℕ) {h : ℕ} (a : h ≡ getD header k 0) where
     header-more z e = e ∙ sym (right ∙ ap (λ (t : Bool). stepOf (none, pick t (Head 0) (Header (k + 1)))) (ne-eqb (k + 1) 24 z))
 
 -- a record of n bytes begins
-abbrev sized : ℕ → Option Told × Capture
+abbrev sized : ℕ → Option Told × CaptureReader
 sized n = pick (eqb n 0) (says (refusal 62)) (none, Record n 0)
 
 module _ (st : List ℕ) {m n : ℕ} (a : m ≡ fourAt st 8) (b : n ≡ fourAt st 12) where
@@ -95,18 +95,18 @@ module _ (n : ℕ) (st : List ℕ) {r : Step} where
       ∙ sym (ap (λ (t : Bool). stepOf (says (pick t (refusal 62) (entry (take n st))))) (le-ltb entryLimit n h))
 
 -- ---- the state that was matched
-module _ {c : Capture} (st : List ℕ) (b : ℕ) {r : Step} where
+module _ {c : CaptureReader} (st : List ℕ) (b : ℕ) {r : Step} where
   pub as-header : {k : ℕ} → c ≡ Header k → r ≡ stepOf (headerBy k b) → StepIs (takeByte (held c st) b) r st
-  as-header e q = subst (λ (x : Capture). StepIs (takeBy x st b) r st) (sym e) (q, refl)
+  as-header e q = subst (λ (x : CaptureReader). StepIs (takeBy x st b) r st) (sym e) (q, refl)
 
   pub as-head : {k : ℕ} {l : List ℕ} → c ≡ Head k → l ≡ set st k b → r ≡ stepOf (headBy k l) → StepIs (takeByte (held c st) b) r l
-  as-head {k} {l} e f q = subst (λ (x : Capture). StepIs (takeBy x st b) r l) (sym e) (q ∙ ap (λ (x : List ℕ). stepOf (headBy k x)) f, f)
+  as-head {k} {l} e f q = subst (λ (x : CaptureReader). StepIs (takeBy x st b) r l) (sym e) (q ∙ ap (λ (x : List ℕ). stepOf (headBy k x)) f, f)
 
   pub as-record : {n d : ℕ} {l : List ℕ} → c ≡ Record n d → l ≡ set st d b → r ≡ stepOf (recordBy n d l) → StepIs (takeByte (held c st) b) r l
-  as-record {n} {d} {l} e f q = subst (λ (x : Capture). StepIs (takeBy x st b) r l) (sym e) (q ∙ ap (λ (x : List ℕ). stepOf (recordBy n d x)) f, f)
+  as-record {n} {d} {l} e f q = subst (λ (x : CaptureReader). StepIs (takeBy x st b) r l) (sym e) (q ∙ ap (λ (x : List ℕ). stepOf (recordBy n d x)) f, f)
 
   pub as-behind : {f : ℕ} → c ≡ Behind f → r ≡ stepOf (none, Behind f) → StepIs (takeByte (held c st) b) r st
-  as-behind e q = subst (λ (x : Capture). StepIs (takeBy x st b) r st) (sym e) (q, refl)
+  as-behind e q = subst (λ (x : CaptureReader). StepIs (takeBy x st b) r st) (sym e) (q, refl)
 
 -- room in a store that has had one byte stored
 pub room-set : (st : List ℕ) (k b : ℕ) {l : List ℕ} → l ≡ set st k b → entryLimit ≤ length st → entryLimit ≤ length l

@@ -30,8 +30,8 @@ use Rattle.packet_spec.proofs.Round.{by-format}
 use Rattle.capture_spec.specs.File.{header}
 use Rattle.capture_spec.specs.Meaning.{entry, entryLimit, fourAt}
 use Rattle.capture_spec.proofs.Entry.{entry-ways}
-use Rattle.capture.specs.declared.reader.Capture.{Capture}
-use Rattle.capture.specs.declared.reader.Capture.the-variants.{Header, Head, Record, Behind}
+use Rattle.capture.specs.declared.reader.CaptureReader.{CaptureReader}
+use Rattle.capture.specs.declared.reader.CaptureReader.the-variants.{Header, Head, Record, Behind}
 use Rattle.capture.specs.Call.{Held, held, next, says, with, takeBy, takeByte, sound, readBy, readCall, Stands}
 use Rattle.capture.specs.Export.{packedPart, Fetched}
 
@@ -118,7 +118,7 @@ pub export-there : (recv : List ℕ) (n : ℕ) → Fetched (closed recv n .told)
 export-there recv n = own-fetched (closed recv n .told) (closed recv n .recv) (export-own recv n)
 
 -- ---- in the store, behind an import's delivery
-told-there : (n : ℕ) (st : List ℕ) (c : Capture) → Stands (entry (take n st)) (held c st)
+told-there : (n : ℕ) (st : List ℕ) (c : CaptureReader) → Stands (entry (take n st)) (held c st)
 told-there n st c =
     entry-ways (take n st) (λ (t : Told). Stands t (held c st)) tt
     (λ p l e.
@@ -128,7 +128,7 @@ told-there n st c =
     subst (λ (x : List ℕ). There (packet p) x × (packedPart (delivery p) x ≡ packed p)) (sym s) (packed-there p (o .1) (drop n st)) in
     (λ h. both h .0, λ h. both h .1))
 
-take-there : (c : Capture) (st : List ℕ) (b : ℕ) → With Stands (takeBy c st b .0) (takeBy c st b .1)
+take-there : (c : CaptureReader) (st : List ℕ) (b : ℕ) → With Stands (takeBy c st b .0) (takeBy c st b .1)
 take-there (Header k) st b = go (eqb b (getD header k 0))
   where
     go : (t : Bool) → With Stands (with (pick t (none, pick (eqb (k + 1) 24) (Head 0) (Header (k + 1))) (says (refusal 60))) st .0) (with (pick t (none, pick (eqb (k + 1) 24) (Head 0) (Header (k + 1))) (says (refusal 60))) st .1)
@@ -139,7 +139,7 @@ take-there (Head k) st b = go (eqb (k + 1) 16) (eqb (fourAt l 8) (fourAt l 12)) 
     l : List ℕ
     l = set st k b
 
-    ways : Bool → Bool → Bool → Option Told × Capture
+    ways : Bool → Bool → Bool → Option Told × CaptureReader
     ways t u v = pick t (pick u (pick v (says (refusal 62)) (none, Record (fourAt l 8) 0)) (says (refusal 61))) (none, Head (k + 1))
 
     go : (t u v : Bool) → With Stands (ways t u v .0) (held (ways t u v .1) l)
@@ -152,7 +152,7 @@ take-there (Record n d) st b = go (eqb (d + 1) n) (ltb entryLimit n)
     l : List ℕ
     l = set st d b
 
-    ways : Bool → Bool → Option Told × Capture
+    ways : Bool → Bool → Option Told × CaptureReader
     ways t u = pick t (says (pick u (refusal 62) (entry (take n l)))) (none, Record n (d + 1))
 
     go : (t u : Bool) → With Stands (ways t u .0) (held (ways t u .1) l)

@@ -24,57 +24,57 @@ use Rattle.stream.specs.Call.{answered}
 use Rattle.capture_spec.specs.File.{header}
 use Rattle.capture_spec.specs.Meaning.{entry, entryLimit, fourAt}
 use Rattle.capture.specs.Export.{Fetched}
-use Rattle.capture.specs.declared.reader.Capture.{Capture}
-use Rattle.capture.specs.declared.reader.Capture.the-variants.{Header, Head, Record, Behind}
+use Rattle.capture.specs.declared.reader.CaptureReader.{CaptureReader}
+use Rattle.capture.specs.declared.reader.CaptureReader.the-variants.{Header, Head, Record, Behind}
 use Rattle.capture.specs.declared.reader.Read.{Read}
 use Rattle.capture.specs.declared.reader.Ended.{Ended}
 use Rattle.capture.specs.declared.reader.Ended.the-variants.{Whole, Refused}
 
 -- state and store
 pub record Held : Type 0 where
-  pub st : Capture
+  pub st : CaptureReader
   pub store : List ℕ
 
 -- the two together
-abbrev pub held : Capture → List ℕ → Held
+abbrev pub held : CaptureReader → List ℕ → Held
 held c st = record { st = c; store = st }
 
 -- the state behind an answer: the next head, or all further bytes taken without effect
-abbrev pub next : Judged → Capture
+abbrev pub next : Judged → CaptureReader
 next (judges.Packet d) = Head 0
 next (judges.Refused n) = Behind n
 next (judges.Broken n) = Behind 3
 
 -- an answer, and the state behind it
-abbrev pub says : Told → Option Told × Capture
+abbrev pub says : Told → Option Told × CaptureReader
 says t = (some t, next (judged t))
 
 -- a byte of the header at k: 60 not the header's
-abbrev pub headerBy : ℕ → ℕ → Option Told × Capture
+abbrev pub headerBy : ℕ → ℕ → Option Told × CaptureReader
 headerBy k b = pick (eqb b (getD header k 0)) (none, pick (eqb (k + 1) 24) (Head 0) (Header (k + 1))) (says (refusal 60))
 
 -- a whole head, which the store begins with: 61 lengths unequal; a record of no byte is none
-abbrev pub headedBy : List ℕ → Option Told × Capture
+abbrev pub headedBy : List ℕ → Option Told × CaptureReader
 headedBy st = pick (eqb (fourAt st 8) (fourAt st 12)) (pick (eqb (fourAt st 8) 0) (says (refusal 62)) (none, Record (fourAt st 8) 0)) (says (refusal 61))
 
 -- a byte of a head at k, stored
-abbrev pub headBy : ℕ → List ℕ → Option Told × Capture
+abbrev pub headBy : ℕ → List ℕ → Option Told × CaptureReader
 headBy k st = pick (eqb (k + 1) 16) (headedBy st) (none, Head (k + 1))
 
 -- a whole record of n bytes: longer than any packet's it is none; else the store begins with it
-abbrev pub wholeBy : ℕ → List ℕ → Option Told × Capture
+abbrev pub wholeBy : ℕ → List ℕ → Option Told × CaptureReader
 wholeBy n st = says (pick (ltb entryLimit n) (refusal 62) (entry (take n st)))
 
 -- a byte of a record at d, stored
-abbrev pub recordBy : ℕ → ℕ → List ℕ → Option Told × Capture
+abbrev pub recordBy : ℕ → ℕ → List ℕ → Option Told × CaptureReader
 recordBy n d st = pick (eqb (d + 1) n) (wholeBy n st) (none, Record n (d + 1))
 
 -- an answer and a state, with the store
-abbrev pub with : Option Told × Capture → List ℕ → Option Told × Held
+abbrev pub with : Option Told × CaptureReader → List ℕ → Option Told × Held
 with r st = (r .0, held (r .1) st)
 
 -- one byte, by the state; the bytes of a head and of a record are stored, as far as there is room
-abbrev pub takeBy : Capture → List ℕ → ℕ → Option Told × Held
+abbrev pub takeBy : CaptureReader → List ℕ → ℕ → Option Told × Held
 takeBy (Header k) st b = with (headerBy k b) st
 takeBy (Head k) st b = with (headBy k (set st k b)) (set st k b)
 takeBy (Record n d) st b = with (recordBy n d (set st d b)) (set st d b)
@@ -93,7 +93,7 @@ abbrev pub readOn : Held → List ℕ → Option Told × ℕ × Held
 readOn = hear owesNone handsNone takeByte
 
 -- 10: 24 bytes of the header or more, 16 of a head or more, all of a record or more, or a fault that is none
-abbrev pub sound : Capture → Bool
+abbrev pub sound : CaptureReader → Bool
 sound (Header k) = ltb k 24
 sound (Head k) = ltb k 16
 sound (Record n d) = ltb d n
@@ -129,14 +129,14 @@ abbrev pub ReadIs : Option Told × ℕ × Held → Read → List ℕ → Type 0
 ReadIs x r l = (r ≡ readOf x) × (l ≡ x .2 .store)
 
 -- the end of the file: 60 the header is not whole, 61 a record cut short, the fault before it
-abbrev pub ending : Capture → Ended
+abbrev pub ending : CaptureReader → Ended
 ending (Header k) = Refused 60
 ending (Head k) = pick (eqb k 0) Whole (Refused 61)
 ending (Record n d) = Refused 61
 ending (Behind f) = Refused f
 
 -- the call at the end of the file, behind 10
-abbrev pub finishing : Capture → Ended
+abbrev pub finishing : CaptureReader → Ended
 finishing c = pick (sound c) (ending c) (Refused 10)
 
 -- the paper's number of it; 0 none

@@ -12,7 +12,7 @@ use Rattle.packet_spec.specs.Frame.{Told, packet, refusal}
 use Rattle.packet_spec.specs.Sender.{refusing}
 use Rattle.stream.specs.Call.{answered}
 use Rattle.capture_spec.specs.File.{four}
-use Rattle.capture.specs.declared.reader.Capture.{Capture}
+use Rattle.capture.specs.declared.reader.CaptureReader.{CaptureReader}
 use Rattle.capture.specs.declared.reader.Step.{Step}
 use Rattle.capture.specs.Call.{Held}
 
@@ -30,7 +30,7 @@ isSome none = false
 isSome (some a) = true
 
 -- an answer, if there is one, and the state behind it
-abbrev pub stepOf : Option Told × Capture → Step
+abbrev pub stepOf : Option Told × CaptureReader → Step
 stepOf x = record { done = isSome (x .0); heard = answered (x .0); capture = x .1 }
 
 -- .. with the store

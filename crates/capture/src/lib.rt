@@ -4,7 +4,7 @@ mod reader;
 mod writer;
 
 pub use entry::packed;
-pub use reader::Capture;
+pub use reader::CaptureReader;
 pub use reader::Ended;
 pub use reader::Read;
 pub use writer::begin;

@@ -8,7 +8,7 @@ ghost use Rattle.capture_spec.specs.File.{header};
 ghost use Rattle.capture_spec.specs.Meaning.{entryLimit, fourAt};
 ghost use mathlib.Core.Option.{none};
 ghost use Rattle.stream.specs.declared.frame.Heard.the-variants.{Said};
-ghost use Rattle.capture.specs.declared.reader.Capture.the-variants.{Header};
+ghost use Rattle.capture.specs.declared.reader.CaptureReader.the-variants.{Header};
 ghost use Rattle.capture.specs.Call.{held, next, headerBy, headedBy, headBy, wholeBy, recordBy, takeByte};
 ghost use Rattle.capture.specs.Call.{readOn, readCall, sound, ending, finishing, ReadIs};
 ghost use Rattle.capture.specs.Private.{stepOf, StepIs};
@@ -20,7 +20,7 @@ use packet::Packet;
 use stream::Heard;
 
 /// How far a capture is read.
-pub enum Capture {
+pub enum CaptureReader {
     /// So many bytes of the header are right.
     Header(usize),
     /// So many bytes of a record's head, which the store begins with.
@@ -36,7 +36,7 @@ pub struct Read {
     pub heard: Heard,
     /// Bytes of the piece taken.
     pub taken: usize,
-    pub capture: Capture,
+    pub capture: CaptureReader,
 }
 
 /// What the end of the file says.
@@ -52,7 +52,7 @@ struct Step {
     // There is an answer.
     done: bool,
     heard: Heard,
-    capture: Capture,
+    capture: CaptureReader,
 }
 
 // The header's byte at a place.
@@ -80,13 +80,13 @@ fn four_at(bytes: &[u8], i: usize) -> usize
 }
 
 // The state behind an answer.
-fn next(judged: Judged) -> Capture
+fn next(judged: Judged) -> CaptureReader
     ensures { λ r. ⌜ r ≡ next judged ⌝ }
 {
     match judged {
-        Judged::Packet(_) => Capture::Head(0),
-        Judged::Refused(n) => Capture::Behind(n),
-        Judged::Broken(_) => Capture::Behind(Refusal::ESCAPE),
+        Judged::Packet(_) => CaptureReader::Head(0),
+        Judged::Refused(n) => CaptureReader::Behind(n),
+        Judged::Broken(_) => CaptureReader::Behind(Refusal::ESCAPE),
     }
 }
 
@@ -103,7 +103,7 @@ impl Step {
     }
 
     // None.
-    fn on(capture: Capture) -> Self
+    fn on(capture: CaptureReader) -> Self
         ensures { λ r. ⌜ r ≡ stepOf (none, capture) ⌝ }
     {
         Step {
@@ -131,10 +131,10 @@ fn in_header(k: usize, b: u8) -> Step
     if b != header_at(k) {
         return Step::said(Judged::Refused(Refusal::CAPTURE));
     }
-    if k + 1 == Capture::HEADER {
-        return Step::on(Capture::Head(0));
+    if k + 1 == CaptureReader::HEADER {
+        return Step::on(CaptureReader::Head(0));
     }
-    Step::on(Capture::Header(k + 1))
+    Step::on(CaptureReader::Header(k + 1))
 }
 
 // A whole head.
@@ -149,7 +149,7 @@ fn headed(store: &[u8]) -> Step
     if n == 0 {
         return Step::said(Judged::Refused(Refusal::NO_PACKET));
     }
-    Step::on(Capture::Record { size: n, done: 0 })
+    Step::on(CaptureReader::Record { size: n, done: 0 })
 }
 
 // A byte of a head, stored.
@@ -157,10 +157,10 @@ fn in_head(k: usize, store: &[u8]) -> Step
     requires { ⌜ (k < 16) × (entryLimit ≤ length (now store)) ⌝ }
     ensures { λ r. ⌜ r ≡ stepOf (headBy k (now (store .entry))) ⌝ }
 {
-    if k + 1 == Capture::HEAD {
+    if k + 1 == CaptureReader::HEAD {
         return headed(store);
     }
-    Step::on(Capture::Head(k + 1))
+    Step::on(CaptureReader::Head(k + 1))
 }
 
 // A whole record.
@@ -168,7 +168,7 @@ fn whole(n: usize, store: &[u8]) -> Step
     requires { ⌜ entryLimit ≤ length (now store) ⌝ }
     ensures { λ r. ⌜ r ≡ stepOf (wholeBy n (now (store .entry))) ⌝ }
 {
-    if Capture::STORED < n {
+    if CaptureReader::STORED < n {
         return Step::said(Judged::Refused(Refusal::NO_PACKET));
     }
     Step::said(entry::told(&store[0..n]))
@@ -182,40 +182,40 @@ fn in_record(size: usize, done: usize, store: &[u8]) -> Step
     if done + 1 == size {
         return whole(size, store);
     }
-    Step::on(Capture::Record {
+    Step::on(CaptureReader::Record {
         size,
         done: done + 1,
     })
 }
 
 // One byte.
-fn take(capture: Capture, store: &mut [u8], b: u8) -> Step
+fn take(capture: CaptureReader, store: &mut [u8], b: u8) -> Step
     requires { ⌜ (sound capture ≡ true) × (entryLimit ≤ length (now store)) ⌝ }
     ensures { λ r. ⌜ StepIs (takeByte (held capture (now (store .entry))) b) r (now (store .exit)) ⌝ }
 {
     match capture {
-        Capture::Header(k) => in_header(k, b),
-        Capture::Head(k) => {
+        CaptureReader::Header(k) => in_header(k, b),
+        CaptureReader::Head(k) => {
             keep(store, k, b);
             in_head(k, store)
         }
-        Capture::Record { size, done } => {
+        CaptureReader::Record { size, done } => {
             keep(store, done, b);
             in_record(size, done, store)
         }
-        Capture::Behind(f) => Step::on(Capture::Behind(f)),
+        CaptureReader::Behind(f) => Step::on(CaptureReader::Behind(f)),
     }
 }
 
 // Whether no count is beyond its limit.
-fn is_sound(capture: Capture) -> bool
+fn is_sound(capture: CaptureReader) -> bool
     ensures { λ r. ⌜ r ≡ sound capture ⌝ }
 {
     match capture {
-        Capture::Header(k) => k < Capture::HEADER,
-        Capture::Head(k) => k < Capture::HEAD,
-        Capture::Record { size, done } => done < size,
-        Capture::Behind(f) => {
+        CaptureReader::Header(k) => k < CaptureReader::HEADER,
+        CaptureReader::Head(k) => k < CaptureReader::HEAD,
+        CaptureReader::Record { size, done } => done < size,
+        CaptureReader::Behind(f) => {
             if f < Refusal::CAPTURE {
                 return false;
             }
@@ -225,23 +225,23 @@ fn is_sound(capture: Capture) -> bool
 }
 
 // What the end of the file says.
-fn ending(capture: Capture) -> Ended
+fn ending(capture: CaptureReader) -> Ended
     ensures { λ r. ⌜ r ≡ ending capture ⌝ }
 {
     match capture {
-        Capture::Header(_) => Ended::Refused(Refusal::CAPTURE),
-        Capture::Head(k) => {
+        CaptureReader::Header(_) => Ended::Refused(Refusal::CAPTURE),
+        CaptureReader::Head(k) => {
             if k == 0 {
                 return Ended::Whole;
             }
             Ended::Refused(Refusal::RECORD)
         }
-        Capture::Record { size: _, done: _ } => Ended::Refused(Refusal::RECORD),
-        Capture::Behind(f) => Ended::Refused(f),
+        CaptureReader::Record { size: _, done: _ } => Ended::Refused(Refusal::RECORD),
+        CaptureReader::Behind(f) => Ended::Refused(f),
     }
 }
 
-impl Capture {
+impl CaptureReader {
     /// Bytes before the first record.
     pub const HEADER: usize = 24;
 
@@ -258,7 +258,7 @@ impl Capture {
     pub fn fresh() -> Self
         ensures { λ r. ⌜ r ≡ Header 0 ⌝ }
     {
-        Capture::Header(0)
+        CaptureReader::Header(0)
     }
 
     // The bytes of a piece, up to the first answer.
@@ -300,7 +300,7 @@ impl Capture {
                 capture: self,
             };
         }
-        if store.len() < Capture::STORED {
+        if store.len() < CaptureReader::STORED {
             return Read {
                 heard: Heard::Said(Judged::Refused(Refusal::BUFFER)),
                 taken: 0,

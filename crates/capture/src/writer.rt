@@ -8,13 +8,13 @@ ghost use Rattle.capture_spec.specs.File.{header, recordOf};
 ghost use Rattle.capture.specs.Export.{entering};
 ghost use Rattle.capture.specs.Private.{headOf};
 use crate::entry;
-use crate::reader::Capture;
+use crate::reader::CaptureReader;
 use base::Refusal;
 use base::Written;
 use packet::Judged;
 
 // What stands before the first record.
-pub(crate) const HEADER: [u8; Capture::HEADER] = [
+pub(crate) const HEADER: [u8; CaptureReader::HEADER] = [
     0xD4,
     0xC3,
     0xB2,
@@ -45,16 +45,16 @@ pub(crate) const HEADER: [u8; Capture::HEADER] = [
 pub fn begin(out: &mut [u8]) -> Written
     ensures { λ w. ⌜ outcome w (now (out .exit)) ≡ write header (now (out .entry)) ⌝ }
 {
-    if out.len() < Capture::HEADER {
+    if out.len() < CaptureReader::HEADER {
         return Written::Refused(Refusal::OUTPUT);
     }
     let header = HEADER;
     base::copy(&header, out);
-    Written::Wrote(Capture::HEADER)
+    Written::Wrote(CaptureReader::HEADER)
 }
 
 // The sixteen bytes before a record's own.
-fn head(number: u32, size: u32) -> [u8; Capture::HEAD]
+fn head(number: u32, size: u32) -> [u8; CaptureReader::HEAD]
     ensures { λ r. ⌜ r ≡ headOf number size ⌝ }
 {
     [
@@ -84,7 +84,7 @@ fn put(number: u32, bytes: &[u8], out: &mut [u8])
 {
     let head = head(number, bytes.len() as u32);
     base::copy(&head, out);
-    base::copy(bytes, &mut out[Capture::HEAD..]);
+    base::copy(bytes, &mut out[CaptureReader::HEAD..]);
 }
 
 /// Writes the record of the packet with this number from 0, whose bytes are these, format byte to last payload byte.
@@ -93,7 +93,7 @@ pub fn enter(number: u32, packed: &[u8], out: &mut [u8]) -> Written
 {
     match entry::told(packed) {
         Judged::Packet(_) => {
-            let n = packed.len() + Capture::HEAD;
+            let n = packed.len() + CaptureReader::HEAD;
             if out.len() < n {
                 return Written::Refused(Refusal::OUTPUT);
             }

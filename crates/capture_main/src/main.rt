@@ -4,7 +4,7 @@
 ghost use Prim.Native.Nat.{_≤_};
 use base::Refusal;
 use base::Written;
-use capture::Capture;
+use capture::CaptureReader;
 use channel::Answer;
 use channel::Receiver;
 use libc::STDERR_FILENO;
@@ -12,7 +12,7 @@ use libc::STDIN_FILENO;
 use libc::STDOUT_FILENO;
 use packet::Delivery;
 use packet::Judged;
-use recording::Tape;
+use recording::RecordingReader;
 
 // What is heard so far, behind a call.
 struct Turn {
@@ -21,7 +21,7 @@ struct Turn {
     // The recording is heard further; else it was said why not.
     go: bool,
     taken: usize,
-    tape: Tape,
+    tape: RecordingReader,
     // The number of the next packet.
     number: u32,
 }
@@ -34,7 +34,7 @@ struct Passed {
 }
 
 fn main() {
-    let mut out = [0u8; Capture::ENTRY];
+    let mut out = [0u8; CaptureReader::ENTRY];
     let mut recv = [0u8; Receiver::RAW];
     let mut word = [0u8; Receiver::WORD];
     let mut piece = io::large_buffer();
@@ -42,7 +42,7 @@ fn main() {
     if !put(begun, &out) {
         return;
     }
-    let mut tape = Tape::fresh();
+    let mut tape = RecordingReader::fresh();
     let mut number: u32 = 0;
     let mut reads = u64::MAX;
     while reads > 0 {
@@ -68,7 +68,7 @@ fn main() {
 
 // A piece, until more is wanted.
 fn hear(
-    tape: Tape,
+    tape: RecordingReader,
     number: u32,
     recv: &mut [u8],
     word: &mut [u8],
@@ -105,7 +105,7 @@ fn onward(at: usize, n: usize, end: usize) -> usize
 
 // One call, and the record of its packet.
 fn call(
-    start: Tape,
+    start: RecordingReader,
     number: u32,
     recv: &mut [u8],
     word: &mut [u8],
@@ -192,7 +192,7 @@ fn behind(number: u32) -> u32 {
 }
 
 // Whether the recording ends as one, and where it does not.
-fn finish(tape: Tape) {
+fn finish(tape: RecordingReader) {
     if tape.may_end() {
         return;
     }

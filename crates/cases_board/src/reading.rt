@@ -11,7 +11,7 @@ use lines::Piece;
 use listing_spec::Spot;
 use ports::Entry;
 use ports::Ports;
-use recording::Tape;
+use recording::RecordingReader;
 
 // The receive buffer's least length, and the longest one that is lent.
 const RECV: usize = Receiver::RAW;
@@ -59,7 +59,7 @@ fn near(fresh: Readout) -> Readout {
     Readout {
         bare: fresh.bare,
         blocks: fresh.blocks,
-        tape: Tape {
+        tape: RecordingReader {
             spot: Spot {
                 place: listing_spec::Place::Mode,
                 offset: u64::MAX - 300,

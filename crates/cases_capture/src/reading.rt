@@ -3,7 +3,7 @@
 //! first piece in 16 bits. Those to be read follow; the output is the store. Each call is told as the bytes taken and its answer (0: more wanted),
 //! a packet's format and key, its payload and all of its bytes, behind it; at the end the state's three numbers, and what the end of the file says
 //! (0: it is whole).
-use capture::Capture;
+use capture::CaptureReader;
 use capture::Ended;
 use cases::Cut;
 use packet::Judged;
@@ -13,7 +13,7 @@ const HEAD: usize = 11;
 
 // Where the reading stands.
 struct Place {
-    capture: Capture,
+    capture: CaptureReader,
     cut: Cut,
 }
 
@@ -41,37 +41,37 @@ fn four_at(bytes: &[u8], at: usize) -> usize {
 }
 
 // The state in the head of a case.
-fn state(kind: u8, first: usize, second: usize) -> Capture {
+fn state(kind: u8, first: usize, second: usize) -> CaptureReader {
     match kind {
-        0 => Capture::Header(first),
-        1 => Capture::Head(first),
-        2 => Capture::Record {
+        0 => CaptureReader::Header(first),
+        1 => CaptureReader::Head(first),
+        2 => CaptureReader::Record {
             size: first,
             done: second,
         },
-        _ => Capture::Behind((first % 256) as u8),
+        _ => CaptureReader::Behind((first % 256) as u8),
     }
 }
 
 // The same the other way round.
-fn numbers(capture: Capture) -> Three {
+fn numbers(capture: CaptureReader) -> Three {
     match capture {
-        Capture::Header(n) => Three {
+        CaptureReader::Header(n) => Three {
             kind: 0,
             first: n as u64,
             second: 0,
         },
-        Capture::Head(n) => Three {
+        CaptureReader::Head(n) => Three {
             kind: 1,
             first: n as u64,
             second: 0,
         },
-        Capture::Record { size, done } => Three {
+        CaptureReader::Record { size, done } => Three {
             kind: 2,
             first: size as u64,
             second: done as u64,
         },
-        Capture::Behind(n) => Three {
+        CaptureReader::Behind(n) => Three {
             kind: 3,
             first: n as u64,
             second: 0,
@@ -94,7 +94,7 @@ fn run(first: Place, bytes: &[u8], store: &mut [u8]) {
 }
 
 // Writes the state's numbers, and what the end of the file says.
-fn finish(capture: Capture) {
+fn finish(capture: CaptureReader) {
     let three = numbers(capture);
     cases::print(three.kind);
     cases::print(three.first);

@@ -8,7 +8,7 @@ use channel::Hunting;
 use four_receivers::Receiver;
 use interleaver::Back;
 use interleaver::Matrix;
-use stream::Frame;
+use stream::FrameReader;
 use subchannel::Counts;
 use subchannel::Lane;
 use subchannel::Settings;
@@ -28,7 +28,7 @@ pub fn configure(number: u64, receiver: Receiver) -> Receiver {
 
 fn configured(answer: Configured) -> u64 {
     match answer {
-        Configured::Told => 0,
+        Configured::Done => 0,
         Configured::Refused(n) => cases::refused(n),
     }
 }
@@ -192,8 +192,8 @@ fn counts(x: &[u8]) -> Counts {
     }
 }
 
-fn frame(x: &[u8]) -> Frame {
-    Frame {
+fn frame(x: &[u8]) -> FrameReader {
+    FrameReader {
         opened: is_set(x, 22),
         raw: cases::pair_at(x, 24),
         stored: cases::pair_at(x, 26),

@@ -3,11 +3,11 @@
 use base::Refusal;
 use packet::Delivery;
 use packet::Judged;
-use stream::Frame;
+use stream::FrameReader;
 
 /// The frame state in the number of a case, with its place: above 31 bits whether the frame is open, then raw and stored count in 16 bits each.
-pub fn frame(number: u64, place: usize) -> Frame {
-    Frame {
+pub fn frame(number: u64, place: usize) -> FrameReader {
+    FrameReader {
         opened: number / 0x80000000 % 2 == 1,
         raw: cases::third(number),
         stored: (number / 0x1000000000000) as usize,

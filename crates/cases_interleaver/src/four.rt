@@ -21,7 +21,7 @@ pub fn configure(number: u64, bytes: &[u8]) -> u64 {
     print(next.c);
     print(next.d);
     match answer {
-        Configured::Told => 0,
+        Configured::Done => 0,
         Configured::Refused(n) => cases::refused(n),
     }
 }

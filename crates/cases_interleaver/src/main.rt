@@ -22,7 +22,7 @@ struct Sides {
 }
 
 // The number of an answer, and the states behind it.
-struct Told {
+struct Answered {
     number: u64,
     sides: Sides,
 }
@@ -78,28 +78,28 @@ fn answer(sides: Sides, bytes: &mut [u8], out: &mut [u8]) -> Turn {
 }
 
 // A case of the two states.
-fn tell(asked: u8, number: u64, sides: Sides, bytes: &[u8], out: &mut [u8]) -> Told {
+fn tell(asked: u8, number: u64, sides: Sides, bytes: &[u8], out: &mut [u8]) -> Answered {
     let matrix = sides.matrix;
     let back = sides.back;
     let depth = number as usize;
     match asked {
-        b'N' => Told {
+        b'N' => Answered {
             number: 0,
             sides: fresh(),
         },
         b'I' => pushed(interleaver::push(matrix, depth, bytes, out), back),
         b'Z' => pushed(interleaver::close(matrix, depth, out), back),
         b'J' => pulled(matrix, interleaver::pull(back, depth, bytes, out)),
-        b'X' => Told {
+        b'X' => Answered {
             number: 0,
             sides: placed(sides, depth, bytes),
         },
-        b'V' => Told {
+        b'V' => Answered {
             number: shown(sides, number, out),
             sides,
         },
         b'g' => grouped(number, matrix, back, bytes, out),
-        _ => Told {
+        _ => Answered {
             number: tell_sent(asked, number, bytes, out),
             sides,
         },
@@ -126,26 +126,26 @@ fn tell_sent(asked: u8, number: u64, bytes: &[u8], out: &mut [u8]) -> u64 {
     }
 }
 
-fn pushed(p: Pushed, back: Back) -> Told {
+fn pushed(p: Pushed, back: Back) -> Answered {
     let answer = p.written;
     let matrix = p.matrix;
-    Told {
+    Answered {
         number: cases::written(answer),
         sides: Sides { matrix, back },
     }
 }
 
-fn pulled(matrix: Matrix, p: Pulled) -> Told {
+fn pulled(matrix: Matrix, p: Pulled) -> Answered {
     let answer = p.written;
     let back = p.back;
-    Told {
+    Answered {
         number: cases::written(answer),
         sides: Sides { matrix, back },
     }
 }
 
 // The next group; the bytes taken are told before it.
-fn grouped(number: u64, matrix: Matrix, back: Back, bytes: &[u8], out: &mut [u8]) -> Told {
+fn grouped(number: u64, matrix: Matrix, back: Back, bytes: &[u8], out: &mut [u8]) -> Answered {
     let sent = subchannel_sender::send_group(
         cases::first(number),
         cases::second(number),
@@ -156,7 +156,7 @@ fn grouped(number: u64, matrix: Matrix, back: Back, bytes: &[u8], out: &mut [u8]
     let answer = sent.written;
     let next = sent.matrix;
     cases::print(sent.taken as u64);
-    Told {
+    Answered {
         number: cases::written(answer),
         sides: Sides { matrix: next, back },
     }

@@ -6,18 +6,18 @@
 use base::Written;
 use cases::Cut;
 use channel::Receiver;
-use listing::Recording;
+use listing::Lister;
 use listing::Totals;
 use listing::Wants;
 use listing_spec::Spot;
-use recording::Tape;
+use recording::RecordingReader;
 
 // The receive buffer's least length, and the longest one that is lent.
 const RECV: usize = Receiver::RAW;
 
 // Where the listing stands.
 struct Place {
-    recording: Recording,
+    recording: Lister,
     cut: Cut,
 }
 
@@ -40,18 +40,18 @@ fn start(number: u64) -> Place {
 }
 
 // Fresh; or near the stream's limit; or with the offset, or all totals, near their width.
-fn begin(kind: u64) -> Recording {
+fn begin(kind: u64) -> Lister {
     match kind {
         1 => near(0, 4294967295 - 300, 0),
         2 => near(u64::MAX - 300, 0, 0),
         3 => near(0, 0, u64::MAX - 140),
-        _ => Recording::fresh(),
+        _ => Lister::fresh(),
     }
 }
 
-fn near(offset: u64, count: u64, total: u64) -> Recording {
-    Recording {
-        tape: Tape {
+fn near(offset: u64, count: u64, total: u64) -> Lister {
+    Lister {
+        tape: RecordingReader {
             spot: Spot {
                 place: listing_spec::Place::Mode,
                 offset,
@@ -82,7 +82,7 @@ fn run(first: Place, bytes: &[u8], recv: &mut [u8], word: &mut [u8], out: &mut [
     }
 }
 
-fn finish(r: Recording, out: &mut [u8]) {
+fn finish(r: Lister, out: &mut [u8]) {
     let n = length(r.finish(out));
     if out.len() < n {
         return;

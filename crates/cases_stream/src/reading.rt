@@ -3,14 +3,14 @@
 //! length of the first piece. Those to be read follow; the output is the receive buffer. Each call is told as the bytes taken and its
 //! answer (0: more wanted), a packet's format and key, and its payload, behind it; at the end the state's four numbers.
 use cases::Cut;
-use stream::Frame;
+use stream::FrameReader;
 use stream::Heard;
 
 const HEAD: usize = 4;
 
 // Where the reading stands.
 struct Place {
-    frame: Frame,
+    frame: FrameReader,
     cut: Cut,
 }
 
@@ -40,7 +40,7 @@ fn run(first: Place, bytes: &[u8], recv: &mut [u8]) {
 }
 
 // Writes the state's numbers.
-fn finish(f: Frame) {
+fn finish(f: FrameReader) {
     let numbers = [
         f.opened as u64,
         f.raw as u64,

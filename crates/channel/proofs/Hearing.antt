@@ -28,7 +28,7 @@ use Rattle.base.proofs.Tests.{and-parts}
 use Rattle.packet_spec.specs.Contents.{rawLimit}
 use Rattle.packet_spec.specs.Frame.{Told, judged}
 use Rattle.packet_spec.specs.declared.Judged.{Judged}
-use Rattle.stream.specs.declared.frame.Frame.{Frame}
+use Rattle.stream.specs.declared.frame.FrameReader.{FrameReader}
 use Rattle.stream.specs.declared.frame.Read.{Read}
 use Rattle.stream.specs.declared.frame.Heard.the-variants as heard
 use Rattle.stream.specs.Call.{Held, held, fresh, takeByte, readOn, readCall, ReadIs, sound as soundFrame, answered as frameAnswered}
@@ -52,7 +52,7 @@ use Rattle.channel_spec.specs.declared.Condition.{Condition}
 use Rattle.channel_spec.specs.Sender.{wordBytes, messageBytes}
 
 -- the lock of a phase's state, as it is counted
-pub lock-as : {t : Phase} {d : Bool} {a : Answer} {n : ℕ} {f : Hunting} {k j : Locked} {r : Frame} → k ≡ j
+pub lock-as : {t : Phase} {d : Bool} {a : Answer} {n : ℕ} {f : Hunting} {k j : Locked} {r : FrameReader} → k ≡ j
     → t ≡ record { done = d; answer = a; taken = n; receiver = record { locked = true; hunting = f; lock = k; frame = r } }
     → t ≡ record { done = d; answer = a; taken = n; receiver = record { locked = true; hunting = f; lock = j; frame = r } }
 lock-as {d = d} {a = a} {n = n} {f = f} {r = r} e p =

@@ -20,7 +20,7 @@ use Rattle.base.specs.Calls.{unless, oneMore, after, owesNone, handsNone}
 use Rattle.base.proofs.Calls.{after-one, one-after, none-owed, hear-hand, hear-eat, hear-end}
 use Rattle.base.proofs.Above.{Along, above}
 use Rattle.packet_spec.specs.Frame.{Told}
-use Rattle.stream.specs.declared.frame.Frame.{Frame}
+use Rattle.stream.specs.declared.frame.FrameReader.{FrameReader}
 use Rattle.stream.specs.Call.{Held, held, takeByte, readOn}
 use Rattle.channel_spec.specs.declared.Hunting.{Hunting}
 use Rattle.channel.specs.declared.locked.Locked.{Locked}
@@ -119,7 +119,7 @@ module _ (h : ℕ) (g : Held) (k : List ℕ) (none-left : messageBytes - h ≡ 0
       ∙ later-four bs (suc (length v)) (comparedOn (isMarker (shifts f (b ∷ c ∷ v))) (shifts f (b ∷ c ∷ v)))
 
 -- ---- hunting
-module _ (lk : Locked) (g : Frame) (l k : List ℕ) where
+module _ (lk : Locked) (g : FrameReader) (l k : List ℕ) where
   abbrev pub huntingAt : Hunting → Memory
   huntingAt f = memory (record { locked = false; hunting = f; lock = lk; frame = g }) l k
 

@@ -27,7 +27,7 @@ use channel_spec::Answer;
 use channel_spec::Block;
 use channel_spec::Hunting;
 use packet::Judged;
-use stream::Frame;
+use stream::FrameReader;
 use stream::Heard;
 
 /// The receiver's state.
@@ -35,18 +35,18 @@ pub struct Receiver {
     pub locked: bool,
     pub hunting: Hunting,
     pub lock: Locked,
-    pub frame: Frame,
+    pub frame: FrameReader,
 }
 
 impl Receiver {
     /// The flag between frames.
-    pub const FLAG: u8 = Frame::FLAG;
+    pub const FLAG: u8 = FrameReader::FLAG;
 
     /// The marker before each word.
     pub const MARKER: [u8; 4] = Hunting::MARKER;
 
     /// Bytes that the receive buffer needs.
-    pub const RAW: usize = Frame::RAW;
+    pub const RAW: usize = FrameReader::RAW;
 
     /// Bytes that the word buffer needs.
     pub const WORD: usize = Block::WORD;
@@ -148,7 +148,7 @@ impl Receiver {
     }
 
     // Behind a marker.
-    fn locked_at(hunting: Hunting, frame: Frame) -> Self
+    fn locked_at(hunting: Hunting, frame: FrameReader) -> Self
         ensures { λ r. ⌜ r ≡ record { locked = true; hunting = hunting; lock = counts 0 0 0; frame = frame } ⌝ }
     {
         Receiver {
@@ -167,7 +167,7 @@ impl Receiver {
             locked: false,
             hunting,
             lock: Locked::fresh(),
-            frame: Frame::fresh(),
+            frame: FrameReader::fresh(),
         }
     }
 

@@ -10,7 +10,7 @@ use base::Refusal;
 use base::Written;
 use channel_spec::Block;
 use channel_spec::Hunting;
-use stream::Frame;
+use stream::FrameReader;
 
 // Writes one block: the marker, the message and its parity.
 fn put_block(message: &[u8], out: &mut [u8])
@@ -42,7 +42,7 @@ fn put_next(stream: &[u8], out: &mut [u8])
     requires { ⌜ blockBytes ≤ length (now out) ⌝ }
     ensures { λ _. ⌜ now (out .exit) ≡ (marker ++ wordOf (copied (now (stream .entry)) (replicate messageBytes flag))) ++ drop blockBytes (now (out .entry)) ⌝ }
 {
-    let mut message: [u8; Block::MESSAGE] = [Frame::FLAG; Block::MESSAGE];
+    let mut message: [u8; Block::MESSAGE] = [FrameReader::FLAG; Block::MESSAGE];
     base::copy(stream, &mut message);
     mark(&message, out);
 }

@@ -58,12 +58,12 @@ use Rattle.board.proofs.Sources.{source-hand-one}
 use Rattle.board.proofs.Left.{left-none}
 use Rattle.office.specs.Meaning.{Said, Desk, eat, deskAll}
 use Rattle.office.specs.Call as office
-use Rattle.office.proofs.Hearing as office-hearing
+use Rattle.office.proofs.Taking as office-hearing
 use Rattle.office.proofs.Sent as office-sent
 use Rattle.capture_spec.specs.File.{header}
 use Rattle.capture_spec.specs.Meaning.{entry, entryLimit, fourAt}
-use Rattle.capture.specs.declared.reader.Capture.{Capture}
-use Rattle.capture.specs.declared.reader.Capture.the-variants.{Header, Head, Record, Behind}
+use Rattle.capture.specs.declared.reader.CaptureReader.{CaptureReader}
+use Rattle.capture.specs.declared.reader.CaptureReader.the-variants.{Header, Head, Record, Behind}
 use Rattle.capture.specs.Call as capture
 use Rattle.capture.proofs.Hearing.{fine-take}
 
@@ -349,10 +349,10 @@ Dead (packet p) h = Unit {0}
 Dead (refusal n) h = h .st ≡ Behind n
 Dead (broken n) h = Unit {0}
 
-dead-take : (c : Capture) (st : List ℕ) (b : ℕ) → With Dead (capture.takeBy c st b .0) (capture.takeBy c st b .1)
+dead-take : (c : CaptureReader) (st : List ℕ) (b : ℕ) → With Dead (capture.takeBy c st b .0) (capture.takeBy c st b .1)
 dead-take (Header k) st b = go (eqb b (getD header k 0))
   where
-    ways : Bool → Option Told × Capture
+    ways : Bool → Option Told × CaptureReader
     ways t = pick t (none, pick (eqb (k + 1) 24) (Head 0) (Header (k + 1))) (capture.says (refusal 60))
 
     go : (t : Bool) → With Dead (ways t .0) (capture.held (ways t .1) st)
@@ -363,7 +363,7 @@ dead-take (Head k) st b = go (eqb (k + 1) 16) (eqb (fourAt l 8) (fourAt l 12)) (
     l : List ℕ
     l = set st k b
 
-    ways : Bool → Bool → Bool → Option Told × Capture
+    ways : Bool → Bool → Bool → Option Told × CaptureReader
     ways t u v = pick t (pick u (pick v (capture.says (refusal 62)) (none, Record (fourAt l 8) 0)) (capture.says (refusal 61))) (none, Head (k + 1))
 
     go : (t u v : Bool) → With Dead (ways t u v .0) (capture.held (ways t u v .1) l)

@@ -41,7 +41,7 @@ use Rattle.capture_spec.proofs.Faults.{faultOf, first-fault, sixty-exactly}
 use Rattle.capture_spec.proofs.Order.{next, head-next, unequal-next, bytes-next, whole-next, long-next, import-only}
 use Rattle.capture.specs.Export.{packedPart, Fetched, enteringBy, entering}
 use Rattle.capture.specs.Call.{Held, Fine, readAll, readCall, finishing, endedAs, EveryCut, Stands}
-use Rattle.capture.specs.declared.reader.Capture.{Capture}
+use Rattle.capture.specs.declared.reader.CaptureReader.{CaptureReader}
 use Rattle.capture.proofs.Cutting.{read-yields, every-cut}
 use Rattle.capture.proofs.There.{Own, export-there, read-there}
 use Rattle.demands_laws.specs.Table.{Exact}
@@ -227,7 +227,7 @@ pub import-refusals : (h : Held) (bs : List ℕ) → Exact ByRead (readCall h bs
     [])
 import-refusals = import-exact
 
-pub finish-refusals : (c : Capture) → Exact ByEnd (finishing c)
+pub finish-refusals : (c : CaptureReader) → Exact ByEnd (finishing c)
     ((10, CaptureBeyond c) ∷  -- a count of the state is beyond its limit
     (60, HeaderMissed c) ∷  -- the first 24 bytes are not all there, or not these
     (61, RecordCut c) ∷  -- a record cut short, or lengths unequal before

@@ -51,7 +51,7 @@ use Rattle.board.specs.declared.readout.Wants.the-variants.{Refused as ShowRefu
 use Rattle.board.specs.Source.{memoryIn}
 use Rattle.board.specs.Call.{Screen, readoutOf, recvOn, part, takes as shows}
 use Rattle.listing.specs.declared.lister.Totals.{Totals}
-use Rattle.listing.specs.declared.lister.Recording.{Recording}
+use Rattle.listing.specs.declared.lister.Lister.{Lister}
 use Rattle.listing.specs.declared.lister.Wants.the-variants.{Refused}
 use Rattle.listing.specs.Call.{printed, takes, lastOf, finishing}
 use Rattle.channel_spec.specs.declared.Answer.{Answer}
@@ -139,7 +139,7 @@ pub take-refusals : (m : Deck) (t : Totals) (room : ℕ) (bs : List ℕ) → Exa
     [])
 take-refusals = take-exact
 
-pub finish-refusals : (r : Recording) (out : List ℕ) → Exact ByCall (finishing r out) ((23, length out < length (lastOf r)) ∷ [])
+pub finish-refusals : (r : Lister) (out : List ℕ) → Exact ByCall (finishing r out) ((23, length out < length (lastOf r)) ∷ [])
 finish-refusals r out = wrote (lastOf r) out _ refl
 
 -- a board's call
@@ -285,7 +285,7 @@ mark-keeps-out = marking-keeps
 pub send-keeps-out : (bs out : List ℕ) → Keeps out (sending bs out)
 send-keeps-out = sending-keeps
 
-pub finish-keeps-out : (r : Recording) (out : List ℕ) → Keeps out (finishing r out)
+pub finish-keeps-out : (r : Lister) (out : List ℕ) → Keeps out (finishing r out)
 finish-keeps-out r out = write-keeps (lastOf r) out
 
 pub print-keeps-out : (a : Answer) (out : List ℕ) → Keeps out (write (line a) out)

@@ -81,7 +81,7 @@ use Rattle.recording.specs.Call.{far, deckOf, tapeCall, EveryCut, ThereDeck}
 use Rattle.recording.proofs.Demands.{taken-apart}
 use Rattle.recording.proofs.Delivery.{payload-next}
 use Rattle.listing.specs.declared.lister.Totals.{Totals}
-use Rattle.listing.specs.declared.lister.Recording.{Recording}
+use Rattle.listing.specs.declared.lister.Lister.{Lister}
 use Rattle.listing.specs.Call.{noTotals, lastOf, recorded, finishing, freshRecording}
 use Rattle.listing.specs.Runs.{ListsAll, Run, Fair}
 use Rattle.listing.proofs.Listing.{listing-printed}
@@ -315,7 +315,7 @@ pub listed-at-last : (rooms : ℕ → ℕ) → Fair rooms → (recv word : List 
 listed-at-last = listing-ends
 
 -- .. the finishing call with it
-pub finished-at-last : (r : Recording) (out : List ℕ) → longest ≤ length out → finishing r out .answer ≡ Wrote (length (lastOf r))
+pub finished-at-last : (r : Lister) (out : List ℕ) → longest ≤ length out → finishing r out .answer ≡ Wrote (length (lastOf r))
 finished-at-last = finish-ends
 
 -- ---- the office's lines: the number told with a line is the count of lines of the state that comes with it, at each call ..

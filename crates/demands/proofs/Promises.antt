@@ -51,7 +51,7 @@ use Rattle.four_senders.specs.Call as subsenders
 use Rattle.capture_spec.specs.File as capture-file
 use Rattle.capture.specs.Export.{entering}
 use Rattle.capture.specs.Call as capture
-use Rattle.capture.specs.declared.reader.Capture.the-variants.{Header}
+use Rattle.capture.specs.declared.reader.CaptureReader.the-variants.{Header}
 use Rattle.unit_spec.specs.Unit as units
 use Rattle.unit_spec.specs.Reading as unit-reading
 use Rattle.board.specs.Call as readout
@@ -110,17 +110,17 @@ use Rattle.four_senders.proofs.Sender.fresh as four-senders-fresh
 use Rattle.four_senders.proofs.Sender.sound as four-senders-sound
 use Rattle.four_senders.proofs.Sender.configure as four-senders-configure
 use Rattle.four_senders.proofs.Sender.send as four-senders-send
-use Rattle.stream.proofs.frame.Frame.fresh as stream-fresh
-use Rattle.stream.proofs.frame.Frame.read as stream-read
-use Rattle.stream.proofs.frame.Frame.sound as stream-sound
+use Rattle.stream.proofs.frame.FrameReader.fresh as stream-fresh
+use Rattle.stream.proofs.frame.FrameReader.read as stream-read
+use Rattle.stream.proofs.frame.FrameReader.sound as stream-sound
 use Rattle.stream.proofs.payload as stream-payload
 use Rattle.stream.proofs.key as stream-key
 use Rattle.capture.proofs.begin as capture-begin
 use Rattle.capture.proofs.enter as capture-enter
 use Rattle.capture.proofs.packed as capture-packed
-use Rattle.capture.proofs.reader.Capture.fresh as capture-fresh
-use Rattle.capture.proofs.reader.Capture.read as capture-read
-use Rattle.capture.proofs.reader.Capture.finish as capture-finish
+use Rattle.capture.proofs.reader.CaptureReader.fresh as capture-fresh
+use Rattle.capture.proofs.reader.CaptureReader.read as capture-read
+use Rattle.capture.proofs.reader.CaptureReader.finish as capture-finish
 use Rattle.packet.proofs.judge as packet-judge
 use Rattle.packet.proofs.wrong_behind as packet-wrong-behind
 use Rattle.packet.proofs.up_to as packet-up-to
@@ -133,18 +133,18 @@ use Rattle.interleaver.proofs.push as interleaver-push
 use Rattle.interleaver.proofs.close as interleaver-close
 use Rattle.interleaver.proofs.fresh_back as interleaver-fresh-back
 use Rattle.interleaver.proofs.pull as interleaver-pull
-use Rattle.recording.proofs.tape.Tape.fresh as recording-fresh
-use Rattle.recording.proofs.tape.Tape.next as recording-next
-use Rattle.recording.proofs.tape.Tape.may_end as recording-may-end
-use Rattle.recording.proofs.tape.Heard.is_more as recording-is-more
+use Rattle.recording.proofs.reader.RecordingReader.fresh as recording-fresh
+use Rattle.recording.proofs.reader.RecordingReader.next as recording-next
+use Rattle.recording.proofs.reader.RecordingReader.may_end as recording-may-end
+use Rattle.recording.proofs.reader.Hearing.is_more as recording-is-more
 use Rattle.board.proofs.readout.Readout.fresh as board-fresh
 use Rattle.board.proofs.readout.Readout.take as board-take
 use Rattle.board.proofs.readout.Readout.finish as board-finish
 use Rattle.unit.proofs.write as unit-write
 use Rattle.unit.proofs.read as unit-read
-use Rattle.listing.proofs.lister.Recording.fresh as listing-fresh
-use Rattle.listing.proofs.lister.Recording.take as listing-take
-use Rattle.listing.proofs.lister.Recording.finish as listing-finish
+use Rattle.listing.proofs.lister.Lister.fresh as listing-fresh
+use Rattle.listing.proofs.lister.Lister.take as listing-take
+use Rattle.listing.proofs.lister.Lister.finish as listing-finish
 use Rattle.lines.proofs.print as lines-print
 use Rattle.lines.proofs.print_end as lines-print-end
 use Rattle.lines.proofs.print_wrong as lines-print-wrong

@@ -35,7 +35,7 @@ use Rattle.repair.specs.declared.Mended.the-variants as repair
 use Rattle.repair.proofs.Promising.{promised-is}
 use Rattle.repair.proofs.Meeting.{repaired-promised}
 use Rattle.stream.specs.Call as plain
-use Rattle.stream.specs.declared.frame.Frame.{Frame}
+use Rattle.stream.specs.declared.frame.FrameReader.{FrameReader}
 use Rattle.stream.specs.declared.frame.Heard.{Heard}
 use Rattle.stream.specs.declared.frame.Heard.the-variants.{More}
 use Rattle.channel_spec.specs.Meaning.{Event, said, block, lost}
@@ -45,7 +45,7 @@ use Rattle.channel_spec.specs.Answer.{answered}
 use Rattle.channel.specs.declared.receiver.Receiver.{Receiver}
 use Rattle.channel_spec.specs.declared.Answer.{Answer}
 use Rattle.rack.specs.Words.{writtenNumber, checkedNumber, mendedNumber, making, checking, mending}
-use Rattle.rack.specs.Told as told
+use Rattle.rack.specs.Answers as told
 use Rattle.rack.specs.Call.{readBy, reading, heardBy, hearing}
 use Rattle.demands_laws.specs.Table.{Exact}
 use Rattle.demands_laws.specs.Refusals.{FrameBeyond, Beyond as BeyondState, Short, OfFrame, OfCall, ByFrame}
@@ -289,7 +289,7 @@ flag-back false = refl
 byte-back : (x : ℕ) → x < 256 → x % 256 ≡ x
 byte-back x h = omega arith
 
-pub stream-back : (taken : ℕ) (a : Heard) (f : Frame) → told.frameOf (told.streamNumbers taken (told.ofHeard a) f) ≡ f
+pub stream-back : (taken : ℕ) (a : Heard) (f : FrameReader) → told.frameOf (told.streamNumbers taken (told.ofHeard a) f) ≡ f
 stream-back taken a f = λ i. record { opened = flag-back (f .opened) i; raw = f .raw; stored = f .stored; place = f .place }
 
 pub channel-back : (taken : ℕ) (a : Answer) (s : Receiver) → Bytes (s .hunting .a ∷ s .hunting .b ∷ s .hunting .c ∷ s .hunting .d ∷ [])

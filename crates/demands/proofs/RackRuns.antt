@@ -37,7 +37,7 @@ use Rattle.channel.specs.Call as channel
 use Rattle.channel_spec.specs.Answer as channel-spec
 use Rattle.channel.specs.Call.{Memory, memory, huntOn, wordOn, compareOn, markOn, eatBy, eatByte, owed, handOn, hearOn, hearBy, hearCall, memoryOf}
 use Rattle.channel.proofs.Cutting.{hand-one, hear-agrees}
-use Rattle.rack.specs.Told.{ofAnswer, receiverOf, channelNumbers}
+use Rattle.rack.specs.Answers.{ofAnswer, receiverOf, channelNumbers}
 use Rattle.rack.specs.Call.{readBy, reading, heardBy, hearing}
 use Rattle.demands_laws.specs.Refusals.{OfFrame, OfCall, ByFrame}
 use Rattle.demands.specs.Rack.{StandsBy, saidBy, calledBy, readCalled, toldAs, heldBy, channelBy, heardCalled, eventAs, memoryBy}

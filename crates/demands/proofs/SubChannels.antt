@@ -73,7 +73,7 @@ use Rattle.subchannel_spec.proofs.Returned.{back-is, returned, unaltered as cam
 use Rattle.subchannel.specs.Call.{Memory, memory, toldSub, hearCall, EveryCut, ThereEvent, memoryOf, inUse}
 use Rattle.subchannel.proofs.Demands as one
 use Rattle.subchannel.proofs.Delivery.{payload-there}
-use Rattle.subchannel_spec.specs.declared.Configured.the-variants.{Told, Refused}
+use Rattle.subchannel_spec.specs.declared.Configured.the-variants.{Done, Refused}
 use Rattle.four_receivers.specs.declared.Receiver.{Receiver}
 use Rattle.four_receivers.specs.Call.{freshReceiver, Memories, memoryAt, exchanged, callOn, Scheduled, ofOne, get, configuring, hearFour}
 use Rattle.four_receivers.proofs.Calling as made
@@ -96,7 +96,7 @@ use Rattle.demands_laws.proofs.Subs as rows
 
 -- ---- "the sender .. for one to four sub-channels: each has R, a depth and its own stream": configured, a sub-channel sends a stream by its own
 -- settings ..
-pub own-settings : (s : Sender) (n r d : ℕ) (bs out : List ℕ) → senders.configuring s n r d .0 ≡ Told
+pub own-settings : (s : Sender) (n r d : ℕ) (bs out : List ℕ) → senders.configuring s n r d .0 ≡ Done
     → senders.sendFour (senders.configuring s n r d .1) n bs out ≡ write (sent r d bs) out
 own-settings = apart.configured-sends
 
@@ -134,10 +134,10 @@ module _ (r d : ℕ) (hr : r ≤ 64) (bs : List ℕ) (b : Bytes bs) where
 
 -- ---- "The receiver is told the settings ..": also again, and whatever it was before, it is as one just told, and what it then hears, whatever
 -- the others hear between, means what it means to one just told
-pub told-anew : (s : Receiver) (n r d : ℕ) → configuring s n r d .0 ≡ Told → get (configuring s n r d .1) n ≡ toldSub r d
+pub told-anew : (s : Receiver) (n r d : ℕ) → configuring s n r d .0 ≡ Done → get (configuring s n r d .1) n ≡ toldSub r d
 told-anew s n r d e = configure-own s n r d e .4
 
-pub told-hears : (k r d : ℕ) (s : Memories) → configuring (s .st) k r d .0 ≡ Told → rawLimit ≤ length (s .recv k) → wordBytes ≤ length (s .word k)
+pub told-hears : (k r d : ℕ) (s : Memories) → configuring (s .st) k r d .0 ≡ Done → rawLimit ≤ length (s .recv k) → wordBytes ≤ length (s .word k)
     → {t : Memories} {ps : List (ℕ × List ℕ)} {es : List (ℕ × Event)}
     → Scheduled (record { st = configuring (s .st) k r d .1; recv = s .recv; word = s .word }) ps es t
     → (ofOne k es ≡ answers r d (joined (ofOne k ps))) × (inUse (memoryAt t k) ≡ inUse (memoryOf r d (hears r d start (joined (ofOne k ps)) .1) [] []))
@@ -234,11 +234,11 @@ pub schedules-end : (ps : List (ℕ × List ℕ)) (s : Memories) → Each (λ (x
 schedules-end = schedule-ends
 
 -- what these laws ask can be met: a fresh receiver may be told the settings of each, with every R and depth to 64 ..
-pub fresh-told : (n r d : ℕ) → n ≤ 3 → r ≤ 64 → d ≤ 64 → configuring freshReceiver n r d .0 ≡ Told
+pub fresh-told : (n r d : ℕ) → n ≤ 3 → r ≤ 64 → d ≤ 64 → configuring freshReceiver n r d .0 ≡ Done
 fresh-told = apart-four.fresh-told
 
 -- .. one that is told is configured, in a state that passes 10 ..
-pub told-live : (k r d : ℕ) (s : Memories) → configuring (s .st) k r d .0 ≡ Told
+pub told-live : (k r d : ℕ) (s : Memories) → configuring (s .st) k r d .0 ≡ Done
     → Live k (record { st = configuring (s .st) k r d .1; recv = s .recv; word = s .word })
 told-live = apart-four.told-live
 
@@ -247,7 +247,7 @@ pub live-kept : (k n r d : ℕ) (s : Memories) → n ≢ k → Live k s → Live
 live-kept = apart-four.live-kept
 
 -- .. and with buffers that pass 11 its calls are not refused
-pub told-ready : (k r d : ℕ) (s : Memories) → configuring (s .st) k r d .0 ≡ Told → rawLimit ≤ length (s .recv k) → wordBytes ≤ length (s .word k)
+pub told-ready : (k r d : ℕ) (s : Memories) → configuring (s .st) k r d .0 ≡ Done → rawLimit ≤ length (s .recv k) → wordBytes ≤ length (s .word k)
     → Ready (record { st = configuring (s .st) k r d .1; recv = s .recv; word = s .word }) k
 told-ready = ending.told-ready
 
@@ -271,7 +271,7 @@ module _ (r d : ℕ) (hr : r ≤ 64) (hd : d ≤ 64) where
 
 -- .. "hold for each": so it is of each of the four, told, in every schedule of pieces over them (these come to their end: schedules-end): where its
 -- own pieces are together stray bytes and then a sender's whole stream, its answers deliver just the sent packets, whatever the others hear
-pub four-delivers : (k r d : ℕ) (s : Memories) → configuring (s .st) k r d .0 ≡ Told → rawLimit ≤ length (s .recv k) → wordBytes ≤ length (s .word k)
+pub four-delivers : (k r d : ℕ) (s : Memories) → configuring (s .st) k r d .0 ≡ Done → rawLimit ≤ length (s .recv k) → wordBytes ≤ length (s .word k)
     → (stray : List ℕ) (ps : List Packet) → Each Accepted ps → FirstMarker stray (sent r d (stream ps))
     → {t : Memories} {pieces : List (ℕ × List ℕ)} {es : List (ℕ × Event)} → joined (ofOne k pieces) ≡ stray ++ sent r d (stream ps)
     → Scheduled (record { st = configuring (s .st) k r d .1; recv = s .recv; word = s .word }) pieces es t

@@ -19,7 +19,7 @@ use Rattle.stream.specs.Call.{Held, held}
 use Rattle.channel_spec.specs.Meaning.{Event}
 use Rattle.channel.specs.Call.{Memory, memory}
 use Rattle.channel_spec.specs.Answer.{answered}
-use Rattle.rack.specs.Told.{ofJudged, ofAnswer, ofCall, frameOf, receiverOf, toldNumbers}
+use Rattle.rack.specs.Answers.{ofJudged, ofAnswer, ofCall, frameOf, receiverOf, toldNumbers}
 use Rattle.rack.specs.Call.{reading, hearing}
 use Rattle.demands_laws.specs.Refusals.{OfFrame, OfCall}
 

@@ -25,7 +25,7 @@ use Rattle.subchannel_spec.specs.Sender.{groupWords, groupBytes, closingWords, 
 use Rattle.subchannel.specs.Call as sub
 use Rattle.subchannel_spec.specs.Settings.{settings}
 use Rattle.subchannel_spec.specs.declared.Configured.{Configured}
-use Rattle.subchannel_spec.specs.declared.Configured.the-variants.{Told, Refused}
+use Rattle.subchannel_spec.specs.declared.Configured.the-variants.{Done, Refused}
 use Rattle.four_receivers.specs.declared.Receiver.{Receiver}
 use Rattle.four_receivers.specs.Call as receiver
 use Rattle.four_senders.specs.Call as sender
@@ -77,7 +77,7 @@ formatUnsent port = refusing (packetOf 0x22 0 [] port 0 (0x41 ∷ [])) (λ n. n)
 -- ---- W7
 -- the number by which configuring a sub-channel is refused; 0 where it is told
 abbrev untoldBy : Configured → ℕ
-untoldBy Told = 0
+untoldBy Done = 0
 untoldBy (Refused n) = n
 
 -- .. of a fresh receiver, and of a fresh sender

@@ -33,7 +33,7 @@ use Rattle.listing_spec.specs.Lines.{letter, count}
 use Rattle.listing_spec.specs.Meaning.{lastLine}
 use Rattle.listing_spec.specs.declared.Place.the-variants.{Mark, Inside}
 use Rattle.listing_spec.specs.declared.Spot.{Spot}
-use Rattle.listing.specs.declared.lister.Recording.{Recording}
+use Rattle.listing.specs.declared.lister.Lister.{Lister}
 use Rattle.ports_spec.specs.Ports.{entry}
 use Rattle.ports_spec.specs.declared.Entry.{Entry}
 use Rattle.ports_spec.specs.declared.Noted.{Noted}
@@ -55,7 +55,7 @@ answersOf packets refusals damaged locks =
     ++ (replicate refusals (said (refusal 4)) ++ (replicate damaged (block Beyond) ++ replicate locks lost))
 
 -- a recording that may end here, with so many stream bytes and these totals
-abbrev pub endsWith : ℕ → ℕ → ℕ → ℕ → ℕ → Recording
+abbrev pub endsWith : ℕ → ℕ → ℕ → ℕ → ℕ → Lister
 endsWith bytes packets refusals damaged locks = record {
   tape = record { spot = record { place = Mark; offset = 0; count = bytes }; channel = false; receiver = freshReceiver };
   totals = record { packets = packets; refused = refusals; damaged = damaged; lost = locks };

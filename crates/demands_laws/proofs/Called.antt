@@ -22,7 +22,7 @@ use Rattle.packet_spec.specs.Contents.{rawLimit}
 use Rattle.packet_spec.specs.Escape.{flag}
 use Rattle.packet_spec.specs.Frame.{Told, packet, refusal, broken}
 use Rattle.stream.specs.Call.{Held, placeLimit, shut, takeBy, takeByte, readOn, readBy, readCall, sound as soundFrame}
-use Rattle.stream.specs.declared.frame.Frame.{Frame}
+use Rattle.stream.specs.declared.frame.FrameReader.{FrameReader}
 use Rattle.channel_spec.specs.Meaning.{Event, said, block, lost, isMarker, shift}
 use Rattle.channel.specs.Call.{Memory, heldIn, wordOn, compareOn, markOn, eatBy, eatByte, owed, asEvent, handOn, soundLock, sound, roomy, hearOn, hearBy, hearCall}
 use Rattle.channel_spec.specs.Sender.{messageBytes, wordBytes}
@@ -39,13 +39,13 @@ pub not-most : (a b : ℕ) → leb a b ≡ true → b < a → ⊥
 not-most a b e h = let k : a ≤ b = leb-true a b e in omega arith
 
 -- ---- 10 and 11, as facts
-pub frame-beyond : (f : Frame) → soundFrame f ≡ false → FrameBeyond f
+pub frame-beyond : (f : FrameReader) → soundFrame f ≡ false → FrameBeyond f
 frame-beyond f e =
     ⊎-elim (λ h. inl (eqb-false _ _ h))
     (λ h. inr (⊎-elim (λ k. inl (leb-false _ _ k)) (λ k. inr (leb-false _ _ k)) (not-both (leb (f .raw) (suc rawLimit)) (leb (f .place) placeLimit) h)))
     (not-both (eqb (f .stored) (min (f .raw) rawLimit)) (leb (f .raw) (suc rawLimit) && leb (f .place) placeLimit) e)
 
-pub frame-within : (f : Frame) → soundFrame f ≡ true → FrameBeyond f → ⊥
+pub frame-within : (f : FrameReader) → soundFrame f ≡ true → FrameBeyond f → ⊥
 frame-within f e =
     let p = and-parts (eqb (f .stored) (min (f .raw) rawLimit)) (leb (f .raw) (suc rawLimit) && leb (f .place) placeLimit) e in
     let q = and-parts (leb (f .raw) (suc rawLimit)) (leb (f .place) placeLimit) (p .1) in

@@ -23,8 +23,8 @@ use Rattle.capture_spec.specs.Meaning.{entry, entryLimit, fourAt}
 use Rattle.capture_spec.proofs.Entry.{entry-ways, entry-only, none-exactly}
 use Rattle.capture.specs.Export.{enteringBy, entering}
 use Rattle.capture.specs.Call.{Held, held, says, takeBy, takeByte, readOn, readBy, readCall, sound, ending, finishing}
-use Rattle.capture.specs.declared.reader.Capture.{Capture}
-use Rattle.capture.specs.declared.reader.Capture.the-variants.{Header, Head, Record, Behind}
+use Rattle.capture.specs.declared.reader.CaptureReader.{CaptureReader}
+use Rattle.capture.specs.declared.reader.CaptureReader.the-variants.{Header, Head, Record, Behind}
 use Rattle.capture.specs.declared.reader.Ended.the-variants.{Whole, Refused}
 use Rattle.capture.proofs.Entering.{length-record}
 use Rattle.demands_laws.specs.Table.{Exact}
@@ -41,13 +41,13 @@ enter-exact i bs out h =
     (λ p l f e. let o = entry-only bs h p e in over ByCall (λ z. z p (o .1) (o .0)) (wrote (recordOf i bs) out (length bs + 16) (length-record i bs))) refl
 
 -- ---- 10, as a fact
-beyond : (c : Capture) → sound c ≡ false → CaptureBeyond c
+beyond : (c : CaptureReader) → sound c ≡ false → CaptureBeyond c
 beyond (Header k) e = ltb-false k 24 e
 beyond (Head k) e = ltb-false k 16 e
 beyond (Record n d) e = ltb-false d n e
 beyond (Behind f) e = ⊎-elim (λ h. inl (leb-false 60 f h)) (λ h. inr (leb-false f 62 h)) (not-both (leb 60 f) (leb f 62) e)
 
-within : (c : Capture) → sound c ≡ true → CaptureBeyond c → ⊥
+within : (c : CaptureReader) → sound c ≡ true → CaptureBeyond c → ⊥
 within (Header k) e h = let l = ltb-true k 24 e in omega (arith, l, h)
 within (Head k) e h = let l = ltb-true k 16 e in omega (arith, l, h)
 within (Record n d) e h = let l = ltb-true d n e in omega (arith, l, h)
@@ -61,10 +61,10 @@ Own (packet p) h = Unit {0}
 Own (refusal n) h = 60 ≤ n
 Own (broken n) h = Unit {0}
 
-own-take : (c : Capture) (st : List ℕ) (b : ℕ) → With Own (takeBy c st b .0) (takeBy c st b .1)
+own-take : (c : CaptureReader) (st : List ℕ) (b : ℕ) → With Own (takeBy c st b .0) (takeBy c st b .1)
 own-take (Header k) st b = go (eqb b (getD header k 0))
   where
-    ways : Bool → Option Told × Capture
+    ways : Bool → Option Told × CaptureReader
     ways t = pick t (none, pick (eqb (k + 1) 24) (Head 0) (Header (k + 1))) (says (refusal 60))
 
     go : (t : Bool) → With Own (ways t .0) (held (ways t .1) st)
@@ -75,7 +75,7 @@ own-take (Head k) st b = go (eqb (k + 1) 16) (eqb (fourAt l 8) (fourAt l 12)) (e
     l : List ℕ
     l = set st k b
 
-    ways : Bool → Bool → Bool → Option Told × Capture
+    ways : Bool → Bool → Bool → Option Told × CaptureReader
     ways t u v = pick t (pick u (pick v (says (refusal 62)) (none, Record (fourAt l 8) 0)) (says (refusal 61))) (none, Head (k + 1))
 
     go : (t u v : Bool) → With Own (ways t u v .0) (held (ways t u v .1) l)
@@ -88,7 +88,7 @@ own-take (Record n d) st b = go (eqb (d + 1) n) (ltb entryLimit n)
     l : List ℕ
     l = set st d b
 
-    ways : Bool → Bool → Option Told × Capture
+    ways : Bool → Bool → Option Told × CaptureReader
     ways t u = pick t (says (pick u (refusal 62) (entry (take n l)))) (none, Record n (d + 1))
 
     go : (t u : Bool) → With Own (ways t u .0) (held (ways t u .1) l)
@@ -134,7 +134,7 @@ is-end m n = (λ e. let z : m ≡ n = cc in sym z, λ e i. Refused (sym e i))
 whole-end : Exact ByEnd Whole []
 whole-end = passed ByEnd λ n e. let z : _≡_ {A = ℕ} 0 1 = cc in omega arith
 
-ending-exact : (c : Capture) → sound c ≡ true → Exact ByEnd (ending c) ((60, HeaderMissed c) ∷ (61, RecordCut c) ∷ (62, FaultBefore c) ∷ [])
+ending-exact : (c : CaptureReader) → sound c ≡ true → Exact ByEnd (ending c) ((60, HeaderMissed c) ∷ (61, RecordCut c) ∷ (62, FaultBefore c) ∷ [])
 ending-exact (Header k) s = applies ByEnd _ (is-end 60) tt
 ending-exact (Head k) s = over ByEnd (λ z. z) (go (eqb k 0) refl)
   where
@@ -153,7 +153,7 @@ ending-exact (Behind f) s =
     at : {m : ℕ} (n : ℕ) → f ≡ m → ByEnd (Refused f) n ↔ n ≡ m
     at n e = (λ q. is-end f n .0 q ∙ e, λ q. is-end f n .1 (q ∙ sym e))
 
-pub end-exact : (c : Capture) → Exact ByEnd (finishing c) ((10, CaptureBeyond c) ∷ (60, HeaderMissed c) ∷ (61, RecordCut c) ∷ (62, FaultBefore c) ∷ [])
+pub end-exact : (c : CaptureReader) → Exact ByEnd (finishing c) ((10, CaptureBeyond c) ∷ (60, HeaderMissed c) ∷ (61, RecordCut c) ∷ (62, FaultBefore c) ∷ [])
 end-exact c = go (sound c) refl
   where
     go : (t : Bool) → sound c ≡ t → Exact ByEnd (pick t (ending c) (Refused 10)) ((10, CaptureBeyond c) ∷ (60, HeaderMissed c) ∷ (61, RecordCut c) ∷ (62, FaultBefore c) ∷ [])

@@ -171,7 +171,7 @@ sub-given c bs t n e k = number-given t n k (λ m z. sub-refused c bs m (e ∙ a
 -- ---- configuring: s as it was, and t told
 module _ {S : Type 0} (s t : S) (passes : Bool) {C : Type 0} (f : Fails passes C) (n r d : ℕ) where
   abbrev result : Bool → Bool → Bool → Bool → Configured × S
-  result a b c e = pick a (pick b (configured.Refused 42, s) (pick c (configured.Refused 30, s) (pick e (configured.Refused 32, s) (configured.Told, t)))) (configured.Refused 10, s)
+  result a b c e = pick a (pick b (configured.Refused 42, s) (pick c (configured.Refused 30, s) (pick e (configured.Refused 32, s) (configured.Done, t)))) (configured.Refused 10, s)
 
   refuses-configure : (m k : ℕ) → ByConfigure {S = S} (configured.Refused m, s) k ↔ k ≡ m
   refuses-configure m k = (λ e. let z : m ≡ k = cc in sym z, λ e i. configured.Refused (sym e i))

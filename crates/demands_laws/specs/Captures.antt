@@ -22,13 +22,13 @@ use Rattle.channel.specs.Call.{Memory}
 use Rattle.subchannel.specs.Call.{Memory as SubMemory}
 use Rattle.recording.specs.Deck.{Deck}
 use Rattle.capture.specs.Export.{Fetched, entering}
-use Rattle.capture.specs.declared.reader.Capture.{Capture}
-use Rattle.capture.specs.declared.reader.Capture.the-variants.{Header, Head, Record, Behind}
+use Rattle.capture.specs.declared.reader.CaptureReader.{CaptureReader}
+use Rattle.capture.specs.declared.reader.CaptureReader.the-variants.{Header, Head, Record, Behind}
 use Rattle.capture.specs.declared.reader.Ended.{Ended}
 use Rattle.capture.specs.declared.reader.Ended.the-variants.{Refused}
 
 -- 24 bytes of the header or more, 16 of a record's head or more, all of its bytes or more, or a fault other than 60 to 62
-abbrev pub CaptureBeyond : Capture → Type 0
+abbrev pub CaptureBeyond : CaptureReader → Type 0
 CaptureBeyond (Header k) = 24 ≤ k
 CaptureBeyond (Head k) = 16 ≤ k
 CaptureBeyond (Record n d) = n ≤ d
@@ -39,21 +39,21 @@ abbrev pub NoPacket : List ℕ → Type 0
 NoPacket bs = (p : Packet) → Accepted p → packed p ≡ bs → ⊥
 
 -- the file ends inside the header, or was refused with 60
-abbrev pub HeaderMissed : Capture → Type 0
+abbrev pub HeaderMissed : CaptureReader → Type 0
 HeaderMissed (Header k) = Unit {0}
 HeaderMissed (Head k) = ⊥
 HeaderMissed (Record n d) = ⊥
 HeaderMissed (Behind f) = f ≡ 60
 
 -- it ends inside a record, or was refused with 61
-abbrev pub RecordCut : Capture → Type 0
+abbrev pub RecordCut : CaptureReader → Type 0
 RecordCut (Header k) = ⊥
 RecordCut (Head k) = 0 < k
 RecordCut (Record n d) = Unit {0}
 RecordCut (Behind f) = f ≡ 61
 
 -- it was refused with 62
-abbrev pub FaultBefore : Capture → Type 0
+abbrev pub FaultBefore : CaptureReader → Type 0
 FaultBefore (Header k) = ⊥
 FaultBefore (Head k) = ⊥
 FaultBefore (Record n d) = ⊥

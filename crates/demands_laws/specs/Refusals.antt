@@ -32,7 +32,7 @@ use Rattle.parity.specs.declared.Checked.the-variants.{Refused as WordRefused}
 use Rattle.repair.specs.declared.Mended.{Mended}
 use Rattle.repair.specs.declared.Mended.the-variants.{Refused as RepairRefused}
 use Rattle.stream.specs.Call.{placeLimit}
-use Rattle.stream.specs.declared.frame.Frame.{Frame}
+use Rattle.stream.specs.declared.frame.FrameReader.{FrameReader}
 use Rattle.channel_spec.specs.Meaning.{Event, said}
 use Rattle.channel_spec.specs.Sender.{messageBytes, wordBytes}
 use Rattle.channel.specs.declared.receiver.Receiver.{Receiver}
@@ -104,7 +104,7 @@ UnfitHead p =
     ⊎ ((p .format ≡ plainFormat) × ((0 < length (p .key)) ⊎ (0 < p .number)))
 
 -- 10 of the frame reader: stored bytes other than the raw count or 8,272, whichever is less; raw count above 8,273; remembered place above 8,271
-abbrev pub FrameBeyond : Frame → Type 0
+abbrev pub FrameBeyond : FrameReader → Type 0
 FrameBeyond f = (f .stored ≢ min (f .raw) rawLimit) ⊎ (suc rawLimit < f .raw) ⊎ (placeLimit < f .place)
 
 -- 10 of the channel's receiver: the same; bytes of a word above 255, marker bytes above 3, message bytes handed on above 223

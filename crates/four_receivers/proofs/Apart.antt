@@ -45,7 +45,7 @@ use Rattle.subchannel.proofs.Cutting.{hand-one}
 use Rattle.subchannel.proofs.Demands.{every-cut}
 use Rattle.four_receivers.specs.declared.Receiver.{Receiver}
 use Rattle.subchannel_spec.specs.declared.Configured.{Configured}
-use Rattle.subchannel_spec.specs.declared.Configured.the-variants.{Told, Refused}
+use Rattle.subchannel_spec.specs.declared.Configured.the-variants.{Done, Refused}
 use Rattle.four_receivers.specs.Call.{get, put, soundFour, known, configuring, Memories, memoryAt, exchanged, callBy, callOn, Scheduled, ofOne}
 use Rattle.four_receivers.specs.Call.{freshReceiver, heardBy, hearFour}
 use Rattle.four_receivers.specs.Call.Scheduled.{done as first, next}
@@ -275,7 +275,7 @@ pub configure-others : (s : Receiver) (n k r d : ℕ) → n ≤ 3 → k ≤ 3 �
 configure-others s n k r d h i e = go (soundFour s) (ltb 3 n) (ltb rootLimit r) (ltb depthLimit d)
   where
     go : (a b c f : Bool) → get (pick {A = Configured × Receiver} a
-        (pick b (Refused 42, s) (pick c (Refused 30, s) (pick f (Refused 32, s) (Told, put s n (toldSub r d))))) (Refused 10, s) .1) k
+        (pick b (Refused 42, s) (pick c (Refused 30, s) (pick f (Refused 32, s) (Done, put s n (toldSub r d))))) (Refused 10, s) .1) k
         ≡ get s k
     go false b c f = refl
     go true true c f = refl
@@ -284,18 +284,18 @@ configure-others s n k r d h i e = go (soundFour s) (ltb 3 n) (ltb rootLimit r) 
     go true false false false = got-other s n k (toldSub r d) h i e
 
 -- told, also again: whatever it was before, the sub-channel is configured, passes 10, and is as one just told
-pub configure-own : (s : Receiver) (n r d : ℕ) → configuring s n r d .0 ≡ Told →
+pub configure-own : (s : Receiver) (n r d : ℕ) → configuring s n r d .0 ≡ Done →
     let t : Receiver = configuring s n r d .1 in
     (r ≤ rootLimit) × (d ≤ depthLimit) × (soundFour t ≡ true) × (known t n ≡ true) × (get t n ≡ toldSub r d)
 configure-own s n r d = go (soundFour s) (ltb 3 n) (ltb rootLimit r) (ltb depthLimit d) refl refl refl refl
   where
-    not-told : {m : ℕ} → Refused m ≡ Told → ⊥
+    not-told : {m : ℕ} → Refused m ≡ Done → ⊥
     not-told e = let z : _≡_ {A = ℕ} 0 1 = cc in omega arith
 
     go : (a b c f : Bool) → soundFour s ≡ a → ltb 3 n ≡ b → ltb rootLimit r ≡ c → ltb depthLimit d ≡ f →
         let x : Configured × Receiver =
-        pick a (pick b (Refused 42, s) (pick c (Refused 30, s) (pick f (Refused 32, s) (Told, put s n (toldSub r d))))) (Refused 10, s) in
-        x .0 ≡ Told → (r ≤ rootLimit) × (d ≤ depthLimit) × (soundFour (x .1) ≡ true) × (known (x .1) n ≡ true) × (get (x .1) n ≡ toldSub r d)
+        pick a (pick b (Refused 42, s) (pick c (Refused 30, s) (pick f (Refused 32, s) (Done, put s n (toldSub r d))))) (Refused 10, s) in
+        x .0 ≡ Done → (r ≤ rootLimit) × (d ≤ depthLimit) × (soundFour (x .1) ≡ true) × (known (x .1) n ≡ true) × (get (x .1) n ≡ toldSub r d)
     go false b c f e g h i q = absurd (not-told q)
     go true true c f e g h i q = absurd (not-told q)
     go true false true f e g h i q = absurd (not-told q)
@@ -311,14 +311,14 @@ configure-own s n r d = go (soundFour s) (ltb 3 n) (ltb rootLimit r) (ltb depthL
         )
 
 -- .. so that what it then hears means what it means to one just told
-pub told-means : (k r d : ℕ) (s : Memories) → configuring (s .st) k r d .0 ≡ Told → rawLimit ≤ length (s .recv k) → wordBytes ≤ length (s .word k)
+pub told-means : (k r d : ℕ) (s : Memories) → configuring (s .st) k r d .0 ≡ Done → rawLimit ≤ length (s .recv k) → wordBytes ≤ length (s .word k)
     → {t : Memories} {ps : List (ℕ × List ℕ)} {es : List (ℕ × Event)}
     → Scheduled (record { st = configuring (s .st) k r d .1; recv = s .recv; word = s .word }) ps es t
     → (ofOne k es ≡ answers r d (joined (ofOne k ps))) × (inUse (memoryAt t k) ≡ inUse (memoryOf r d (hears r d start (joined (ofOne k ps)) .1) [] []))
 told-means k r d s e a b c = let o = configure-own (s .st) k r d e in alone-means k r d (o .0) (o .1) (o .2, o .3) (o .4) a b c
 
 -- .. it is configured then, in a state that passes 10 ..
-pub told-live : (k r d : ℕ) (s : Memories) → configuring (s .st) k r d .0 ≡ Told
+pub told-live : (k r d : ℕ) (s : Memories) → configuring (s .st) k r d .0 ≡ Done
     → Live k (record { st = configuring (s .st) k r d .1; recv = s .recv; word = s .word })
 told-live k r d s e = let o = configure-own (s .st) k r d e in (o .2, o .3)
 
@@ -328,7 +328,7 @@ live-kept k n r d s e l = go (s .st) l (soundFour (s .st)) (ltb 3 n) (ltb rootLi
   where
     go : (t : Receiver) → (soundFour t ≡ true) × (known t k ≡ true) → (a b c f : Bool) → ltb 3 n ≡ b → ltb rootLimit r ≡ c → ltb depthLimit d ≡ f →
         let x : Configured × Receiver =
-        pick a (pick b (Refused 42, t) (pick c (Refused 30, t) (pick f (Refused 32, t) (Told, put t n (toldSub r d))))) (Refused 10, t) in
+        pick a (pick b (Refused 42, t) (pick c (Refused 30, t) (pick f (Refused 32, t) (Done, put t n (toldSub r d))))) (Refused 10, t) in
         (soundFour (x .1) ≡ true) × (known (x .1) k ≡ true)
     go t l false b c f g h i = l
     go t l true true c f g h i = l
@@ -340,5 +340,5 @@ live-kept k n r d s e l = go (s .st) l (soundFour (s .st)) (ltb 3 n) (ltb rootLi
     )
 
 -- each of the four may be told, with every R and depth to 64
-pub fresh-told : (n r d : ℕ) → n ≤ 3 → r ≤ rootLimit → d ≤ depthLimit → configuring freshReceiver n r d .0 ≡ Told
+pub fresh-told : (n r d : ℕ) → n ≤ 3 → r ≤ rootLimit → d ≤ depthLimit → configuring freshReceiver n r d .0 ≡ Done
 fresh-told n r d h i j = rw (le-ltb 3 n h, le-ltb rootLimit r i, le-ltb depthLimit d j) refl

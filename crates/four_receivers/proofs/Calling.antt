@@ -19,7 +19,7 @@ use Rattle.packet_spec.specs.declared.Judged.the-variants as judge
 use Rattle.four_receivers.specs.declared.Receiver.{Receiver}
 use Rattle.four_receivers.specs.declared.Configuring.{Configuring}
 use Rattle.four_receivers.specs.declared.Hearing.{Hearing}
-use Rattle.subchannel_spec.specs.declared.Configured.the-variants.{Told, Refused}
+use Rattle.subchannel_spec.specs.declared.Configured.the-variants.{Done, Refused}
 use Rattle.four_receivers.specs.Call.{get, put, soundFour, known, configuring, configuringOf, heardBy, hearFour, FourIs}
 use Rattle.four_receivers.specs.Call.{Memories, memoryAt, callBy, callOn}
 
@@ -51,9 +51,9 @@ module _ (s : Receiver) (n r d : ℕ) where
         pub configured-depth : depthLimit < d → record { answer = Refused 32; receiver = s } ≡ result
         configured-depth j = rw (e, le-ltb 3 n h, le-ltb rootLimit r i, lt-ltb depthLimit d j) refl
 
-        pub configured-told : {x : Sub} {t : Receiver} → d ≤ depthLimit → x ≡ toldSub r d → t ≡ put s n x → record { answer = Told; receiver = t } ≡ result
+        pub configured-told : {x : Sub} {t : Receiver} → d ≤ depthLimit → x ≡ toldSub r d → t ≡ put s n x → record { answer = Done; receiver = t } ≡ result
         configured-told j p q =
-            (λ k. record { answer = Told; receiver = (q ∙ ap (put s n) p) k }) ∙ rw (e, le-ltb 3 n h, le-ltb rootLimit r i, le-ltb depthLimit d j) refl
+            (λ k. record { answer = Done; receiver = (q ∙ ap (put s n) p) k }) ∙ rw (e, le-ltb 3 n h, le-ltb rootLimit r i, le-ltb depthLimit d j) refl
 
 pub get-at : (s : Receiver) {n k : ℕ} → n ≡ k → get s k ≡ get s n
 get-at s e = ap (get s) (sym e)

@@ -24,7 +24,7 @@ use Rattle.channel.specs.Call.{roomy}
 use Rattle.subchannel.specs.Call.{Memory, eatByte, owed, handOn, hearCall, Fine}
 use Rattle.subchannel.proofs.Fine.{fine-of, fine-roomy, fine-hand, fine-eat}
 use Rattle.subchannel.proofs.Cutting.{hand-one, hear-agrees, hear-yields}
-use Rattle.subchannel_spec.specs.declared.Configured.the-variants.{Told}
+use Rattle.subchannel_spec.specs.declared.Configured.the-variants.{Done}
 use Rattle.four_receivers.specs.Call.{configuring, Memories, memoryAt, exchanged, callOn, Scheduled}
 use Rattle.four_receivers.specs.Call.Scheduled.{done, next}
 use Rattle.four_receivers.proofs.Apart.{memory-own, sound-at, Live, call-own, live-own, reads-own, reads-other, told-live}
@@ -34,7 +34,7 @@ abbrev pub Ready : Memories → ℕ → Type 0
 Ready s k = Live k s × (roomy (s .recv k) (s .word k) ≡ true)
 
 -- that can be met: by a sub-channel that was told its settings, with buffers that pass 11
-pub told-ready : (k r d : ℕ) (s : Memories) → configuring (s .st) k r d .0 ≡ Told → rawLimit ≤ length (s .recv k) → wordBytes ≤ length (s .word k)
+pub told-ready : (k r d : ℕ) (s : Memories) → configuring (s .st) k r d .0 ≡ Done → rawLimit ≤ length (s .recv k) → wordBytes ≤ length (s .word k)
     → Ready (record { st = configuring (s .st) k r d .1; recv = s .recv; word = s .word }) k
 told-ready k r d s e a b = (told-live k r d s e, rw (le-leb _ _ a, le-leb _ _ b) refl)
 

@@ -26,7 +26,7 @@ use Rattle.four_receivers.specs.declared.Receiver.{Receiver}
 use Rattle.subchannel_spec.specs.declared.Configured.{Configured}
 use Rattle.four_receivers.specs.declared.Configuring.{Configuring}
 use Rattle.four_receivers.specs.declared.Hearing.{Hearing}
-use Rattle.subchannel_spec.specs.declared.Configured.the-variants.{Told, Refused}
+use Rattle.subchannel_spec.specs.declared.Configured.the-variants.{Done, Refused}
 
 -- sub-channel n; 3 stands for every number above 2
 abbrev pub get : Receiver → ℕ → Sub
@@ -61,7 +61,7 @@ known s n = leb n 3 && (get s n .lane .settings .told)
 abbrev pub configuring : Receiver → ℕ → ℕ → ℕ → Configured × Receiver
 configuring s n r d =
     pick (soundFour s)
-    (pick (ltb 3 n) (Refused 42, s) (pick (ltb rootLimit r) (Refused 30, s) (pick (ltb depthLimit d) (Refused 32, s) (Told, put s n (toldSub r d)))))
+    (pick (ltb 3 n) (Refused 42, s) (pick (ltb rootLimit r) (Refused 30, s) (pick (ltb depthLimit d) (Refused 32, s) (Done, put s n (toldSub r d)))))
     (Refused 10, s)
 
 -- the receiver with each sub-channel's receive buffer and word buffer, by number

@@ -5,7 +5,7 @@ use base::Refusal;
 use channel::Answer;
 use channel::Hunting;
 use packet::Judged;
-use stream::Frame;
+use stream::FrameReader;
 use subchannel::Counts;
 use subchannel::Lane;
 use subchannel::Settings;
@@ -59,7 +59,7 @@ fn untold() -> Sub
                 word: 0,
                 handed: 0,
             },
-            frame: Frame::fresh(),
+            frame: FrameReader::fresh(),
         },
         back: interleaver::fresh_back(),
     }
@@ -146,7 +146,7 @@ impl Receiver {
             return self.unconfigured(Refusal::DEPTH);
         }
         Configuring {
-            answer: Configured::Told,
+            answer: Configured::Done,
             receiver: self.put(number, Sub::told(parity, depth)),
         }
     }

@@ -21,7 +21,7 @@ use Rattle.subchannel_spec.specs.Sender.{sent}
 use Rattle.subchannel_spec.specs.declared.Settings.{Settings}
 use Rattle.subchannel_spec.specs.Settings.{settings, within}
 use Rattle.subchannel_spec.specs.declared.Configured.{Configured}
-use Rattle.subchannel_spec.specs.declared.Configured.the-variants.{Told, Refused}
+use Rattle.subchannel_spec.specs.declared.Configured.the-variants.{Done, Refused}
 use Rattle.four_senders.specs.declared.Sender.{Sender}
 use Rattle.four_senders.specs.Call.{get, put, soundFour, known, configuring, sendFour}
 use Rattle.four_senders.proofs.Calling.{sound-at}
@@ -69,19 +69,19 @@ module _ (s : Sender) (n r d : ℕ) where
 
   -- configuring, by its four tests
   abbrev byTests : Bool → Bool → Bool → Bool → Configured × Sender
-  byTests t a b c = pick t (pick a (Refused 42, s) (pick b (Refused 30, s) (pick c (Refused 32, s) (Told, put s n x)))) (Refused 10, s)
+  byTests t a b c = pick t (pick a (Refused 42, s) (pick b (Refused 30, s) (pick c (Refused 32, s) (Done, put s n x)))) (Refused 10, s)
 
   takes : ltb rootLimit r ≡ false → ltb depthLimit d ≡ false → within x ≡ true
   takes b c = both (le-leb r rootLimit (ltb-false _ _ b)) (le-leb d depthLimit (ltb-false _ _ c))
 
-  not-told : {m : ℕ} → Refused m ≡ Told → ⊥
+  not-told : {m : ℕ} → Refused m ≡ Done → ⊥
   not-told e = let z : _≡_ {A = ℕ} 0 1 = cc in omega arith
 
   module _ (bs out : List ℕ) where
-    pub configured-sends : configuring s n r d .0 ≡ Told → sendFour (configuring s n r d .1) n bs out ≡ write (sent r d bs) out
+    pub configured-sends : configuring s n r d .0 ≡ Done → sendFour (configuring s n r d .1) n bs out ≡ write (sent r d bs) out
     configured-sends = go (soundFour s) (ltb 3 n) (ltb rootLimit r) (ltb depthLimit d) refl refl refl refl
       where
-        go : (t a b c : Bool) → soundFour s ≡ t → ltb 3 n ≡ a → ltb rootLimit r ≡ b → ltb depthLimit d ≡ c → byTests t a b c .0 ≡ Told
+        go : (t a b c : Bool) → soundFour s ≡ t → ltb 3 n ≡ a → ltb rootLimit r ≡ b → ltb depthLimit d ≡ c → byTests t a b c .0 ≡ Done
             → sendFour (byTests t a b c .1) n bs out ≡ write (sent r d bs) out
         go false a b c e f g h q = absurd (not-told q)
         go true true b c e f g h q = absurd (not-told q)

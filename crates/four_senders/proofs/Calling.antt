@@ -17,7 +17,7 @@ use Rattle.interleaver_spec.specs.Running.{depthLimit}
 use Rattle.subchannel_spec.specs.Sender.{sent}
 use Rattle.subchannel_spec.specs.declared.Settings.{Settings}
 use Rattle.subchannel_spec.specs.Settings.{settings, within}
-use Rattle.subchannel_spec.specs.declared.Configured.the-variants.{Told, Refused}
+use Rattle.subchannel_spec.specs.declared.Configured.the-variants.{Done, Refused}
 use Rattle.subchannel_sender.specs.Sending.{sending}
 use Rattle.four_senders.specs.declared.Sender.{Sender}
 use Rattle.four_senders.specs.declared.Configuring.{Configuring}
@@ -61,8 +61,8 @@ module _ (s : Sender) (n r d : ℕ) where
         pub configured-depth : depthLimit < d → record { answer = Refused 32; sender = s } ≡ result
         configured-depth j = rw (e, le-ltb 3 n h, le-ltb rootLimit r i, lt-ltb depthLimit d j) refl
 
-        pub configured-told : {t : Sender} → d ≤ depthLimit → t ≡ put s n (settings true r d) → record { answer = Told; sender = t } ≡ result
-        configured-told j q = (λ k. record { answer = Told; sender = q k }) ∙ rw (e, le-ltb 3 n h, le-ltb rootLimit r i, le-ltb depthLimit d j) refl
+        pub configured-told : {t : Sender} → d ≤ depthLimit → t ≡ put s n (settings true r d) → record { answer = Done; sender = t } ≡ result
+        configured-told j q = (λ k. record { answer = Done; sender = q k }) ∙ rw (e, le-ltb 3 n h, le-ltb rootLimit r i, le-ltb depthLimit d j) refl
 
 -- ---- sending
 pub sound-at : (s : Sender) (n : ℕ) → soundFour s ≡ true → within (get s n) ≡ true

@@ -14,7 +14,7 @@ use Rattle.subchannel_spec.specs.Sender.{sent}
 use Rattle.subchannel_spec.specs.declared.Settings.{Settings}
 use Rattle.subchannel_spec.specs.Settings.{settings, within}
 use Rattle.subchannel_spec.specs.declared.Configured.{Configured}
-use Rattle.subchannel_spec.specs.declared.Configured.the-variants.{Told, Refused}
+use Rattle.subchannel_spec.specs.declared.Configured.the-variants.{Done, Refused}
 use Rattle.four_senders.specs.declared.Sender.{Sender}
 use Rattle.four_senders.specs.declared.Configuring.{Configuring}
 
@@ -48,7 +48,7 @@ known s n = leb n 3 && (get s n .told)
 abbrev pub configuring : Sender → ℕ → ℕ → ℕ → Configured × Sender
 configuring s n r d =
     pick (soundFour s)
-    (pick (ltb 3 n) (Refused 42, s) (pick (ltb rootLimit r) (Refused 30, s) (pick (ltb depthLimit d) (Refused 32, s) (Told, put s n (settings true r d)))))
+    (pick (ltb 3 n) (Refused 42, s) (pick (ltb rootLimit r) (Refused 30, s) (pick (ltb depthLimit d) (Refused 32, s) (Done, put s n (settings true r d)))))
     (Refused 10, s)
 
 -- a whole stream sent on sub-channel n: 10, 42, then 23 as for every call that writes

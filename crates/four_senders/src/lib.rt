@@ -112,7 +112,7 @@ impl Sender {
             depth,
         };
         Configuring {
-            answer: Configured::Told,
+            answer: Configured::Done,
             sender: self.put(number, settings),
         }
     }

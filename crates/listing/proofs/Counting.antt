@@ -20,7 +20,7 @@ use Rattle.listing_spec.specs.Lines.{line, totalOf, one, longest}
 use Rattle.listing_spec.specs.declared.Total.{Total}
 use Rattle.listing_spec.specs.declared.Total.the-variants.{Packets, Refusals, Damaged, Lost, Nothing}
 use Rattle.lines.proofs.Short.{line-short}
-use Rattle.listing.specs.declared.lister.Recording.{Recording}
+use Rattle.listing.specs.declared.lister.Lister.{Lister}
 use Rattle.listing.specs.Call.{countedIn, counted, lastBy, finishing}
 use Rattle.listing.specs.declared.lister.Totals.{Totals}
 
@@ -58,5 +58,5 @@ module _ (t : Totals) (a : Answer) where
   pub count-nothing : totalOf a ≡ Nothing → t ≡ counted t a
   count-nothing e = (λ i. record { packets = sym (add-zero (t .packets)) i; refused = sym (add-zero (t .refused)) i; damaged = sym (add-zero (t .damaged)) i; lost = sym (add-zero (t .lost)) i }) ∙ by-total Nothing e
 
-pub finish-is : (r : Recording) (out : List ℕ) {t : Bool} {o : Outcome} → t ≡ well (r .tape .spot .place) → o ≡ write (lastBy t r) out → o ≡ finishing r out
+pub finish-is : (r : Lister) (out : List ℕ) {t : Bool} {o : Outcome} → t ≡ well (r .tape .spot .place) → o ≡ write (lastBy t r) out → o ≡ finishing r out
 finish-is r out w e = e ∙ ap (λ t. write (lastBy t r) out) w

@@ -2,12 +2,12 @@
 use mathlib.Core.Path.{refl}
 use Rattle.base.specs.Determined.{Determined}
 use Rattle.base.proofs.Determining.{same, same-answer, same-output, buffer, skip}
-use Rattle.listing.proofs.lister.Recording.fresh.Kinds as fresh-kinds
-use Rattle.listing.proofs.lister.Recording.fresh.Reads as fresh-reads
-use Rattle.listing.proofs.lister.Recording.take.Kinds as take-kinds
-use Rattle.listing.proofs.lister.Recording.take.Reads as take-reads
-use Rattle.listing.proofs.lister.Recording.finish.Kinds as finish-kinds
-use Rattle.listing.proofs.lister.Recording.finish.Reads as finish-reads
+use Rattle.listing.proofs.lister.Lister.fresh.Kinds as fresh-kinds
+use Rattle.listing.proofs.lister.Lister.fresh.Reads as fresh-reads
+use Rattle.listing.proofs.lister.Lister.take.Kinds as take-kinds
+use Rattle.listing.proofs.lister.Lister.take.Reads as take-reads
+use Rattle.listing.proofs.lister.Lister.finish.Kinds as finish-kinds
+use Rattle.listing.proofs.lister.Lister.finish.Reads as finish-reads
 
 pub fresh-determined : Determined fresh-kinds.ps fresh-kinds.r fresh-reads.Asked fresh-reads.Learnt
 fresh-determined κs a z z′ ws ws′ pre p q = (same p q, refl)

@@ -35,7 +35,7 @@ use Rattle.recording.proofs.Ears.{deck-hand-one}
 use Rattle.recording.proofs.Kept.{FineDeck, Kept, hear-kept}
 use Rattle.recording.proofs.Means.{earAll, means-start, fresh-owes}
 use Rattle.listing.specs.declared.lister.Totals.{Totals}
-use Rattle.listing.specs.declared.lister.Recording.{Recording}
+use Rattle.listing.specs.declared.lister.Lister.{Lister}
 use Rattle.listing.specs.declared.lister.Wants.{Wants}
 use Rattle.listing.specs.declared.lister.Wants.the-variants.{More, Room, Refused}
 use Rattle.listing.specs.Call.{noTotals, counted, Printed, printed, further, onAnswer, print, near, takesBy, takes, lastBy, lastOf, finishing}
@@ -357,7 +357,7 @@ module _ (rooms : ℕ → ℕ) (fair : Fair rooms) where
       })
 
 -- the finishing call is not refused where any line has room
-pub finish-ends : (r : Recording) (out : List ℕ) → longest ≤ length out → finishing r out .answer ≡ Wrote (length (lastOf r))
+pub finish-ends : (r : Lister) (out : List ℕ) → longest ≤ length out → finishing r out .answer ≡ Wrote (length (lastOf r))
 finish-ends r out h = ap (λ o. o .answer) (write-fits (lastOf r) out (omega (arith, go (well (r .tape .spot .place)))))
   where
     go : (t : Bool) → length (lastBy t r) ≤ longest

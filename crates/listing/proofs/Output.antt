@@ -13,13 +13,13 @@ use borrow.Rule.Slice.PartMut.{putMid}
 use Rattle.base.proofs.Parts.{tail-is, tail-put}
 use Rattle.channel.specs.Call.{sound, roomy}
 use Rattle.recording.specs.Call.{deckOf}
-use Rattle.listing.specs.declared.lister.Recording.{Recording}
+use Rattle.listing.specs.declared.lister.Lister.{Lister}
 use Rattle.listing.specs.declared.lister.Step.{Step}
 use Rattle.listing.specs.Call.{Printed, printed, further, print, near, TookIs}
 use Rattle.listing.specs.Private.{StepBy, StepIs}
 
 -- behind i bytes taken and w written the call goes on with what is left
-pub record Far (x : Printed) (bs old : List ℕ) (i w : ℕ) (r : Recording) (l k out : List ℕ) : Type 0 where
+pub record Far (x : Printed) (bs old : List ℕ) (i w : ℕ) (r : Lister) (l k out : List ℕ) : Type 0 where
   pub fuel : ℕ
   pub enough : length out - w ≤ fuel
   pub same : x ≡ further i (take w out) (print fuel (length out - w) (deckOf (r .tape) l k) (r .totals) (drop i bs))
@@ -31,7 +31,7 @@ pub record Far (x : Printed) (bs old : List ℕ) (i w : ℕ) (r : Recording) (l 
   pub roomy : roomy l k ≡ true
   pub nears : near (r .tape .spot) (r .totals) (length bs - i) (length out - w) ≡ true
 
-pub far-start : (r : Recording) (l k bs out : List ℕ) → sound (r .tape .receiver) ≡ true → roomy l k ≡ true
+pub far-start : (r : Lister) (l k bs out : List ℕ) → sound (r .tape .receiver) ≡ true → roomy l k ≡ true
     → near (r .tape .spot) (r .totals) (length bs) (length out) ≡ true
     → Far (print (length out) (length out) (deckOf (r .tape) l k) (r .totals) bs) bs out 0 0 r l k out
 far-start r l k bs out a b c =
@@ -55,7 +55,7 @@ behind-behind : (i n : ℕ) (ws vs : List ℕ) (r : Printed) → further i ws (f
 behind-behind i n ws vs r =
     λ j. record { wants = r .wants; taken = sym (add-assoc i n (r .taken)) j; text = sym (append-assoc ws vs (r .text)) j; deck = r .deck; totals = r .totals }
 
-module _ {x : Printed} {bs old : List ℕ} {i w : ℕ} {r : Recording} {l k out : List ℕ} (far : Far x bs old i w r l k out) where
+module _ {x : Printed} {bs old : List ℕ} {i w : ℕ} {r : Lister} {l k out : List ℕ} (far : Far x bs old i w r l k out) where
   -- the bytes that are left and the room that is left, as the loop lends them
   abbrev left : List ℕ
   left = take (length bs - i) (drop i bs)

@@ -20,8 +20,8 @@ use Rattle.base.proofs.Tests.{and-parts}
 use Rattle.listing_spec.specs.declared.Spot.{Spot}
 use Rattle.listing_spec.specs.Lines.{line, given, isPacket, isRefusal, isDamaged, isLost, longest}
 use Rattle.lines.proofs.Short.{line-short, line-some}
-use Rattle.recording.specs.declared.tape.Tape.{Tape}
-use Rattle.recording.specs.declared.tape.Heard.{Heard}
+use Rattle.recording.specs.declared.reader.RecordingReader.{RecordingReader}
+use Rattle.recording.specs.declared.reader.Hearing.{Hearing}
 use Rattle.recording.specs.Deck.{Deck, deckHear}
 use Rattle.recording.specs.Call.{far, deckOf, isMore, tapeCall, NextIs}
 use Rattle.recording.specs.Private.{Stays, HeardIs}
@@ -77,7 +77,7 @@ total-below : (t n : ℕ) → t ≤ far - n → 0 < n → n ≤ far → t < far
 total-below t n h i j = omega arith
 
 -- ---- a step
-module _ (t : Tape) (u : Totals) (l k bs out : List ℕ) (wide : length bs ≤ far) (wide-out : length out ≤ far)
+module _ (t : RecordingReader) (u : Totals) (l k bs out : List ℕ) (wide : length bs ≤ far) (wide-out : length out ≤ far)
     (ok : sound (t .receiver) ≡ true) (room : roomy l k ≡ true) (near-it : near (t .spot) u (length bs) (length out) ≡ true) where
   abbrev m : Deck
   m = deckOf t l k
@@ -103,7 +103,7 @@ module _ (t : Tape) (u : Totals) (l k bs out : List ℕ) (wide : length bs ≤ f
     nears = near-is (t .spot) u (length bs - 0) (length out - 0) (rw (sub-zero (length bs), sub-zero (length out)) ni);
   }
 
-  module _ (h : Heard) (l′ k′ : List ℕ) (next : NextIs (tapeCall m bs) h l′ k′) (roomy-out : longest ≤ length out) where
+  module _ (h : Hearing) (l′ k′ : List ℕ) (next : NextIs (tapeCall m bs) h l′ k′) (roomy-out : longest ≤ length out) where
     -- the call on the tape passes 10 and 11
     heard : HeardIs m bs h l′ k′
     heard = next-heard t l k bs ok (le-leb _ _ (ni .offset)) room next

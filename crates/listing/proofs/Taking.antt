@@ -7,12 +7,12 @@ use lib.ListN.{length}
 use Rattle.channel.specs.Call.{sound, roomy}
 use Rattle.recording.specs.Deck.{Deck}
 use Rattle.recording.specs.Call.{deckOf}
-use Rattle.listing.specs.declared.lister.Recording.{Recording}
+use Rattle.listing.specs.declared.lister.Lister.{Lister}
 use Rattle.listing.specs.declared.lister.Took.{Took}
 use Rattle.listing.specs.declared.lister.Wants.the-variants.{Refused}
 use Rattle.listing.specs.Call.{Printed, printed, print, near, takesBy, takes, TookIs}
 
-module _ (r : Recording) (l k bs out : List ℕ) where
+module _ (r : Lister) (l k bs out : List ℕ) where
   abbrev m : Deck
   m = deckOf (r .tape) l k
 

@@ -23,7 +23,7 @@ use Rattle.recording.specs.Deck.{Deck, deckHear}
 use Rattle.recording.specs.Call.{freshTape, far, nearSpot, tapeOf}
 pub use Rattle.recording.specs.Call.{deckOf}
 use Rattle.listing.specs.declared.lister.Totals.{Totals}
-use Rattle.listing.specs.declared.lister.Recording.{Recording}
+use Rattle.listing.specs.declared.lister.Lister.{Lister}
 use Rattle.listing.specs.declared.lister.Wants.{Wants}
 use Rattle.listing.specs.declared.lister.Wants.the-variants.{More, Room, Refused}
 use Rattle.listing.specs.declared.lister.Took.{Took}
@@ -33,7 +33,7 @@ abbrev pub noTotals : Totals
 noTotals = record { packets = 0; refused = 0; damaged = 0; lost = 0 }
 
 -- before the first byte, and nothing counted
-abbrev pub freshRecording : Recording
+abbrev pub freshRecording : Lister
 freshRecording = record { tape = freshTape; totals = noTotals }
 
 -- one more in a total
@@ -100,7 +100,7 @@ takes m t room bs =
     takesBy (sound (m .ear .memory .st)) (near (m .spot) t (length bs) room) (roomy (m .ear .memory .recv) (m .ear .memory .word)) m t room bs
 
 -- the code's state of a deck and totals
-abbrev pub recorded : Deck → Totals → Recording
+abbrev pub recorded : Deck → Totals → Lister
 recorded m t = record { tape = tapeOf m; totals = t }
 
 -- the code's result of a call
@@ -113,14 +113,14 @@ TookIs x r l k old out =
     (r ≡ tookOf x) × (l ≡ x .deck .ear .memory .recv) × (k ≡ x .deck .ear .memory .word) × (out ≡ x .text ++ drop (length (x .text)) old)
 
 -- the last line: `E` or `X`, by: may the recording end here
-abbrev pub lastBy : Bool → Recording → List ℕ
+abbrev pub lastBy : Bool → Lister → List ℕ
 lastBy true r = endLine (r .tape .spot .count) (r .totals .packets) (r .totals .refused) (r .totals .damaged) (r .totals .lost)
 lastBy false r = wrongLine (r .tape .spot .offset)
 
 -- the last line of a recording
-abbrev pub lastOf : Recording → List ℕ
+abbrev pub lastOf : Lister → List ℕ
 lastOf r = lastBy (well (r .tape .spot .place)) r
 
 -- the finishing call
-abbrev pub finishing : Recording → List ℕ → Outcome
+abbrev pub finishing : Lister → List ℕ → Outcome
 finishing r out = write (lastOf r) out

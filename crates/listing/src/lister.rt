@@ -20,7 +20,7 @@ use channel::Receiver;
 use lines::Line;
 use listing_spec::Total;
 use packet::Judged;
-use recording::Tape;
+use recording::RecordingReader;
 
 /// What is counted of a recording's answers.
 pub struct Totals {
@@ -31,8 +31,8 @@ pub struct Totals {
 }
 
 /// A recording that is being listed.
-pub struct Recording {
-    pub tape: Tape,
+pub struct Lister {
+    pub tape: RecordingReader,
     pub totals: Totals,
 }
 
@@ -53,7 +53,7 @@ pub struct Took {
     pub taken: usize,
     /// Bytes of the output written.
     pub written: usize,
-    pub next: Recording,
+    pub next: Lister,
 }
 
 // What a step of a call gives: one line at most.
@@ -63,7 +63,7 @@ struct Step {
     wants: Wants,
     taken: usize,
     written: usize,
-    next: Recording,
+    next: Lister,
 }
 
 // The total that a frame's answer counts in ..
@@ -178,7 +178,7 @@ impl Totals {
 
 impl Took {
     // The call is refused: nothing is taken and nothing written.
-    fn refused(number: u8, recording: Recording) -> Self
+    fn refused(number: u8, recording: Lister) -> Self
         ensures { λ r. ⌜ r ≡ record { wants = Refused number; taken = 0; written = 0; next = recording } ⌝ }
     {
         Took {
@@ -190,7 +190,7 @@ impl Took {
     }
 }
 
-impl Recording {
+impl Lister {
     /// An output of so many bytes has room for any line.
     pub const ROOM: usize = Line::LONGEST;
 
@@ -198,8 +198,8 @@ impl Recording {
     pub fn fresh() -> Self
         ensures { λ r. ⌜ r ≡ freshRecording ⌝ }
     {
-        Recording {
-            tape: Tape::fresh(),
+        Lister {
+            tape: RecordingReader::fresh(),
             totals: Totals::none(),
         }
     }
@@ -224,7 +224,7 @@ impl Recording {
         ensures { λ r. ⌜ StepIs (deckOf (self .tape) (now (recv .entry)) (now (word .entry))) (self .totals) (now (piece .entry)) (now (out .entry))
             r (now (recv .exit)) (now (word .exit)) (now (out .exit)) ⌝ }
     {
-        if out.len() < Recording::ROOM {
+        if out.len() < Lister::ROOM {
             return Step {
                 done: true,
                 wants: Wants::Room,
@@ -244,7 +244,7 @@ impl Recording {
                 wants: Wants::More,
                 taken: heard.taken,
                 written: 0,
-                next: Recording { tape, totals },
+                next: Lister { tape, totals },
             };
         }
         Step {
@@ -252,7 +252,7 @@ impl Recording {
             wants: Wants::More,
             taken: heard.taken,
             written: put(answer, out),
-            next: Recording {
+            next: Lister {
                 tape,
                 totals: totals.count(answer),
             },

@@ -4,7 +4,7 @@ ghost use Prim.Native.Nat.{_≤_};
 ghost use lib.ListN.{length};
 use base::Written;
 use channel::Receiver;
-use listing::Recording;
+use listing::Lister;
 use listing::Wants;
 
 // A recording behind a call.
@@ -14,7 +14,7 @@ struct Turn {
     // The listing goes on; else it was said why not.
     go: bool,
     taken: usize,
-    next: Recording,
+    next: Lister,
 }
 
 fn main() {
@@ -22,7 +22,7 @@ fn main() {
     let mut word = [0u8; Receiver::WORD];
     let mut piece = io::large_buffer();
     let mut out = io::large_buffer();
-    let mut recording = Recording::fresh();
+    let mut recording = Lister::fresh();
     let mut reads = u64::MAX;
     while reads > 0 {
         let got = libc::read(0, &mut piece);
@@ -45,7 +45,7 @@ fn main() {
 }
 
 // A piece, until more is wanted.
-fn list(start: Recording, recv: &mut [u8], word: &mut [u8], piece: &[u8], out: &mut [u8]) -> Turn {
+fn list(start: Lister, recv: &mut [u8], word: &mut [u8], piece: &[u8], out: &mut [u8]) -> Turn {
     let mut turn = Turn {
         again: true,
         go: false,
@@ -66,7 +66,7 @@ fn list(start: Recording, recv: &mut [u8], word: &mut [u8], piece: &[u8], out: &
 }
 
 // One call, and its lines.
-fn call(start: Recording, recv: &mut [u8], word: &mut [u8], piece: &[u8], out: &mut [u8]) -> Turn
+fn call(start: Lister, recv: &mut [u8], word: &mut [u8], piece: &[u8], out: &mut [u8]) -> Turn
     ensures { λ t. ⌜ t .taken ≤ length (now (piece .entry)) ⌝ }
 {
     let took = start.take(recv, word, piece, out);
@@ -111,7 +111,7 @@ fn is_refused(wants: Wants) -> bool {
 }
 
 // The last line.
-fn finish(recording: Recording, out: &mut [u8]) {
+fn finish(recording: Lister, out: &mut [u8]) {
     match recording.finish(out) {
         Written::Wrote(n) => end(&out[0..base::least(n, out.len())]),
         Written::Refused(_) => {}

@@ -17,7 +17,7 @@ use Rattle.base.proofs.Writing.{write-fits, write-short, copied-fits}
 use Rattle.channel_spec.specs.Meaning.{Event}
 use Rattle.channel.specs.Call.{sound, roomy}
 use Rattle.recording.specs.Deck.{Deck, deckOwes, deckHand, deckEat, deckHear}
-use Rattle.recording.specs.declared.tape.Heard.{Heard}
+use Rattle.recording.specs.declared.reader.Hearing.{Hearing}
 use Rattle.recording.specs.Call.{nearSpot, tapeBy, tapeCall, NextIs}
 use Rattle.recording.proofs.Ears.{deck-hand-one}
 
@@ -31,11 +31,11 @@ by-tests true false b m bs = zero-le
 by-tests true true false m bs = zero-le
 by-tests true true true m bs = by-answer (deckHear m bs .0) (deckHear m bs .1) (deckHear m bs .2) bs (fits deckOwes deckHand deckEat deck-hand-one m bs)
 
-pub next-within : (m : Deck) (bs : List ℕ) {r : Heard} {l k : List ℕ} → NextIs (tapeCall m bs) r l k → r .taken ≤ length bs
+pub next-within : (m : Deck) (bs : List ℕ) {r : Hearing} {l k : List ℕ} → NextIs (tapeCall m bs) r l k → r .taken ≤ length bs
 next-within m bs h =
     omega (
       arith,
-      ap (λ (x : Heard). x .taken) (h .0),
+      ap (λ (x : Hearing). x .taken) (h .0),
       by-tests (sound (m .ear .memory .st)) (nearSpot (m .spot) (length bs)) (roomy (m .ear .memory .recv) (m .ear .memory .word)) m bs,
     )
 

@@ -11,7 +11,7 @@ use packet::Delivery;
 use packet::Judged;
 use ports::Noted;
 use ports::Ports;
-use recording::Tape;
+use recording::RecordingReader;
 
 // What is heard so far, behind a call.
 struct Turn {
@@ -20,7 +20,7 @@ struct Turn {
     // The recording is heard further; else it was said why not.
     go: bool,
     taken: usize,
-    tape: Tape,
+    tape: RecordingReader,
     ports: Ports,
 }
 
@@ -35,7 +35,7 @@ fn main() {
     let mut recv = [0u8; Receiver::RAW];
     let mut word = [0u8; Receiver::WORD];
     let mut piece = io::large_buffer();
-    let mut tape = Tape::fresh();
+    let mut tape = RecordingReader::fresh();
     let mut ports = Ports::fresh();
     let mut reads = u64::MAX;
     while reads > 0 {
@@ -60,7 +60,13 @@ fn main() {
 }
 
 // A piece, until more is wanted.
-fn hear(tape: Tape, ports: Ports, recv: &mut [u8], word: &mut [u8], piece: &[u8]) -> Turn {
+fn hear(
+    tape: RecordingReader,
+    ports: Ports,
+    recv: &mut [u8],
+    word: &mut [u8],
+    piece: &[u8],
+) -> Turn {
     let mut turn = Turn {
         again: true,
         go: false,
@@ -82,7 +88,13 @@ fn hear(tape: Tape, ports: Ports, recv: &mut [u8], word: &mut [u8], piece: &[u8]
 }
 
 // One call, and the line of its packet.
-fn call(start: Tape, ports: Ports, recv: &mut [u8], word: &mut [u8], piece: &[u8]) -> Turn
+fn call(
+    start: RecordingReader,
+    ports: Ports,
+    recv: &mut [u8],
+    word: &mut [u8],
+    piece: &[u8],
+) -> Turn
     ensures { λ t. ⌜ t .taken ≤ length (now (piece .entry)) ⌝ }
 {
     let heard = start.next(recv, word, piece);
@@ -167,7 +179,7 @@ fn show(port: u16, sequence: u16, noted: Noted, out: &mut [u8]) -> bool {
 }
 
 // Whether the recording ends as one, and where it does not.
-fn finish(tape: Tape) {
+fn finish(tape: RecordingReader) {
     if tape.may_end() {
         return;
     }

@@ -24,7 +24,7 @@ use Rattle.office.specs.declared.Started.{Started}
 use Rattle.office.specs.declared.Started.the-variants.{Ready}
 use Rattle.office.specs.Meaning.{sentFor, Said, Desk, waiting, eat, deskAll, sentBy, complaintsBy}
 use Rattle.office.specs.Call.{holdLimit, outLimit, freshOffice, starting, hearBy, hearCall, endBytes, closeCall, finishBy, finishing, sound, roomy, Fine, first, lastOf}
-use Rattle.office.proofs.Hearing.{call-on, start-ready}
+use Rattle.office.proofs.Taking.{call-on, start-ready}
 use Rattle.office.proofs.Sent.{sent-append, fine-sound, fine-roomy, fine-eat, fine-closed, closed, says, names}
 
 tell-state : (o : Option Said) (r : List Said × Desk) → tell o r .1 ≡ r .1

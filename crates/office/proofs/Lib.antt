@@ -1,5 +1,5 @@
 pub mod Putting
-pub mod Hearing
+pub mod Taking
 pub mod Sent
 pub mod Cutting
 pub mod Board

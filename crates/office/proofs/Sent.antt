@@ -26,7 +26,7 @@ use Rattle.office.specs.Meaning.{Spoken, blocks, unread, refusal, Said, 
 use Rattle.channel_spec.specs.Sender.{wholes, restOf, messageBytes}
 use Rattle.office.specs.Call.{heldLimit, holdLimit, sound, roomy, hearOn, endBytes, Fine, lastOf}
 use Rattle.channel_spec.proofs.Marking.{rest-short, marked-rest}
-use Rattle.office.proofs.Hearing.{eat-feed, eat-other, none-begun, one-begun}
+use Rattle.office.proofs.Taking.{eat-feed, eat-other, none-begun, one-begun}
 
 -- ---- a line
 -- the stream bytes of a line

@@ -24,7 +24,7 @@ use Rattle.office.specs.declared.Started.{Started}
 use Rattle.office.specs.declared.Started.the-variants.{Ready, Refused as StartRefused}
 use Rattle.office.specs.declared.Answer.{Answer}
 use Rattle.office.specs.declared.Answer.the-variants.{More, Sent, NoBid, Refused}
-use Rattle.office.specs.declared.Heard.{Heard}
+use Rattle.office.specs.declared.Hearing.{Hearing}
 use Rattle.office.specs.Meaning.{Spoken, blocks, unread, refusal, Said, Desk, desk, eat}
 
 -- bytes held between lines, at most
@@ -109,11 +109,11 @@ answeredOut none out = out
 answeredOut (some x) out = spokenOut (x .1) out
 
 -- the code's result of a call
-abbrev pub heardOf : Option Said × ℕ × Desk → Heard
+abbrev pub heardOf : Option Said × ℕ × Desk → Hearing
 heardOf x = record { answer = answered (x .0); taken = x .1; office = x .2 .st }
 
 -- r is the result of a call, line and hold the buffers and out′ the output then, which held out before
-abbrev pub HeardIs : Option Said × ℕ × Desk → List ℕ → Heard → List ℕ → List ℕ → List ℕ → Type 0
+abbrev pub HeardIs : Option Said × ℕ × Desk → List ℕ → Hearing → List ℕ → List ℕ → List ℕ → Type 0
 HeardIs x out r line hold out′ = (r ≡ heardOf x) × (line ≡ x .2 .line) × (hold ≡ x .2 .hold) × (out′ ≡ answeredOut (x .0) out)
 
 -- the last block, filled with flags, by: does it pass 10 and 11

@@ -50,7 +50,7 @@ pub enum Answer {
 }
 
 /// The result of a call.
-pub struct Heard {
+pub struct Hearing {
     pub answer: Answer,
     /// Bytes of the piece taken.
     pub taken: usize,
@@ -149,12 +149,12 @@ fn keep(line: &mut [u8], at: usize, bytes: &[u8]) -> usize
     at + base::least(bytes.len(), end - at)
 }
 
-impl Heard {
+impl Hearing {
     // The call is refused: nothing is taken.
     fn refused(number: u8, office: Office) -> Self
         ensures { λ r. ⌜ r ≡ record { answer = Refused number; taken = 0; office = office } ⌝ }
     {
-        Heard {
+        Hearing {
             answer: Answer::Refused(number),
             taken: 0,
             office,
@@ -212,7 +212,7 @@ impl Office {
     }
 
     // A call behind its refusals.
-    fn hear_on(self, line: &mut [u8], hold: &mut [u8], piece: &[u8], out: &mut [u8]) -> Heard
+    fn hear_on(self, line: &mut [u8], hold: &mut [u8], piece: &[u8], out: &mut [u8]) -> Hearing
         requires { ⌜ (sound self ≡ true) × (roomy (now line) (now hold) ≡ true) × (outLimit ≤ length (now out)) ⌝ }
         ensures { λ r. ⌜ HeardIs (hearOn (desk self (now (line .entry)) (now (hold .entry))) (now (piece .entry)))
             (now (out .entry)) r (now (line .exit)) (now (hold .exit)) (now (out .exit)) ⌝ }
@@ -220,7 +220,7 @@ impl Office {
         let n = base::up_to(piece, Line::FEED);
         let stored = keep(line, self.stored, &piece[0..n]);
         if n == piece.len() {
-            return Heard {
+            return Hearing {
                 answer: Answer::More,
                 taken: n,
                 office: Office {
@@ -232,7 +232,7 @@ impl Office {
         }
         let ended = end_line(&line[0..stored], self.held, hold, out);
         let answer = ended.answer;
-        Heard {
+        Hearing {
             answer,
             taken: n + 1,
             office: Office {
@@ -244,24 +244,24 @@ impl Office {
     }
 
     /// The next bytes, up to the end of a line: its packet goes behind the bytes held, and whole messages go out.
-    pub fn hear(self, line: &mut [u8], hold: &mut [u8], piece: &[u8], out: &mut [u8]) -> Heard
+    pub fn hear(self, line: &mut [u8], hold: &mut [u8], piece: &[u8], out: &mut [u8]) -> Hearing
         ensures { λ r. ⌜ HeardIs (hearCall (length (now (out .entry))) (desk self (now (line .entry)) (now (hold .entry))) (now (piece .entry)))
             (now (out .entry)) r (now (line .exit)) (now (hold .exit)) (now (out .exit)) ⌝ }
     {
         if !self.sound() {
-            return Heard::refused(Refusal::STATE, self);
+            return Hearing::refused(Refusal::STATE, self);
         }
         if !Office::has_room(line, hold) {
-            return Heard::refused(Refusal::BUFFER, self);
+            return Hearing::refused(Refusal::BUFFER, self);
         }
         if out.len() < Office::OUTPUT {
-            return Heard::refused(Refusal::OUTPUT, self);
+            return Hearing::refused(Refusal::OUTPUT, self);
         }
         self.hear_on(line, hold, piece, out)
     }
 
     /// The end of the input: it ends a line that is begun.
-    pub fn close(self, line: &mut [u8], hold: &mut [u8], out: &mut [u8]) -> Heard
+    pub fn close(self, line: &mut [u8], hold: &mut [u8], out: &mut [u8]) -> Hearing
         ensures { λ r. ⌜ HeardIs (closeCall (length (now (out .entry))) (desk self (now (line .entry)) (now (hold .entry))))
             (now (out .entry)) r (now (line .exit)) (now (hold .exit)) (now (out .exit)) ⌝ }
     {

@@ -29,7 +29,7 @@ use Rattle.repair.specs.Way.{repaired}
 use Rattle.repair.proofs.Apart.{checked-damaged}
 use Rattle.repair.proofs.Promising.{promised-is}
 use Rattle.stream.specs.Call as plain
-use Rattle.stream.specs.declared.frame.Frame.{Frame}
+use Rattle.stream.specs.declared.frame.FrameReader.{FrameReader}
 use Rattle.stream.specs.declared.frame.Read.{Read}
 use Rattle.channel_spec.specs.declared.Condition.{Condition}
 use Rattle.channel_spec.specs.declared.Condition.the-variants.{Repaired as Mended-block}
@@ -37,9 +37,9 @@ use Rattle.channel.specs.Call as channel
 use Rattle.channel_spec.specs.Answer.{answered}
 use Rattle.channel.specs.declared.receiver.Receiver.{Receiver}
 use Rattle.channel.specs.declared.answer.Hearing.{Hearing}
-use Rattle.rack.specs.declared.told.Told.{Told}
+use Rattle.rack.specs.declared.answers.Numbered.{Numbered}
 use Rattle.rack.specs.Words.{writtenNumber, checkedNumber, mendedNumber, byNumber, making, checking, mending}
-use Rattle.rack.specs.Told.{bare, ofJudged, ofHeard, ofBlock, ofAnswer, ofCall, isSet, flagNumber, frameOf, receiverOf, toldNumbers, streamNumbers, channelNumbers}
+use Rattle.rack.specs.Answers.{bare, ofJudged, ofHeard, ofBlock, ofAnswer, ofCall, isSet, flagNumber, frameOf, receiverOf, toldNumbers, streamNumbers, channelNumbers}
 use Rattle.rack.specs.Call.{left, reading, hearing}
 
 -- ---- words
@@ -79,7 +79,7 @@ pub repaired-told : {c : Condition} {d : Delivery} {k : ℕ} → d ≡ noDeliver
 repaired-told {k = k} p e = ap (λ (d : Delivery). record { number = 259; delivery = d; place = 0; repaired = k }) p ∙ sym (ap ofBlock e)
 
 -- ---- states
-pub receiver-is : (s : List ℕ) {a b c d : ℕ} {f : Frame} → a ≡ getD s 17 0 % 256 → b ≡ getD s 18 0 % 256 → c ≡ getD s 19 0 % 256 → d ≡ getD s 20 0 % 256 → f ≡ frameOf s
+pub receiver-is : (s : List ℕ) {a b c d : ℕ} {f : FrameReader} → a ≡ getD s 17 0 % 256 → b ≡ getD s 18 0 % 256 → c ≡ getD s 19 0 % 256 → d ≡ getD s 20 0 % 256 → f ≡ frameOf s
     → record {
       locked = isSet (getD s 13 0);
       hunting = record { a = a; b = b; c = c; d = d };
@@ -93,11 +93,11 @@ receiver-is s p q u v w i = record {
   frame = w i;
 }
 
-pub stream-is : (taken : ℕ) (t : Told) (f : Frame) {n : ℕ} → n ≡ flagNumber (f .opened)
+pub stream-is : (taken : ℕ) (t : Numbered) (f : FrameReader) {n : ℕ} → n ≡ flagNumber (f .opened)
     → toldNumbers taken t ++ (n ∷ f .raw ∷ f .stored ∷ f .place ∷ []) ≡ streamNumbers taken t f
 stream-is taken t f e = ap (λ (n : ℕ). toldNumbers taken t ++ (n ∷ f .raw ∷ f .stored ∷ f .place ∷ [])) e
 
-pub channel-is : (taken : ℕ) (t : Told) (s : Receiver) {n m : ℕ} → n ≡ flagNumber (s .frame .opened) → m ≡ flagNumber (s .locked)
+pub channel-is : (taken : ℕ) (t : Numbered) (s : Receiver) {n m : ℕ} → n ≡ flagNumber (s .frame .opened) → m ≡ flagNumber (s .locked)
     → toldNumbers taken t ++ (n ∷ s .frame .raw ∷ s .frame .stored ∷ s .frame .place ∷ t .repaired ∷ m ∷ s .lock .word ∷ s .lock .handed ∷ s .lock .marker
     ∷ s .hunting .a ∷ s .hunting .b ∷ s .hunting .c ∷ s .hunting .d ∷ []) ≡ channelNumbers taken t s
 channel-is taken t s e h i =
@@ -112,28 +112,28 @@ left-new : {n m : ℕ} → n ≡ m → ofCall n ≡ false → (old : List ℕ) {
 left-new e c old {is} {new} p = p ∙ ap (λ (b : Bool). pick b old new) (sym c ∙ ap ofCall e)
 
 -- ---- the plain stream: f is the reader's state, r its result, l the receive buffer, t what is told
-module _ (s recv bs : List ℕ) {f : Frame} (k : f ≡ frameOf s) {r : Read} {l : List ℕ} {t : Told}
+module _ (s recv bs : List ℕ) {f : FrameReader} (k : f ≡ frameOf s) {r : Read} {l : List ℕ} {t : Numbered}
     (p : plain.ReadIs (plain.readCall (plain.held f recv) bs) r l) (e : t ≡ ofHeard (r .heard)) where
   q : plain.ReadIs (plain.readCall (plain.held (frameOf s) recv) bs) r l
-  q = subst (λ (f : Frame). plain.ReadIs (plain.readCall (plain.held f recv) bs) r l) k p
+  q = subst (λ (f : FrameReader). plain.ReadIs (plain.readCall (plain.held f recv) bs) r l) k p
 
   meant : t ≡ ofHeard (plain.answered (plain.readCall (plain.held (frameOf s) recv) bs .0))
   meant = e ∙ ap (λ (r : Read). ofHeard (r .heard)) (q .0)
 
   pub read-kept : ofCall (t .number) ≡ true → (t .number, s, l) ≡ reading s recv bs
   read-kept c =
-      let n = ap (λ (t : Told). t .number) meant in
+      let n = ap (λ (t : Numbered). t .number) meant in
       let o = left-old n c s _ in
       λ i. (n i, o i, q .1 i)
 
   pub read-written : ofCall (t .number) ≡ false → {m : List ℕ} → m ≡ streamNumbers (r .taken) t (r .frame) → (t .number, m, l) ≡ reading s recv bs
   read-written c h =
-      let n = ap (λ (t : Told). t .number) meant in
+      let n = ap (λ (t : Numbered). t .number) meant in
       let o = left-new n c s (h ∙ (λ i. streamNumbers (q .0 i .taken) (meant i) (q .0 i .frame))) in
       λ i. (n i, o i, q .1 i)
 
 -- ---- the channel: g is the receiver, w the word buffer
-module _ (s recv word bs : List ℕ) {g : Receiver} (k : g ≡ receiverOf s) {r : Hearing} {l w : List ℕ} {t : Told}
+module _ (s recv word bs : List ℕ) {g : Receiver} (k : g ≡ receiverOf s) {r : Hearing} {l w : List ℕ} {t : Numbered}
     (p : channel.HearingIs (channel.hearCall (channel.memory g recv word) bs) r l w) (e : t ≡ ofAnswer (r .answer)) where
   q′ : channel.HearingIs (channel.hearCall (channel.memory (receiverOf s) recv word) bs) r l w
   q′ = subst (λ (g : Receiver). channel.HearingIs (channel.hearCall (channel.memory g recv word) bs) r l w) k p
@@ -143,12 +143,12 @@ module _ (s recv word bs : List ℕ) {g : Receiver} (k : g ≡ receiverOf s) {r 
 
   pub heard-kept : ofCall (t .number) ≡ true → (t .number, s, l, w) ≡ hearing s recv word bs
   heard-kept c =
-      let n = ap (λ (t : Told). t .number) meant′ in
+      let n = ap (λ (t : Numbered). t .number) meant′ in
       let o = left-old n c s _ in
       λ i. (n i, o i, q′ .1 i, q′ .2 i)
 
   pub heard-written : ofCall (t .number) ≡ false → {m : List ℕ} → m ≡ channelNumbers (r .taken) t (r .receiver) → (t .number, m, l, w) ≡ hearing s recv word bs
   heard-written c h =
-      let n = ap (λ (t : Told). t .number) meant′ in
+      let n = ap (λ (t : Numbered). t .number) meant′ in
       let o = left-new n c s (h ∙ (λ i. channelNumbers (q′ .0 i .taken) (meant′ i) (q′ .0 i .receiver))) in
       λ i. (n i, o i, q′ .1 i, q′ .2 i)

@@ -10,7 +10,7 @@ use lib.ListN.{replicate}
 use Rattle.base.specs.declared.Written.the-variants as written
 use Rattle.packet_spec.specs.declared.Delivery.{Delivery}
 use Rattle.packet_spec.specs.declared.Judged.the-variants.{Packet, Refused, Broken}
-use Rattle.stream.specs.declared.frame.Frame.{Frame}
+use Rattle.stream.specs.declared.frame.FrameReader.{FrameReader}
 use Rattle.stream.specs.declared.frame.Heard.the-variants as plain
 use Rattle.channel_spec.specs.declared.Condition.the-variants.{Clean, Repaired, Beyond}
 use Rattle.parity.specs.declared.Checked.the-variants as check
@@ -18,13 +18,13 @@ use Rattle.repair.specs.declared.Mended.the-variants as repair
 use Rattle.channel.specs.declared.receiver.Receiver.{Receiver}
 use Rattle.channel_spec.specs.declared.Answer.the-variants.{More, Said, Block, LockLost}
 use Rattle.rack.specs.Words.{writtenNumber, checkedNumber, mendedNumber}
-use Rattle.rack.specs.Told.{ofHeard, ofAnswer, frameOf, receiverOf, streamNumbers, channelNumbers}
+use Rattle.rack.specs.Answers.{ofHeard, ofAnswer, frameOf, receiverOf, streamNumbers, channelNumbers}
 
 -- a packet for subscribers with a key of three bytes, each of its numbers another one
 abbrev sent : Delivery
 sent = record { format = 0x26; number = 102; key = 3; port = 104; sequence = 105; length = 106 }
 
-abbrev reader : Frame
+abbrev reader : FrameReader
 reader = record { opened = true; raw = 109; stored = 110; place = 111 }
 
 abbrev receiver : Receiver

@@ -10,8 +10,8 @@ use Rattle.stream.specs.Call as plain
 use Rattle.channel_spec.specs.Meaning.{Event}
 use Rattle.channel.specs.Call.{Memory, memory, hearCall}
 use Rattle.channel_spec.specs.Answer.{answered}
-use Rattle.rack.specs.declared.told.Told.{Told}
-use Rattle.rack.specs.Told.{ofHeard, ofAnswer, ofCall, frameOf, receiverOf, streamNumbers, channelNumbers}
+use Rattle.rack.specs.declared.answers.Numbered.{Numbered}
+use Rattle.rack.specs.Answers.{ofHeard, ofAnswer, ofCall, frameOf, receiverOf, streamNumbers, channelNumbers}
 
 -- the state's numbers behind a call answered by n: the old ones where it is refused
 abbrev pub left : ℕ → List ℕ → List ℕ → List ℕ
@@ -20,7 +20,7 @@ left n old new = pick (ofCall n) old new
 -- by what the frame reader makes of the call
 abbrev pub readBy : List ℕ → Option frame.Told × ℕ × plain.Held → ℕ × List ℕ × List ℕ
 readBy s x =
-    let t : Told = ofHeard (plain.answered (x .0)) in
+    let t : Numbered = ofHeard (plain.answered (x .0)) in
     (t .number, left (t .number) s (streamNumbers (x .1) t (x .2 .st)), x .2 .recv)
 
 -- of the state's numbers, the receive buffer and a piece: the answer's number, and what the first two then hold
@@ -30,7 +30,7 @@ reading s recv bs = readBy s (plain.readCall (plain.held (frameOf s) recv) bs)
 -- by what the receiver makes of the call
 abbrev pub heardBy : List ℕ → Option Event × ℕ × Memory → ℕ × List ℕ × List ℕ × List ℕ
 heardBy s x =
-    let t : Told = ofAnswer (answered (x .0)) in
+    let t : Numbered = ofAnswer (answered (x .0)) in
     (t .number, left (t .number) s (channelNumbers (x .1) t (x .2 .st)), x .2 .recv, x .2 .word)
 
 -- of the state's numbers, the receive buffer, the word buffer and a piece: the answer's number, and what the first three then hold

@@ -1,3 +1,3 @@
 pub mod Words
-pub mod Told
+pub mod Answers
 pub mod Call

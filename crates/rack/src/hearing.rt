@@ -1,10 +1,10 @@
 //! The opportunistic channel, heard with the receiver's state as numbers.
 ghost use mathlib.Core.Path.{_≡_};
 ghost use Prim.Native.Nat.{_%_};
-ghost use Rattle.rack.specs.Told.{receiverOf, channelNumbers};
+ghost use Rattle.rack.specs.Answers.{receiverOf, channelNumbers};
 ghost use Rattle.rack.specs.Call.{hearing};
-use crate::told;
-use crate::told::Told;
+use crate::answers;
+use crate::answers::Numbered;
 use channel::Hunting;
 use channel::Locked;
 use channel::Receiver;
@@ -33,12 +33,12 @@ fn receiver_of(s: [u64; 21]) -> Receiver
             handed: s[15] as usize,
             marker: s[16] as usize,
         },
-        frame: told::frame_by(s[8], s[9], s[10], s[11]),
+        frame: answers::frame_by(s[8], s[9], s[10], s[11]),
     }
 }
 
 // The numbers behind a call.
-fn numbers(taken: usize, told: Told, receiver: Receiver) -> [u64; 21]
+fn numbers(taken: usize, told: Numbered, receiver: Receiver) -> [u64; 21]
     ensures { λ r. ⌜ r ≡ channelNumbers taken told receiver ⌝ }
 {
     let d = told.delivery;
@@ -54,12 +54,12 @@ fn numbers(taken: usize, told: Told, receiver: Receiver) -> [u64; 21]
         d.sequence as u64,
         d.length as u64,
         told.place as u64,
-        told::flag_number(frame.opened),
+        answers::flag_number(frame.opened),
         frame.raw as u64,
         frame.stored as u64,
         frame.place as u64,
         told.repaired as u64,
-        told::flag_number(receiver.locked),
+        answers::flag_number(receiver.locked),
         lock.word as u64,
         lock.handed as u64,
         lock.marker as u64,
@@ -86,8 +86,8 @@ pub extern "C" fn aas_channel_read(
     let receiver = receiver_of(s);
     let heard = receiver.hear(recv, word, piece);
     let answer = heard.answer;
-    let told = told::of_answer(answer);
-    if told::of_call(told.number) {
+    let told = answers::of_answer(answer);
+    if answers::of_call(told.number) {
         return told.number;
     }
     let next = heard.receiver;

@@ -1,13 +1,13 @@
 //! The plain stream, read with its state as numbers.
 ghost use mathlib.Core.Path.{_≡_};
-ghost use Rattle.rack.specs.Told.{frameOf, streamNumbers};
+ghost use Rattle.rack.specs.Answers.{frameOf, streamNumbers};
 ghost use Rattle.rack.specs.Call.{reading};
-use crate::told;
-use crate::told::Told;
-use stream::Frame;
+use crate::answers;
+use crate::answers::Numbered;
+use stream::FrameReader;
 
 // The numbers behind a call.
-fn numbers(taken: usize, told: Told, frame: Frame) -> [u64; 12]
+fn numbers(taken: usize, told: Numbered, frame: FrameReader) -> [u64; 12]
     ensures { λ r. ⌜ r ≡ streamNumbers taken told frame ⌝ }
 {
     let d = told.delivery;
@@ -20,7 +20,7 @@ fn numbers(taken: usize, told: Told, frame: Frame) -> [u64; 12]
         d.sequence as u64,
         d.length as u64,
         told.place as u64,
-        told::flag_number(frame.opened),
+        answers::flag_number(frame.opened),
         frame.raw as u64,
         frame.stored as u64,
         frame.place as u64,
@@ -33,11 +33,11 @@ pub extern "C" fn aas_stream_read(state: &mut [u64; 12], recv: &mut [u8], piece:
     ensures { λ n. ⌜ (n, now (state .exit), now (recv .exit)) ≡ reading (now (state .entry)) (now (recv .entry)) (now (piece .entry)) ⌝ }
 {
     let s = *state;
-    let frame = told::frame_by(s[8], s[9], s[10], s[11]);
+    let frame = answers::frame_by(s[8], s[9], s[10], s[11]);
     let read = frame.read(recv, piece);
     let heard = read.heard;
-    let told = told::of_heard(heard);
-    if told::of_call(told.number) {
+    let told = answers::of_heard(heard);
+    if answers::of_call(told.number) {
         return told.number;
     }
     let next = read.frame;

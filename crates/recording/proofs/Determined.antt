@@ -2,14 +2,14 @@
 use mathlib.Core.Path.{refl}
 use Rattle.base.specs.Determined.{Determined}
 use Rattle.base.proofs.Determining.{same, buffer, skip}
-use Rattle.recording.proofs.tape.Tape.fresh.Kinds as fresh-kinds
-use Rattle.recording.proofs.tape.Tape.fresh.Reads as fresh-reads
-use Rattle.recording.proofs.tape.Tape.next.Kinds as next-kinds
-use Rattle.recording.proofs.tape.Tape.next.Reads as next-reads
-use Rattle.recording.proofs.tape.Tape.may_end.Kinds as may-end-kinds
-use Rattle.recording.proofs.tape.Tape.may_end.Reads as may-end-reads
-use Rattle.recording.proofs.tape.Heard.is_more.Kinds as is-more-kinds
-use Rattle.recording.proofs.tape.Heard.is_more.Reads as is-more-reads
+use Rattle.recording.proofs.reader.RecordingReader.fresh.Kinds as fresh-kinds
+use Rattle.recording.proofs.reader.RecordingReader.fresh.Reads as fresh-reads
+use Rattle.recording.proofs.reader.RecordingReader.next.Kinds as next-kinds
+use Rattle.recording.proofs.reader.RecordingReader.next.Reads as next-reads
+use Rattle.recording.proofs.reader.RecordingReader.may_end.Kinds as may-end-kinds
+use Rattle.recording.proofs.reader.RecordingReader.may_end.Reads as may-end-reads
+use Rattle.recording.proofs.reader.Hearing.is_more.Kinds as is-more-kinds
+use Rattle.recording.proofs.reader.Hearing.is_more.Reads as is-more-reads
 
 pub fresh-determined : Determined fresh-kinds.ps fresh-kinds.r fresh-reads.Asked fresh-reads.Learnt
 fresh-determined κs a z z′ ws ws′ pre p q = (same p q, refl)

@@ -15,24 +15,24 @@ use Rattle.base.proofs.Parts.{tail-is}
 use Rattle.channel_spec.specs.Meaning.{Event}
 use Rattle.channel.specs.Call.{sound, roomy}
 use Rattle.channel_spec.specs.Answer.{answered}
-use Rattle.recording.specs.declared.tape.Tape.{Tape}
-use Rattle.recording.specs.declared.tape.Turn.{Turn}
+use Rattle.recording.specs.declared.reader.RecordingReader.{RecordingReader}
+use Rattle.recording.specs.declared.reader.Turn.{Turn}
 use Rattle.recording.specs.Deck.{Deck, deckHear}
 use Rattle.recording.specs.Call.{far, deckOf}
 use Rattle.recording.specs.Private.{TurnBy, Stays, TurnIs, HeardIs}
 
 -- behind i bytes the tape and the buffers stand so, and the call goes on there
-pub record So (m : Deck) (bs : List ℕ) (i : ℕ) (t : Tape) (l k : List ℕ) : Type 0 where
+pub record So (m : Deck) (bs : List ℕ) (i : ℕ) (t : RecordingReader) (l k : List ℕ) : Type 0 where
   pub same : deckHear m bs ≡ after i (deckHear (deckOf t l k) (drop i bs))
   pub stays : Stays m bs i t l k
 
-pub so-start : (t : Tape) (l k bs : List ℕ) → sound (t .receiver) ≡ true → roomy l k ≡ true → So (deckOf t l k) bs 0 t l k
+pub so-start : (t : RecordingReader) (l k bs : List ℕ) → sound (t .receiver) ≡ true → roomy l k ≡ true → So (deckOf t l k) bs 0 t l k
 so-start t l k bs a b = record {
   same = after-none (deckHear (deckOf t l k) bs);
   stays = record { within = omega arith; near = omega arith; sound = a; roomy = b };
 }
 
-module _ {m : Deck} {bs : List ℕ} {i : ℕ} {t : Tape} {l k : List ℕ} (so : So m bs i t l k) where
+module _ {m : Deck} {bs : List ℕ} {i : ℕ} {t : RecordingReader} {l k : List ℕ} (so : So m bs i t l k) where
   -- the bytes that are left, as the loop lends them
   abbrev left : List ℕ
   left = take (length bs - i) (drop i bs)

@@ -19,8 +19,8 @@ use Rattle.channel.specs.Call.{sound, roomy, Fine}
 use Rattle.channel_spec.specs.declared.Answer.the-variants.{Said}
 use Rattle.channel.proofs.Fine.{fine-of, fine-is, fine-roomy}
 use Rattle.listing_spec.specs.declared.Spot.{Spot}
-use Rattle.recording.specs.declared.tape.Tape.{Tape}
-use Rattle.recording.specs.declared.tape.Heard.{Heard}
+use Rattle.recording.specs.declared.reader.RecordingReader.{RecordingReader}
+use Rattle.recording.specs.declared.reader.Hearing.{Hearing}
 use Rattle.recording.specs.Deck.{Deck, deckHear}
 use Rattle.recording.specs.Call.{far, deckOf, tapeOf, nearSpot, tapeBy, tapeCall, NextIs}
 use Rattle.recording.specs.Private.{HeardIs}
@@ -33,27 +33,27 @@ near-is p n h = le-leb (p .offset) (far - n) (omega arith)
 near-of : (p : Spot) (n : ℕ) → n ≤ far → nearSpot p n ≡ true → p .offset + n ≤ far
 near-of p n wide e = let h : p .offset ≤ far - n = leb-true (p .offset) (far - n) e in omega arith
 
-module _ (t : Tape) (l k bs : List ℕ) where
+module _ (t : RecordingReader) (l k bs : List ℕ) where
   abbrev m : Deck
   m = deckOf t l k
 
   -- nothing is taken or changed
-  abbrev refused : ℕ → Heard
+  abbrev refused : ℕ → Hearing
   refused n = record { answer = Said (Refused n); taken = 0; tape = t }
 
   by : (s n b : Bool) → sound (t .receiver) ≡ s → nearSpot (t .spot) (length bs) ≡ n → roomy l k ≡ b → tapeCall m bs ≡ tapeBy s n b m bs
   by s n b e f g = λ i. tapeBy (e i) (f i) (g i) m bs
 
-  told : (x : Option Event × ℕ × Deck) {r : Heard} {l′ k′ : List ℕ} → tapeCall m bs ≡ x → NextIs x r l′ k′ → NextIs (tapeCall m bs) r l′ k′
+  told : (x : Option Event × ℕ × Deck) {r : Hearing} {l′ k′ : List ℕ} → tapeCall m bs ≡ x → NextIs x r l′ k′ → NextIs (tapeCall m bs) r l′ k′
   told x {r} {l′} {k′} e h = subst (λ y. NextIs y r l′ k′) (sym e) h
 
-  pub next-unsound : {r : Heard} → sound (t .receiver) ≡ false → r ≡ refused 10 → NextIs (tapeCall m bs) r l k
+  pub next-unsound : {r : Hearing} → sound (t .receiver) ≡ false → r ≡ refused 10 → NextIs (tapeCall m bs) r l k
   next-unsound e f = told (tapeBy false true true m bs) (by false _ _ e refl refl) (f, refl, refl)
 
-  pub next-far : {r : Heard} → sound (t .receiver) ≡ true → nearSpot (t .spot) (length bs) ≡ false → r ≡ refused 10 → NextIs (tapeCall m bs) r l k
+  pub next-far : {r : Hearing} → sound (t .receiver) ≡ true → nearSpot (t .spot) (length bs) ≡ false → r ≡ refused 10 → NextIs (tapeCall m bs) r l k
   next-far e n f = told (tapeBy true false true m bs) (by true false _ e n refl) (f, refl, refl)
 
-  pub next-cramped : {r : Heard} → sound (t .receiver) ≡ true → nearSpot (t .spot) (length bs) ≡ true → roomy l k ≡ false → r ≡ refused 11
+  pub next-cramped : {r : Hearing} → sound (t .receiver) ≡ true → nearSpot (t .spot) (length bs) ≡ true → roomy l k ≡ false → r ≡ refused 11
       → NextIs (tapeCall m bs) r l k
   next-cramped e n b f = told (tapeBy true true false m bs) (by true true false e n b) (f, refl, refl)
 
@@ -66,7 +66,7 @@ module _ (t : Tape) (l k bs : List ℕ) where
     pub next-asks : length bs ≤ far → (sound (t .receiver) ≡ true) × (roomy l k ≡ true) × (t .spot .offset + length bs ≤ far)
     next-asks wide = (e, b, near-of (t .spot) (length bs) wide n)
 
-    pub next-on : {r : Heard} {l′ k′ : List ℕ} → HeardIs m bs r l′ k′ → NextIs (tapeCall m bs) r l′ k′
+    pub next-on : {r : Hearing} {l′ k′ : List ℕ} → HeardIs m bs r l′ k′ → NextIs (tapeCall m bs) r l′ k′
     next-on {r} {l′} {k′} h =
         let x : Option Event × ℕ × Deck = deckHear m bs in
         let f : (x .0, r .taken, deckOf (r .tape) l′ k′) ≡ x = sym (h .0 .1) in
@@ -77,7 +77,7 @@ module _ (t : Tape) (l k bs : List ℕ) where
         )
 
     -- what is then kept
-    pub next-heard : {r : Heard} {l′ k′ : List ℕ} → NextIs (tapeCall m bs) r l′ k′ → HeardIs m bs r l′ k′
+    pub next-heard : {r : Hearing} {l′ k′ : List ℕ} → NextIs (tapeCall m bs) r l′ k′ → HeardIs m bs r l′ k′
     next-heard {r} {l′} {k′} h =
         let x : Option Event × ℕ × Deck = deckHear m bs in
         let g : NextIs x r l′ k′ = subst (λ y. NextIs y r l′ k′) let-on h in

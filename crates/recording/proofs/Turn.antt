@@ -23,7 +23,7 @@ use Rattle.channel.specs.declared.answer.Hearing.{Hearing}
 use Rattle.channel.proofs.Fine.{fine-of, fine-is, fine-roomy, fine-hand, fine-eat}
 use Rattle.listing_spec.specs.declared.Spot.{Spot}
 use Rattle.listing_spec.specs.Apart.{next, inStream}
-use Rattle.recording.specs.declared.tape.Tape.{Tape}
+use Rattle.recording.specs.declared.reader.RecordingReader.{RecordingReader}
 use Rattle.recording.specs.Deck.{Ear, ear, owesBy, eatBy, earOwes, earHand, earEat, Deck, deck, deckOwes, deckHand, byteBy, deckEat, deckHear}
 use Rattle.recording.specs.Call.{far, deckOf, isMore}
 use Rattle.recording.specs.Private.{earHear, runOf, skipped, EarIs, headed, CallIs, Stays}
@@ -124,7 +124,7 @@ module _ (t : Bool) (s : Receiver) (p : Spot) (l k bs : List ℕ) (n : ℕ) (run
 
   module _ (q : Spot) (stands : q ≡ skipped p (r .taken)) where
     -- the tape behind the run
-    abbrev tape : Tape
+    abbrev tape : RecordingReader
     tape = record { spot = q; channel = t; receiver = r .receiver }
 
     turned-at : deckHear (deck p d) bs ≡ unless (x .0) (r .taken) (deck q d′) (after (r .taken) (deckHear (deck q d′) (drop (r .taken) bs)))
@@ -180,7 +180,7 @@ module _ (t : Bool) (s : Receiver) (p : Spot) (l k bs : List ℕ) (n : ℕ) (run
         head-fine h = subst (λ (y : Spot). (y .offset < far) × (inStream (y .place) (y .count) ≡ false)) (sym here)
             (omega arith, run-none p (length bs) (omega arith) (sym run ∙ z))
 
-        pub turn-head : (u : Tape) → u ≡ headed tape (getD bs 0 0)
+        pub turn-head : (u : RecordingReader) → u ≡ headed tape (getD bs 0 0)
             → (deckHear (deck p d) bs ≡ after 1 (deckHear (deckOf u l′ k′) (drop 1 bs))) × (0 < 1)
         turn-head u g =
             let b : ℕ = getD bs 0 0 in
@@ -195,7 +195,7 @@ module _ (t : Bool) (s : Receiver) (p : Spot) (l k bs : List ℕ) (n : ℕ) (run
                   ∙ hear-eat deckOwes deckHand deckEat deck-hand-one (deck q d′) b (drop 1 bs) (all-taken .1)
                   ∙ ap (λ (y : Bool). let v = byteBy y (deck q d′) b in unless (v .0) 1 (v .1) (oneMore (deckHear (v .1) (drop 1 bs)))) o
                   ∙ one-after (deckHear (w .1) (drop 1 bs))
-                  ∙ ap (λ (y : Tape). after 1 (deckHear (deckOf y l′ k′) (drop 1 bs))) (sym g),
+                  ∙ ap (λ (y : RecordingReader). after 1 (deckHear (deckOf y l′ k′) (drop 1 bs))) (sym g),
               omega arith,
             )
 
@@ -212,10 +212,10 @@ module _ (t : Bool) (s : Receiver) (p : Spot) (l k bs : List ℕ) (n : ℕ) (run
       pub run-stays : Stays (deck p d) bs n tape l′ k′
       run-stays = subst (λ (m : ℕ). Stays (deck p d) bs m tape l′ k′) (all-taken e .0) (turn-stays a b)
 
-      pub head-stays : (z : n ≡ 0) (some-byte : n < length bs) (u : Tape) → u ≡ headed tape (getD bs 0 0) → Stays (deck p d) bs 1 u l′ k′
+      pub head-stays : (z : n ≡ 0) (some-byte : n < length bs) (u : RecordingReader) → u ≡ headed tape (getD bs 0 0) → Stays (deck p d) bs 1 u l′ k′
       head-stays z h u g =
           let w = turn-stays a b in
-          subst (λ (y : Tape). Stays (deck p d) bs 1 y l′ k′) (sym g) (record {
+          subst (λ (y : RecordingReader). Stays (deck p d) bs 1 y l′ k′) (sym g) (record {
             within = omega arith;
             near = subst (λ (y : Spot). next q (getD bs 0 0) .offset ≤ y .offset + 1) (here e z h) (next-near q (getD bs 0 0));
             sound = w .sound;

@@ -24,8 +24,8 @@ use Rattle.channel_spec.specs.declared.Answer.{Answer}
 use Rattle.channel_spec.specs.declared.Answer.the-variants.{More, Said, Block, LockLost}
 use Rattle.listing_spec.specs.declared.Spot.{Spot}
 use Rattle.listing_spec.specs.Apart.{freshSpot}
-use Rattle.recording.specs.declared.tape.Tape.{Tape}
-use Rattle.recording.specs.declared.tape.Heard.{Heard}
+use Rattle.recording.specs.declared.reader.RecordingReader.{RecordingReader}
+use Rattle.recording.specs.declared.reader.Hearing.{Hearing}
 use Rattle.recording.specs.Deck.{ear, Deck, deck, fresh, deckHear}
 
 -- numbers are below 2^64
@@ -33,15 +33,15 @@ abbrev pub far : ℕ
 far = 18446744073709551615
 
 -- before the first byte
-abbrev pub freshTape : Tape
+abbrev pub freshTape : RecordingReader
 freshTape = record { spot = freshSpot; channel = false; receiver = freshReceiver }
 
 -- the deck of a tape and the buffers lent ..
-abbrev pub deckOf : Tape → List ℕ → List ℕ → Deck
+abbrev pub deckOf : RecordingReader → List ℕ → List ℕ → Deck
 deckOf t recv word = deck (t .spot) (ear (t .channel) (memory (t .receiver) recv word))
 
 -- .. and a deck's tape
-abbrev pub tapeOf : Deck → Tape
+abbrev pub tapeOf : Deck → RecordingReader
 tapeOf m = record { spot = m .spot; channel = m .ear .channel; receiver = m .ear .memory .st }
 
 -- "more wanted"
@@ -68,11 +68,11 @@ abbrev pub tapeCall : Deck → List ℕ → Option Event × ℕ × Deck
 tapeCall m bs = tapeBy (sound (m .ear .memory .st)) (nearSpot (m .spot) (length bs)) (roomy (m .ear .memory .recv) (m .ear .memory .word)) m bs
 
 -- the code's result of a call
-abbrev pub heardOf : Option Event × ℕ × Deck → Heard
+abbrev pub heardOf : Option Event × ℕ × Deck → Hearing
 heardOf x = record { answer = answered (x .0); taken = x .1; tape = tapeOf (x .2) }
 
 -- r is the result, l the receive buffer and k the word buffer of a call
-abbrev pub NextIs : Option Event × ℕ × Deck → Heard → List ℕ → List ℕ → Type 0
+abbrev pub NextIs : Option Event × ℕ × Deck → Hearing → List ℕ → List ℕ → Type 0
 NextIs x r l k = (r ≡ heardOf x) × (l ≡ x .2 .ear .memory .recv) × (k ≡ x .2 .ear .memory .word)
 
 -- a recording is heard from its first byte on, cut in every way, with all buffers that pass 11: the calls come to their end, and P holds of

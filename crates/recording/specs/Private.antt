@@ -16,14 +16,14 @@ use Rattle.channel.specs.Call.{memory, sound, roomy}
 use Rattle.channel_spec.specs.Answer.{answered}
 use Rattle.channel.specs.declared.receiver.Receiver.{Receiver}
 use Rattle.channel_spec.specs.declared.Answer.{Answer}
-use Rattle.channel.specs.declared.answer.Hearing.{Hearing}
+use Rattle.channel.specs.declared.answer.Hearing.{Hearing as ChannelHearing}
 use Rattle.listing_spec.specs.declared.Place.{Place}
 use Rattle.listing_spec.specs.declared.Place.the-variants.{Mode, Mark, Second, Low, High, Inside, Wrong}
 use Rattle.listing_spec.specs.declared.Spot.{Spot}
 use Rattle.listing_spec.specs.Apart.{most, next}
-use Rattle.recording.specs.declared.tape.Tape.{Tape}
-use Rattle.recording.specs.declared.tape.Heard.{Heard}
-use Rattle.recording.specs.declared.tape.Turn.{Turn}
+use Rattle.recording.specs.declared.reader.RecordingReader.{RecordingReader}
+use Rattle.recording.specs.declared.reader.Hearing.{Hearing}
+use Rattle.recording.specs.declared.reader.Turn.{Turn}
 use Rattle.recording.specs.Deck.{Ear, ear, earOwes, earHand, earEat, channelAt, Deck, deckHear}
 use Rattle.recording.specs.Call.{deckOf}
 
@@ -54,19 +54,19 @@ abbrev pub earHear : Ear → List ℕ → Option Event × ℕ × Ear
 earHear = hear earOwes earHand earEat
 
 -- r is its result, l and k the buffers then
-abbrev pub EarIs : Bool → Option Event × ℕ × Ear → Hearing → List ℕ → List ℕ → Type 0
+abbrev pub EarIs : Bool → Option Event × ℕ × Ear → ChannelHearing → List ℕ → List ℕ → Type 0
 EarIs t x r l k = (r .answer ≡ answered (x .0)) × (x ≡ (x .0, r .taken, ear t (memory (r .receiver) l k)))
 
 -- of a plain stream: whatever the word buffer holds, it stays
-abbrev pub PlainIs : Receiver → List ℕ → List ℕ → Hearing → List ℕ → Type 0
+abbrev pub PlainIs : Receiver → List ℕ → List ℕ → ChannelHearing → List ℕ → Type 0
 PlainIs s l bs r l′ = (k : List ℕ) → EarIs false (earHear (ear false (memory s l k)) bs) r l′ k
 
 -- behind a byte that is no stream byte
-abbrev pub headed : Tape → ℕ → Tape
+abbrev pub headed : RecordingReader → ℕ → RecordingReader
 headed t b = record { spot = next (t .spot) b; channel = channelAt (t .spot .place) b (t .channel); receiver = t .receiver }
 
 -- a call with this answer, so many bytes taken and this tape
-abbrev pub CallIs : Option Event × ℕ × Deck → Answer → ℕ → Tape → List ℕ → List ℕ → Type 0
+abbrev pub CallIs : Option Event × ℕ × Deck → Answer → ℕ → RecordingReader → List ℕ → List ℕ → Type 0
 CallIs x a n t l k = (a ≡ answered (x .0)) × (x ≡ (x .0, n, deckOf t l k))
 
 -- by: does the turn end the call. Else the call goes on behind it, a byte further at least
@@ -75,7 +75,7 @@ TurnBy true m bs t l k = CallIs (deckHear m bs) (t .answer) (t .taken) (t .tape)
 TurnBy false m bs t l k = (deckHear m bs ≡ after (t .taken) (deckHear (deckOf (t .tape) l k) (drop (t .taken) bs))) × (0 < t .taken)
 
 -- what stays within its limits behind n bytes
-pub record Stays (m : Deck) (bs : List ℕ) (n : ℕ) (t : Tape) (l k : List ℕ) : Type 0 where
+pub record Stays (m : Deck) (bs : List ℕ) (n : ℕ) (t : RecordingReader) (l k : List ℕ) : Type 0 where
   pub within : n ≤ length bs
   pub near : t .spot .offset ≤ m .spot .offset + n
   pub sound : sound (t .receiver) ≡ true
@@ -86,5 +86,5 @@ abbrev pub TurnIs : Deck → List ℕ → Turn → List ℕ → List ℕ → Typ
 TurnIs m bs t l k = TurnBy (t .done) m bs t l k × Stays m bs (t .taken) (t .tape) l k
 
 -- one call
-abbrev pub HeardIs : Deck → List ℕ → Heard → List ℕ → List ℕ → Type 0
+abbrev pub HeardIs : Deck → List ℕ → Hearing → List ℕ → List ℕ → Type 0
 HeardIs m bs r l k = CallIs (deckHear m bs) (r .answer) (r .taken) (r .tape) l k × Stays m bs (r .taken) (r .tape) l k

@@ -1,6 +1,6 @@
 //! A recording's bytes taken apart and heard: one answer a call, any cutting.
+mod reader;
 mod spot;
-mod tape;
 
-pub use tape::Heard;
-pub use tape::Tape;
+pub use reader::Hearing;
+pub use reader::RecordingReader;

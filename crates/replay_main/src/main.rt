@@ -4,7 +4,7 @@
 ghost use Prim.Native.Nat.{_≤_};
 use base::Refusal;
 use base::Written;
-use capture::Capture;
+use capture::CaptureReader;
 use capture::Ended;
 use libc::STDERR_FILENO;
 use libc::STDIN_FILENO;
@@ -28,7 +28,7 @@ struct Turn {
     // The capture is read further; else it was said why not.
     go: bool,
     taken: usize,
-    capture: Capture,
+    capture: CaptureReader,
     sent: Sent,
 }
 
@@ -52,9 +52,9 @@ fn main() {
 
 // Standard input, piece by piece as it comes, behind the first flag.
 fn replay(out: &mut [u8]) {
-    let mut store = [0u8; Capture::STORED];
+    let mut store = [0u8; CaptureReader::STORED];
     let mut piece = io::large_buffer();
-    let mut capture = Capture::fresh();
+    let mut capture = CaptureReader::fresh();
     let mut sent = Sent {
         packets: 0,
         bytes: 1,
@@ -82,7 +82,13 @@ fn replay(out: &mut [u8]) {
 }
 
 // A piece, until more is wanted.
-fn read(capture: Capture, sent: Sent, store: &mut [u8], piece: &[u8], out: &mut [u8]) -> Turn {
+fn read(
+    capture: CaptureReader,
+    sent: Sent,
+    store: &mut [u8],
+    piece: &[u8],
+    out: &mut [u8],
+) -> Turn {
     let mut turn = Turn {
         again: true,
         go: false,
@@ -113,7 +119,7 @@ fn onward(at: usize, n: usize, end: usize) -> usize
 }
 
 // One call, and the record of its packet.
-fn call(start: Capture, sent: Sent, store: &mut [u8], piece: &[u8], out: &mut [u8]) -> Turn {
+fn call(start: CaptureReader, sent: Sent, store: &mut [u8], piece: &[u8], out: &mut [u8]) -> Turn {
     let told = start.read(store, piece);
     let taken = told.taken;
     let capture = told.capture;
@@ -208,7 +214,7 @@ fn fits(sent: Sent) -> bool {
 }
 
 // The end of the capture.
-fn finish(capture: Capture, sent: Sent) {
+fn finish(capture: CaptureReader, sent: Sent) {
     match capture.finish() {
         Ended::Whole => {}
         Ended::Refused(n) => say_refused(n, sent.packets),

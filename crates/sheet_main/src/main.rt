@@ -11,7 +11,7 @@ use libc::STDOUT_FILENO;
 use lines::Line;
 use packet::Delivery;
 use packet::Judged;
-use recording::Tape;
+use recording::RecordingReader;
 use sheet::Counted;
 use sheet::Draft;
 use sheet::Sheet;
@@ -23,7 +23,7 @@ struct Turn {
     // The recording is heard further.
     go: bool,
     taken: usize,
-    tape: Tape,
+    tape: RecordingReader,
     draft: Draft,
 }
 
@@ -35,7 +35,7 @@ struct Passed {
 }
 
 // A recording heard: whether it could be read to its end, and whether it may end there.
-struct Heard {
+struct Finished {
     whole: bool,
     well: bool,
     draft: Draft,
@@ -100,11 +100,11 @@ fn counted(sheet: Sheet, i: usize) -> Sheet {
 }
 
 // A recording, piece by piece.
-fn hear_all(sheet: Sheet, fd: i32) -> Heard {
+fn hear_all(sheet: Sheet, fd: i32) -> Finished {
     let mut recv = [0u8; Receiver::RAW];
     let mut word = [0u8; Receiver::WORD];
     let mut piece = io::large_buffer();
-    let mut tape = Tape::fresh();
+    let mut tape = RecordingReader::fresh();
     let mut draft = sheet.begin();
     let mut reads = u64::MAX;
     while reads > 0 {
@@ -113,7 +113,7 @@ fn hear_all(sheet: Sheet, fd: i32) -> Heard {
             return unread(draft);
         }
         if got == 0 {
-            return Heard {
+            return Finished {
                 whole: true,
                 well: tape.may_end(),
                 draft,
@@ -132,8 +132,8 @@ fn hear_all(sheet: Sheet, fd: i32) -> Heard {
 }
 
 // It could not be read to its end.
-fn unread(draft: Draft) -> Heard {
-    Heard {
+fn unread(draft: Draft) -> Finished {
+    Finished {
         whole: false,
         well: false,
         draft,
@@ -141,7 +141,13 @@ fn unread(draft: Draft) -> Heard {
 }
 
 // A piece, until more is wanted.
-fn hear(tape: Tape, draft: Draft, recv: &mut [u8], word: &mut [u8], piece: &[u8]) -> Turn {
+fn hear(
+    tape: RecordingReader,
+    draft: Draft,
+    recv: &mut [u8],
+    word: &mut [u8],
+    piece: &[u8],
+) -> Turn {
     let mut turn = Turn {
         again: true,
         go: false,
@@ -163,7 +169,13 @@ fn hear(tape: Tape, draft: Draft, recv: &mut [u8], word: &mut [u8], piece: &[u8]
 }
 
 // One call, and its packet noted.
-fn call(start: Tape, draft: Draft, recv: &mut [u8], word: &mut [u8], piece: &[u8]) -> Turn
+fn call(
+    start: RecordingReader,
+    draft: Draft,
+    recv: &mut [u8],
+    word: &mut [u8],
+    piece: &[u8],
+) -> Turn
     ensures { λ t. ⌜ t .taken ≤ length (now (piece .entry)) ⌝ }
 {
     let heard = start.next(recv, word, piece);

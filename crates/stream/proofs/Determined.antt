@@ -4,12 +4,12 @@ use mathlib.Core.Path.{refl}
 use denote.Ref.{now}
 use Rattle.base.specs.Determined.{Determined, DeterminedAs}
 use Rattle.base.proofs.Determining.{same, same-answer, same-output, buffer, skip}
-use Rattle.stream.proofs.frame.Frame.fresh.Kinds as fresh-kinds
-use Rattle.stream.proofs.frame.Frame.fresh.Reads as fresh-reads
-use Rattle.stream.proofs.frame.Frame.sound.Kinds as sound-kinds
-use Rattle.stream.proofs.frame.Frame.sound.Reads as sound-reads
-use Rattle.stream.proofs.frame.Frame.read.Kinds as read-kinds
-use Rattle.stream.proofs.frame.Frame.read.Reads as read-reads
+use Rattle.stream.proofs.frame.FrameReader.fresh.Kinds as fresh-kinds
+use Rattle.stream.proofs.frame.FrameReader.fresh.Reads as fresh-reads
+use Rattle.stream.proofs.frame.FrameReader.sound.Kinds as sound-kinds
+use Rattle.stream.proofs.frame.FrameReader.sound.Reads as sound-reads
+use Rattle.stream.proofs.frame.FrameReader.read.Kinds as read-kinds
+use Rattle.stream.proofs.frame.FrameReader.read.Reads as read-reads
 use Rattle.stream.proofs.frame.payload.Kinds as payload-kinds
 use Rattle.stream.proofs.frame.payload.Reads as payload-reads
 use Rattle.stream.proofs.frame.key.Kinds as key-kinds

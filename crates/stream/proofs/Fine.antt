@@ -15,11 +15,11 @@ use Rattle.base.proofs.Tests.{and-parts}
 use Rattle.packet_spec.specs.Contents.{rawLimit}
 use Rattle.packet_spec.specs.Escape.{flag}
 use Rattle.packet_spec.proofs.Judging.{length-closed}
-use Rattle.stream.specs.declared.frame.Frame.{Frame}
+use Rattle.stream.specs.declared.frame.FrameReader.{FrameReader}
 use Rattle.stream.specs.Call.{Held, held, begun, placeLimit, lastRaw, store, shut, takeBy, takeByte, sound, Fine}
 use Rattle.stream.proofs.Places.{noticed-within}
 
-pub fine-of : (f : Frame) (l : List ℕ) → sound f ≡ true → rawLimit ≤ length l → Fine (held f l)
+pub fine-of : (f : FrameReader) (l : List ℕ) → sound f ≡ true → rawLimit ≤ length l → Fine (held f l)
 fine-of f l s h =
     let p = and-parts (eqb (f .stored) (min (f .raw) rawLimit)) (leb (f .raw) (suc rawLimit) && leb (f .place) placeLimit) s in
     let q = and-parts (leb (f .raw) (suc rawLimit)) (leb (f .place) placeLimit) (p .1) in
@@ -30,7 +30,7 @@ fine-is h f =
     rw (eq-eqb (h .st .stored) (min (h .st .raw) rawLimit) (f .stored), le-leb (h .st .raw) (suc rawLimit) (f .raw), le-leb (h .st .place) placeLimit (f .place)) refl
 
 -- the tests one after the other, as the code makes them
-module _ (f : Frame) where
+module _ (f : FrameReader) where
   pub sound-stored : f .stored ≢ min (f .raw) rawLimit → false ≡ sound f
   sound-stored n = sym (ap (λ (t : Bool). t && (leb (f .raw) (suc rawLimit) && leb (f .place) placeLimit)) (ne-eqb _ _ n))
 

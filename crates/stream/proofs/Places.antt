@@ -23,7 +23,7 @@ use Rattle.packet_spec.proofs.Escaping.{last-at}
 use Rattle.packet_spec.proofs.Places.{wrong-append, wrong-within}
 use Rattle.stream.specs.Call.{Held, noticed, lastRaw, placeLimit, Fine}
 use Rattle.stream.specs.Private.{countedBy, placed, looked, gatheredBy}
-use Rattle.stream.specs.declared.frame.Frame.{Frame}
+use Rattle.stream.specs.declared.frame.FrameReader.{FrameReader}
 
 -- ---- what is noticed
 module _ (place p at : ℕ) where
@@ -89,7 +89,7 @@ before-last (x ∷ xs) j =
     ∙ ap (λ (y : List ℕ). getD y (n - 1) 0) (take-append-seam (x ∷ xs) j) ∙ sym (last-at 0 (x ∷ xs) (omega arith))
 
 -- ---- the call that looks
-module _ (f : Frame) (l : List ℕ) (from : ℕ) where
+module _ (f : FrameReader) (l : List ℕ) (from : ℕ) where
   pub looked-kept : f .place ≢ 0 → f ≡ looked f l from
   looked-kept n = ap (placed f) (sym (noticed-kept (f .place) (byteBefore from (take (f .stored) l)) from (drop from (take (f .stored) l)) n))
 

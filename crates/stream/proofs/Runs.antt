@@ -21,7 +21,7 @@ use Rattle.base.proofs.UpTo.{up-to-over, up-to-short, up-to-is}
 use Rattle.base.proofs.Tests.{by-eq, by-le}
 use Rattle.packet_spec.specs.Contents.{rawLimit}
 use Rattle.packet_spec.specs.Escape.{flag, NoFlag}
-use Rattle.stream.specs.declared.frame.Frame.{Frame}
+use Rattle.stream.specs.declared.frame.FrameReader.{FrameReader}
 use Rattle.stream.specs.Private.{before, countedBy, counted, gatheredBy}
 
 -- ---- the bytes stored
@@ -32,8 +32,8 @@ stored l recv at {n} h e c =
     laid-copied {l = recv} {bs = before l} {at = at} (omega (arith, up-to-short flag l)) (c ∙ ap (λ (x : List ℕ). copied x (take (length recv - at) (drop at recv))) b) .holds
 
 -- ---- the counts
-pub counted-is : (f : Frame) (n : ℕ) {k s : ℕ} → f .opened ≡ true → f .raw ≤ suc rawLimit → k ≡ min n (suc rawLimit - f .raw) → s ≡ min (f .raw + k) rawLimit
-    → _≡_ {A = Frame} (record { opened = true; raw = f .raw + k; stored = s; place = f .place }) (counted f n)
+pub counted-is : (f : FrameReader) (n : ℕ) {k s : ℕ} → f .opened ≡ true → f .raw ≤ suc rawLimit → k ≡ min n (suc rawLimit - f .raw) → s ≡ min (f .raw + k) rawLimit
+    → _≡_ {A = FrameReader} (record { opened = true; raw = f .raw + k; stored = s; place = f .place }) (counted f n)
 counted-is f n {k} {s} o h e q =
     (λ i. record { opened = true; raw = raw i; stored = stored i; place = f .place }) ∙ ap (λ (b : Bool). countedBy b f n) (sym o)
   where
@@ -44,8 +44,8 @@ counted-is f n {k} {s} o h e q =
     stored = omega arith
 
 -- what is counted as stored has room
-pub counted-room : (f : Frame) (n : ℕ) {g : Frame} {room : ℕ} → g ≡ counted f n → f .stored ≡ min (f .raw) rawLimit → rawLimit ≤ room → g .stored ≤ room
-counted-room f n {g} {room} e s h = subst (λ (x : Frame). x .stored ≤ room) (sym e) (go (f .opened))
+pub counted-room : (f : FrameReader) (n : ℕ) {g : FrameReader} {room : ℕ} → g ≡ counted f n → f .stored ≡ min (f .raw) rawLimit → rawLimit ≤ room → g .stored ≤ room
+counted-room f n {g} {room} e s h = subst (λ (x : FrameReader). x .stored ≤ room) (sym e) (go (f .opened))
   where
     go : (o : Bool) → countedBy o f n .stored ≤ room
     go true = omega arith

@@ -25,7 +25,7 @@ use Rattle.packet_spec.specs.Frame.{Told, refusal, judged, Closed, closed, judg
 use Rattle.packet_spec.proofs.Judging.{judging-is}
 use Rattle.packet_spec.specs.declared.Judged.{Judged}
 use Rattle.packet_spec.specs.declared.Judged.the-variants.{Refused}
-use Rattle.stream.specs.declared.frame.Frame.{Frame}
+use Rattle.stream.specs.declared.frame.FrameReader.{FrameReader}
 use Rattle.stream.specs.declared.frame.Read.{Read}
 use Rattle.stream.specs.declared.frame.Turn.{Turn}
 use Rattle.stream.specs.declared.frame.Heard.the-variants.{More, Said}
@@ -155,7 +155,7 @@ fine-by true h f xs = record {
 }
 
 -- ---- a turn: n bytes before the first flag of l
-module _ (h : Held) (f : Fine h) (l : List ℕ) (some-bytes : 0 < length l) {n : ℕ} {g : Frame} {k : List ℕ}
+module _ (h : Held) (f : Fine h) (l : List ℕ) (some-bytes : 0 < length l) {n : ℕ} {g : FrameReader} {k : List ℕ}
     (en : n ≡ length (before l)) (eg : g ≡ counted (h .st) n) (ek : k ≡ gathered (h .st) (before l) (h .recv)) where
   is-counted : g ≡ counted (h .st) (length (before l))
   is-counted = eg ∙ ap (counted (h .st)) en
@@ -170,7 +170,7 @@ module _ (h : Held) (f : Fine h) (l : List ℕ) (some-bytes : 0 < length l) {n :
       ∙ (λ i. after (sym en i) (readOn (ran h (before l)) (drop (sym en i) l)))
 
   -- the state's place counts only where the piece ends here: a flag forgets it
-  pub turn-end : {g′ : Frame} → g′ ≡ looked g k (h .st .stored) → n ≡ length l → TurnIs h l (record { done = false; heard = More; taken = n; frame = g′ }) k
+  pub turn-end : {g′ : FrameReader} → g′ ≡ looked g k (h .st .stored) → n ≡ length l → TurnIs h l (record { done = false; heard = More; taken = n; frame = g′ }) k
   turn-end {g′} e′ e =
       let is : ran h (before l) ≡ held g′ k =
       sym (λ i. held ((e′ ∙ (λ j. looked (is-counted j) (ek j) (h .st .stored)) ∙ looked-is (h .st .opened) h f (before l)) i) (ek i)) in
@@ -188,13 +188,13 @@ module _ (h : Held) (f : Fine h) (l : List ℕ) (some-bytes : 0 < length l) {n :
     at-flag : drop n l ≡ flag ∷ drop (n + 1) l
     at-flag = ap (λ (m : ℕ). drop m l) en ∙ before-stop l (omega (arith, short)) ∙ ap (λ (m : ℕ). flag ∷ drop (m + 1) l) (sym en)
 
-    pub turn-answer : {j : Judged} {k′ : List ℕ} {g′ : Frame} → closes g ≡ true → g′ ≡ begun
+    pub turn-answer : {j : Judged} {k′ : List ℕ} {g′ : FrameReader} → closes g ≡ true → g′ ≡ begun
         → (j ≡ judged (judging k (g .raw) .told)) × (k′ ≡ judging k (g .raw) .recv)
         → TurnIs h l (record { done = true; heard = Said j; taken = n + 1; frame = g′ }) k′
     turn-answer {j} {k′} {g′} c eb e =
         let r = ran h (before l) in
-        let raw : r .st .raw ≡ g .raw = ap (λ (x : Frame). x .raw) (sym is-counted) in
-        let shuts : closes (r .st) ≡ true = ap (λ (x : Frame). closes x) (sym is-counted) ∙ c in
+        let raw : r .st .raw ≡ g .raw = ap (λ (x : FrameReader). x .raw) (sym is-counted) in
+        let shuts : closes (r .st) ≡ true = ap (λ (x : FrameReader). closes x) (sym is-counted) ∙ c in
         let is = judging-is k (g .raw) (subst (λ (m : ℕ). m ≤ suc rawLimit) raw (fine-turn .raw)) (subst (λ (x : List ℕ). rawLimit ≤ length x) (sym ek) (fine-turn .room)) in
         let ej = e .0 ∙ ap (λ (x : Closed). judged (x .told)) is in
         let er = e .1 ∙ ap (λ (x : Closed). x .recv) is in
@@ -208,21 +208,21 @@ module _ (h : Held) (f : Fine h) (l : List ℕ) (some-bytes : 0 < length l) {n :
           again = ap sound eb;
         }
 
-    pub turn-opens : {g′ : Frame} → closes g ≡ false → g′ ≡ begun → TurnIs h l (record { done = false; heard = More; taken = n + 1; frame = g′ }) k
+    pub turn-opens : {g′ : FrameReader} → closes g ≡ false → g′ ≡ begun → TurnIs h l (record { done = false; heard = More; taken = n + 1; frame = g′ }) k
     turn-opens {g′} c eb =
         record {
           means =
               behind ∙ ap (λ (x : List ℕ). after n (readOn (ran h (before l)) x)) at-flag
-              ∙ ap (after n) (flag-opens (ran h (before l)) (drop (n + 1) l) (ap (λ (x : Frame). closes x) (sym is-counted) ∙ c))
+              ∙ ap (after n) (flag-opens (ran h (before l)) (drop (n + 1) l) (ap (λ (x : FrameReader). closes x) (sym is-counted) ∙ c))
               ∙ ap (λ (x : List ℕ). after n (oneMore (readOn (held begun x) (drop (n + 1) l)))) (sym ek)
-              ∙ after-more n (readOn (held begun k) (drop (n + 1) l)) ∙ ap (λ (b : Frame). after (n + 1) (readOn (held b k) (drop (n + 1) l))) (sym eb);
+              ∙ after-more n (readOn (held begun k) (drop (n + 1) l)) ∙ ap (λ (b : FrameReader). after (n + 1) (readOn (held b k) (drop (n + 1) l))) (sym eb);
           some = omega arith;
           within = omega (arith, short);
           again = ap sound eb;
         }
 
 -- ---- the loop of a call: the call on the piece is the one on the bytes left, after those taken
-module _ (h₀ : Held) (piece : List ℕ) (f : Frame) (l : List ℕ) (at : ℕ) (e : readOn h₀ piece ≡ after at (readOn (held f l) (drop at piece))) where
+module _ (h₀ : Held) (piece : List ℕ) (f : FrameReader) (l : List ℕ) (at : ℕ) (e : readOn h₀ piece ≡ after at (readOn (held f l) (drop at piece))) where
   module _ (t : Turn) (l′ : List ℕ) (is : TurnIs (held f l) (drop at piece) t l′) where
     pub loop-answer : {r : Read} → t .done ≡ true → r ≡ record { heard = t .heard; taken = at + t .taken; frame = t .frame } → ReadIs (readOn h₀ piece) r l′
     loop-answer d er =

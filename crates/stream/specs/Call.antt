@@ -23,26 +23,26 @@ use Rattle.packet_spec.specs.Contents.{rawLimit}
 use Rattle.packet_spec.specs.Escape.{flag, wrongFrom, wrongAt, byteBefore}
 use Rattle.packet_spec.specs.Frame.{Told, refusal, judged, closed, There}
 use Rattle.stream.specs.Meaning.{Reading, waiting, inside}
-use Rattle.stream.specs.declared.frame.Frame.{Frame}
+use Rattle.stream.specs.declared.frame.FrameReader.{FrameReader}
 use Rattle.stream.specs.declared.frame.Read.{Read}
 use Rattle.stream.specs.declared.frame.Heard.{Heard}
 use Rattle.stream.specs.declared.frame.Heard.the-variants.{More, Said}
 
 -- state and receive buffer
 pub record Held : Type 0 where
-  pub st : Frame
+  pub st : FrameReader
   pub recv : List ℕ
 
 -- the two together
-abbrev pub held : Frame → List ℕ → Held
+abbrev pub held : FrameReader → List ℕ → Held
 held f recv = record { st = f; recv = recv }
 
 -- fresh: waiting for a flag, counts zero, no place remembered
-abbrev pub fresh : Frame
+abbrev pub fresh : FrameReader
 fresh = record { opened = false; raw = 0; stored = 0; place = 0 }
 
 -- behind a flag: counts zero, no place remembered
-abbrev pub begun : Frame
+abbrev pub begun : FrameReader
 begun = record { opened = true; raw = 0; stored = 0; place = 0 }
 
 -- the place of the last raw byte that is stored
@@ -89,7 +89,7 @@ abbrev pub readOn : Held → List ℕ → Option Told × ℕ × Held
 readOn = hear owesNone handsNone takeByte
 
 -- 10: stored bytes other than the raw count or 8,272, whichever is less; raw count above 8,273; remembered place above 8,271
-abbrev pub sound : Frame → Bool
+abbrev pub sound : FrameReader → Bool
 sound f = eqb (f .stored) (min (f .raw) rawLimit) && (leb (f .raw) (suc rawLimit) && leb (f .place) placeLimit)
 
 -- state and buffer pass 10 and 11
@@ -133,7 +133,7 @@ abbrev pub ReadIs : Option Told × ℕ × Held → Read → List ℕ → Type 0
 ReadIs x r l = (r ≡ readOf x) × (l ≡ x .2 .recv)
 
 -- the state's numbers, and the bytes in use: as many as the count says, from the start
-abbrev pub inUse : Held → Frame × List ℕ
+abbrev pub inUse : Held → FrameReader × List ℕ
 inUse h = (h .st, take (h .st .stored) (h .recv))
 
 -- the raw bytes of the reader without a limit stand at the start of the buffer, up to 8,272 of them, and the place is theirs; behind them

@@ -16,7 +16,7 @@ use Rattle.base.specs.Calls.{after}
 use Rattle.packet_spec.specs.Contents.{rawLimit}
 use Rattle.packet_spec.specs.Escape.{flag, byteBefore}
 use Rattle.stream.specs.Call.{Held, held, noticed, readOn, sound, ReadIs}
-use Rattle.stream.specs.declared.frame.Frame.{Frame}
+use Rattle.stream.specs.declared.frame.FrameReader.{FrameReader}
 use Rattle.stream.specs.declared.frame.Turn.{Turn}
 
 -- the bytes before the first flag, all where there is none
@@ -24,20 +24,20 @@ abbrev pub before : List ℕ → List ℕ
 before bs = upTo flag bs
 
 -- the raw count stops at 8,273; by: is a frame open
-abbrev pub countedBy : Bool → Frame → ℕ → Frame
+abbrev pub countedBy : Bool → FrameReader → ℕ → FrameReader
 countedBy false f n = f
 countedBy true f n = record { opened = true; raw = min (f .raw + n) (suc rawLimit); stored = min (f .raw + n) rawLimit; place = f .place }
 
 -- the state's counts after n raw bytes more
-abbrev pub counted : Frame → ℕ → Frame
+abbrev pub counted : FrameReader → ℕ → FrameReader
 counted f n = countedBy (f .opened) f n
 
 -- .. with another place
-abbrev pub placed : Frame → ℕ → Frame
+abbrev pub placed : FrameReader → ℕ → FrameReader
 placed f place = record { opened = f .opened; raw = f .raw; stored = f .stored; place = place }
 
 -- the stored bytes from a place on are looked at
-abbrev pub looked : Frame → List ℕ → ℕ → Frame
+abbrev pub looked : FrameReader → List ℕ → ℕ → FrameReader
 looked f recv from = placed f (noticed (f .place) (byteBefore from (take (f .stored) recv)) from (drop from (take (f .stored) recv)))
 
 -- as many as the limit leaves are stored; by: is a frame open
@@ -46,11 +46,11 @@ gatheredBy false raw run recv = recv
 gatheredBy true raw run recv = sets recv (min raw rawLimit) (take (rawLimit - min raw rawLimit) run)
 
 -- the receive buffer after the bytes of a run
-abbrev pub gathered : Frame → List ℕ → List ℕ → List ℕ
+abbrev pub gathered : FrameReader → List ℕ → List ℕ → List ℕ
 gathered f run recv = gatheredBy (f .opened) (f .raw) run recv
 
 -- whether a flag closes a frame here
-abbrev pub closes : Frame → Bool
+abbrev pub closes : FrameReader → Bool
 closes f = f .opened && not (eqb (f .raw) 0)
 
 -- the answer of a call, or where the call goes on

@@ -14,7 +14,7 @@ use packet::Judged;
 use packet::Packet;
 
 /// The reader's state.
-pub struct Frame {
+pub struct FrameReader {
     /// A flag was seen.
     pub opened: bool,
     /// Raw bytes behind it; one more than the limit means "over".
@@ -38,7 +38,7 @@ pub struct Read {
     pub heard: Heard,
     /// Bytes of the piece taken.
     pub taken: usize,
-    pub frame: Frame,
+    pub frame: FrameReader,
 }
 
 // What a run of bytes and the flag behind it give.
@@ -48,7 +48,7 @@ struct Turn {
     heard: Heard,
     // Bytes taken.
     taken: usize,
-    frame: Frame,
+    frame: FrameReader,
 }
 
 // Stores the bytes before the first flag from `at` on; how many.
@@ -56,12 +56,12 @@ fn store(recv: &mut [u8], at: usize, bytes: &[u8]) -> usize
     requires { ⌜ at + length (now bytes) ≤ length (now recv) ⌝ }
     ensures { λ r. ⌜ (r ≡ length (before (now (bytes .entry)))) × (now (recv .exit) ≡ sets (now (recv .entry)) at (before (now (bytes .entry)))) ⌝ }
 {
-    let n = packet::up_to(bytes, Frame::FLAG);
+    let n = packet::up_to(bytes, FrameReader::FLAG);
     base::copy(&bytes[0..n], &mut recv[at..]);
     n
 }
 
-impl Frame {
+impl FrameReader {
     /// The flag, which stands between frames.
     pub const FLAG: u8 = Packet::FLAG;
 
@@ -78,7 +78,7 @@ impl Frame {
     pub fn fresh() -> Self
         ensures { λ r. ⌜ r ≡ fresh ⌝ }
     {
-        Frame {
+        FrameReader {
             opened: false,
             raw: 0,
             stored: 0,
@@ -90,7 +90,7 @@ impl Frame {
     fn begun() -> Self
         ensures { λ r. ⌜ r ≡ begun ⌝ }
     {
-        Frame {
+        FrameReader {
             opened: true,
             raw: 0,
             stored: 0,
@@ -102,13 +102,13 @@ impl Frame {
     pub fn sound(self) -> bool
         ensures { λ r. ⌜ r ≡ sound self ⌝ }
     {
-        if self.stored != base::least(self.raw, Frame::RAW) {
+        if self.stored != base::least(self.raw, FrameReader::RAW) {
             return false;
         }
-        if Frame::OVER < self.raw {
+        if FrameReader::OVER < self.raw {
             return false;
         }
-        self.place <= Frame::PLACE
+        self.place <= FrameReader::PLACE
     }
 
     // Counted after n raw bytes more.
@@ -117,11 +117,11 @@ impl Frame {
         ensures { λ r. ⌜ r ≡ counted self n ⌝ }
     {
         if self.opened {
-            let raw = self.raw + base::least(n, Frame::OVER - self.raw);
-            return Frame {
+            let raw = self.raw + base::least(n, FrameReader::OVER - self.raw);
+            return FrameReader {
                 opened: true,
                 raw,
-                stored: base::least(raw, Frame::RAW),
+                stored: base::least(raw, FrameReader::RAW),
                 place: self.place,
             };
         }
@@ -137,7 +137,7 @@ impl Frame {
             return self;
         }
         let n = self.stored;
-        Frame {
+        FrameReader {
             opened: self.opened,
             raw: self.raw,
             stored: n,
@@ -151,15 +151,15 @@ impl Frame {
         ensures { λ r. ⌜ (r ≡ length (before (now (bytes .entry)))) × (now (recv .exit) ≡ gathered self (before (now (bytes .entry))) (now (recv .entry))) ⌝ }
     {
         if self.opened {
-            let at = base::least(self.raw, Frame::RAW);
-            let n = base::least(Frame::RAW - at, bytes.len());
+            let at = base::least(self.raw, FrameReader::RAW);
+            let n = base::least(FrameReader::RAW - at, bytes.len());
             let k = store(recv, at, &bytes[0..n]);
             if k < n {
                 return k;
             }
-            return n + packet::up_to(&bytes[n..], Frame::FLAG);
+            return n + packet::up_to(&bytes[n..], FrameReader::FLAG);
         }
-        packet::up_to(bytes, Frame::FLAG)
+        packet::up_to(bytes, FrameReader::FLAG)
     }
 
     // Whether a flag closes a frame here.
@@ -193,14 +193,14 @@ impl Frame {
                 done: true,
                 heard: Heard::Said(j),
                 taken: n + 1,
-                frame: Frame::begun(),
+                frame: FrameReader::begun(),
             };
         }
         Turn {
             done: false,
             heard: Heard::More,
             taken: n + 1,
-            frame: Frame::begun(),
+            frame: FrameReader::begun(),
         }
     }
 
@@ -243,7 +243,7 @@ impl Frame {
                 frame: self,
             };
         }
-        if recv.len() < Frame::RAW {
+        if recv.len() < FrameReader::RAW {
             return Read {
                 heard: Heard::Said(Judged::Refused(Refusal::BUFFER)),
                 taken: 0,

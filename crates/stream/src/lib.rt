@@ -2,7 +2,7 @@
 mod frame;
 mod sender;
 
-pub use frame::Frame;
+pub use frame::FrameReader;
 pub use frame::Heard;
 pub use frame::Read;
 pub use frame::key;

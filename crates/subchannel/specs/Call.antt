@@ -22,7 +22,7 @@ use Rattle.base.specs.Choice.{pick}
 use Rattle.packet_spec.specs.Contents.{rawLimit}
 use Rattle.packet_spec.specs.Frame.{Told, refusal, There}
 use Rattle.parity.specs.Calls.{rootLimit}
-use Rattle.stream.specs.declared.frame.Frame.{Frame}
+use Rattle.stream.specs.declared.frame.FrameReader.{FrameReader}
 use Rattle.stream.specs.Call.{Held, held, fresh, takeByte, heldOf, sound as soundFrame, Fine as FineFrame}
 use Rattle.interleaver_spec.specs.Running.{depthLimit, freshBack, pull, beyond}
 use Rattle.interleaver_spec.specs.declared.Back.{Back}
@@ -54,7 +54,7 @@ memory s recv word = record { st = s; recv = recv; word = word }
 abbrev pub sub : Lane → Back → Sub
 sub s k = record { lane = s; back = k }
 
-abbrev pub lane : Settings → Bool → Bool → Hunting → Counts → Frame → Lane
+abbrev pub lane : Settings → Bool → Bool → Hunting → Counts → FrameReader → Lane
 lane s l o f n h = record { settings = s; locked = l; lost = o; hunting = f; counts = n; frame = h }
 
 -- bytes of the group, of the next marker; bytes in the word buffer, message bytes of it handed on
@@ -160,7 +160,7 @@ abbrev pub owed : Memory → ℕ
 owed c = owes (c .st .lane)
 
 -- n message bytes handed on, and the frame reader behind them
-abbrev pub handing : Lane → ℕ → Frame → Lane
+abbrev pub handing : Lane → ℕ → FrameReader → Lane
 handing s n h = lane (s .settings) (s .locked) (s .lost) (s .hunting) (counts (s .counts .group) (s .counts .marker) (s .counts .word) n) h
 
 -- .. in memory

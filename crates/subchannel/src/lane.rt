@@ -29,7 +29,7 @@ use crate::sub::Sub;
 use crate::word;
 use channel::Answer;
 use channel::Hunting;
-use stream::Frame;
+use stream::FrameReader;
 use stream::Heard;
 use subchannel_spec::Settings;
 
@@ -41,7 +41,7 @@ pub struct Lane {
     pub lost: bool,
     pub hunting: Hunting,
     pub counts: Counts,
-    pub frame: Frame,
+    pub frame: FrameReader,
 }
 
 // What a step gives that does not touch the cells.
@@ -128,7 +128,7 @@ impl Lane {
             lost: true,
             hunting,
             counts: Counts::zero(),
-            frame: Frame::fresh(),
+            frame: FrameReader::fresh(),
         }
     }
 
@@ -330,7 +330,7 @@ impl Lane {
     }
 
     // So many message bytes handed on, and the frame reader behind them.
-    fn handing(self, handed: usize, frame: Frame) -> Self
+    fn handing(self, handed: usize, frame: FrameReader) -> Self
         ensures { λ r. ⌜ r ≡ handing self handed frame ⌝ }
     {
         let settings = self.settings;

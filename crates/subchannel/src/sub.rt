@@ -16,7 +16,7 @@ use channel::Receiver;
 use interleaver::Back;
 use interleaver::Matrix;
 use packet::Judged;
-use stream::Frame;
+use stream::FrameReader;
 use subchannel_spec::Settings;
 
 /// The state of one sub-channel.
@@ -70,7 +70,7 @@ impl Sub {
                     d: 0,
                 },
                 counts: Counts::zero(),
-                frame: Frame::fresh(),
+                frame: FrameReader::fresh(),
             },
             back: interleaver::fresh_back(),
         }

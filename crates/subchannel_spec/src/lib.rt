@@ -14,7 +14,7 @@ pub struct Settings {
 
 /// What configuring answers.
 pub enum Configured {
-    Told,
+    Done,
     /// The call is refused, by this number of the paper.
     Refused(u8),
 }

@@ -98,13 +98,13 @@ table-low l fit =
     (λ _ _. (omega arith, omega arith)) (λ _ _. (omega arith, omega arith)) (λ _ _ _. (omega arith, omega arith))
 
 -- what is heard so far, and what is left
-pub record Heard (l : ℕ) (u : List ℕ) (n at v k : ℕ) : Type 0 where
+pub record SoFar (l : ℕ) (u : List ℕ) (n at v k : ℕ) : Type 0 where
   some : k ≤ n
   small : v < 2 ^ k
   near : at ≤ 146176 * (k + 1)
   left : number v (heard 0 (step l - 1) (n - k) (drop at (bits u))) ≡ headerOf l u
 
-pub hear-none : (l : ℕ) (u : List ℕ) {n at : ℕ} → unfit l ≡ false → n ≡ heads l → at ≡ start l → Heard l u n at 0 0
+pub hear-none : (l : ℕ) (u : List ℕ) {n at : ℕ} → unfit l ≡ false → n ≡ heads l → at ≡ start l → SoFar l u n at 0 0
 unfolding headerOf
 hear-none l u {n} {at} fit en ea = record {
   some = omega arith;
@@ -118,14 +118,14 @@ hear-none l u {n} {at} fit en ea = record {
 pow-low : (k : ℕ) → k < 24 → 2 ^ k ≤ 8388608
 pow-low k h = pow-le-pow-right {n = 2} (omega arith) {i = k} {j = 23} (omega arith)
 
-module _ (l : ℕ) (u : List ℕ) {n at v k : ℕ} (fit : unfit l ≡ false) (en : n ≡ heads l) (w : Heard l u n at v k) (h : k < n) where
+module _ (l : ℕ) (u : List ℕ) {n at v k : ℕ} (fit : unfit l ≡ false) (en : n ≡ heads l) (w : SoFar l u n at v k) (h : k < n) where
   pub low : v < 8388608
   low = omega (arith, w .small, pow-low k (omega (arith, few l .1)))
 
   pub at-low : at ≤ 3654400
   at-low = omega (arith, w .near, few l .1)
 
-  pub hear-more : {s b v′ : ℕ} → s ≡ step l → b ≡ getD (bits u) at 0 → b < 2 → v′ ≡ v * 2 + b → Heard l u n (at + s) v′ (k + 1)
+  pub hear-more : {s b v′ : ℕ} → s ≡ step l → b ≡ getD (bits u) at 0 → b < 2 → v′ ≡ v * 2 + b → SoFar l u n (at + s) v′ (k + 1)
   unfolding number
   hear-more {s} {b} {v′} es eb hb ev =
       let p : 2 ^ (k + 1) ≡ 2 * 2 ^ k = ap (λ (x : ℕ). 2 ^ x) (add-one k) ∙ pow-succ' 2 k in
@@ -140,7 +140,7 @@ module _ (l : ℕ) (u : List ℕ) {n at v k : ℕ} (fit : unfit l ≡ false) (en
             ∙ sym (ap (number v) (ap (λ (x : ℕ). heard 0 (step l - 1) x (drop at (bits u))) m ∙ heard-next at (step l - 1) (n - (k + 1)) (bits u))) ∙ w .left;
       }
 
-pub hear-done : (l : ℕ) (u : List ℕ) {n at v k : ℕ} → Heard l u n at v k → n ≤ k → v ≡ headerOf l u
+pub hear-done : (l : ℕ) (u : List ℕ) {n at v k : ℕ} → SoFar l u n at v k → n ≤ k → v ≡ headerOf l u
 unfolding number heard
 hear-done l u {n} {at} {v} {k} w h =
     let m : n - k ≡ 0 = omega arith in

@@ -14,8 +14,8 @@ struct Got {
     n: usize,
 }
 
-// Whether a word is a number, and which.
-struct Told {
+// Whether an argument is a number, and which.
+struct Parsed {
     well: bool,
     value: usize,
 }
@@ -231,7 +231,7 @@ fn settings() -> Asked {
 }
 
 // .. the delimiter in ten hexadecimal digits.
-fn settings_by(length: Told, text: &[u8]) -> Asked {
+fn settings_by(length: Parsed, text: &[u8]) -> Asked {
     if text.len() != 10 || !are_digits(text) {
         return Asked {
             well: false,
@@ -284,19 +284,19 @@ fn byte(high: u8, low: u8) -> u8 {
 }
 
 // The number that an argument says, in decimal digits.
-fn number(i: usize) -> Told {
+fn number(i: usize) -> Parsed {
     let mut text = io::buffer();
     let n = os::arg(i, &mut text);
     value(&text[..n])
 }
 
-fn value(text: &[u8]) -> Told {
+fn value(text: &[u8]) -> Parsed {
     let mut v: usize = 0;
     let mut i: usize = 0;
     while i < text.len() {
         let d = digit(text[i]);
         if d > 9 {
-            return Told {
+            return Parsed {
                 well: false,
                 value: 0,
             };
@@ -304,7 +304,7 @@ fn value(text: &[u8]) -> Told {
         v = with_digit(v, d);
         i += 1;
     }
-    Told {
+    Parsed {
         well: text.len() > 0,
         value: v,
     }

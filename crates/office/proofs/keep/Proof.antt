@@ -1,7 +1,7 @@
 -- `office::keep` meets its contract.
 use native.Mathlib.Omega.{arith}
 use borrow.Author.Needs.{needs}
-use Rattle.office.proofs.Hearing.{keep-is}
+use Rattle.office.proofs.Taking.{keep-is}
 use Rattle.office.proofs.keep.Statement.{statement}
 use Rattle.office.proofs.keep.Tie as tie
 

@@ -2,7 +2,7 @@
 use borrow.Author.Needs.{needs}
 use lib.ListN.{length}
 use Rattle.office.specs.Meaning.{desk}
-use Rattle.office.proofs.Hearing.{close-as, none-begun, one-begun}
+use Rattle.office.proofs.Taking.{close-as, none-begun, one-begun}
 use Rattle.office.proofs.Office.close.Statement.{statement}
 use Rattle.office.proofs.Office.close.Tie as tie
 

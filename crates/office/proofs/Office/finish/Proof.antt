@@ -4,7 +4,7 @@ use native.Mathlib.Omega.{arith}
 use mathlib.Core.Path.{sym, _∙_}
 use borrow.Author.Needs.{needs}
 use borrow.Author.Tests.{not-true, not-false}
-use Rattle.office.proofs.Hearing.{sound-held, finish-unsound, finish-cramped, finish-on}
+use Rattle.office.proofs.Taking.{sound-held, finish-unsound, finish-cramped, finish-on}
 use Rattle.office.proofs.Office.finish.Statement.{statement}
 use Rattle.office.proofs.Office.finish.Tie as tie
 

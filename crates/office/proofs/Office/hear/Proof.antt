@@ -4,7 +4,7 @@ use borrow.Author.Needs.{needs}
 use borrow.Author.Tests.{not-true, not-false}
 use lib.ListN.{length}
 use Rattle.office.specs.Meaning.{desk}
-use Rattle.office.proofs.Hearing.{call-unsound, call-cramped, call-short, called-on}
+use Rattle.office.proofs.Taking.{call-unsound, call-cramped, call-short, called-on}
 use Rattle.office.proofs.Office.hear.Statement.{statement}
 use Rattle.office.proofs.Office.hear.Tie as tie
 

@@ -1,6 +1,6 @@
 -- `office::Office::hear_on` meets its contract: a line feed is found, or none.
 use borrow.Author.Needs.{needs}
-use Rattle.office.proofs.Hearing.{stored-fits, heard-more, heard-line, sound-stored, sound-held, roomy-line, roomy-hold}
+use Rattle.office.proofs.Taking.{stored-fits, heard-more, heard-line, sound-stored, sound-held, roomy-line, roomy-hold}
 use Rattle.office.proofs.Office.hear_on.Statement.{statement}
 use Rattle.office.proofs.Office.hear_on.Tie as tie
 

@@ -1,7 +1,7 @@
 -- `office::Office::start` meets its contract: refused with 11, or one flag is held.
 use native.Mathlib.Omega.{arith}
 use borrow.Author.Needs.{needs}
-use Rattle.office.proofs.Hearing.{start-short, start-copied}
+use Rattle.office.proofs.Taking.{start-short, start-copied}
 use Rattle.office.proofs.Office.start.Statement.{statement}
 use Rattle.office.proofs.Office.start.Tie as tie
 

@@ -2,12 +2,12 @@
 use Prim.Native.Nat.{_-_}
 use native.Mathlib.Omega.{arith}
 use borrow.Author.Needs.{needs}
-use Rattle.unit.proofs.Hearing.{Heard, hear-none, low, at-low, table-low, hear-more, hear-done}
+use Rattle.unit.proofs.Hearing.{SoFar, hear-none, low, at-low, table-low, hear-more, hear-done}
 use Rattle.unit.proofs.reader.header.Statement.{statement}
 use Rattle.unit.proofs.reader.header.Tie as tie
 
 abbrev Inv-loop : tie.InvT-loop
-Inv-loop size unit n step at₀ v₀ k₀ at v k = Heard size unit n at v k
+Inv-loop size unit n step at₀ v₀ k₀ at v k = SoFar size unit n at v k
 
 abbrev μ-loop : tie.MeasureT-loop
 μ-loop size unit n step at₀ v₀ k₀ at v k = n - k

@@ -1,0 +1,28 @@
+-- `listing::lister::Lister::take` meets its contract: refused with 10, with 11, or let on.
+use borrow.Author.Needs.{needs}
+use Rattle.listing.proofs.Taking.{take-unsound, take-far, take-cramped, take-on}
+use borrow.Author.Tests.{not-true, not-false}
+use mathlib.Core.Path.{sym, _∙_}
+use Rattle.listing.proofs.lister.Lister.take.Statement.{statement}
+use Rattle.listing.proofs.lister.Lister.take.Tie as tie
+
+pub take-spec : {M : Type 1} → statement M
+take-spec =
+    tie.close
+    (tie.spec
+    (search needs)
+    (search needs)
+    (λ c. let s = c .before .before .before .before .before .before .before .before .before in take-unsound (s .args .self) (s .args .recv .now) (s .args .word .now) (s .args .piece .now) (s .args .out .now) (sym (c .before .before .sound .ensures) ∙ not-true _ (c .before .if1 .taken)) (c .refused .ensures))
+    (search needs)
+    (search needs)
+    (λ c. let s = c .before .before .before .before .before .before .before .before .before .before .before in take-far (s .args .self) (s .args .recv .now) (s .args .word .now) (s .args .piece .now) (s .args .out .now) (sym (c .before .before .before .before .sound .ensures) ∙ not-false _ (c .before .before .before .if1 .left)) (sym (c .before .before .near .ensures) ∙ not-true _ (c .before .if2 .taken)) (c .refused2 .ensures))
+    (search needs)
+    (search needs)
+    (λ c. search needs)
+    (λ c. search needs)
+    (λ c. let s = c .before .before .before .before .before .before .before .before .before .before .before .before .before .before .before in take-cramped (s .args .self) (s .args .recv .now) (s .args .word .now) (s .args .piece .now) (s .args .out .now) (sym (c .before .before .before .before .before .before .before .before .sound .ensures) ∙ not-false _ (c .before .before .before .before .before .before .before .if1 .left)) (sym (c .before .before .before .before .before .before .near .ensures) ∙ not-false _ (c .before .before .before .before .before .if2 .left)) (sym (c .before .before .has-room .ensures) ∙ not-true _ (c .before .if3 .taken)) (c .refused3 .ensures))
+    (λ c κs. ((sym (c .before .before .before .before .before .before .before .before .before .before .sound .ensures) ∙ not-false _ (c .before .before .before .before .before .before .before .before .before .if1 .left)), (sym (c .before .before .before .before .has-room .ensures) ∙ not-false _ (c .before .before .before .if3 .left)), (sym (c .before .before .before .before .before .before .before .before .near .ensures) ∙ not-false _ (c .before .before .before .before .before .before .before .if2 .left))))
+    (λ c. search needs)
+    (λ c. search needs)
+    (λ c. search needs)
+    (λ c. let s = c .before .before .before .before .before .before .before .before .before .before .before .before .before .before .before .before .before .before .before .before .before .before .before .before in take-on (s .args .self) (s .args .recv .now) (s .args .word .now) (s .args .piece .now) (s .args .out .now) (sym (c .before .before .before .before .before .before .before .before .before .before .before .before .before .before .before .before .before .sound .ensures) ∙ not-false _ (c .before .before .before .before .before .before .before .before .before .before .before .before .before .before .before .before .if1 .left)) (sym (c .before .before .before .before .before .before .before .before .before .before .before .before .before .before .before .near .ensures) ∙ not-false _ (c .before .before .before .before .before .before .before .before .before .before .before .before .before .before .if2 .left)) (sym (c .before .before .before .before .before .before .before .before .before .before .before .has-room .ensures) ∙ not-false _ (c .before .before .before .before .before .before .before .before .before .before .if3 .left)) (c .before .before .before .before .before .before .take-on .ensures)))
