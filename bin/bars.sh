@@ -1,7 +1,7 @@
 #!/bin/sh
 # bin/bars.sh <LINES >PICTURE: the lines of bin/sheet on standard input as a picture (SVG) on standard output: the loss of each port as a bar. bin/sheet
 # --plot calls it.
-# Status: 0 drawn; 1 the picture could not be written; 2 wrong words.
+# Status: 0 drawn; 1 the picture could not be written; 2 usage error.
 # Example: bin/sheet samples/morning.rec | bin/bars.sh >target/sheet.svg
 set -eu
 . "$(dirname "$(readlink -f "$0")")/help.sh"

@@ -7,7 +7,7 @@ top=${script%/*/*}
 called=${script#"$top/"}
 unset CDPATH
 
-# usage [WHAT]: says what is wrong with the words, and how the script is called, by the lines of its head that begin with its name.
+# usage [WHAT]: says what is wrong with the arguments, and how the script is called, by the lines of its head that begin with its name.
 usage() {
     {
         [ $# -eq 0 ] || printf '%s\n' "$0: $1"
@@ -17,11 +17,11 @@ usage() {
     exit 2
 }
 
-# numbers MOST WORDS..: each of the words is a number, and there are no more than so many.
+# numbers MOST ARGUMENTS..: each of the arguments is a number, and there are no more than so many.
 numbers() {
-    [ $# -le $(($1 + 1)) ] || usage "too many words"
+    [ $# -le $(($1 + 1)) ] || usage "too many arguments"
     shift
-    for word; do case $word in '' | *[!0-9]*) usage "no number: $word" ;; esac; done
+    for argument; do case $argument in '' | *[!0-9]*) usage "no number: $argument" ;; esac; done
 }
 
 # at_end COMMANDS: runs them where this shell ends, by a signal too, of which it then dies: not every sh does so by itself.

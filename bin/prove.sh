@@ -49,7 +49,7 @@ far() {
     done
 }
 
-# start FILE WORDS..: a program compiled for x86-64 takes this shell's place, by the toolchain's C library; on another processor its emulator runs
+# start FILE ARGUMENTS..: a program compiled for x86-64 takes this shell's place, by the toolchain's C library; on another processor its emulator runs
 # it. With STACK_KIB=n on a stack of n KiB.
 start() {
     rt=$(command -v rt)
@@ -96,7 +96,7 @@ from_file() {
     command exec <"$1" || exit 1
 }
 
-# heed PROGRAM WORDS..: runs it, proved. A proved program cannot set its exit status: where it says something on standard error, the status
+# heed PROGRAM ARGUMENTS..: runs it, proved. A proved program cannot set its exit status: where it says something on standard error, the status
 # is 1. What it says is passed on as it comes. A signal that ends this shell ends the program: it would read on, and take what its successor waits for.
 heed() {
     program='' talk='' ended=0
@@ -130,20 +130,20 @@ pass_on() {
     return "$said"
 }
 
-# heed_each PROGRAM WORDS.. -- FILE..: the same of each file, or of standard input where none is named; the status is 1 where one of them failed.
+# heed_each PROGRAM ARGUMENTS.. -- FILE..: the same of each file, or of standard input where none is named; the status is 1 where one of them failed.
 heed_each() {
-    worst=0 words=''
+    worst=0 arguments=''
     while [ "$1" != -- ]; do
-        words="$words $1"
+        arguments="$arguments $1"
         shift
     done
     shift
     # shellcheck disable=SC2086
     if [ $# -eq 0 ]; then
-        heed $words || worst=$?
+        heed $arguments || worst=$?
     else
         for file; do
-            { heed $words || worst=$?; } <"$file" || worst=1
+            { heed $arguments || worst=$?; } <"$file" || worst=1
         done
     fi
     return "$worst"

@@ -1,7 +1,7 @@
 //! The second program: the paper's sender and receiver once more, in Rust, written from the paper and not from the proved
 //! code, so that the two can be held against each other.
 //!
-//!   second bids WORDS..      the office's sender, and a day of it (bids.rs)
+//!   second bids ARGUMENTS..  the office's sender, and a day of it (bids.rs)
 //!   second board [--recording|--stream] [--blocks]
 //!                            what the manager reads of standard input: of a bare opportunistic stream, or of a recording (board.rs)
 //!   second boards DIR [SEED] streams and recordings for the board, into a folder (board_cases.rs)
@@ -27,7 +27,7 @@
 //!                            standard input through the interleaver, with the closing push, or back
 //!   second list              the listing of the recording on standard input
 //!   second missed            which bids were missed in the recording on standard input (ports.rs)
-//!   second noise WORDS..     a day of bids, altered on its way, and what boards show of it; a soak (noise.rs, soak.rs)
+//!   second noise ARGUMENTS.. a day of bids, altered on its way, and what boards show of it; a soak (noise.rs, soak.rs)
 //!   second numbered FILE [SEED]
 //!                            a recording with distances of every kind between sequence numbers
 //!   second sheet FILE..      the monthly reception sheet of recordings (sheet.rs)
@@ -44,7 +44,7 @@
 //!   second steady plain|marked MIB
 //!                            a clean recording to be timed, to standard output
 //!   second samples DIR       the recordings of samples/ with their listings
-//!   second unit WORDS..      Layer 2 units, written and read (units.rs)
+//!   second unit ARGUMENTS..  Layer 2 units, written and read (units.rs)
 //!   second cases calls|interleaver|stream|channel|listing|board|four|unit|capture [SEED]
 //!                            cases for the proved code, to standard output: single calls, the interleaver, streams and channels in pieces,
 //!                            recordings, boards with any room for their text, fixed sub-channels, Layer 2 units, or captures
@@ -148,17 +148,17 @@ fn main() {
         _ => None,
     };
     if done.is_none() {
-        eprintln!("usage: second bids WORDS.. | fcs HEX | parity R HEX | word R HEX | repair R HEX | interleave push|pull DEPTH | list | missed | kinds FILE..");
+        eprintln!("usage: second bids ARGUMENTS.. | fcs HEX | parity R HEX | word R HEX | repair R HEX | interleave push|pull DEPTH | list | missed | kinds FILE..");
         eprintln!("  | fixed send|list R DEPTH | fixed steady R DEPTH PAYLOAD MIB | fixed streams DIR [SEED] | board [--recording|--stream] [--blocks] | boards DIR [SEED] | feed FIFO TEXT STREAM");
         eprintln!("  | capture | replay | captures DIR [SEED] | viewed");
         eprintln!("  | recordings DIR [SEED] | steady plain|marked MIB | samples DIR | cases calls|interleaver|stream|channel|listing|board|four|unit|capture [SEED]");
-        eprintln!("  | compare CASES ANSWERS .. | test [SEED] | words R PLACES N | time N M | noise WORDS.. | numbered FILE [SEED] | ports CASES ANSWERS [SEED] | unit WORDS..");
+        eprintln!("  | compare CASES ANSWERS .. | test [SEED] | words R PLACES N | time N M | noise ARGUMENTS.. | numbered FILE [SEED] | ports CASES ANSWERS [SEED] | unit ARGUMENTS..");
         eprintln!("  | sheet FILE.. | months DIR [SEED] | tallies CASES ANSWERS [SEED] | rack CASES ANSWERS [SEED] | time-rack MIB");
         std::process::exit(2);
     }
 }
 
-/// Ends with this status, but for that of wrong words, which have the usage.
+/// Ends with this status, but for that of a usage error, which has the usage.
 fn ended(status: i32) -> Option<()> {
     if status == 2 { None } else { std::process::exit(status) }
 }

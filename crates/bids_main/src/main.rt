@@ -73,9 +73,9 @@ fn send_from(recording: bool, office: Office, hold: &mut [u8]) {
 
 // Whether a recording is asked for.
 fn is_asked() -> bool {
-    let mut word = io::buffer();
-    let n = os::arg(1, &mut word);
-    check::same(&word[..n], b"--recording")
+    let mut text = io::buffer();
+    let n = os::arg(1, &mut text);
+    check::same(&text[..n], b"--recording")
 }
 
 // Reads to the end of the input, which ends a line that is begun.

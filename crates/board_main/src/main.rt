@@ -30,31 +30,31 @@ fn main() {
         choose(false);
         return;
     }
-    if count == 3 && is_word(2, b"blocks") {
+    if count == 3 && is_argument(2, b"blocks") {
         choose(true);
         return;
     }
     usage();
 }
 
-// What the first word asks for.
+// What the first argument asks for.
 fn choose(blocks: bool) {
-    if is_word(1, b"stream") {
+    if is_argument(1, b"stream") {
         show(Readout::fresh(true, blocks));
         return;
     }
-    if is_word(1, b"recording") {
+    if is_argument(1, b"recording") {
         show(Readout::fresh(false, blocks));
         return;
     }
     usage();
 }
 
-// Whether an argument is this word.
-fn is_word(i: usize, word: &[u8]) -> bool {
+// Whether an argument is this one.
+fn is_argument(i: usize, text: &[u8]) -> bool {
     let mut space = io::buffer();
     let n = os::arg(i, &mut space);
-    check::same(&space[..n], word)
+    check::same(&space[..n], text)
 }
 
 fn usage() {

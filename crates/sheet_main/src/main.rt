@@ -48,7 +48,7 @@ fn main() {
         say(b"usage: sheet progress|quiet FILE..\n");
         return;
     }
-    let shown = is_word(1, b"progress");
+    let shown = is_argument(1, b"progress");
     let mut i: usize = 2;
     while i < count {
         progress(shown, i - 1, count - 2);
@@ -58,11 +58,11 @@ fn main() {
     print_all(sheet);
 }
 
-// Whether an argument is this word.
-fn is_word(i: usize, word: &[u8]) -> bool {
+// Whether an argument is this one.
+fn is_argument(i: usize, text: &[u8]) -> bool {
     let mut space = io::buffer();
     let n = os::arg(i, &mut space);
-    check::same(&space[..n], word)
+    check::same(&space[..n], text)
 }
 
 // Which recording of how many, where that is asked for.

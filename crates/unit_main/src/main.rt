@@ -32,22 +32,22 @@ const FAR: usize = 1000000000000;
 
 fn main() {
     let count = os::arg_count();
-    if count == 7 && is_word(1, b"write") {
+    if count == 7 && is_argument(1, b"write") {
         write();
         return;
     }
-    if count == 10 && is_word(1, b"read") {
+    if count == 10 && is_argument(1, b"read") {
         read();
         return;
     }
     usage();
 }
 
-// Whether an argument is this word.
-fn is_word(i: usize, word: &[u8]) -> bool {
+// Whether an argument is this one.
+fn is_argument(i: usize, text: &[u8]) -> bool {
     let mut space = io::buffer();
     let n = os::arg(i, &mut space);
-    check::same(&space[..n], word)
+    check::same(&space[..n], text)
 }
 
 fn usage() {
@@ -177,7 +177,7 @@ fn store_all(audio: usize, fixed: usize, parts: &[u8]) {
 
 // Bytes into the file that an argument names; where that fails it was said why.
 fn store(i: usize, bytes: &[u8]) -> bool {
-    if is_word(i, b"-") {
+    if is_argument(i, b"-") {
         return true;
     }
     let mut name = io::buffer();
@@ -193,7 +193,7 @@ fn store(i: usize, bytes: &[u8]) -> bool {
 
 // The first bytes of the file that an argument names; where that fails it was said why.
 fn get(i: usize, bytes: &mut [u8]) -> Got {
-    if is_word(i, b"-") {
+    if is_argument(i, b"-") {
         return Got { well: true, n: 0 };
     }
     let mut name = io::buffer();
