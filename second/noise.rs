@@ -416,8 +416,8 @@ fn damages(day: &[u8]) {
     let hides = (place(bids[3].closes - 1), 0x7D);
     assert_eq!(counts_where(day, &[hides]), [[n - 2, 2, 1, 1], [n - 2, 2, 0, 1], [n - 1, 1, 0, 0], all]);
     // the same with sixteen bytes of that word's parity, and with fifteen
-    let block = bids[3].closes / MESSAGE;
-    let parity = |count: usize| (0..count).map(|i| ((block + 1) * BLOCK - 1 - i, b'?')).collect::<Vec<_>>();
+    let (block, sent) = (bids[3].closes / MESSAGE, bids::sent(day).0);
+    let parity = |count: usize| (0..count).map(|i| (block + 1) * BLOCK - 1 - i).map(|at| (at, sent[at] ^ 1)).collect::<Vec<_>>();
     assert_eq!(counts_where(day, &[&[hides][..], &parity(16)].concat())[3], [n - 1, 1, 0, 0]);
     assert_eq!(counts_where(day, &[&[flag][..], &parity(16)].concat())[3], [n - 2, 2, 0, 1]);
     assert_eq!(counts_where(day, &[&[flag][..], &parity(15)].concat())[3], all);
