@@ -6,11 +6,11 @@
 -- eight-next                   a turn of the loop over eights
 use mathlib.Core.Path.{_≡_, refl, sym, ap, ap₂, _∙_, subst}
 use Prim.Native.Nat.{ℕ, zero, suc, _+_, _-_, _*_, _/_, _%_, _^_, _<_, _≤_}
-use mathlib.Core.List.{List, [], _∷_, _++_}
+use mathlib.Core.List.{List, [], _∷_}
 use native.Mathlib.Nat.{mod-lt, zero-mul, one-mul, mul-one, zero-add, suc-add, add-zero, pow-suc, pow-succ', one-le-pow, div-lt-iff-lt-mul, div-eq-of-lt}
 use native.Mathlib.Omega.{arith}
 use lib.Arith.{lt-one, digits-lt}
-use lib.Bits.{bitXor, differ, xor-comm, xor-zero-r, xor-self, xor-lt, xor-shr, xor-mod, xor-block, block-half, block-odd}
+use lib.Bits.{bitXor, differ, xor-comm, xor-zero-r, xor-self, xor-shr, xor-mod, xor-block, block-half, block-odd}
 use lib.Dec.{eqb, eqb→eq}
 use lib.ListN.{length, take, drop, getD, length-drop, take-append-drop}
 use lib.Pow.{pow-pos}

@@ -15,7 +15,7 @@ use lib.ListN.{length, take, drop}
 use Rattle.base.specs.Bytes.{Bytes}
 use Rattle.base.proofs.Bits.{xor-assoc}
 use Rattle.base.proofs.Tests.{all-at}
-use Rattle.fcs.specs.Fcs.{entered, register, shifted}
+use Rattle.fcs.specs.Fcs.{entered, register}
 use Rattle.fcs.specs.Private.{little}
 use Rattle.fcs.proofs.Eights.{Additive, xor-four, agree, entered-zeros, left, left-sum, right-sum, eight-enters, eight-next}
 

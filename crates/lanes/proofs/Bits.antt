@@ -20,13 +20,13 @@ use Rattle.field.specs.Field.{add, double}
 use Rattle.field.proofs.Sum.{zero-add, add-zero}
 use Rattle.word_spec.specs.Word.{onto}
 use Rattle.word_spec.specs.Residue.{laneRoots}
-use Rattle.word_spec.specs.Private.{bytesOf, fed, fedAll, worth, spent, kept, summed, doublings, bitWorths}
+use Rattle.word_spec.specs.Private.{bytesOf, fed, fedAll, kept, summed}
 use Rattle.lanes.specs.Private.{laid, rowOf, Further, Worths, doubledBy, following, bits, five}
 use Rattle.lanes.specs.declared.coefficients.Lanes.{Lanes}
 use Rattle.word_spec.proofs.Sums.{onto-comm, zeros-onto}
 use Rattle.word_spec.proofs.Packed.{length-bytes, bytes-xor}
-use Rattle.word_spec.proofs.Residue.{fed-leading}
-use Rattle.word_spec.proofs.Rows.{length-kept, kept-zero, kept-one, length-summed, summed-append, summed-low, summed-onto, both, summed-both, spent-bits}
+use Rattle.word_spec.proofs.Residue.{worth, fed-leading}
+use Rattle.word_spec.proofs.Rows.{length-kept, kept-zero, kept-one, length-summed, summed-append, summed-low, summed-onto, both, summed-both, doublings, bitWorths, spent-bits}
 use Rattle.lanes.proofs.Laid.{length-laid, bytes-laid, laid-plus}
 
 -- ---- some of five bits' rows added, in one number of eight bytes
@@ -75,7 +75,7 @@ unfolding added add
 sums-added a b c d e = refl
 
 -- each member of a list is what it should be, from the i-th on
-unfoldable pub Rows : {A B : Type 0} → (A → B) → (ℕ → B) → ℕ → List A → Type 0
+unfoldable Rows : {A B : Type 0} → (A → B) → (ℕ → B) → ℕ → List A → Type 0
 Rows of is i [] = Unit {0}
 Rows of is i (r ∷ m) = (of r ≡ is i) × Rows of is (suc i) m
 
@@ -91,7 +91,7 @@ rows-at of is d i (r ∷ m) h (suc j) k = rows-at of is d (suc i) m (h .1) j (om
     at : suc i + j ≡ i + suc j
     at = omega arith
 
-pub rows-from : {A B : Type 0} (of : A → B) (is : ℕ → B) (d : A) (m : List A) → Rows of is 0 m → (j : ℕ) → j < length m → of (getD m j d) ≡ is j
+rows-from : {A B : Type 0} (of : A → B) (is : ℕ → B) (d : A) (m : List A) → Rows of is 0 m → (j : ℕ) → j < length m → of (getD m j d) ≡ is j
 rows-from of is d m h j k = rows-at of is d 0 m h j k ∙ ap is from-zero
   where
     from-zero : 0 + j ≡ j

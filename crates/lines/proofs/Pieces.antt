@@ -1,5 +1,5 @@
 -- Pieces of the board's text, as they are written.
--- Within, begun, part, wrote      bytes stored from a place on, at most so many: a word, a part behind it, and what they come to
+-- Within, begun, part, wrote      bytes stored from a place on, at most so many: a text, a part behind it, and what they come to
 -- by-case                         the same of a text that is chosen by cases
 -- heading-put, own-put, ..        `PORT SEQUENCE `, and words before it
 -- missing-put, unwatched-put, ..  lines ahead of a packet's own
@@ -82,10 +82,10 @@ module _ {l after : List ℕ} {at e : ℕ} (port sequence : ℕ) where
   pub heading-only : Fits l at (heading port sequence) after e 42 → Fits l at (heading port sequence) after e 53
   heading-only u = wrote 53 (promised 42 u) (omega arith) refl
 
--- a word before a heading
-pub own-put : {l l₁ l₂ : List ℕ} {at a e : ℕ} (word : List ℕ) (port sequence : ℕ) → length word ≤ 11 → Laid l at word l₁ a
-    → Fits l₁ a (heading port sequence) l₂ e 42 → Fits l at (word ++ heading port sequence) l₂ e 53
-own-put word port sequence h u v = wrote 53 (part 42 (begun u) v) (omega (arith, h)) refl
+-- a text before a heading
+pub own-put : {l l₁ l₂ : List ℕ} {at a e : ℕ} (own : List ℕ) (port sequence : ℕ) → length own ≤ 11 → Laid l at own l₁ a
+    → Fits l₁ a (heading port sequence) l₂ e 42 → Fits l at (own ++ heading port sequence) l₂ e 53
+own-put own port sequence h u v = wrote 53 (part 42 (begun u) v) (omega (arith, h)) refl
 
 pub restricted-put : {l l₁ l₂ l₃ l₄ : List ℕ} {at a b c e : ℕ} (port sequence key : ℕ) → Laid l at restrictedText l₁ a → Item l₁ a port 32 l₂ b
     → Item l₂ b sequence 32 l₃ c → Item l₃ c key 10 l₄ e → Fits l at (written (restricted port sequence key)) l₄ e 76
@@ -121,12 +121,12 @@ pub lead-own : {l l₁ l₂ : List ℕ} {a e : ℕ} (v : Noted) (d : Delivery) �
     → Fits l₁ a (ownLead v (d .port) (d .sequence)) l₂ e 53 → Put l (lead v d) l₂ e
 lead-own v d other u w = rw (ne-eqb (d .format) keyFormat other) (wrote longest (part 53 (promised 52 u) w) (omega arith) refl)
 
--- a line of a word, and of a word and a number
+-- a line of a text, and of a text and a number
 pub nothing-put : (l : List ℕ) → Put l [] l 0
 nothing-put l = (laid-none l 0, omega arith)
 
-pub word-put : {l bs after : List ℕ} {e : ℕ} → Laid l 0 bs after e → length bs ≤ longest → Put l bs after e
-word-put u h = wrote longest (begun u) h refl
+pub text-put : {l bs after : List ℕ} {e : ℕ} → Laid l 0 bs after e → length bs ≤ longest → Put l bs after e
+text-put u h = wrote longest (begun u) h refl
 
 count-line : {l bs l₁ l₂ : List ℕ} {a e : ℕ} (n : ℕ) → Laid l 0 bs l₁ a → length bs ≤ 107 → Item l₁ a n 10 l₂ e → Put l (bs ++ number n 10) l₂ e
 count-line n u h v = wrote longest (part 21 (begun u) v) (omega (arith, h)) refl
@@ -173,7 +173,7 @@ wrong-line n u v = count-line n u (omega arith) v
 
 pub lost-line : {l after : List ℕ} {e : ℕ} → Laid l 0 (lostText ++ (10 ∷ [])) after e → Put l (written lockLost) after e
 unfolding written
-lost-line u = word-put u (omega arith)
+lost-line u = text-put u (omega arith)
 
 -- a frame's line is the same whether or not blocks are told
 either : (b : Bool) (j : Judged) → remark b (Said j) ≡ remark true (Said j)

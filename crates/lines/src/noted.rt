@@ -12,31 +12,31 @@ use crate::put_item;
 use base::Written;
 use ports::Noted;
 
-// The bytes of a word.
-pub(crate) fn put_word(text: &mut [u8], at: usize, word: &[u8]) -> usize
-    requires { ⌜ at + length (now word) ≤ length (now text) ⌝ }
-    ensures { λ r. ⌜ Laid (now (text .entry)) at (now (word .entry)) (now (text .exit)) r ⌝ }
+// The bytes of a text.
+pub(crate) fn put_text(text: &mut [u8], at: usize, bytes: &[u8]) -> usize
+    requires { ⌜ at + length (now bytes) ≤ length (now text) ⌝ }
+    ensures { λ r. ⌜ Laid (now (text .entry)) at (now (bytes .entry)) (now (text .exit)) r ⌝ }
 {
-    base::copy(word, &mut text[at..]);
-    at + word.len()
+    base::copy(bytes, &mut text[at..]);
+    at + bytes.len()
 }
 
 // What a packet is to its port.
-fn put_words(text: &mut [u8], at: usize, noted: Noted) -> usize
+fn put_noted_text(text: &mut [u8], at: usize, noted: Noted) -> usize
     requires { ⌜ at + 32 ≤ length (now text) ⌝ }
     ensures { λ r. ⌜ Laid (now (text .entry)) at (notedText noted) (now (text .exit)) r × (r ≤ at + 32) ⌝ }
 {
     match noted {
-        Noted::First => put_word(text, at, b"first\n"),
-        Noted::InOrder => put_word(text, at, b"in order\n"),
-        Noted::Repeated => put_word(text, at, b"repeated\n"),
+        Noted::First => put_text(text, at, b"first\n"),
+        Noted::InOrder => put_text(text, at, b"in order\n"),
+        Noted::Repeated => put_text(text, at, b"repeated\n"),
         Noted::Missing(n) => {
-            let a = put_word(text, at, b"missing ");
+            let a = put_text(text, at, b"missing ");
             put_item(text, a, n as u64, b'\n')
         }
-        Noted::Late => put_word(text, at, b"late\n"),
+        Noted::Late => put_text(text, at, b"late\n"),
         Noted::Refused(n) => {
-            let a = put_word(text, at, b"refused ");
+            let a = put_text(text, at, b"refused ");
             put_item(text, a, n as u64, b'\n')
         }
     }
@@ -49,7 +49,7 @@ fn put_noted(text: &mut [u8], port: u16, sequence: u16, noted: Noted) -> usize
 {
     let a = put_item(text, 0, port as u64, b' ');
     let b = put_item(text, a, sequence as u64, b' ');
-    put_words(text, b, noted)
+    put_noted_text(text, b, noted)
 }
 
 /// Writes the line of a packet noted.

@@ -13,7 +13,7 @@ ghost use Rattle.board_spec.specs.Parts.{ownLead, lead, remark};
 ghost use Rattle.channel_spec.specs.declared.Answer.the-variants.{Said};
 ghost use Rattle.lines.specs.Piece.{pieceOf};
 use crate::Line;
-use crate::noted::put_word;
+use crate::noted::put_text;
 use crate::put_item;
 use base::Refusal;
 use channel_spec::Answer;
@@ -71,7 +71,7 @@ impl Piece {
         ensures { λ r. ⌜ r ≡ pieceOf (written (wrongAt offset)) ⌝ }
     {
         let mut bytes: [u8; Line::LONGEST] = [0; Line::LONGEST];
-        let a = put_word(&mut bytes, 0, b"! wrong at ");
+        let a = put_text(&mut bytes, 0, b"! wrong at ");
         let length = put_item(&mut bytes, a, offset, b'\n');
         Piece { bytes, length }
     }
@@ -105,8 +105,8 @@ fn put_numbered(text: &mut [u8], b: u8) -> usize
 {
     let high = sixteenth(b / 16);
     let low = sixteenth(b % 16);
-    let word = [b'\\', b'x', high, low];
-    put_word(text, 0, &word)
+    let shown = [b'\\', b'x', high, low];
+    put_text(text, 0, &shown)
 }
 
 // A byte as it is shown.
@@ -115,7 +115,7 @@ fn put_shown(text: &mut [u8], b: u8) -> usize
     ensures { λ r. ⌜ Laid (now (text .entry)) 0 (shownByte b) (now (text .exit)) r × (r ≤ longest) ⌝ }
 {
     if b == b'\\' {
-        return put_word(text, 0, b"\\\\");
+        return put_text(text, 0, b"\\\\");
     }
     if b < 32 {
         return put_numbered(text, b);
@@ -123,8 +123,8 @@ fn put_shown(text: &mut [u8], b: u8) -> usize
     if b > 126 {
         return put_numbered(text, b);
     }
-    let word = [b];
-    put_word(text, 0, &word)
+    let shown = [b];
+    put_text(text, 0, &shown)
 }
 
 // Lines ahead of a packet's own.
@@ -137,13 +137,13 @@ fn put_ahead(text: &mut [u8], noted: Noted, port: u16) -> usize
         Noted::InOrder => 0,
         Noted::Repeated => 0,
         Noted::Missing(n) => {
-            let a = put_word(text, 0, b"! missing ");
+            let a = put_text(text, 0, b"! missing ");
             let b = put_item(text, a, port as u64, b' ');
             put_item(text, b, n as u64, b'\n')
         }
         Noted::Late => 0,
         Noted::Refused(_) => {
-            let a = put_word(text, 0, b"! unwatched ");
+            let a = put_text(text, 0, b"! unwatched ");
             put_item(text, a, port as u64, b'\n')
         }
     }
@@ -167,12 +167,12 @@ fn put_own(text: &mut [u8], at: usize, noted: Noted, port: u16, sequence: u16) -
         Noted::First => put_heading(text, at, port, sequence),
         Noted::InOrder => put_heading(text, at, port, sequence),
         Noted::Repeated => {
-            let a = put_word(text, at, b"! repeated ");
+            let a = put_text(text, at, b"! repeated ");
             put_heading(text, a, port, sequence)
         }
         Noted::Missing(_) => put_heading(text, at, port, sequence),
         Noted::Late => {
-            let a = put_word(text, at, b"! late ");
+            let a = put_text(text, at, b"! late ");
             put_heading(text, a, port, sequence)
         }
         Noted::Refused(_) => put_heading(text, at, port, sequence),
@@ -184,7 +184,7 @@ fn put_restricted(text: &mut [u8], at: usize, port: u16, sequence: u16, key: u8)
     requires { ⌜ at + 76 ≤ length (now text) ⌝ }
     ensures { λ r. ⌜ Laid (now (text .entry)) at (written (restricted port sequence key)) (now (text .exit)) r × (r ≤ at + 76) ⌝ }
 {
-    let a = put_word(text, at, b"! restricted ");
+    let a = put_text(text, at, b"! restricted ");
     let b = put_item(text, a, port as u64, b' ');
     let c = put_item(text, b, sequence as u64, b' ');
     put_item(text, c, key as u64, b'\n')
@@ -210,11 +210,11 @@ fn put_refused(text: &mut [u8], judged: Judged) -> usize
     match judged {
         Judged::Packet(_) => 0,
         Judged::Refused(n) => {
-            let a = put_word(text, 0, b"! frame refused ");
+            let a = put_text(text, 0, b"! frame refused ");
             put_item(text, a, n as u64, b'\n')
         }
         Judged::Broken(place) => {
-            let a = put_word(text, 0, b"! frame refused ");
+            let a = put_text(text, 0, b"! frame refused ");
             let b = put_item(text, a, Refusal::ESCAPE as u64, b' ');
             put_item(text, b, place as u64, b'\n')
         }
@@ -229,18 +229,18 @@ fn put_block_told(text: &mut [u8], blocks: bool, condition: Condition) -> usize
     match condition {
         Condition::Clean => {
             if blocks {
-                return put_word(text, 0, b"! block clean\n");
+                return put_text(text, 0, b"! block clean\n");
             }
             0
         }
         Condition::Repaired(count) => {
             if blocks {
-                let a = put_word(text, 0, b"! block repaired ");
+                let a = put_text(text, 0, b"! block repaired ");
                 return put_item(text, a, count as u64, b'\n');
             }
             0
         }
-        Condition::Beyond => put_word(text, 0, b"! block beyond repair\n"),
+        Condition::Beyond => put_text(text, 0, b"! block beyond repair\n"),
     }
 }
 
@@ -253,6 +253,6 @@ fn put_remark(text: &mut [u8], blocks: bool, answer: Answer) -> usize
         Answer::More => 0,
         Answer::Said(judged) => put_refused(text, judged),
         Answer::Block(condition) => put_block_told(text, blocks, condition),
-        Answer::LockLost => put_word(text, 0, b"! lock lost\n"),
+        Answer::LockLost => put_text(text, 0, b"! lock lost\n"),
     }
 }

@@ -1,5 +1,5 @@
--- A recording's bytes by calls (paper 01, "The listing program", "Numbered refusals"): the tape and the two lent buffers go in and come back, and
--- one call gives at most one answer.
+-- A recording's bytes by calls (paper 01, "The listing program", "Numbered refusals"): the tape, which is the state of a recording's
+-- reader (`RecordingReader`), and the two lent buffers go in and come back, and one call gives at most one answer.
 -- freshTape            before the first byte
 -- deckOf, tapeOf       the deck of a tape and the buffers lent, and a deck's tape
 -- isMore               that an answer is "more wanted"

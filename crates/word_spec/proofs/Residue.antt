@@ -1,5 +1,6 @@
 -- What long division by the generator leaves of bytes, and by a product for other roots.
--- fed-start, fed-next, fed-one, fed-done   the division byte by byte: its beginning, a turn of k, a turn of one, its end
+-- fed-start, fed-next, fed-done   the division byte by byte: its beginning, a turn of k bytes, its end
+-- worth, spent               what a 1 is worth before the first place; bytes that go, each replaced by what it is worth
 -- fed-leading                as many bytes at once as go: each is worth its multiple of what a 1 in its place leaves
 -- residue-value              it has the value of the bytes at every root
 -- residue-values, from-values   so at roots that follow each other
@@ -25,7 +26,7 @@ use Rattle.field.proofs.Sum.{zero-add}
 use Rattle.field.proofs.Product.{add-mul, mul-add, mul-assoc, mul-zero, zero-mul}
 use Rattle.word_spec.specs.Word.{horner, eval, valuesFrom, scale, onto, generator, divide, remainder, clean}
 use Rattle.word_spec.specs.Residue.{generatorFrom, residue, residueFrom, laneRoots}
-use Rattle.word_spec.specs.Private.{fed, fedAll, worth, spent, isZero}
+use Rattle.word_spec.specs.Private.{fed, fedAll, isZero}
 use Rattle.word_spec.proofs.Sums.{length-scale, length-onto, onto-assoc, onto-comm, onto-append, zeros-onto, product, length-product}
 use Rattle.word_spec.proofs.Values.{horner-append, eval-add, eval-zeros, eval-product}
 use Rattle.word_spec.proofs.Generator.{length-generator, generator-monic, generator-root, from-length, from-monic, from-root}
@@ -90,10 +91,6 @@ module _ (g xs w : List ℕ) (i : ℕ) {t : List ℕ} (inv : fedAll g xs (drop i
       ap₂ (fedAll g) e (sym (drop-drop k i w)) ∙ sym (fed-append g xs (take k (drop i w)) (drop k (drop i w)))
       ∙ ap (fedAll g xs) (take-append-drop k (drop i w)) ∙ inv
 
-  pub fed-one : i < length w → {ys : List ℕ} → ys ≡ fed g xs (getD w i 0) → fedAll g ys (drop (i + 1) w) ≡ t
-  unfolding fedAll
-  fed-one h e = ap (λ (zs : List ℕ). fedAll g zs (drop (i + 1) w)) e ∙ sym (ap (fedAll g xs) (next w i h)) ∙ inv
-
   pub fed-done : length w ≤ i → xs ≡ t
   unfolding fedAll
   fed-done h = ap (fedAll g xs) (sym (over w i h)) ∙ inv
@@ -151,6 +148,16 @@ unfolding fedAll
 all-sum g p q [] l m h = refl
 all-sum g p q (b ∷ w) l m h =
     ap (λ (v : List ℕ). fedAll g v w) (fed-sum g p q b l m h) ∙ all-sum g (fed g p 0) (fed g q b) w (length-fed g p 0 l h) (length-fed g q b m h) h
+
+-- what is left of a 1 that stands before the first place, with n places between
+unfoldable pub worth : List ℕ → ℕ → List ℕ
+worth g zero = g
+worth g (suc n) = fed g (worth g n) 0
+
+-- the bytes cs go from before v, the first of them first: what each is worth, where it stands, is added
+unfoldable pub spent : List ℕ → List ℕ → List ℕ → List ℕ
+spent g [] v = v
+spent g (c ∷ cs) v = spent g cs (onto (scale c (worth g (length cs))) v)
 
 pub length-worth : (g : List ℕ) (n : ℕ) → 0 < length g → length (worth g n) ≡ length g
 unfolding worth

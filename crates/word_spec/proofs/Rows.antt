@@ -1,7 +1,9 @@
 -- A row for each bit of a number, and the rows of its ones added.
 -- length-kept, kept-zero, kept-one   a row where its bit is 1
 -- length-summed, summed-append       rows behind others are those of the higher bits
--- summed-low                         only so many bits count as there are rows
+-- summed-low, summed-onto            only so many bits count as there are rows; what is added to zeros can be added to anything
+-- both, summed-both                  rows in two parts
+-- doublings, bitWorths               what the bits of a byte are worth, and of so many bytes
 -- spent-bits                         bytes that go are replaced bit by bit
 use mathlib.Core.Path.{_≡_, refl, sym, ap, ap₂, _∙_}
 use mathlib.Core.List.{List, [], _∷_, _++_, map, map-map}
@@ -16,9 +18,10 @@ use Rattle.base.proofs.Bytes.{each-append, each-drop}
 use Rattle.field.specs.Field.{add, double, shiftAdd, mul}
 use Rattle.field.proofs.Product.{mul-comm}
 use Rattle.word_spec.specs.Word.{scale, onto}
-use Rattle.word_spec.specs.Private.{bytesOf, fed, worth, spent, kept, summed, doublings, bitWorths}
+use Rattle.word_spec.specs.Private.{bytesOf, fed, kept, summed}
 use Rattle.word_spec.proofs.Sums.{length-onto, bytes-scale, bytes-onto, onto-assoc, onto-append, zeros-onto}
 use Rattle.word_spec.proofs.Packed.{length-bytes, bytes-head, size}
+use Rattle.word_spec.proofs.Residue.{worth, spent}
 
 pub length-kept : (b : ℕ) (r : List ℕ) → length (kept b r) ≡ length r
 unfolding kept
@@ -107,6 +110,11 @@ summed-both (p ∷ ps) (q ∷ qs) h v w l e =
     ap₂ onto (kept-append (h % 2) p q) (summed-both ps qs (h / 2) v w (suc-inj l) (e .1))
     ∙ onto-append (kept (h % 2) p) (kept (h % 2) q) (summed ps (h / 2) v) (summed qs (h / 2) w) (length-kept (h % 2) p ∙ e .0 ∙ sym (length-summed ps (h / 2) v))
 
+-- x, twice x, four times x, .., n of them
+unfoldable pub doublings : ℕ → List ℕ → List (List ℕ)
+doublings zero x = []
+doublings (suc n) x = x ∷ doublings n (map double x)
+
 -- ---- a byte's bits: its product with the byte is by its definition the sum of the doublings
 kept-map : (b : ℕ) (f : ℕ → ℕ) (x : List ℕ) → onto (kept b x) (map f x) ≡ map (λ (y : ℕ). add (b * y) (f y)) x
 unfolding kept onto
@@ -141,12 +149,17 @@ bytes-worth g b (suc k) =
     bytes-onto (scale (getD (worth g k) 0 0) g) (drop 1 (worth g k) ++ 0 ∷ []) (bytes-scale _ g)
     (each-append IsByte (drop 1 (worth g k)) (0 ∷ []) (each-drop IsByte 1 (worth g k) (bytes-worth g b k)) (omega arith, tt))
 
+-- what each bit of the k bytes before the first place is worth, that of the nearest byte's lowest bit first
+unfoldable pub bitWorths : List ℕ → ℕ → List (List ℕ)
+bitWorths g zero = []
+bitWorths g (suc k) = bitWorths g k ++ doublings 8 (worth g k)
+
 length-doublings : (n : ℕ) (x : List ℕ) → length (doublings n x) ≡ n
 unfolding doublings
 length-doublings zero x = refl
 length-doublings (suc n) x = ap suc (length-doublings n (map double x))
 
--- so many numbers as there are of k bytes are there of as many bits
+-- k bytes have as many numbers as their bits
 bits-size : (g : List ℕ) (k : ℕ) → 2 ^ length (bitWorths g k) ≡ size k
 unfolding bitWorths size
 bits-size g zero = refl

@@ -6,17 +6,15 @@
 -- bytesOf    the bytes of a number
 -- fed        a step of long division
 -- fedAll     the division byte by byte
--- worth      what a 1 is worth before the first place, with so many places between
--- spent      bytes that go, each replaced by what it is worth
+-- kept       a row where its bit is 1, zeros where it is 0
 -- summed     a row for each bit of a number: those of its ones added
--- bitWorths  what each bit of so many bytes is worth
 -- isZero     whether nothing is left
 use mathlib.Core.Bool.{Bool, true, _&&_}
-use mathlib.Core.List.{List, [], _∷_, _++_, map}
+use mathlib.Core.List.{List, [], _∷_, _++_}
 use Prim.Native.Nat.{ℕ, zero, suc, _*_, _/_, _%_}
 use lib.Dec.{eqb}
-use lib.ListN.{length, drop, getD}
-use Rattle.field.specs.Field.{alpha, add, double, mul}
+use lib.ListN.{drop, getD}
+use Rattle.field.specs.Field.{alpha, add, mul}
 use Rattle.word_spec.specs.Word.{scale, onto, generator}
 use Rattle.word_spec.specs.Residue.{generatorFrom, laneRoots, nextRoot}
 
@@ -53,16 +51,6 @@ unfoldable pub fedAll : List ℕ → List ℕ → List ℕ → List ℕ
 fedAll g xs [] = xs
 fedAll g xs (b ∷ bs) = fedAll g (fed g xs b) bs
 
--- what is left of a 1 that stands before the first place, with n places between
-unfoldable pub worth : List ℕ → ℕ → List ℕ
-worth g zero = g
-worth g (suc n) = fed g (worth g n) 0
-
--- the bytes cs go from before v, the first of them first: what each is worth, where it stands, is added
-unfoldable pub spent : List ℕ → List ℕ → List ℕ → List ℕ
-spent g [] v = v
-spent g (c ∷ cs) v = spent g cs (onto (scale c (worth g (length cs))) v)
-
 -- a row where the bit is 1, zeros where it is 0
 unfoldable pub kept : ℕ → List ℕ → List ℕ
 kept b [] = []
@@ -72,16 +60,6 @@ kept b (x ∷ r) = b * x ∷ kept b r
 unfoldable pub summed : List (List ℕ) → ℕ → List ℕ → List ℕ
 summed [] h v = v
 summed (r ∷ rs) h v = onto (kept (h % 2) r) (summed rs (h / 2) v)
-
--- x, twice x, four times x, .., n of them
-unfoldable pub doublings : ℕ → List ℕ → List (List ℕ)
-doublings zero x = []
-doublings (suc n) x = x ∷ doublings n (map double x)
-
--- what each bit of the k bytes before the first place is worth, that of the nearest byte's lowest bit first
-unfoldable pub bitWorths : List ℕ → ℕ → List (List ℕ)
-bitWorths g zero = []
-bitWorths g (suc k) = bitWorths g k ++ doublings 8 (worth g k)
 
 -- whether every one is zero
 unfoldable pub isZero : List ℕ → Bool

@@ -1,12 +1,6 @@
 -- `lanes::coefficients::next` meets its contract, by its test.
-use mathlib.Core.Path.{sym, ap, _∙_}
-use mathlib.Core.Bool.{Bool}
-use mathlib.Core.List.{map}
 use borrow.Author.Needs.{needs}
 use borrow.Author.Tests.{eq-eqb, ne-eqb}
-use Rattle.base.specs.Choice.{pick}
-use Rattle.field.specs.Field.{double}
-use Rattle.word_spec.specs.Private.{bytesOf}
 use Rattle.lanes.proofs.coefficients.next.Statement.{statement}
 use Rattle.lanes.proofs.coefficients.next.Tie as tie
 

@@ -12,4 +12,4 @@ put-noted-spec =
     (λ c κs. search needs)
     (λ c κs. search needs)
     (λ c. search needs)
-    (λ c. noted-put _ _ _ (c .before .before .before .before .before .before .before .before .before .before .put-item .ensures) (c .before .before .before .before .before .before .put-item2 .ensures) (c .before .before .put-words .ensures)))
+    (λ c. noted-put _ _ _ (c .before .before .before .before .before .before .before .before .before .before .put-item .ensures) (c .before .before .before .before .before .before .put-item2 .ensures) (c .before .before .put-noted-text .ensures)))

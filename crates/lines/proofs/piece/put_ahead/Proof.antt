@@ -28,10 +28,10 @@ put-ahead-spec =
     (λ c. search needs)
     (λ c.
     ahead-as _ (c .before .before .before .before .before .before .before .before .before .before .before .before .before .before .noted .given .1)
-    (missing-put _ _ (c .before .before .before .before .before .before .before .before .before .before .put-word .ensures)
+    (missing-put _ _ (c .before .before .before .before .before .before .before .before .before .before .put-text .ensures)
     (c .before .before .before .before .before .before .put-item .ensures) (c .before .before .put-item2 .ensures)))
     (λ c. ahead-as _ (c .enum-told4 .given .1) (none-ahead _))
     (λ c. search needs)
     (λ c.
     ahead-as _ (c .before .before .before .before .before .before .before .before .before .enum-told5 .given .1)
-    (unwatched-put _ (c .before .before .before .before .before .before .put-word2 .ensures) (c .before .before .put-item3 .ensures))))
+    (unwatched-put _ (c .before .before .before .before .before .before .put-text2 .ensures) (c .before .before .put-item3 .ensures))))

@@ -15,7 +15,7 @@ put-block-told-spec =
     (λ c. search needs)
     (λ c.
     clean-line (c .before .before .before .before .before .if1 .taken) (c .before .before .before .before .before .before .enum-told .given .1)
-    (c .before .before .put-word .ensures))
+    (c .before .before .put-text .ensures))
     (search needs)
     (search needs)
     (λ c κs. search needs)
@@ -24,11 +24,11 @@ put-block-told-spec =
     (λ c.
     repaired-line _ (c .before .before .before .before .before .before .before .before .before .if2 .taken)
     (c .before .before .before .before .before .before .before .before .before .before .before .condition .given .1)
-    (c .before .before .before .before .before .before .put-word2 .ensures) (c .before .before .put-item .ensures))
+    (c .before .before .before .before .before .before .put-text2 .ensures) (c .before .before .put-item .ensures))
     (search needs)
     (search needs)
     (λ c κs. search needs)
     (λ c. untold (c .if1 .left) (c .before .enum-told .given .1) refl)
     (λ c. untold (c .if2 .left) (c .before .before .condition .given .1) refl)
     (λ c. search needs)
-    (λ c. beyond-line _ (c .before .before .before .before .before .enum-told2 .given .1) (c .before .before .put-word3 .ensures)))
+    (λ c. beyond-line _ (c .before .before .before .before .before .enum-told2 .given .1) (c .before .before .put-text3 .ensures)))

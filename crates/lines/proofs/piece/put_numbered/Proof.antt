@@ -16,4 +16,4 @@ put-numbered-spec =
     (λ c.
     numbered-put (c .before .before .before .before .before .before .before .before .args .b)
     (c .before .before .before .before .before .before .sixteenth .ensures) (c .before .before .before .before .before .sixteenth2 .ensures)
-    (c .before .before .put-word .ensures)))
+    (c .before .before .put-text .ensures)))

@@ -32,12 +32,12 @@ put-own-spec =
     (λ c. search needs)
     (λ c.
     own-as _ _ (c .before .before .before .before .before .before .before .before .before .enum-told3 .given .1)
-    (own-put _ _ _ (omega arith) (c .before .before .before .before .before .before .put-word .ensures) (c .before .before .put-heading3 .ensures)))
+    (own-put _ _ _ (omega arith) (c .before .before .before .before .before .before .put-text .ensures) (c .before .before .put-heading3 .ensures)))
     (λ c. search needs)
     (λ c. own-as _ _ (c .before .before .before .before .enum-told4 .given .1) (heading-only _ _ (c .before .before .put-heading4 .ensures)))
     (λ c. search needs)
     (λ c.
     own-as _ _ (c .before .before .before .before .before .before .before .before .before .enum-told5 .given .1)
-    (own-put _ _ _ (omega arith) (c .before .before .before .before .before .before .put-word2 .ensures) (c .before .before .put-heading5 .ensures)))
+    (own-put _ _ _ (omega arith) (c .before .before .before .before .before .before .put-text2 .ensures) (c .before .before .put-heading5 .ensures)))
     (λ c. search needs)
     (λ c. own-as _ _ (c .before .before .before .before .enum-told6 .given .1) (heading-only _ _ (c .before .before .put-heading6 .ensures))))

@@ -29,10 +29,10 @@ put-refused-spec =
     (λ c.
     by-case (λ (j : Judged). remark true (Said j))
     (c .before .before .before .before .before .before .before .before .before .before .judged .given .1)
-    (refused-line (c .before .before .before .before .before .before .put-word .ensures) _ (c .before .before .put-item .ensures)))
+    (refused-line (c .before .before .before .before .before .before .put-text .ensures) _ (c .before .before .put-item .ensures)))
     (λ c. search needs)
     (λ c.
     by-case (λ (j : Judged). remark true (Said j))
     (c .before .before .before .before .before .before .before .before .before .before .before .before .before .before .judged2 .given .1)
-    (broken-line (c .before .before .before .before .before .before .before .before .before .before .put-word2 .ensures) _
+    (broken-line (c .before .before .before .before .before .before .before .before .before .before .put-text2 .ensures) _
     (c .before .before .before .before .before .before .put-item2 .ensures) (c .before .before .put-item3 .ensures))))

@@ -23,4 +23,4 @@ put-remark-spec =
     (λ c. search needs)
     (λ c. by-case (remark _) (c .before .before .before .before .before .answer2 .given .1) (c .before .before .put-block-told .ensures))
     (λ c. search needs)
-    (λ c. by-case (remark _) (c .before .before .before .before .before .enum-told2 .given .1) (lost-line (c .before .before .put-word .ensures))))
+    (λ c. by-case (remark _) (c .before .before .before .before .before .enum-told2 .given .1) (lost-line (c .before .before .put-text .ensures))))

@@ -16,6 +16,6 @@ put-restricted-spec =
     (λ c. search needs)
     (λ c.
     restricted-put _ _ _
-    (c .before .before .before .before .before .before .before .before .before .before .before .before .before .before .put-word .ensures)
+    (c .before .before .before .before .before .before .before .before .before .before .before .before .before .before .put-text .ensures)
     (c .before .before .before .before .before .before .before .before .before .before .put-item .ensures)
     (c .before .before .before .before .before .before .put-item2 .ensures) (c .before .before .put-item3 .ensures)))

@@ -1,7 +1,6 @@
 -- `packet::search::passed` meets its contract.
 use Prim.Native.Nat.{_-_, _≤_, _<_}
 use native.Mathlib.Omega.{arith}
-use borrow.Author.Needs.{needs}
 use lib.ListN.{length}
 use Rattle.base.specs.UpTo.{upTo}
 use Rattle.base.proofs.UpTo.{up-to-short}

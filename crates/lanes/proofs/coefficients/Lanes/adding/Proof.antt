@@ -1,6 +1,5 @@
 -- `lanes::coefficients::Lanes::adding` meets its contract, lane by lane.
 use mathlib.Core.Path.{refl}
-use native.Mathlib.Omega.{arith}
 use borrow.Author.Needs.{needs}
 use Rattle.lanes.proofs.Bits.{adding-is}
 use Rattle.lanes.proofs.coefficients.Lanes.adding.Statement.{statement}

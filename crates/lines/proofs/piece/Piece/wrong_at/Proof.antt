@@ -13,4 +13,4 @@ wrong-at-spec =
     (λ c κs. search needs)
     (search needs)
     (λ c κs. search needs)
-    (λ c. piece-put (wrong-line _ (c .before .before .before .before .put-word .ensures) (c .before .put-item .ensures))))
+    (λ c. piece-put (wrong-line _ (c .before .before .before .before .put-text .ensures) (c .before .put-item .ensures))))

@@ -1,12 +1,12 @@
--- `lines::noted::put_word` meets its contract.
+-- `lines::noted::put_text` meets its contract.
 use native.Mathlib.Omega.{arith}
 use borrow.Author.Needs.{needs}
 use Rattle.base.proofs.Laid.{laid-copied}
-use Rattle.lines.proofs.noted.put_word.Statement.{statement}
-use Rattle.lines.proofs.noted.put_word.Tie as tie
+use Rattle.lines.proofs.noted.put_text.Statement.{statement}
+use Rattle.lines.proofs.noted.put_text.Tie as tie
 
-pub put-word-spec : {M : Type 1} → statement M
-put-word-spec =
+pub put-text-spec : {M : Type 1} → statement M
+put-text-spec =
     tie.close
     (tie.spec
     (search needs)
