@@ -1,5 +1,5 @@
 //! Recordings to be listed: clean, damaged, random and malformed ones, as files for the program and as cases for the library.
-//! crates/cases_listing/src/listing.rt has the form of a case and of its answer.
+//! crates/cases_listing/src/reading.rt has the form of a case and of its answer.
 
 use crate::cases::{self, Case, Random};
 use crate::channel::{self, BLOCK, MARKER};
@@ -232,7 +232,7 @@ pub fn steady(letter: u8, length: usize) -> Vec<u8> {
 }
 
 /// Where a recording may stand at first (bytes read, stream bytes, each total): fresh; near the stream's limit; with the offset, or the
-/// totals, near their width. crates/cases_listing/src/listing.rt has the same.
+/// totals, near their width. crates/cases_listing/src/reading.rt has the same.
 const STARTS: [[u64; 3]; 4] = [[0, 0, 0], [0, STREAM_LIMIT - 300, 0], [u64::MAX - 300, 0, 0], [0, 0, u64::MAX - 140]];
 
 /// A recording to be listed by calls: how it is cut, the receive buffer, where it stands at first, the space for lines.

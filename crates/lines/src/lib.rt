@@ -1,4 +1,4 @@
-//! The lines of a listing, of packets noted in a table of ports, and of the monthly sheet, written.
+//! The lines of a listing, of packets noted in a table of ports, of the board and of the monthly sheet, written.
 ghost use mathlib.Core.Path.{_≡_};
 ghost use Prim.Native.Nat.{_+_, _≤_};
 ghost use mathlib.Core.List.{[], _∷_, _++_};

@@ -1,4 +1,4 @@
-//! The monthly sheet as a program, `month progress|quiet FILE..`: counts the recordings named, and prints a line for each port on standard output.
+//! The monthly sheet as a program, `sheet progress|quiet FILE..`: counts the recordings named, and prints a line for each port on standard output.
 //! On standard error it says which recordings do not count, and why; with `progress` also which one it is at.
 ghost use Prim.Native.Nat.{_≤_};
 ghost use lib.ListN.{length};

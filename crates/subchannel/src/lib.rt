@@ -1,4 +1,4 @@
-//! Fixed sub-channels: each with its parity, its depth and its own bytes, at most one answer a call.
+//! The receiver of one fixed sub-channel, with its parity, its depth and its own bytes, at most one answer a call.
 mod cells;
 mod counts;
 mod fill;

@@ -1,1 +1,1 @@
-//! No code: what words are, and the laws of polynomials, division and clean words. `parity` makes and checks them. Read specs/.
+//! No code: what words are, and the laws of polynomials, division and clean words. `lanes`, `parity` and `repair` make, check and repair them. Read specs/.
