@@ -1,3 +1,4 @@
+pub mod Every
 pub mod Keeping
 pub mod Laws
 pub mod Numbers

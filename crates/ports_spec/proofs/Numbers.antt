@@ -2,9 +2,10 @@
 -- rules, lasts          distances 0, 1, 2, 32,767, -32,768 and -1, around 65,536 too
 -- noted .. from-free    packets: held, new, late; a table that is full, of no places, of 16 and 17, with a port held twice
 -- forgot, not-held      ports forgotten
+-- insides               a range's two ends, and the ports beside them
 use Prim.Native.Nat.{ℕ}
 use mathlib.Core.Path.{_≡_, refl}
-use mathlib.Core.Bool.{true, false}
+use mathlib.Core.Bool.{Bool, true, false}
 use mathlib.Core.List.{List, [], _∷_}
 use lib.ListN.{replicate}
 use Rattle.ports_spec.specs.declared.Entry.{Entry}
@@ -13,6 +14,7 @@ use Rattle.ports_spec.specs.declared.Noted.the-variants.{First, InOrder,
 use Rattle.ports_spec.specs.declared.Forgot.{Forgot}
 use Rattle.ports_spec.specs.declared.Forgot.the-variants.{Forgotten, Refused as Unforgotten}
 use Rattle.ports_spec.specs.Distance.{ruled, lastBehind}
+use Rattle.ports_spec.specs.Range.{range, everyPort, inside}
 use Rattle.ports_spec.specs.Ports.{freed, entry, placeOf, freePlace, twice, noting, forgetting}
 
 pub rules : ruled 0 1 ∷ ruled 65535 0 ∷ ruled 7 7 ∷ ruled 65535 1 ∷ ruled 0 32767 ∷ ruled 0 32768 ∷ ruled 1 0 ∷ ruled 40000 7231 ∷ ruled 40000 7232 ∷ []
@@ -76,3 +78,8 @@ late = refl
 pub free-port : noting (record { held = false; port = 5; last = 3 } ∷ []) 5 4 ≡ (First, entry 5 4 ∷ [])
 unfolding noting placeOf freePlace twice
 free-port = refl
+
+pub insides : inside (range 1201 1216) 1200 ∷ inside (range 1201 1216) 1201 ∷ inside (range 1201 1216) 1216 ∷ inside (range 1201 1216) 1217
+    ∷ inside (range 7 7) 7 ∷ inside (range 8 7) 7 ∷ inside everyPort 0 ∷ inside everyPort 65535 ∷ []
+    ≡ false ∷ true ∷ true ∷ false ∷ true ∷ false ∷ true ∷ true ∷ []
+insides = refl

@@ -1,3 +1,4 @@
 pub mod Distance
 pub mod Ports
+pub mod Range
 pub mod Refusing
