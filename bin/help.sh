@@ -1,5 +1,5 @@
 # Read by every script before it does anything: -h or --help prints the comment at the script's head, and nothing is proved; any other
-# option is refused, but for those that the script names in $options.
+# option is refused, but for those that the script names in $options; one that may have its value behind a sign = stands there with the sign too.
 
 # $top is the repository, $called the script in it, where it is called by a link too; cd goes where it is told.
 script=$(readlink -f "$0")
@@ -38,7 +38,7 @@ case ${1-} in
     ;;
 -?*)
     case " ${options-} " in
-    *" $1 "*) ;;
+    *" $1 "* | *" ${1%%=*}= "*) ;;
     *) usage "there is no option $1" ;;
     esac
     ;;

@@ -61,6 +61,15 @@ start() {
     exec ${emulator:+"$emulator"} "$tools/lib/ld-linux-x86-64.so.2" --library-path "$tools/lib" "$@"
 }
 
+# ports_range A-B: sets first and last to these ports; they are numbers of at most five digits, A is not above B and B is at most 65535.
+ports_range() {
+    first=${1%%-*} last=${1#*-}
+    case $1 in *-*) ;; *) usage "no range of ports (A-B): $1" ;; esac
+    for port in "$first" "$last"; do case $port in '' | *[!0-9]* | ??????*) usage "no range of ports (A-B): $1" ;; esac; done
+    [ "$first" -le "$last" ] || usage "the first port is above the last: $1"
+    [ "$last" -le 65535 ] || usage "there is no port above 65535: $1"
+}
+
 # files_only FILE..: none of them is an option; a file may begin with - where it is there.
 files_only() {
     for file; do
