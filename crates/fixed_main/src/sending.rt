@@ -94,7 +94,7 @@ pub fn send_all(parity: usize, depth: usize) {
         let held = read_on(&mut hold, have, want);
         have = held.have;
         if held.failed {
-            crate::say(b"fixed: cannot read standard input\n");
+            console::say(b"fixed: cannot read standard input\n");
             return;
         }
         if held.ended {

@@ -1,11 +1,11 @@
 //! Layer 2 units as a program. `unit write LENGTH DELIMITER AUDIO OPPORTUNISTIC FIXED`: the unit of these files on standard output. `unit read LENGTH
 //! DELIMITER AUDIO-LENGTH FIXED-LENGTH UNIT AUDIO OPPORTUNISTIC FIXED`: the parts of the unit in a file, into files. `-` stands for no file. Where it
-//! refuses it says the number on standard error, and writes nothing.
+//! refuses it says so on standard error, by number and in words, and writes nothing.
 //!
 //! Of a file the first 65,536 bytes are read: no unit holds as many, so the answer is that of the whole file. A number counts up to
 //! 1,000,000,000,000: whatever is above is above every length.
 use base::Written;
-use libc::STDERR_FILENO;
+use console::say;
 use libc::STDOUT_FILENO;
 
 // Whether a file could be read, and how many bytes it gave.
@@ -57,14 +57,9 @@ fn usage() {
     );
 }
 
-fn say(text: &[u8]) {
-    io::write_all(STDERR_FILENO, text);
-}
-
 fn refuse(number: u8) {
-    say(b"unit: refused ");
-    io::print_decimal(STDERR_FILENO, number as u64);
-    say(b"\n");
+    say(b"unit: ");
+    console::say_refused(number);
 }
 
 // A unit written.
