@@ -129,15 +129,18 @@ heed() {
     return "$ended"
 }
 
-# pass_on: lines to standard error; fails where there was one.
+# pass_on: lines to standard error; fails where there was one that is no warning.
 pass_on() {
     said=0
     while IFS= read -r line || [ -n "$line" ]; do
         printf '%s\n' "$line" >&2
-        said=1
+        is_warning "$line" || said=1
     done
     return "$said"
 }
+
+# is_warning LINE: whether it says of no failure. No line is such, but in a script that has a function of its own for it, behind this file.
+is_warning() { return 1; }
 
 # heed_each PROGRAM ARGUMENTS.. -- FILE..: the same of each file, or of standard input where none is named; the status is 1 where one of them failed.
 heed_each() {

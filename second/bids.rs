@@ -210,6 +210,22 @@ fn line(random: &mut Random) -> Vec<u8> {
     }
 }
 
+// Lines as an office types them, on few ports or some more than a board watches, their numbers up by one or not; some end as on Windows.
+fn busy(random: &mut Random) -> Vec<u8> {
+    let ports = 1 + random.below(20) as u16;
+    let mut numbers = vec![random.next() as u16; 20];
+    let mut lines = Vec::new();
+    for _ in 0..random.below(60) {
+        let at = random.below(ports as usize);
+        numbers[at] = numbers[at].wrapping_add([1, 1, 1, 1, 0, 2, 900, 32_767, 32_768, 65_535][random.below(10)]);
+        let port = [1201, 20_735 - 3, 1020][random.below(8).saturating_sub(5)] + at as u16;
+        let bytes: &[u8] = [&b"CORN 4.12"[..], b"OATS \\ {~}", b"WHEAT 6\xC2\xBD", b"R\xC3\xB6\xE2\x82\xAC\xC3\xA9", b"RYE\t3.10\x7F"][random.below(9).saturating_sub(4)];
+        let end: &[u8] = if random.below(12) == 0 { b"\r\n" } else { b"\n" };
+        lines.extend([format!("{port} {} ", numbers[at]).as_bytes(), bytes, end].concat());
+    }
+    lines
+}
+
 fn write_files(dir: &str, seed: u64) {
     let mut random = Random::new(seed);
     std::fs::create_dir_all(dir).expect(dir);
@@ -225,6 +241,9 @@ fn write_files(dir: &str, seed: u64) {
             file.push(b'\n');
         }
         files.push(file);
+    }
+    for mark in [&b""[..], b"", b"", b"", b"\xEF\xBB\xBF", b"\xFF\xFE", b"\xFE\xFF", b"\xEF\xBB"] {
+        files.extend((0..2).map(|_| [mark, &busy(&mut random)].concat()));
     }
     for (at, file) in files.iter().enumerate() {
         std::fs::write(format!("{dir}/{at:03}.bids"), file).expect(dir);
