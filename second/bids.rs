@@ -219,7 +219,8 @@ fn busy(random: &mut Random) -> Vec<u8> {
         let at = random.below(ports as usize);
         numbers[at] = numbers[at].wrapping_add([1, 1, 1, 1, 0, 2, 900, 32_767, 32_768, 65_535][random.below(10)]);
         let port = [1201, 20_735 - 3, 1020][random.below(8).saturating_sub(5)] + at as u16;
-        let bytes: &[u8] = [&b"CORN 4.12"[..], b"OATS \\ {~}", b"WHEAT 6\xC2\xBD", b"R\xC3\xB6\xE2\x82\xAC\xC3\xA9", b"RYE\t3.10\x7F"][random.below(9).saturating_sub(4)];
+        let texts = [&b"CORN 4.12"[..], b"OATS \\ {~}", b"WHEAT 6\xC2\xBD", b"R\xC3\xB6\xE2\x82\xAC\xC3\xA9", b"RYE\t3.10\x7F"];
+        let bytes = texts[random.below(9).saturating_sub(4)];
         let end: &[u8] = if random.below(12) == 0 { b"\r\n" } else { b"\n" };
         lines.extend([format!("{port} {} ", numbers[at]).as_bytes(), bytes, end].concat());
     }
