@@ -8,4 +8,5 @@ pub mod Typed
 pub mod Ordered
 pub mod Inside
 pub mod Sixteen
+pub mod Watched
 pub mod Numbers

@@ -2,6 +2,7 @@
 -- regarded-joined    answers one behind the other
 -- regarded-twice     what a range leaves is left by it again: the packets outside may as well never have been sent ..
 -- regarded-all       .. and where there is none, all is left
+-- regarded-inside    each packet left is inside
 -- regarded-frames    the frames left are those of the packets inside; refused and broken ones stay
 -- regarded-blocks, regarded-losses   blocks and lost locks stay, each
 -- regarded-every     the range of all leaves all, where ports have 16 bits
@@ -68,6 +69,16 @@ module _ (r : Range) where
   regarded-all (said (broken n) ∷ es) h = ap (λ (x : List Event). said (broken n) ∷ x) (regarded-all es h)
   regarded-all (block c ∷ es) h = ap (λ (x : List Event). block c ∷ x) (regarded-all es h)
   regarded-all (lost ∷ es) h = ap (λ (x : List Event). lost ∷ x) (regarded-all es h)
+
+  pub regarded-inside : (es : List Event) → AllInside (packetsAmong (frames (regarded r es)))
+  unfolding regarded packetsAmong
+  regarded-inside [] = tt
+  regarded-inside (said (packet p) ∷ es) =
+      by-test (inside r (p .port)) (λ e. rw e (e, regarded-inside es)) (λ e. rw e (regarded-inside es))
+  regarded-inside (said (refusal n) ∷ es) = regarded-inside es
+  regarded-inside (said (broken n) ∷ es) = regarded-inside es
+  regarded-inside (block c ∷ es) = regarded-inside es
+  regarded-inside (lost ∷ es) = regarded-inside es
 
   -- ---- frames: those of the packets inside, and every refused or broken one
   unfoldable pub framesIn : List Told → List Told
