@@ -4,6 +4,7 @@ pub mod Line
 pub mod Marks
 pub mod Split
 pub mod Ranges
+pub mod Every
 pub mod Typed
 pub mod Ordered
 pub mod Inside

@@ -6,9 +6,9 @@
 -- regarded-frames    the frames left are those of the packets inside; refused and broken ones stay
 -- regarded-blocks, regarded-losses   blocks and lost locks stay, each
 -- regarded-every     the range of all leaves all, where ports have 16 bits
-use Prim.Native.Nat.{ℕ, suc, _<_}
+use Prim.Native.Nat.{suc, _<_}
 use native.Mathlib.Omega.{arith}
-use mathlib.Core.Path.{_≡_, refl, sym, _∙_, ap, subst}
+use mathlib.Core.Path.{_≡_, refl, sym, _∙_, ap}
 use mathlib.Core.Bool.{Bool, true, false}
 use mathlib.Core.List.{List, [], _∷_, _++_, map}
 use Rattle.base.specs.Bytes.{Each}
