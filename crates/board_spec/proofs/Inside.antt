@@ -33,7 +33,8 @@ module _ (r : Range) where
   from-inside [] = refl
   from-inside (l ∷ ls) = go (verdict l) refl (from-inside ls)
     where
-      kept : (t : Bool) (p : Packet) → verdict l ≡ accepted p → writtenAll (map asBid (packetsIn r (packets (map verdict ls)))) ≡ asShown (linesIn r (accepting ls))
+      kept : (t : Bool) (p : Packet) → verdict l ≡ accepted p
+          → writtenAll (map asBid (packetsIn r (packets (map verdict ls)))) ≡ asShown (linesIn r (accepting ls))
           → writtenAll (map asBid (pick t (p ∷ packetsIn r (packets (map verdict ls))) (packetsIn r (packets (map verdict ls)))))
           ≡ asShown (pick t (l ∷ linesIn r (accepting ls)) (linesIn r (accepting ls)))
       kept true p e h = λ i. written (asBid (sym (accepted-bid l p e .is) i)) ++ h i

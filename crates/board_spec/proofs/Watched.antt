@@ -85,7 +85,8 @@ lines-placed : (v : Noted) (p : Packet) → Placed v → Each IsWatched (packetL
 lines-placed v p h = go v h (eqb (p .format) keyFormat)
   where
     go : (v : Noted) → Placed v → (t : Bool)
-        → Each IsWatched (aheadOf v (p .port) ++ (pick t (restricted (p .port) (p .sequence) (p .number)) (ownLine v (p .port) (p .sequence) (p .payload)) ∷ []))
+        → Each IsWatched
+        (aheadOf v (p .port) ++ (pick t (restricted (p .port) (p .sequence) (p .number)) (ownLine v (p .port) (p .sequence) (p .payload)) ∷ []))
     go First h true = (tt, tt)
     go First h false = (tt, tt)
     go InOrder h true = (tt, tt)

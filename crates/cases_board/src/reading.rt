@@ -1,7 +1,8 @@
 //! A stream or a recording read out by calls. The number of the case: 31 bits that say how it is cut; from bit 32 on, 14 bits for the length of a
 //! piece (0: as those bits say), 2 for how the board stands at first, 14 for the length of the receive buffer, and a bit each for bare bytes and
-//! for blocks told. Its first four bytes: the first and the last port of the range. The output is lent to each call anew; the first piece is empty. Each call is told as the bytes taken, what it wants (0: more,
-//! 1: another call) and how many bytes it wrote, and those. Last comes what is still to be said: its length, and its bytes.
+//! for blocks told. Its first four bytes: the first and the last port of the range. The output is lent to each call anew; the first piece is empty.
+//! Each call is told as the bytes taken, what it wants (0: more, 1: another call) and how many bytes it wrote, and those. Last comes what is still to
+//! be said: its length, and its bytes.
 use board::Owed;
 use board::Readout;
 use board::Wants;
@@ -57,7 +58,10 @@ fn start(number: u64, range: Range) -> Place {
     let blocks = number / 0x8000000000000000 == 1;
     let size = (number / 0x100000000 % 16384) as usize;
     Place {
-        readout: begin(number / 0x400000000000 % 4, Readout::fresh(bare, blocks, range)),
+        readout: begin(
+            number / 0x400000000000 % 4,
+            Readout::fresh(bare, blocks, range),
+        ),
         cut: Cut::start(number, size, 0),
     }
 }
