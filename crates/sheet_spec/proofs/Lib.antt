@@ -1,5 +1,6 @@
 pub mod Tallies
 pub mod Ports
+pub mod Within
 pub mod Running
 pub mod Kept
 pub mod Counted

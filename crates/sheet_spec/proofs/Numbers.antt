@@ -4,13 +4,15 @@
 -- stays            a recording that ends in `X` changes nothing
 -- seventeen        nor one with the sheet's seventeenth port, in the month or in the recording alone
 -- too-wide         nor one with a number above 64 bits; forty-first: 40 before 44
+-- of-range         a sheet of a range of ports: the first and the last port of it are counted, no other; of-sixteen: nor do others take a place
 use Prim.Native.Nat.{ℕ, zero, suc}
 use mathlib.Core.Path.{_≡_, refl}
 use mathlib.Core.Bool.{Bool, true, false}
 use mathlib.Core.List.{List, [], _∷_, map}
+use Rattle.ports_spec.specs.Range.{range}
 use Rattle.sheet_spec.specs.declared.Row.{Row}
 use Rattle.sheet_spec.specs.Tally.{toldFrom, told, tallied, sum}
-use Rattle.sheet_spec.specs.Meaning.{Mark, numbersOf, numbers, added, addedAll, lines, anyWide, Counting, counts, wrong, refuses, counting, monthOf}
+use Rattle.sheet_spec.specs.Meaning.{Mark, within, numbersOf, numbers, added, addedAll, lines, anyWide, Counting, counts, wrong, refuses, counting, monthOf}
 use Rattle.sheet_spec.specs.Rows.{row, heardRow, noteIn, rowFor, run, step, steps, settled}
 
 -- a line in numbers: port, delivered, repeated, late, missing, total
@@ -71,3 +73,18 @@ too-wide = (refl, refl, refl, refl, refl)
 pub forty-first : ends true (near 18446744073709551615 0 0 ∷ []) ((5, 1) ∷ ports 17) ≡ refuses 40
 unfolding heardRow noteIn rowFor step steps
 forty-first = refl
+
+-- of ports 1200, 1201, 1216 and 1217, to a sheet of 1201 to 1216; none to one whose first port is above its last
+abbrev around : List Mark
+around = (1200, 1) ∷ (1201, 1) ∷ (1217, 5) ∷ (1216, 8) ∷ (1201, 3) ∷ (1217, 9) ∷ []
+
+pub of-range :
+    (sheet ((true, within (range 1201 1216) around) ∷ []) ≡ (1201 ∷ 2 ∷ 0 ∷ 0 ∷ 1 ∷ 3 ∷ []) ∷ (1216 ∷ 1 ∷ 0 ∷ 0 ∷ 0 ∷ 1 ∷ []) ∷ [])
+    × (sheet ((true, within (range 1216 1201) around) ∷ []) ≡ [])
+unfolding within told toldFrom sum numbersOf numbers added addedAll counting monthOf anyWide
+of-range = (refl, refl)
+
+-- ports 0 to 19, to sheets of sixteen and of seventeen of them
+pub of-sixteen : (last [] (within (range 2 17) (ports 20)) ≡ counts) × (last [] (within (range 2 18) (ports 20)) ≡ refuses 40)
+unfolding within told toldFrom sum numbersOf numbers added addedAll counting anyWide
+of-sixteen = (refl, refl)

@@ -1,5 +1,6 @@
 -- The monthly reception sheet (request W13): from the delivered packets of the recordings that count, to the lines.
--- Mark, numbersOf        a delivered packet's port and sequence number; one port's sequence numbers
+-- Mark, within           a delivered packet's port and sequence number; the packets of a range of ports, which are all that a sheet of it counts
+-- numbersOf              one port's sequence numbers
 -- Month, numbers         the recordings that count, each its delivered packets; a port's numbers in them; timelyOf: its packets in order, first or after a gap
 -- portsOf, lines         the ports in rising order, and a line of each
 -- Counting, counting     what becomes of a recording: it counts whole, or the month stays as it was
@@ -11,6 +12,8 @@ use lib.Dec.{eqb, ltb}
 use lib.ListN.{length}
 use Rattle.base.specs.Choice.{pick}
 use Rattle.base.specs.Calls.{joined}
+use Rattle.ports_spec.specs.declared.Range.{Range}
+use Rattle.ports_spec.specs.Range.{inside}
 use Rattle.sheet_spec.specs.declared.Tally.{Tally}
 use Rattle.sheet_spec.specs.declared.Row.{Row}
 use Rattle.sheet_spec.specs.Tally.{told, nothing, plus, tally, timelyIn, wide}
@@ -18,6 +21,11 @@ use Rattle.sheet_spec.specs.Tally.{told, nothing, plus, tally, timelyIn,
 -- a delivered packet: its port and its sequence number
 abbrev pub Mark : Type 0
 Mark = ℕ × ℕ
+
+-- those of ports inside a range, in order; the others do not count
+unfoldable pub within : Range → List Mark → List Mark
+within r [] = []
+within r (m ∷ ms) = pick (inside r (m .0)) (m ∷ within r ms) (within r ms)
 
 -- one port's sequence numbers, in order
 unfoldable pub numbersOf : ℕ → List Mark → List ℕ
