@@ -1,5 +1,6 @@
 -- The calls keep the sheet of the month.
 -- tidy-sheet       a month's sheet has no recording to forget
+-- notings-within   packets noted are those of the range, each counted; range-only: so the others may as well not be there
 -- recorded-is      a recording's packets, and its end: what the definition says, and the sheet of the month then
 -- refused-keeps, closing-keeps    a recording that does not count leaves the sheet as it was, whatever sheet and draft it is
 use Prim.Native.Nat.{ℕ, _≤_}
@@ -12,17 +13,20 @@ use borrow.Author.Tests.{ltb-false, le-ltb}
 use lib.Dec.{ltb}
 use lib.ListN.{length}
 use Rattle.base.specs.Choice.{pick}
+use Rattle.ports_spec.specs.declared.Range.{Range}
+use Rattle.ports_spec.specs.Range.{inside}
 use Rattle.sheet_spec.specs.declared.Row.{Row}
 use Rattle.sheet_spec.specs.Tally.{wide}
-use Rattle.sheet_spec.specs.Meaning.{Mark, Month, line, lines, portsOf, portLimit, Counting, counts, wrong, refuses, kept, counting}
+use Rattle.sheet_spec.specs.Meaning.{Mark, Month, within, line, lines, portsOf, portLimit, Counting, counts, wrong, refuses, kept, counting}
 use Rattle.sheet_spec.specs.Rows.{heardRow, noteIn, rowFor, cleared, Run, run, step, steps, settled}
 use Rattle.sheet_spec.proofs.Places.{padded-rows}
+use Rattle.sheet_spec.proofs.Within.{within-twice}
 use Rattle.sheet_spec.proofs.Counted.{Fit, counted-is}
 use Rattle.sheet.specs.declared.Sheet.{Sheet}
 use Rattle.sheet.specs.declared.Draft.{Draft}
 use Rattle.sheet.specs.declared.Closed.{Closed}
 use Rattle.sheet.specs.declared.Counted.the-variants.{Counts, Refused}
-use Rattle.sheet.specs.Call.{rowsOf, sheetOf, tidied, beginning, drafted, noting, notings, runOf, answerOf, closed, beyond, closing, recorded}
+use Rattle.sheet.specs.Call.{rowsOf, sheetOf, tidied, beginning, drafted, adding, noting, notings, runOf, answerOf, closed, beyond, closing, recorded}
 
 -- ---- a month's sheet
 pub rows-sheet : (rs : List Row) → length rs ≤ portLimit → rowsOf (sheetOf rs) ≡ rs
@@ -35,7 +39,28 @@ cleared-line month (p ∷ ps) = ap (λ (rs : List Row). line month p ∷ rs) (cl
 pub tidy-sheet : (month : Month) → length (lines month) ≤ portLimit → tidied (sheetOf (lines month)) ≡ sheetOf (lines month)
 tidy-sheet month l = ap (λ (rs : List Row). sheetOf (map cleared rs)) (rows-sheet (lines month) l) ∙ ap sheetOf (cleared-line month (portsOf month))
 
--- ---- packets: the calls go as the run does
+-- ---- packets of a range
+-- packets that count, one after the other
+unfoldable pub addings : Draft → List Mark → Draft
+addings d [] = d
+addings d (m ∷ ms) = addings (adding d (m .0) (m .1)) ms
+
+pub notings-within : (r : Range) (ms : List Mark) (d : Draft) → notings r d ms ≡ addings d (within r ms)
+unfolding notings noting addings within
+notings-within r [] d = refl
+notings-within r (m ∷ ms) d = go (inside r (m .0)) (notings-within r ms (adding d (m .0) (m .1))) (notings-within r ms d)
+  where
+    go : (b : Bool) → notings r (adding d (m .0) (m .1)) ms ≡ addings (adding d (m .0) (m .1)) (within r ms) → notings r d ms ≡ addings d (within r ms)
+        → notings r (pick b (adding d (m .0) (m .1)) d) ms ≡ addings d (pick b (m ∷ within r ms) (within r ms))
+    go true x y = x
+    go false x y = y
+
+pub range-only : (r : Range) (s : Sheet) (well : Bool) (ms : List Mark) → recorded r s well ms ≡ recorded r s well (within r ms)
+range-only r s well ms =
+    ap (λ (d : Draft). closing d well)
+    (notings-within r ms (beginning s) ∙ ap (addings (beginning s)) (sym (within-twice r ms)) ∙ sym (notings-within r (within r ms) (beginning s)))
+
+-- ---- the calls go as the run does
 record Goes (s : Sheet) (d : Draft) (x : Run) : Type 0 where
   before : d .before ≡ s
   same : runOf d ≡ x
@@ -60,16 +85,16 @@ module _ (s : Sheet) (d : Draft) (port q : ℕ) where
       let k = ltb-false portLimit (length (noteIn port q (rowsOf (d .after)))) h in
       record { before = e; same = ap (λ (rs : List Row). run rs (d .full) (d .wide)) (rows-sheet (noteIn port q (rowsOf (d .after))) k); few = k }
 
-  goes-step : (x : Run) → Goes s d x → Goes s (noting d port q) (step port q x)
-  unfolding noting step
+  goes-step : (x : Run) → Goes s d x → Goes s (adding d port q) (step port q x)
+  unfolding adding step
   goes-step x g =
       let h = goes-by (g .before) (g .few) (ltb portLimit (length (noteIn port q (rowsOf (d .after))))) refl (wide (heardRow (rowFor port (rowsOf (d .after))) q .tally)) in
-      subst (λ (y : Run). Goes s (noting d port q) (step port q y)) (g .same) (rw (le-ltb portLimit (d .after .ports) (g .few)) h)
+      subst (λ (y : Run). Goes s (adding d port q) (step port q y)) (g .same) (rw (le-ltb portLimit (d .after .ports) (g .few)) h)
 
-goes-steps : (s : Sheet) (ms : List Mark) (d : Draft) (x : Run) → Goes s d x → Goes s (notings d ms) (steps x ms)
-unfolding notings steps
+goes-steps : (s : Sheet) (ms : List Mark) (d : Draft) (x : Run) → Goes s d x → Goes s (addings d ms) (steps x ms)
+unfolding addings steps
 goes-steps s [] d x g = g
-goes-steps s (m ∷ ms) d x g = goes-steps s ms (noting d (m .0) (m .1)) (step (m .0) (m .1) x) (goes-step s d (m .0) (m .1) x g)
+goes-steps s (m ∷ ms) d x g = goes-steps s ms (adding d (m .0) (m .1)) (step (m .0) (m .1) x) (goes-step s d (m .0) (m .1) x g)
 
 -- ---- the end
 kept-ap : (f : List Row → Sheet) (c : Counting) (x y : List Row) → kept c (f x) (f y) ≡ f (kept c x y)
@@ -85,9 +110,10 @@ closed-by s d x well g l =
     rw (b, le-ltb portLimit (d .after .ports) (g .few))
     (λ i. closed (answerOf (settled well (g .same i))) (kept (settled well (g .same i)) (sheetOf (map cleared (g .same i .rows))) (g .before i)))
 
-pub recorded-is : (month : Month) (ms : List Mark) (well : Bool) → Fit month
-    → recorded (sheetOf (lines month)) well ms ≡ closed (answerOf (counting well month ms .0)) (sheetOf (lines (counting well month ms .1)))
-recorded-is month ms well f =
+added-is : (month : Month) (ms : List Mark) (well : Bool) → Fit month
+    → closing (addings (beginning (sheetOf (lines month))) ms) well
+    ≡ closed (answerOf (counting well month ms .0)) (sheetOf (lines (counting well month ms .1)))
+added-is month ms well f =
     let s : Sheet = sheetOf (lines month) in
     let t = tidy-sheet month (f .few) in
     let g : Goes s (beginning s) (run (lines month) false false) = record {
@@ -96,14 +122,20 @@ recorded-is month ms well f =
       few = subst (λ (u : Sheet). u .ports ≤ portLimit) (sym t) (f .few);
     } in
     let end : Run = steps (run (lines month) false false) ms in
-    closed-by s (notings (beginning s) ms) end well (goes-steps s ms (beginning s) (run (lines month) false false) g) (f .few)
+    closed-by s (addings (beginning s) ms) end well (goes-steps s ms (beginning s) (run (lines month) false false) g) (f .few)
     ∙ ap (closed (answerOf (settled well end))) (kept-ap sheetOf (settled well end) (map cleared (end .rows)) (lines month))
     ∙ ap (λ (x : Counting × List Row). closed (answerOf (x .0)) (sheetOf (x .1))) (counted-is month ms f well)
 
+pub recorded-is : (r : Range) (month : Month) (ms : List Mark) (well : Bool) → Fit month
+    → recorded r (sheetOf (lines month)) well ms
+    ≡ closed (answerOf (counting well month (within r ms) .0)) (sheetOf (lines (counting well month (within r ms) .1)))
+recorded-is r month ms well f =
+    ap (λ (d : Draft). closing d well) (notings-within r ms (beginning (sheetOf (lines month)))) ∙ added-is month (within r ms) well f
+
 -- ---- whatever sheet it is
-noting-before : (d : Draft) (port q : ℕ) → noting d port q .before ≡ d .before
-unfolding noting
-noting-before d port q = go (ltb portLimit (d .after .ports)) (ltb portLimit (length (noteIn port q (rowsOf (d .after))))) (wide (heardRow (rowFor port (rowsOf (d .after))) q .tally))
+adding-before : (d : Draft) (port q : ℕ) → adding d port q .before ≡ d .before
+unfolding adding
+adding-before d port q = go (ltb portLimit (d .after .ports)) (ltb portLimit (length (noteIn port q (rowsOf (d .after))))) (wide (heardRow (rowFor port (rowsOf (d .after))) q .tally))
   where
     go : (a b c : Bool) → pick {A = Draft} a d (by (d .before) d port q b c) .before ≡ d .before
     go true b c = refl
@@ -111,10 +143,10 @@ noting-before d port q = go (ltb portLimit (d .after .ports)) (ltb portLimit (le
     go false false true = refl
     go false false false = refl
 
-notings-before : (ms : List Mark) (d : Draft) → notings d ms .before ≡ d .before
-unfolding notings
-notings-before [] d = refl
-notings-before (m ∷ ms) d = notings-before ms (noting d (m .0) (m .1)) ∙ noting-before d (m .0) (m .1)
+addings-before : (ms : List Mark) (d : Draft) → addings d ms .before ≡ d .before
+unfolding addings
+addings-before [] d = refl
+addings-before (m ∷ ms) d = addings-before ms (adding d (m .0) (m .1)) ∙ adding-before d (m .0) (m .1)
 
 kept-old : (c : Counting) (x y : Sheet) → answerOf c ≢ Counts → kept c x y ≡ y
 kept-old counts x y n = absurd (n refl)
@@ -131,5 +163,7 @@ closing-keeps d well = go (beyond d)
     go true n = refl
     go false n = kept-old (settled well (runOf d)) (tidied (d .after)) (d .before) n
 
-pub refused-keeps : (s : Sheet) (well : Bool) (ms : List Mark) → recorded s well ms .counted ≢ Counts → recorded s well ms .sheet ≡ s
-refused-keeps s well ms n = closing-keeps (notings (beginning s) ms) well n ∙ notings-before ms (beginning s)
+pub refused-keeps : (r : Range) (s : Sheet) (well : Bool) (ms : List Mark) → recorded r s well ms .counted ≢ Counts → recorded r s well ms .sheet ≡ s
+refused-keeps r s well ms n =
+    closing-keeps (notings r (beginning s) ms) well n
+    ∙ ap (λ (d : Draft). d .before) (notings-within r ms (beginning s)) ∙ addings-before (within r ms) (beginning s)

@@ -1,7 +1,7 @@
 -- The calls, way by way.
 -- found-old, found-new       what a packet finds
 -- fresh-is, tidied-is, begin-is   a sheet's rows
--- note-.., close-.., print-..   the three calls
+-- note-.., close-.., print-..   the three calls; note-out, note-in: a packet by its port
 use Prim.Native.Nat.{ℕ, _+_, _≤_, _<_, min}
 use native.Mathlib.Omega.{arith}
 use mathlib.Core.Path.{_≡_, refl, sym, ap, _∙_}
@@ -11,8 +11,11 @@ use mathlib.Core.List.{List, map}
 use borrow.Author.Tests.{eq-eqb, ne-eqb, lt-ltb, le-ltb}
 use lib.Dec.{ltb}
 use lib.ListN.{length, getD, replicate, length-take, length-map}
+use Rattle.base.specs.Choice.{pick}
 use Rattle.base.specs.Written.{Outcome, outcome, write}
 use Rattle.base.specs.declared.Written.the-variants.{Wrote, Refused as Unwritten}
+use Rattle.ports_spec.specs.declared.Range.{Range}
+use Rattle.ports_spec.specs.Range.{inside}
 use Rattle.sheet_spec.specs.declared.Row.{Row}
 use Rattle.sheet_spec.specs.Tally.{wide}
 use Rattle.sheet_spec.specs.Meaning.{portLimit}
@@ -23,7 +26,7 @@ use Rattle.sheet.specs.declared.Sheet.{Sheet}
 use Rattle.sheet.specs.declared.Draft.{Draft}
 use Rattle.sheet.specs.declared.Counted.the-variants.{Counts, Wrong, Refused}
 use Rattle.sheet.specs.declared.rows.Found.{Found}
-use Rattle.sheet.specs.Call.{rowsOf, freshSheet, tidied, beginning, drafted, noting, closed, closing, lineOf, printing}
+use Rattle.sheet.specs.Call.{rowsOf, freshSheet, tidied, beginning, drafted, adding, noting, closed, closing, lineOf, printing}
 use Rattle.sheet.specs.Private.{foundIn}
 
 -- ---- what a packet finds
@@ -82,16 +85,16 @@ module _ (d : Draft) (port s : ℕ) where
   abbrev rs : List Row
   rs = rowsOf (d .after)
 
-  pub note-beyond : portLimit < d .after .ports → d ≡ noting d port s
-  unfolding noting
+  pub note-beyond : portLimit < d .after .ports → d ≡ adding d port s
+  unfolding adding
   note-beyond h = rw (lt-ltb portLimit (d .after .ports) h) refl
 
   module _ (few : d .after .ports ≤ portLimit) {f : Found} (e : f ≡ foundIn port rs) where
     behind : f .behind ≡ length (noteIn port s rs)
     behind = ap (λ (x : Found). x .behind) e ∙ sym (length-is port s rs)
 
-    pub note-full : portLimit < f .behind → drafted d (d .after) true (d .wide) ≡ noting d port s
-    unfolding noting
+    pub note-full : portLimit < f .behind → drafted d (d .after) true (d .wide) ≡ adding d port s
+    unfolding adding
     note-full h = rw (le-ltb portLimit (d .after .ports) few, lt-ltb portLimit (length (noteIn port s rs)) (omega (arith, h, behind))) refl
 
     module _ (room : f .behind ≤ portLimit) {t : Bool} (fits : t ≡ not (wide (heardRow (f .row) s .tally))) where
@@ -111,19 +114,37 @@ module _ (d : Draft) (port s : ℕ) where
       pub note-small : not t ≡ false → wide (heardRow (f .row) s .tally) ≡ false
       note-small h = fits-by (wide (heardRow (f .row) s .tally)) t fits h
 
-      pub note-wide : not t ≡ true → drafted d (d .after) (d .full) true ≡ noting d port s
-      unfolding noting
+      pub note-wide : not t ≡ true → drafted d (d .after) (d .full) true ≡ adding d port s
+      unfolding adding
       note-wide h =
           rw (le-ltb portLimit (d .after .ports) few, le-ltb portLimit (length (noteIn port s rs)) (omega (arith, room, behind)), sym same ∙ wide-by (wide (heardRow (f .row) s .tally)) t fits h) refl
 
       pub note-put : not t ≡ false → {x : Row} {z : List Row} → x ≡ heardRow (f .row) s → z ≡ tab 16 (putAt rs (f .at) (f .new) x)
-          → drafted d (record { ports = f .behind; rows = z }) (d .full) (d .wide) ≡ noting d port s
-      unfolding noting
+          → drafted d (record { ports = f .behind; rows = z }) (d .full) (d .wide) ≡ adding d port s
+      unfolding adding
       note-put h {x} {z} ex ez =
           let g : z ≡ padded (noteIn port s rs) =
           ez ∙ ap (λ (y : Row). tab 16 (putAt rs (f .at) (f .new) y)) ex ∙ ap (λ (y : Found). tab 16 (putAt rs (y .at) (y .new) (heardRow (y .row) s))) e ∙ put-all-is 16 port s rs in
           rw (le-ltb portLimit (d .after .ports) few, le-ltb portLimit (length (noteIn port s rs)) (omega (arith, room, behind)), sym same ∙ note-small h)
           (λ i. drafted d (record { ports = behind i; rows = g i }) (d .full) (d .wide))
+
+-- .. and of any port
+module _ (r : Range) (d : Draft) (port s : ℕ) {t : Bool} (e : t ≡ inside r port) where
+  pub note-out : not t ≡ true → d ≡ noting r d port s
+  unfolding noting
+  note-out h = ap (λ (b : Bool). pick b (adding d port s) d) (sym (out t h) ∙ e)
+    where
+      out : (b : Bool) → not b ≡ true → b ≡ false
+      out true h = absurd (false≢true h)
+      out false h = refl
+
+  pub note-in : not t ≡ false → {x : Draft} → x ≡ adding d port s → x ≡ noting r d port s
+  unfolding noting
+  note-in h f = f ∙ ap (λ (b : Bool). pick b (adding d port s) d) (sym (within t h) ∙ e)
+    where
+      within : (b : Bool) → not b ≡ false → b ≡ true
+      within true h = refl
+      within false h = absurd (true≢false h)
 
 -- ---- a recording's end
 module _ (d : Draft) where

@@ -1,8 +1,9 @@
 -- The monthly sheet by calls (request W13): a sheet goes in and comes back, a recording's packets one a call.
 -- rowsOf, sheetOf, freshSheet     a sheet's rows, and the sheet of rows
--- beginning, noting, closing      a recording begins, delivers a packet, ends
+-- beginning, adding, closing      a recording begins, delivers a packet that counts, ends
+-- noting                          .. delivers a packet, of which only those of a range of ports count
 -- printing                        a row's line
--- recorded                        a whole recording
+-- notings, recorded               packets one after the other, a whole recording
 use Prim.Native.Nat.{ℕ}
 use mathlib.Core.Bool.{Bool, true, false, _||_}
 use mathlib.Core.List.{List, [], _∷_, map}
@@ -11,6 +12,8 @@ use lib.ListN.{length, take, getD}
 use Rattle.base.specs.Choice.{pick}
 use Rattle.base.specs.Written.{Outcome, refused, write}
 use Rattle.lines.specs.Row.{rowLine}
+use Rattle.ports_spec.specs.declared.Range.{Range}
+use Rattle.ports_spec.specs.Range.{inside}
 use Rattle.sheet_spec.specs.declared.Row.{Row}
 use Rattle.sheet_spec.specs.Tally.{wide}
 use Rattle.sheet_spec.specs.Meaning.{Mark, portLimit, Counting, counts, wrong, refuses, kept}
@@ -53,13 +56,17 @@ noted d port s = noteIn port s (rowsOf (d .after))
 abbrev pub rowThen : Draft → ℕ → ℕ → Row
 rowThen d port s = heardRow (rowFor port (rowsOf (d .after))) s
 
--- a packet; a state beyond its limit stays (the end tells of it)
-unfoldable pub noting : Draft → ℕ → ℕ → Draft
-noting d port s =
+-- a packet that counts; a state beyond its limit stays (the end tells of it)
+unfoldable pub adding : Draft → ℕ → ℕ → Draft
+adding d port s =
     pick (ltb portLimit (d .after .ports)) d
     (pick (ltb portLimit (length (noted d port s))) (drafted d (d .after) true (d .wide))
     (pick (wide (rowThen d port s .tally)) (drafted d (d .after) (d .full) true)
     (drafted d (sheetOf (noted d port s)) (d .full) (d .wide))))
+
+-- a packet, to a sheet of these ports: one of another port changes nothing
+unfoldable pub noting : Range → Draft → ℕ → ℕ → Draft
+noting r d port s = pick (inside r port) (adding d port s) d
 
 -- what the draft has of the recording
 abbrev pub runOf : Draft → Run
@@ -97,10 +104,10 @@ printing s i out =
 
 -- ---- a whole recording
 -- packets one after the other
-unfoldable pub notings : Draft → List Mark → Draft
-notings d [] = d
-notings d (m ∷ ms) = notings (noting d (m .0) (m .1)) ms
+unfoldable pub notings : Range → Draft → List Mark → Draft
+notings r d [] = d
+notings r d (m ∷ ms) = notings r (noting r d (m .0) (m .1)) ms
 
--- a recording's packets, from a sheet on, and its end
-abbrev pub recorded : Sheet → Bool → List Mark → Closed
-recorded s well ms = closing (notings (beginning s) ms) well
+-- a recording's packets, from a sheet of these ports on, and its end
+abbrev pub recorded : Range → Sheet → Bool → List Mark → Closed
+recorded r s well ms = closing (notings r (beginning s) ms) well

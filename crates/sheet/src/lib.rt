@@ -1,9 +1,10 @@
 //! The monthly reception sheet (request W13): a line for each port, counted from the delivered packets of many recordings.
 ghost use mathlib.Core.Path.{_≡_};
 ghost use Rattle.base.specs.Written.{outcome};
-ghost use Rattle.sheet.specs.Call.{freshSheet, tidied, beginning, noting, closing, printing};
+ghost use Rattle.sheet.specs.Call.{freshSheet, tidied, beginning, adding, noting, closing, printing};
 use base::Refusal;
 use base::Written;
+use ports_spec::Range;
 use rows::clear_all;
 use rows::find;
 use rows::put_all;
@@ -113,9 +114,19 @@ impl Sheet {
 }
 
 impl Draft {
-    /// A delivered packet.
-    pub fn note(self, port: u16, sequence: u16) -> Draft
-        ensures { λ r. ⌜ r ≡ noting self port sequence ⌝ }
+    /// A delivered packet; one of a port outside the range does not count.
+    pub fn note(self, range: Range, port: u16, sequence: u16) -> Draft
+        ensures { λ r. ⌜ r ≡ noting range self port sequence ⌝ }
+    {
+        if !range.has(port) {
+            return self;
+        }
+        self.add(port, sequence)
+    }
+
+    // A packet that counts.
+    fn add(self, port: u16, sequence: u16) -> Draft
+        ensures { λ r. ⌜ r ≡ adding self port sequence ⌝ }
     {
         let before = self.before;
         let after = self.after;

@@ -1,6 +1,6 @@
 -- `sheet::Draft::note` meets its contract.
 use borrow.Author.Needs.{needs}
-use Rattle.sheet.proofs.Ways.{note-beyond, note-full, note-wide, note-small, note-put}
+use Rattle.sheet.proofs.Ways.{note-out, note-in}
 use Rattle.sheet.proofs.Draft.note.Statement.{statement}
 use Rattle.sheet.proofs.Draft.note.Tie as tie
 
@@ -8,11 +8,7 @@ pub note-spec : {M : Type 1} → statement M
 note-spec =
     tie.close
     (tie.spec
-    (λ c. note-beyond (c .before .before .before .before .args .self) (c .before .before .before .before .args .port) (c .before .before .before .before .args .sequence) (c .if1 .taken))
     (λ c κs. search needs)
-    (λ c. note-full (c .before .before .before .before .before .before .args .self) (c .before .before .before .before .before .before .args .port) (c .before .before .before .before .before .before .args .sequence) (c .before .before .if1 .left) (c .before .find .ensures) (c .if2 .taken))
+    (λ c. note-out (c .before .before .args .range) (c .before .before .args .self) (c .before .before .args .port) (c .before .before .args .sequence) (c .before .has .ensures) (c .if1 .taken))
     (λ c κs. search needs)
-    (λ c. note-wide (c .before .before .before .before .before .before .before .before .before .args .self) (c .before .before .before .before .before .before .before .before .before .args .port) (c .before .before .before .before .before .before .before .before .before .args .sequence) (c .before .before .before .before .before .if1 .left) (c .before .before .before .before .find .ensures) (c .before .before .before .if2 .left) (c .before .fits2 .ensures) (c .if3 .taken))
-    (λ c κs. note-small (c .before .before .before .before .before .before .before .before .before .args .self) (c .before .before .before .before .before .before .before .before .before .args .port) (c .before .before .before .before .before .before .before .before .before .args .sequence) (c .before .before .before .before .before .if1 .left) (c .before .before .before .before .find .ensures) (c .before .before .before .if2 .left) (c .before .fits2 .ensures) (c .if3 .left))
-    (λ c κs. search needs)
-    (λ c. note-put (c .before .before .before .before .before .before .before .before .before .before .before .args .self) (c .before .before .before .before .before .before .before .before .before .before .before .args .port) (c .before .before .before .before .before .before .before .before .before .before .before .args .sequence) (c .before .before .before .before .before .before .before .if1 .left) (c .before .before .before .before .before .before .find .ensures) (c .before .before .before .before .before .if2 .left) (c .before .before .before .fits2 .ensures) (c .before .before .if3 .left) (c .before .heard-row .ensures) (c .put-all .ensures)))
+    (λ c. note-in (c .before .before .before .args .range) (c .before .before .before .args .self) (c .before .before .before .args .port) (c .before .before .before .args .sequence) (c .before .before .has .ensures) (c .before .if1 .left) (c .add .ensures)))
