@@ -646,7 +646,7 @@ pub sheet-print-means : Means sheet-print.Statement.statement sheet-print.Kinds.
 sheet-print-means = (λ M. sheet-print.Met.met, λ κs a. tt, λ κs a z ws. (λ p. p, λ p. p))
 
 pub sheet-note-means : Means sheet-note.Statement.statement sheet-note.Kinds.ps sheet-note.Kinds.r sheet-note.Reads.Asked sheet-note.Reads.Learnt
-    λ κs self port sequence r. r ≡ counted self port sequence
+    λ κs self range port sequence r. r ≡ counted range self port sequence
 sheet-note-means = (λ M. sheet-note.Met.met, λ κs a. tt, λ κs a z ws. (λ p. p, λ p. p))
 
 pub sheet-close-means : Means sheet-close.Statement.statement sheet-close.Kinds.ps sheet-close.Kinds.r sheet-close.Reads.Asked sheet-close.Reads.Learnt

@@ -1,9 +1,10 @@
 -- Request W13, "Monthly reception sheet", each sentence over its theorem. A month is the list of the recordings that count, each the list of its
 -- delivered packets' ports and sequence numbers; `lines` are the sheet's lines, `counting` is what a recording makes of the month, `recorded` the
--- calls on its packets (proofs/Promises), `sheetOf` the sheet as it is kept.
+-- calls on its packets (proofs/Promises), `sheetOf` the sheet as it is kept. A sheet may be of a range of ports: all is said of every range.
 -- rising-order, line-each          the lines
 -- line-numbers, afresh, each-packet, delivered, loss, line-is     their numbers
 -- sheet-by-calls, sheet-begins, sheet-goes-on, sheet-of-many, sheet-rows, line-printed     by calls, for every cutting of each recording
+-- range-brings, range-sheet, range-lines, every-port     a range of ports
 -- close-refusals, month-refusals, close-keeps, sheet-stays, month-stays, x-is-wrong, counted-whole      what does not count
 -- print-refusals, print-row-refusals, ..-keeps-out     a line written
 use Prim.Native.Nat.{ℕ, _+_, _≤_, _<_}
@@ -23,17 +24,21 @@ use Rattle.base.proofs.Calls.{yields-so}
 use Rattle.base.proofs.Writing.{write-keeps}
 use Rattle.lines.specs.Row.{rowLine, rowLongest}
 use Rattle.lines.proofs.Rows.{row-short}
-use Rattle.listing_spec.specs.Apart.{well}
+use Rattle.listing_spec.specs.Apart.{freshSpot, apart, well, onChannel}
+use Rattle.listing_spec.specs.Meaning.{heard}
 use Rattle.recording.specs.Call.{far, EveryCut}
 use Rattle.recording.proofs.Demands.{taken-apart}
+use Rattle.ports_spec.specs.declared.Range.{Range}
+use Rattle.ports_spec.specs.Range.{everyPort, inside}
 use Rattle.sheet_spec.specs.declared.Row.{Row}
 use Rattle.ports_spec.specs.declared.Noted.the-variants.{First, InOrder, Repeated, Missing, Late}
 use Rattle.sheet_spec.specs.Tally.{told, tallied, nothing, plus, one, sum, tally, timelyIn}
-use Rattle.sheet_spec.specs.Meaning.{Mark, Month, numbersOf, numbers, timelyOf, addedAll, portsOf, line, lines, anyWide, portLimit, counts, wrong, ruling, with, counting, monthOf}
+use Rattle.sheet_spec.specs.Meaning.{Mark, Month, within, numbersOf, numbers, timelyOf, addedAll, portsOf, line, lines, anyWide, portLimit, counts, wrong, ruling, with, counting, monthOf}
 use Rattle.sheet_spec.specs.Rows.{blank}
 use Rattle.sheet_spec.specs.Recording.{marks, brings}
 use Rattle.sheet_spec.proofs.Tallies as tallies
 use Rattle.sheet_spec.proofs.Ports.{Rising, In, Among, ports-rise, ports-are}
+use Rattle.sheet_spec.proofs.Within.{Ported, within-every, numbers-range, ports-range}
 use Rattle.sheet_spec.proofs.Counted.{Fit, fresh-fit, month-fit, refused-stays, counts-with}
 use Rattle.sheet.specs.declared.Sheet.{Sheet}
 use Rattle.sheet.specs.declared.Draft.{Draft}
@@ -41,10 +46,10 @@ use Rattle.sheet.specs.declared.Closed.{Closed}
 use Rattle.sheet.specs.declared.Counted.{Counted}
 use Rattle.sheet.specs.declared.Counted.the-variants.{Counts, Wrong, Refused}
 use Rattle.sheet.specs.Call.{rowsOf, sheetOf, freshSheet, closed, answerOf, beyond, closing, recorded, lineOf, printing}
-use Rattle.sheet.proofs.Month.{rows-sheet, recorded-is, closing-keeps, refused-keeps}
+use Rattle.sheet.proofs.Month.{rows-sheet, recorded-range, recorded-is, closing-keeps, refused-keeps}
 use Rattle.demands_laws.specs.Table.{Exact}
 use Rattle.demands_laws.specs.Refusals.{ByCall}
-use Rattle.demands.specs.Sheet.{ByClosed, closeRows, monthRows, printRows, recordedAll}
+use Rattle.demands.specs.Sheet.{ByClosed, closeRows, monthRows, printRows, inRange, recordedAll}
 use Rattle.demands_laws.proofs.Rows.{applies, over, row, passed, refuses as refuses-call, not-less, wrote}
 
 -- "From many recordings, print a line for each port, in rising order:": the ports rise, a line each, and are those that a recording that counts
@@ -93,13 +98,15 @@ line-is r = (refl, row-short (r .port) (r .tally .delivered) (r .tally .repeated
 -- "Each number is defined from the delivered packets.": however a recording is cut, whatever the lent buffers held, the calls come to their end, and
 -- the packets among their answers, noted one after the other from a month's sheet on, leave what the definition says of the recording's bytes: what
 -- becomes of it, and the sheet of the month then (a recording below 2^64 bytes; a month that the sheet can hold, as each is that these calls give)
-pub sheet-by-calls : (month : Month) → Fit month → (file : List ℕ) → length file ≤ far
+pub sheet-by-calls : (range : Range) (month : Month) → Fit month → (file : List ℕ) → length file ≤ far
     → EveryCut file λ es m.
-    recorded (sheetOf (lines month)) (well (m .spot .place)) (marks es)
-    ≡ closed (answerOf (counting (brings file .0) month (brings file .1) .0)) (sheetOf (lines (counting (brings file .0) month (brings file .1) .1)))
-sheet-by-calls month f file short recv word r w pieces cut =
+    recorded range (sheetOf (lines month)) (well (m .spot .place)) (marks es)
+    ≡ closed (answerOf (counting (brings range file .0) month (brings range file .1) .0))
+    (sheetOf (lines (counting (brings range file .0) month (brings range file .1) .1)))
+sheet-by-calls range month f file short recv word r w pieces cut =
     yields-so (taken-apart file short recv word r w pieces cut) λ es m x.
-    (λ i. recorded (sheetOf (lines month)) (well (x .1 i .place)) (marks (x .0 i))) ∙ recorded-is month (brings file .1) (brings file .0) f
+    (λ i. recorded range (sheetOf (lines month)) (well (x .1 i .place)) (marks (x .0 i)))
+    ∙ recorded-is range month (marks (heard (onChannel file) (apart freshSpot file .0))) (brings range file .0) f
 
 -- .. from the fresh sheet on, which is that of no recording; the sheet of each month behind it can be held
 pub sheet-begins : (freshSheet ≡ sheetOf (lines [])) × Fit []
@@ -109,16 +116,42 @@ sheet-begins = (refl, fresh-fit)
 pub sheet-goes-on : (rs : List (Bool × List Mark)) → Fit (monthOf [] rs)
 sheet-goes-on rs = month-fit rs [] fresh-fit
 
--- .. so of many recordings, one after the other, the calls leave the sheet of the month
-many-from : (rs : List (Bool × List Mark)) (month : Month) → Fit month → recordedAll (sheetOf (lines month)) rs ≡ sheetOf (lines (monthOf month rs))
+-- .. so of many recordings, one after the other, the calls leave the sheet of the month: of their packets of the range
+many-from : (range : Range) (rs : List (Bool × List Mark)) (month : Month) → Fit month
+    → recordedAll range (sheetOf (lines month)) rs ≡ sheetOf (lines (monthOf month (inRange range rs)))
 unfolding monthOf
-many-from [] month f = refl
-many-from (r ∷ rs) month f =
-    ap (λ (x : Closed). recordedAll (x .sheet) rs) (recorded-is month (r .1) (r .0) f)
-    ∙ many-from rs (counting (r .0) month (r .1) .1) (month-fit (r ∷ []) month f)
+many-from range [] month f = refl
+many-from range (r ∷ rs) month f =
+    ap (λ (x : Closed). recordedAll range (x .sheet) rs) (recorded-is range month (r .1) (r .0) f)
+    ∙ many-from range rs (counting (r .0) month (within range (r .1)) .1) (month-fit ((r .0, within range (r .1)) ∷ []) month f)
 
-pub sheet-of-many : (rs : List (Bool × List Mark)) → recordedAll freshSheet rs ≡ sheetOf (lines (monthOf [] rs))
-sheet-of-many rs = ap (λ (s : Sheet). recordedAll s rs) (sheet-begins .0) ∙ many-from rs [] fresh-fit
+pub sheet-of-many : (range : Range) (rs : List (Bool × List Mark)) → recordedAll range freshSheet rs ≡ sheetOf (lines (monthOf [] (inRange range rs)))
+sheet-of-many range rs = ap (λ (s : Sheet). recordedAll range s rs) (sheet-begins .0) ∙ many-from range rs [] fresh-fit
+
+-- `--ports A-B`: what a recording brings to a sheet of a range is whether it ends as one, which no range changes, and its packets of ports inside ..
+pub range-brings : (range : Range) (file : List ℕ)
+    → (brings range file .0 ≡ well (apart freshSpot file .1 .place))
+    × (brings range file .1 ≡ within range (marks (heard (onChannel file) (apart freshSpot file .0))))
+range-brings range file = (refl, refl)
+
+-- .. so the sheet of the range is the sheet of every port, of the recordings without the other packets, whatever sheet it begins with: these are
+-- neither counted, nor do they bring 40 or 44 (a range of ports of 16 bits, as the code's are)
+pub range-sheet : (range : Range) → range .last ≤ 65535 → (rs : List (Bool × List Mark)) (s : Sheet)
+    → recordedAll range s rs ≡ recordedAll everyPort s (inRange range rs)
+range-sheet range h [] s = refl
+range-sheet range h (r ∷ rs) s =
+    range-sheet range h rs (recorded range s (r .0) (r .1) .sheet)
+    ∙ ap (λ (x : Closed). recordedAll everyPort (x .sheet) (inRange range rs)) (recorded-range range h s (r .0) (r .1))
+
+-- .. its lines are, of the same recordings, those lines whose port is inside
+pub range-lines : (range : Range) (month : Month) (port : ℕ)
+    → (In port (portsOf (map (within range) month)) ↔ ((inside range port ≡ true) × In port (portsOf month)))
+    × (inside range port ≡ true → numbers port (map (within range) month) ≡ numbers port month)
+range-lines range month port = (ports-range range month port, λ h. numbers-range range port h month)
+
+-- .. and without the option every packet counts: each has a port of 16 bits
+pub every-port : (ms : List Mark) → Ported ms → within everyPort ms ≡ ms
+every-port = within-every
 
 -- the rows of the sheet that is kept are the lines ..
 pub sheet-rows : (month : Month) → Fit month → rowsOf (sheetOf (lines month)) ≡ lines month
@@ -175,11 +208,13 @@ close-refusals d well =
     row ByClosed (beyond d) (refuses-closed 10 (d .before)) (beyond-is 16 (d .before .ports) 16 (d .after .ports)) (beyond-not 16 (d .before .ports) 16 (d .after .ports))
     (by-ruling well (d .full) (d .wide) _ (λ e. e) (λ e. e) (λ e. e) (λ e. e))
 
-pub month-refusals : (month : Month) (ms : List Mark) (well : Bool) → Fit month → Exact ByClosed (recorded (sheetOf (lines month)) well ms) (monthRows month well ms)
+pub month-refusals : (range : Range) (month : Month) (ms : List Mark) (well : Bool) → Fit month
+    → Exact ByClosed (recorded range (sheetOf (lines month)) well ms) (monthRows month well (within range ms))
 unfolding counting
-month-refusals month ms well f =
-    subst (λ (x : Closed). Exact ByClosed x (monthRows month well ms)) (sym (recorded-is month ms well f))
-    (by-ruling well (ltb portLimit (length (lines (with month ms)))) (anyWide (lines (with month ms))) _ (ltb-true portLimit _) (lt-ltb portLimit _) (λ e. e) (λ e. e))
+month-refusals range month ms well f =
+    subst (λ (x : Closed). Exact ByClosed x (monthRows month well (within range ms))) (sym (recorded-is range month ms well f))
+    (by-ruling well (ltb portLimit (length (lines (with month (within range ms))))) (anyWide (lines (with month (within range ms)))) _
+    (ltb-true portLimit _) (lt-ltb portLimit _) (λ e. e) (λ e. e))
 
 -- a refused end gives the sheet back as it was before the recording, of any draft
 pub close-keeps : (d : Draft) (well : Bool) (n : ℕ) → ByClosed (closing d well) n → closing d well ≡ closed (Refused n) (d .before)
@@ -191,7 +226,8 @@ close-keeps d well n e =
     uncounted f = let z : _≡_ {A = ℕ} 0 1 = cc in omega arith
 
 -- "such a recording, and one that ends in `X`, leaves the sheet as it was.": whatever does not count leaves it, of any sheet; and `X` is told apart
-pub sheet-stays : (s : Sheet) (well : Bool) (ms : List Mark) → recorded s well ms .counted ≢ Counts → recorded s well ms .sheet ≡ s
+pub sheet-stays : (range : Range) (s : Sheet) (well : Bool) (ms : List Mark)
+    → recorded range s well ms .counted ≢ Counts → recorded range s well ms .sheet ≡ s
 sheet-stays = refused-keeps
 
 pub month-stays : (well : Bool) (month : Month) (ms : List Mark) → counting well month ms .0 ≢ counts → counting well month ms .1 ≡ month

@@ -2,14 +2,16 @@
 -- ByClosed, closeRows     a recording's end, by the draft as it is ..
 -- monthRows               .. and by the month and the recording's packets
 -- printRows               a row's line
+-- inRange                 recordings without the packets of ports outside a range
 -- recordedAll             recordings one after the other, by calls
 use Prim.Native.Nat.{ℕ, _<_}
 use mathlib.Core.Path.{_≡_}
 use mathlib.Core.Bool.{Bool, true}
 use mathlib.Core.Logic.{_⊎_}
-use mathlib.Core.List.{List, [], _∷_}
+use mathlib.Core.List.{List, [], _∷_, map}
 use lib.ListN.{length, getD}
-use Rattle.sheet_spec.specs.Meaning.{Mark, Month, lines, anyWide, with}
+use Rattle.ports_spec.specs.declared.Range.{Range}
+use Rattle.sheet_spec.specs.Meaning.{Mark, Month, within, lines, anyWide, with}
 use Rattle.sheet_spec.specs.Rows.{blank}
 use Rattle.sheet.specs.declared.Sheet.{Sheet}
 use Rattle.sheet.specs.declared.Draft.{Draft}
@@ -44,7 +46,11 @@ printRows s i out =
     (23, (i < s .ports) × (length out < length (lineOf (getD (rowsOf s) i (blank 0))))) ∷  -- the output is shorter than the line
     []
 
--- recordings one after the other: whether each ends as one, and its packets
-abbrev pub recordedAll : Sheet → List (Bool × List Mark) → Sheet
-recordedAll s [] = s
-recordedAll s (r ∷ rs) = recordedAll (recorded s (r .0) (r .1) .sheet) rs
+-- recordings: whether each ends as one, and its packets of a range of ports
+abbrev pub inRange : Range → List (Bool × List Mark) → List (Bool × List Mark)
+inRange r = map (λ (x : Bool × List Mark). (x .0, within r (x .1)))
+
+-- recordings one after the other, to a sheet of a range of ports: whether each ends as one, and its packets
+abbrev pub recordedAll : Range → Sheet → List (Bool × List Mark) → Sheet
+recordedAll r s [] = s
+recordedAll r s (x ∷ xs) = recordedAll r (recorded r s (x .0) (x .1) .sheet) xs

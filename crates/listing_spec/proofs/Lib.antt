@@ -2,5 +2,6 @@ pub mod Apart
 pub mod Totals
 pub mod Numbers
 pub mod Offsets
+pub mod Wrong
 pub mod Described
 pub mod Digits

@@ -1,5 +1,5 @@
 -- The offset that `X` prints.
--- isWrong, IsMoved, ended           a wrong place, where some bytes end, and what one byte does
+-- IsMoved, ended                    what one byte does, and where some bytes end
 -- ended-is, stays                   taking them apart says so; behind a wrong byte nothing moves
 -- offset-right                      where no byte is wrong, it is the length of all
 -- offset-wrong                      where one is, it is the offset of the first wrong byte
@@ -15,21 +15,11 @@ use Rattle.base.specs.Choice.{pick}
 use Rattle.listing_spec.specs.declared.Place.{Place}
 use Rattle.listing_spec.specs.declared.Place.the-variants.{Mode, Mark, Second, Low, High, Inside, Wrong}
 use Rattle.listing_spec.specs.declared.Spot.{Spot}
-use Rattle.listing_spec.specs.Apart.{most, freshSpot, on, wrong, left, through, nextAt, next, inStream, keep, apart}
+use Rattle.listing_spec.specs.Apart.{most, freshSpot, on, wrong, left, through, nextAt, next, inStream, keep, apart, isWrong}
 
 -- ---- places
--- the place is Wrong
-abbrev pub isWrong : Place → Bool
-isWrong Mode = false
-isWrong Mark = false
-isWrong Second = false
-isWrong Low = false
-isWrong (High l) = false
-isWrong (Inside k) = false
-isWrong Wrong = true
-
--- .. then it is that one
-is-wrong : (q : Place) → isWrong q ≡ true → q ≡ Wrong
+-- a wrong place is that one
+pub is-wrong : (q : Place) → isWrong q ≡ true → q ≡ Wrong
 is-wrong Mode e = absurd (false≢true e)
 is-wrong Mark e = absurd (false≢true e)
 is-wrong Second e = absurd (false≢true e)

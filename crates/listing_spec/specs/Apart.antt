@@ -2,6 +2,7 @@
 -- next        one byte on
 -- apart       the stream bytes, and where the recording ends
 -- well        it may end here
+-- isWrong     a wrong byte was met
 -- onChannel   which stream it is
 -- records     the records of some pieces
 use Prim.Native.Nat.{ℕ, _+_, _-_, _*_, _/_, _%_}
@@ -81,6 +82,16 @@ well Low = false
 well (High l) = false
 well (Inside k) = false
 well Wrong = false
+
+-- a wrong byte was met: nothing behind it counts
+abbrev pub isWrong : Place → Bool
+isWrong Mode = false
+isWrong Mark = false
+isWrong Second = false
+isWrong Low = false
+isWrong (High l) = false
+isWrong (Inside k) = false
+isWrong Wrong = true
 
 -- the first byte says which stream it is
 abbrev pub onChannel : List ℕ → Bool

@@ -1,6 +1,6 @@
 -- The calls keep the sheet of the month.
 -- tidy-sheet       a month's sheet has no recording to forget
--- notings-within   packets noted are those of the range, each counted; range-only: so the others may as well not be there
+-- notings-within   packets noted are those of the range, each counted; recorded-range: so the others may as well not be there
 -- recorded-is      a recording's packets, and its end: what the definition says, and the sheet of the month then
 -- refused-keeps, closing-keeps    a recording that does not count leaves the sheet as it was, whatever sheet and draft it is
 use Prim.Native.Nat.{ℕ, _≤_}
@@ -14,13 +14,13 @@ use lib.Dec.{ltb}
 use lib.ListN.{length}
 use Rattle.base.specs.Choice.{pick}
 use Rattle.ports_spec.specs.declared.Range.{Range}
-use Rattle.ports_spec.specs.Range.{inside}
+use Rattle.ports_spec.specs.Range.{everyPort, inside}
 use Rattle.sheet_spec.specs.declared.Row.{Row}
 use Rattle.sheet_spec.specs.Tally.{wide}
 use Rattle.sheet_spec.specs.Meaning.{Mark, Month, within, line, lines, portsOf, portLimit, Counting, counts, wrong, refuses, kept, counting}
 use Rattle.sheet_spec.specs.Rows.{heardRow, noteIn, rowFor, cleared, Run, run, step, steps, settled}
 use Rattle.sheet_spec.proofs.Places.{padded-rows}
-use Rattle.sheet_spec.proofs.Within.{within-twice}
+use Rattle.sheet_spec.proofs.Within.{within-every, within-ported}
 use Rattle.sheet_spec.proofs.Counted.{Fit, counted-is}
 use Rattle.sheet.specs.declared.Sheet.{Sheet}
 use Rattle.sheet.specs.declared.Draft.{Draft}
@@ -55,10 +55,13 @@ notings-within r (m ∷ ms) d = go (inside r (m .0)) (notings-within r ms (addin
     go true x y = x
     go false x y = y
 
-pub range-only : (r : Range) (s : Sheet) (well : Bool) (ms : List Mark) → recorded r s well ms ≡ recorded r s well (within r ms)
-range-only r s well ms =
+-- a range of 16-bit ports, as the code's are: the others may as well not be there, and all ports be counted
+pub recorded-range : (r : Range) → r .last ≤ 65535 → (s : Sheet) (well : Bool) (ms : List Mark)
+    → recorded r s well ms ≡ recorded everyPort s well (within r ms)
+recorded-range r h s well ms =
     ap (λ (d : Draft). closing d well)
-    (notings-within r ms (beginning s) ∙ ap (addings (beginning s)) (sym (within-twice r ms)) ∙ sym (notings-within r (within r ms) (beginning s)))
+    (notings-within r ms (beginning s) ∙ ap (addings (beginning s)) (sym (within-every (within r ms) (within-ported r h ms)))
+    ∙ sym (notings-within everyPort (within r ms) (beginning s)))
 
 -- ---- the calls go as the run does
 record Goes (s : Sheet) (d : Draft) (x : Run) : Type 0 where
