@@ -8,6 +8,8 @@ use Rattle.recording.proofs.reader.RecordingReader.next.Kinds as next-k
 use Rattle.recording.proofs.reader.RecordingReader.next.Reads as next-reads
 use Rattle.recording.proofs.reader.RecordingReader.may_end.Kinds as may-end-kinds
 use Rattle.recording.proofs.reader.RecordingReader.may_end.Reads as may-end-reads
+use Rattle.recording.proofs.reader.RecordingReader.is_wrong.Kinds as is-wrong-kinds
+use Rattle.recording.proofs.reader.RecordingReader.is_wrong.Reads as is-wrong-reads
 use Rattle.recording.proofs.reader.Hearing.is_more.Kinds as is-more-kinds
 use Rattle.recording.proofs.reader.Hearing.is_more.Reads as is-more-reads
 
@@ -19,6 +21,9 @@ next-determined κs a z z′ ws ws′ pre p q = (same (p .0) (q .0), skip (buffe
 
 pub may-end-determined : Determined may-end-kinds.ps may-end-kinds.r may-end-reads.Asked may-end-reads.Learnt
 may-end-determined κs a z z′ ws ws′ pre p q = (same p q, refl)
+
+pub is-wrong-determined : Determined is-wrong-kinds.ps is-wrong-kinds.r is-wrong-reads.Asked is-wrong-reads.Learnt
+is-wrong-determined κs a z z′ ws ws′ pre p q = (same p q, refl)
 
 pub is-more-determined : Determined is-more-kinds.ps is-more-kinds.r is-more-reads.Asked is-more-reads.Learnt
 is-more-determined κs a z z′ ws ws′ pre p q = (same p q, refl)

@@ -9,4 +9,5 @@ pub mod Next
 pub mod Means
 pub mod Cutting
 pub mod Demands
+pub mod Wrong
 pub mod Determined

@@ -6,7 +6,7 @@ ghost use lib.ListN.{length};
 ghost use Rattle.packet_spec.specs.Contents.{rawLimit};
 ghost use Rattle.stream.specs.Call.{sound as soundFrame};
 ghost use Rattle.channel.specs.Call.{memory, sound, roomy};
-ghost use Rattle.listing_spec.specs.Apart.{inStream, well};
+ghost use Rattle.listing_spec.specs.Apart.{inStream, well, isWrong};
 ghost use Rattle.packet_spec.specs.declared.Judged.the-variants.{Refused};
 ghost use Rattle.channel_spec.specs.declared.Answer.the-variants.{Said};
 ghost use Rattle.recording.specs.Deck.{ear};
@@ -246,5 +246,14 @@ impl RecordingReader {
         let at = self.spot;
         let place = at.place;
         spot::is_well(place)
+    }
+
+    /// Whether a wrong byte was met: nothing that comes behind it counts, so no more need be read.
+    pub fn is_wrong(self) -> bool
+        ensures { λ r. ⌜ r ≡ isWrong (self .spot .place) ⌝ }
+    {
+        let at = self.spot;
+        let place = at.place;
+        spot::is_wrong(place)
     }
 }

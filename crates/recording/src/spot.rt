@@ -3,7 +3,7 @@ ghost use mathlib.Core.Path.{_≡_};
 ghost use mathlib.Core.Bool.{false};
 ghost use Prim.Native.Nat.{_+_, _-_, _*_, _<_, _≤_};
 ghost use lib.Dec.{eqb};
-ghost use Rattle.listing_spec.specs.Apart.{freshSpot, on, wrong, left, next, inStream, well};
+ghost use Rattle.listing_spec.specs.Apart.{freshSpot, on, wrong, left, next, inStream, well, isWrong};
 ghost use Rattle.recording.specs.Call.{far};
 ghost use Rattle.base.specs.Choice.{pick};
 ghost use Rattle.recording.specs.Deck.{channelAt};
@@ -187,5 +187,20 @@ pub(crate) fn is_well(place: Place) -> bool
         Place::High(_) => false,
         Place::Inside(_) => false,
         Place::Wrong => false,
+    }
+}
+
+/// Whether a wrong byte was met.
+pub(crate) fn is_wrong(place: Place) -> bool
+    ensures { λ r. ⌜ r ≡ isWrong place ⌝ }
+{
+    match place {
+        Place::Mode => false,
+        Place::Mark => false,
+        Place::Second => false,
+        Place::Low => false,
+        Place::High(_) => false,
+        Place::Inside(_) => false,
+        Place::Wrong => true,
     }
 }
