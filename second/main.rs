@@ -26,11 +26,13 @@
 //!   second interleave push|pull DEPTH
 //!                            standard input through the interleaver, with the closing push, or back
 //!   second list              the listing of the recording on standard input
-//!   second missed            which bids were missed in the recording on standard input (ports.rs)
+//!   second missed [--ports A-B]
+//!                            which bids were missed in the recording on standard input, of every port or of A to B (ports.rs)
 //!   second noise ARGUMENTS.. a day of bids, altered on its way, and what boards show of it; a soak (noise.rs, soak.rs)
 //!   second numbered FILE [SEED]
 //!                            a recording with distances of every kind between sequence numbers
-//!   second sheet FILE..      the monthly reception sheet of recordings (sheet.rs)
+//!   second sheet [--ports A-B] FILE..
+//!                            the monthly reception sheet of recordings, of every port or of A to B (sheet.rs)
 //!   second months DIR [SEED] groups of recordings to be counted, into a folder
 //!   second tallies CASES ANSWERS [SEED]
 //!                            recordings counted from rows of any numbers, and what becomes of them, into two files
@@ -121,12 +123,14 @@ fn main() {
         ["feed", fifo, text, stream] => std::process::exit(board::feed(fifo, text, stream)),
         ["unit", ref rest @ ..] => std::process::exit(units::run(rest)),
         ["list"] => Some(listing::list_input().expect("standard input and output")),
-        ["missed"] => std::process::exit(ports::show_missed()),
+        ["missed"] => std::process::exit(ports::show_missed(ports::EVERY)),
+        ["missed", "--ports", range] => ports::between(range).map(|range| std::process::exit(ports::show_missed(range))),
         ["noise", "soak", minutes, seed, ref command @ ..] => number(minutes).zip(number(seed)).map(|(minutes, seed)| std::process::exit(soak::run(minutes, seed, command))),
         ["noise", ref rest @ ..] => ended(noise::run(rest)),
         ["numbered", file] => Some(ports::write_numbered(file, 1)),
         ["numbered", file, seed] => number(seed).map(|seed| ports::write_numbered(file, seed)),
-        ["sheet", _, ..] => std::process::exit(sheet::show(&words[1..])),
+        ["sheet", "--ports", range, ref files @ ..] => ports::between(range).map(|range| std::process::exit(sheet::show(range, files))),
+        ["sheet", _, ..] => std::process::exit(sheet::show(ports::EVERY, &words[1..])),
         ["months", dir] => Some(sheet::write_months(dir, 1)),
         ["months", dir, seed] => number(seed).map(|seed| sheet::write_months(dir, seed)),
         ["tallies", asked, told] => Some(sheet::write_calls(asked, told, 1)),
@@ -149,12 +153,12 @@ fn main() {
         _ => None,
     };
     if done.is_none() {
-        eprintln!("usage: second bids ARGUMENTS.. | fcs HEX | parity R HEX | word R HEX | repair R HEX | interleave push|pull DEPTH | list | missed | kinds FILE..");
+        eprintln!("usage: second bids ARGUMENTS.. | fcs HEX | parity R HEX | word R HEX | repair R HEX | interleave push|pull DEPTH | list | missed [--ports A-B] | kinds FILE..");
         eprintln!("  | fixed send|list R DEPTH | fixed steady R DEPTH PAYLOAD MIB | fixed streams DIR [SEED] | board [--recording|--stream] [--blocks] [--ports=A-B] | boards DIR [SEED] | feed FIFO TEXT STREAM");
         eprintln!("  | capture | replay | captures DIR [SEED] | viewed");
         eprintln!("  | recordings DIR [SEED] | steady plain|marked MIB | samples DIR | cases calls|interleaver|stream|channel|listing|board|four|unit|capture [SEED]");
         eprintln!("  | compare CASES ANSWERS .. | test [SEED] | words R PLACES N | time N M | noise ARGUMENTS.. | numbered FILE [SEED] | ports CASES ANSWERS [SEED] | unit ARGUMENTS..");
-        eprintln!("  | sheet FILE.. | months DIR [SEED] | tallies CASES ANSWERS [SEED] | rack CASES ANSWERS [SEED] | time-rack MIB");
+        eprintln!("  | sheet [--ports A-B] FILE.. | months DIR [SEED] | tallies CASES ANSWERS [SEED] | rack CASES ANSWERS [SEED] | time-rack MIB");
         std::process::exit(2);
     }
 }

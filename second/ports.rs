@@ -5,6 +5,7 @@ use crate::listing;
 use crate::listing_cases::{recorded, PLAIN};
 use crate::packet::{self, FLAG};
 use std::collections::HashSet;
+use std::ops::RangeInclusive;
 
 pub const MOST: usize = 16;
 
@@ -84,14 +85,31 @@ pub fn forget(table: &mut [Place], port: u16) -> Result<(), u8> {
     Ok(())
 }
 
+/// `A-B`: the ports from A to B.
+pub fn between(text: &str) -> Option<RangeInclusive<u16>> {
+    let (first, last) = text.split_once('-')?;
+    Some(first.parse().ok()?..=last.parse().ok()?)
+}
+
+/// Every port.
+pub const EVERY: RangeInclusive<u16> = 0..=u16::MAX;
+
 /// The lines of a recording's packets, taken from its listing; and the line that says where it is no whole recording.
 pub fn missed(recording: &[u8]) -> (String, Option<String>) {
+    missed_of(recording, &EVERY)
+}
+
+/// The same of these ports alone: the table never hears of the others.
+fn missed_of(recording: &[u8], ports: &RangeInclusive<u16>) -> (String, Option<String>) {
     let listing = String::from_utf8(listing::listing(recording)).unwrap();
     let mut table = [FREE; MOST];
     let mut lines = String::new();
     for line in listing.lines() {
         let words: Vec<&str> = line.split(' ').collect();
         if let ["P", port, sequence, ..] = words[..] {
+            if !ports.contains(&port.parse().unwrap()) {
+                continue;
+            }
             let told = match note(&mut table, port.parse().unwrap(), sequence.parse().unwrap()) {
                 Ok(verdict) => verdict.words(),
                 Err(number) => format!("refused {number}"),
@@ -102,11 +120,11 @@ pub fn missed(recording: &[u8]) -> (String, Option<String>) {
     (lines, listing.lines().last().filter(|line| line.starts_with('X')).map(str::to_string))
 }
 
-/// `second missed`: the recording on standard input.
-pub fn show_missed() -> i32 {
+/// `second missed [--ports A-B]`: the recording on standard input.
+pub fn show_missed(ports: RangeInclusive<u16>) -> i32 {
     let mut bytes = Vec::new();
     std::io::Read::read_to_end(&mut std::io::stdin(), &mut bytes).expect("standard input");
-    let (lines, wrong) = missed(&bytes);
+    let (lines, wrong) = missed_of(&bytes, &ports);
     print!("{lines}");
     if let Some(wrong) = &wrong {
         eprintln!("missed: no whole recording: {wrong}");

@@ -4,7 +4,9 @@ use crate::cases::Random;
 use crate::listing;
 use crate::listing_cases::{recorded, PLAIN};
 use crate::packet::{self, FLAG};
+use crate::ports::EVERY;
 use std::collections::BTreeMap;
+use std::ops::RangeInclusive;
 
 const MOST_PORTS: usize = 16;
 const LARGEST: u128 = u64::MAX as u128;
@@ -31,14 +33,15 @@ impl Counts {
 
 type Sheet = BTreeMap<u16, Counts>;
 
-/// The packets of a recording, port and sequence number; none where it ends in `X`.
-fn packets(recording: &[u8]) -> Option<Vec<(u16, u16)>> {
+/// The packets of a recording for these ports, port and sequence number; none where it ends in `X`.
+fn packets(recording: &[u8], ports: &RangeInclusive<u16>) -> Option<Vec<(u16, u16)>> {
     let listing = String::from_utf8(listing::listing(recording)).unwrap();
     if listing.lines().last()?.starts_with('X') {
         return None;
     }
     let lines = listing.lines().filter_map(|line| line.strip_prefix("P "));
-    Some(lines.map(|line| line.split(' ').map(|word| word.parse().unwrap_or(0)).collect::<Vec<u16>>()).map(|words| (words[0], words[1])).collect())
+    let all = lines.map(|line| line.split(' ').map(|word| word.parse().unwrap_or(0)).collect::<Vec<u16>>()).map(|words| (words[0], words[1]));
+    Some(all.filter(|(port, _)| ports.contains(port)).collect())
 }
 
 /// A recording counted: port after port, from its own packets alone.
@@ -80,12 +83,12 @@ fn lines(sheet: &Sheet) -> String {
     sheet.iter().map(line).collect()
 }
 
-/// `second sheet FILE..`: the lines; what does not count is said on standard error.
-pub fn show(files: &[&str]) -> i32 {
+/// `second sheet [--ports A-B] FILE..`: the lines; what does not count is said on standard error.
+pub fn show(ports: RangeInclusive<u16>, files: &[&str]) -> i32 {
     let mut sheet = Sheet::new();
     let mut left_out = 0;
     for file in files {
-        let why = match std::fs::read(file).map(|bytes| packets(&bytes)) {
+        let why = match std::fs::read(file).map(|bytes| packets(&bytes, &ports)) {
             Err(_) => Some("cannot be read".to_string()),
             Ok(None) => Some("ends in X".to_string()),
             Ok(Some(packets)) => match counted(&sheet, &packets) {
@@ -177,10 +180,11 @@ pub fn write_months(dir: &str, seed: u64) {
 /// Port, delivered, repeated, late, missing, total, and what is left of the recording before: whether the port was heard, its last number.
 type Row = [u64; 8];
 
-/// A sheet of so many rows, of 16 places; packets; whether the recording may end there.
+/// A sheet of so many rows, of 16 places; the ports that count; packets; whether the recording may end there.
 struct Case {
     count: u64,
     rows: [Row; MOST_PORTS],
+    ports: RangeInclusive<u16>,
     packets: Vec<(u16, u16)>,
     well: bool,
 }
@@ -189,6 +193,7 @@ impl Case {
     fn write(&self, bytes: &mut Vec<u8>) {
         put(bytes, &[self.count]);
         self.rows.iter().for_each(|row| put(bytes, row));
+        put(bytes, &[*self.ports.start() as u64, *self.ports.end() as u64]);
         put(bytes, &[self.packets.len() as u64]);
         self.packets.iter().for_each(|(port, sequence)| put(bytes, &[*port as u64, *sequence as u64]));
         put(bytes, &[self.well as u64]);
@@ -213,7 +218,8 @@ impl Case {
             timely: wide(row[5] - row[4]),
         };
         let sheet: Sheet = rows.iter().map(|row| (row[0] as u16, counts(row))).collect();
-        match counted(&sheet, &self.packets) {
+        let packets: Vec<(u16, u16)> = self.packets.iter().copied().filter(|(port, _)| self.ports.contains(port)).collect();
+        match counted(&sheet, &packets) {
             Err(number) => stays(REFUSED + number as u64),
             Ok(next) => {
                 let mut rows = [[0; 8]; MOST_PORTS];
@@ -276,8 +282,14 @@ fn calls(seed: u64) -> Vec<Case> {
     const LAST: u64 = u64::MAX;
     let mut random = Random::new(seed);
     let mut cases = Vec::new();
+    // every port, and ranges that have a row's port as their first or their last, or just behind it
+    let mut turn = 0;
     let mut ask = |count: u64, rows: [Row; MOST_PORTS], packets: &[(u16, u16)]| {
-        cases.extend([true, false].map(|well| Case { count, rows, packets: packets.to_vec(), well }));
+        turn += 1;
+        let some = [100..=104, 104..=104, 105..=130, 0..=103, 104..=u16::MAX, 103..=116, 130..=100, 0..=0][turn % 8].clone();
+        for ports in [EVERY, some] {
+            cases.extend([true, false].map(|well| Case { count, rows, ports: ports.clone(), packets: packets.to_vec(), well }));
+        }
     };
     // every number of a line up to six below the largest, the others small or as large as they may be
     for packets in recordings() {

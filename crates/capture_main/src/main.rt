@@ -1,6 +1,6 @@
 //! Writes the delivered packets of the recording on standard input as a capture for the network viewer, on standard output. Bytes are read as
 //! they come, and a packet's record is out before the next are read. Where something fails, or the recording does not end as one, it says so on
-//! standard error.
+//! standard error; behind a wrong byte it reads no more.
 ghost use Prim.Native.Nat.{_≤_};
 use base::Refusal;
 use base::Written;
@@ -60,6 +60,10 @@ fn main() {
         tape = turn.tape;
         number = turn.number;
         if !turn.go {
+            return;
+        }
+        if tape.is_wrong() {
+            finish(tape);
             return;
         }
         reads -= 1;

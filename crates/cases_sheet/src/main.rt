@@ -1,11 +1,12 @@
 //! Answers cases of the monthly sheet, for tests/sheet.
 //!
 //! All are numbers of eight bytes, low byte first. A row: port, delivered, repeated, late, missing, total, heard, last. A case: how many rows the
-//! sheet has, 16 rows, how many packets the recording has, port and sequence number of each, whether it ends well. An answer: what becomes of the
-//! recording: 0 it counts, 1 it is wrong, 65,536 and the number of a refusal; how many rows the sheet then has; and for each of 16 places its row,
-//! and its line with its length before it, or 65,536 and the number of a refusal.
+//! sheet has, 16 rows, the first and the last port that count, how many packets the recording has, port and sequence number of each, whether it ends
+//! well. An answer: what becomes of the recording: 0 it counts, 1 it is wrong, 65,536 and the number of a refusal; how many rows the sheet then has;
+//! and for each of 16 places its row, and its line with its length before it, or 65,536 and the number of a refusal.
 use base::Written;
 use lines::Line;
+use ports_spec::Range;
 use sheet::Counted;
 use sheet::Draft;
 use sheet::Sheet;
@@ -31,7 +32,8 @@ fn answer() -> bool {
     let ports = cases::number_at(&head, 0) as usize;
     let rows = rows();
     let sheet = Sheet { ports, rows };
-    let draft = note_all(sheet.begin(), next());
+    let range = range();
+    let draft = note_all(range, sheet.begin(), next());
     let closed = draft.close(next() != 0);
     let counted = closed.counted;
     let after = closed.sheet;
@@ -70,13 +72,22 @@ fn row() -> Row {
     }
 }
 
+// The ports that count.
+fn range() -> Range {
+    let first = short();
+    Range {
+        first,
+        last: short(),
+    }
+}
+
 // The recording's packets, n of them.
-fn note_all(begun: Draft, n: u64) -> Draft {
+fn note_all(range: Range, begun: Draft, n: u64) -> Draft {
     let mut draft = begun;
     let mut left = n;
     while left > 0 {
         let port = short();
-        draft = draft.note(port, short());
+        draft = draft.note(range, port, short());
         left -= 1;
     }
     draft

@@ -22,7 +22,7 @@
 -- plain-listing, channel-listing, totals, sent-totals   the listing's lines and totals
 -- described, e-or-x                                     recordings as described, and no others, print `E`
 -- cut-short, wrong-first, wrong-mark, wrong-second, limit-passed   what others print
--- x-offset, decimal-value                               the offset that `X` prints, and numbers as they are printed
+-- x-offset, x-rest, decimal-value                       the offset that `X` prints, what comes behind it, and numbers as they are printed
 -- recorded-by-calls, next-payload                       a recording's answers by calls, where it ends, and where a payload stands
 -- listed-by-calls, listed-at-last, finished-at-last     the listing by calls
 -- line-number, close-number                             the number of a line that the office tells of
@@ -63,7 +63,7 @@ use Rattle.channel_spec.specs.Sender.{marker, parityBytes, wordOf, fillers, fil
 use Rattle.channel_spec.specs.Meaning.{conditionBy, condition, mend, carried, IsWord, Event, frames, blocks, losses, asMended}
 use Rattle.channel_spec.proofs.Streaming as streaming
 use Rattle.channel_spec.proofs.Words.{block-promised, block-determined}
-use Rattle.listing_spec.specs.Apart.{most, freshSpot, apart, well, onChannel, recordOf, records}
+use Rattle.listing_spec.specs.Apart.{most, freshSpot, apart, well, isWrong, onChannel, recordOf, records}
 use Rattle.listing_spec.specs.Described.{firstByte, Described}
 use Rattle.bid.specs.Line.{digits, value}
 use Rattle.listing_spec.specs.Lines.{decimal, letter, lines, isPacket, isRefusal, isDamaged, isLost, count, packetsIn, refusalsIn, damagedIn, wrongLine, longest}
@@ -71,6 +71,7 @@ use Rattle.listing_spec.specs.Meaning.{heard, totalLine, listing}
 use Rattle.listing_spec.specs.declared.Place.the-variants.{Wrong}
 use Rattle.listing_spec.proofs.Described as recordings
 use Rattle.listing_spec.proofs.Offsets.{offset-right, offset-wrong}
+use Rattle.listing_spec.proofs.Wrong.{wrong-listing}
 use Rattle.listing_spec.proofs.Totals.{packets-counted, refusals-counted, damaged-counted, lost-counted, sent-counted}
 use Rattle.packet_spec.specs.Contents.{rawLimit, Packet, contents, payloadAt}
 use Rattle.packet_spec.proofs.Only.{judge-only}
@@ -280,6 +281,10 @@ pub x-offset : (file : List ℕ)
     × (apart freshSpot (take (apart freshSpot file .1 .offset) file) .1 .place ≡ Wrong → ⊥)
     × (apart freshSpot (take (suc (apart freshSpot file .1 .offset)) file) .1 .place ≡ Wrong))
 x-offset file = (offset-right file, offset-wrong file)
+
+-- .. and what comes behind a wrong byte changes nothing: it need not be read
+pub x-rest : (file more : List ℕ) → isWrong (apart freshSpot file .1 .place) ≡ true → listing (file ++ more) ≡ listing file
+x-rest = wrong-listing
 
 -- a number below 10^20 (the code's are below 2^64) is printed in decimal digits without leading zeros: digits alone, their value is the number,
 -- and where it is not 0 the first is not `0`

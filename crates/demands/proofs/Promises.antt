@@ -38,7 +38,7 @@ use Rattle.channel_spec.specs.Meaning.{said, block, lost, isMarker}
 use Rattle.channel_spec.specs.declared.Condition.{Condition}
 use Rattle.channel_spec.specs.declared.Answer.the-variants.{More, Said, Block, LockLost}
 use Rattle.listing_spec.specs.Lines.{line, endLine, wrongLine}
-use Rattle.listing_spec.specs.Apart.{well}
+use Rattle.listing_spec.specs.Apart.{well, isWrong}
 use Rattle.listing_spec.specs.declared.Place.the-variants.{Mode}
 use Rattle.recording.specs.Call.{deckOf, isMore, tapeCall}
 use Rattle.subchannel_spec.specs.declared.Settings.{Settings}
@@ -136,6 +136,7 @@ use Rattle.interleaver.proofs.pull as interleaver-pull
 use Rattle.recording.proofs.reader.RecordingReader.fresh as recording-fresh
 use Rattle.recording.proofs.reader.RecordingReader.next as recording-next
 use Rattle.recording.proofs.reader.RecordingReader.may_end as recording-may-end
+use Rattle.recording.proofs.reader.RecordingReader.is_wrong as recording-is-wrong
 use Rattle.recording.proofs.reader.Hearing.is_more as recording-is-more
 use Rattle.board.proofs.readout.Readout.fresh as board-fresh
 use Rattle.board.proofs.readout.Readout.take as board-take
@@ -489,6 +490,10 @@ recording-next-means = (λ M. recording-next.Met.met, λ κs a. tt, λ κs a z w
 pub recording-may-end-means : Means recording-may-end.Statement.statement recording-may-end.Kinds.ps recording-may-end.Kinds.r recording-may-end.Reads.Asked recording-may-end.Reads.Learnt
     λ κs self r. r ≡ well (self .spot .place)
 recording-may-end-means = (λ M. recording-may-end.Met.met, λ κs a. tt, λ κs a z ws. (λ p. p, λ p. p))
+
+pub recording-is-wrong-means : Means recording-is-wrong.Statement.statement recording-is-wrong.Kinds.ps recording-is-wrong.Kinds.r recording-is-wrong.Reads.Asked recording-is-wrong.Reads.Learnt
+    λ κs self r. r ≡ isWrong (self .spot .place)
+recording-is-wrong-means = (λ M. recording-is-wrong.Met.met, λ κs a. tt, λ κs a z ws. (λ p. p, λ p. p))
 
 pub recording-is-more-means : Means recording-is-more.Statement.statement recording-is-more.Kinds.ps recording-is-more.Kinds.r recording-is-more.Reads.Asked recording-is-more.Reads.Learnt
     λ κs self r. r ≡ isMore (self .answer)

@@ -5,7 +5,7 @@
 -- line-numbers, afresh, each-packet, delivered, loss, line-is     their numbers
 -- sheet-by-calls, sheet-begins, sheet-goes-on, sheet-of-many, sheet-rows, line-printed     by calls, for every cutting of each recording
 -- range-brings, range-sheet, range-lines, every-port     a range of ports
--- close-refusals, month-refusals, close-keeps, sheet-stays, month-stays, x-is-wrong, counted-whole      what does not count
+-- close-refusals, month-refusals, close-keeps, sheet-stays, month-stays, x-is-wrong, x-rest, counted-whole      what does not count
 -- print-refusals, print-row-refusals, ..-keeps-out     a line written
 use Prim.Native.Nat.{ℕ, _+_, _≤_, _<_}
 use native.Mathlib.Omega.{arith}
@@ -13,7 +13,7 @@ use mathlib.Core.Path.{_≡_, refl, sym, ap, subst, _∙_}
 use mathlib.Core.Bool.{Bool, true, false, _||_, true≢false, false≢true}
 use mathlib.Core.Logic.{_↔_, _≢_, _⊎_, ⊎-elim}
 use mathlib.Core.Logic._⊎_.{inl, inr}
-use mathlib.Core.List.{List, [], _∷_, map}
+use mathlib.Core.List.{List, [], _∷_, _++_, map}
 use lib.Dec.{ltb}
 use lib.ListN.{length, getD}
 use borrow.Author.Tests.{ltb-true, lt-ltb, le-ltb}
@@ -24,8 +24,9 @@ use Rattle.base.proofs.Calls.{yields-so}
 use Rattle.base.proofs.Writing.{write-keeps}
 use Rattle.lines.specs.Row.{rowLine, rowLongest}
 use Rattle.lines.proofs.Rows.{row-short}
-use Rattle.listing_spec.specs.Apart.{freshSpot, apart, well, onChannel}
+use Rattle.listing_spec.specs.Apart.{freshSpot, apart, well, isWrong, onChannel}
 use Rattle.listing_spec.specs.Meaning.{heard}
+use Rattle.listing_spec.proofs.Wrong.{wrong-rest}
 use Rattle.recording.specs.Call.{far, EveryCut}
 use Rattle.recording.proofs.Demands.{taken-apart}
 use Rattle.ports_spec.specs.declared.Range.{Range}
@@ -236,6 +237,12 @@ month-stays = refused-stays
 pub x-is-wrong : (month : Month) (ms : List Mark) → counting false month ms ≡ (wrong, month)
 unfolding counting
 x-is-wrong month ms = refl
+
+-- .. and what comes behind a wrong byte brings nothing: it need not be read
+pub x-rest : (range : Range) (file more : List ℕ) → isWrong (apart freshSpot file .1 .place) ≡ true → brings range (file ++ more) ≡ brings range file
+x-rest range file more e =
+    let x = wrong-rest file more e in
+    λ i. (well (x .0 i .1 .place), within range (marks (heard (x .1 i) (x .0 i .0))))
 
 -- .. and what counts is counted whole
 pub counted-whole : (well : Bool) (month : Month) (ms : List Mark) → counting well month ms .0 ≡ counts → counting well month ms .1 ≡ with month ms

@@ -1,5 +1,5 @@
 //! Lists the recording on standard input, on standard output. Where one of them fails it says so on standard error and stops,
-//! without a last line. Where the last line is `X`, it stands on standard error too.
+//! without a last line. Where the last line is `X`, it stands on standard error too. Behind a wrong byte it reads no more.
 ghost use Prim.Native.Nat.{_≤_};
 ghost use lib.ListN.{length};
 use base::Written;
@@ -38,6 +38,11 @@ fn main() {
         let turn = list(recording, &mut recv, &mut word, &piece[0..n], &mut out);
         recording = turn.next;
         if !turn.go {
+            return;
+        }
+        let tape = recording.tape;
+        if tape.is_wrong() {
+            finish(recording, &mut out);
             return;
         }
         reads -= 1;

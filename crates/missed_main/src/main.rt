@@ -1,7 +1,15 @@
-//! Notes each packet of the recording on standard input in a table of ports, and prints a line of it on standard output: its port, its
-//! sequence number, and what it is to that port. Where something fails, or the recording does not end as one, it says so on standard error.
+//! Which bids are missing, `missed FIRST LAST`: notes each packet of the recording on standard input, of these ports, in a table of ports, and prints
+//! a line of it on standard output: its port, its sequence number, and what it is to that port. Where something fails, or the recording does not end
+//! as one, it says so on standard error; behind a wrong byte it reads no more.
+mod argument;
+
+ghost use mathlib.Core.Path.{_≡_};
 ghost use Prim.Native.Nat.{_≤_};
 ghost use lib.ListN.{length};
+ghost use Rattle.base.specs.Choice.{pick};
+ghost use Rattle.ports_spec.specs.Range.{inside};
+ghost use Rattle.ports_spec.specs.Ports.{noting};
+ghost use Rattle.ports.specs.ByValue.{notedIn};
 use base::Refusal;
 use base::Written;
 use channel::Answer;
@@ -11,6 +19,7 @@ use packet::Delivery;
 use packet::Judged;
 use ports::Noted;
 use ports::Ports;
+use ports_spec::Range;
 use recording::RecordingReader;
 
 // What is heard so far, behind a call.
@@ -32,6 +41,17 @@ struct Passed {
 }
 
 fn main() {
+    let first = argument::port(1);
+    let last = argument::port(2);
+    if os::arg_count() != 3 || first > argument::LAST || last > argument::LAST {
+        fail(b"usage: missed FIRST LAST <RECORDING; FIRST and LAST are ports\n");
+        return;
+    }
+    hear_all(argument::range(first, last));
+}
+
+// The recording, piece by piece.
+fn hear_all(range: Range) {
     let mut recv = [0u8; Receiver::RAW];
     let mut word = [0u8; Receiver::WORD];
     let mut piece = io::large_buffer();
@@ -49,10 +69,14 @@ fn main() {
             return;
         }
         let n = io::count(got, &piece);
-        let turn = hear(tape, ports, &mut recv, &mut word, &piece[0..n]);
+        let turn = hear(range, tape, ports, &mut recv, &mut word, &piece[0..n]);
         tape = turn.tape;
         ports = turn.ports;
         if !turn.go {
+            return;
+        }
+        if tape.is_wrong() {
+            finish(tape);
             return;
         }
         reads -= 1;
@@ -61,6 +85,7 @@ fn main() {
 
 // A piece, until more is wanted.
 fn hear(
+    range: Range,
     tape: RecordingReader,
     ports: Ports,
     recv: &mut [u8],
@@ -77,7 +102,7 @@ fn hear(
     let mut i: usize = 0;
     let mut calls = u64::MAX;
     while calls > 0 {
-        turn = call(turn.tape, turn.ports, recv, word, &piece[i..]);
+        turn = call(range, turn.tape, turn.ports, recv, word, &piece[i..]);
         i += turn.taken;
         if !turn.again {
             return turn;
@@ -89,6 +114,7 @@ fn hear(
 
 // One call, and the line of its packet.
 fn call(
+    range: Range,
     start: RecordingReader,
     ports: Ports,
     recv: &mut [u8],
@@ -101,7 +127,7 @@ fn call(
     let taken = heard.taken;
     let tape = heard.tape;
     let answer = heard.answer;
-    let passed = pass(answer, ports);
+    let passed = pass(range, answer, ports);
     let behind = passed.ports;
     Turn {
         again: passed.again,
@@ -113,14 +139,14 @@ fn call(
 }
 
 // An answer: a packet is noted; of the others only a refused call ends the work.
-fn pass(answer: Answer, ports: Ports) -> Passed {
+fn pass(range: Range, answer: Answer, ports: Ports) -> Passed {
     match answer {
         Answer::More => Passed {
             again: false,
             go: true,
             ports,
         },
-        Answer::Said(judged) => judge(judged, ports),
+        Answer::Said(judged) => judge(range, judged, ports),
         Answer::Block(_) => Passed {
             again: true,
             go: true,
@@ -134,9 +160,9 @@ fn pass(answer: Answer, ports: Ports) -> Passed {
     }
 }
 
-fn judge(judged: Judged, ports: Ports) -> Passed {
+fn judge(range: Range, judged: Judged, ports: Ports) -> Passed {
     match judged {
-        Judged::Packet(delivery) => note(delivery, ports),
+        Judged::Packet(delivery) => note(range, delivery, ports),
         Judged::Refused(n) => {
             let go = n != Refusal::STATE;
             if !go {
@@ -156,8 +182,17 @@ fn judge(judged: Judged, ports: Ports) -> Passed {
     }
 }
 
-// A packet, and its line.
-fn note(delivery: Delivery, ports: Ports) -> Passed {
+// A packet, and its line; one of a port outside the range is neither noted nor shown.
+fn note(range: Range, delivery: Delivery, ports: Ports) -> Passed
+    ensures { λ p. ⌜ p .ports ≡ pick (inside range (delivery .port)) (notedIn (noting (ports .entries) (delivery .port) (delivery .sequence)) .ports) ports ⌝ }
+{
+    if !range.has(delivery.port) {
+        return Passed {
+            again: true,
+            go: true,
+            ports,
+        };
+    }
     let told = ports.note(delivery.port, delivery.sequence);
     let noted = told.noted;
     let behind = told.ports;

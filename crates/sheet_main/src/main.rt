@@ -1,7 +1,12 @@
-//! The monthly sheet as a program, `sheet progress|quiet FILE..`: counts the recordings named, and prints a line for each port on standard output.
-//! On standard error it says which recordings do not count, and why; with `progress` also which one it is at.
+//! The monthly sheet as a program, `sheet progress|quiet FIRST LAST FILE..`: counts the packets of ports FIRST to LAST of the recordings named, and
+//! prints a line for each port on standard output. On standard error it says which recordings do not count, and why; with `progress` also which one
+//! it is at. Behind a wrong byte of a recording it reads no more of it.
+mod argument;
+
+ghost use mathlib.Core.Path.{_≡_};
 ghost use Prim.Native.Nat.{_≤_};
 ghost use lib.ListN.{length};
+ghost use Rattle.sheet.specs.Call.{noting};
 use base::Refusal;
 use base::Written;
 use channel::Answer;
@@ -11,6 +16,7 @@ use libc::STDOUT_FILENO;
 use lines::Line;
 use packet::Delivery;
 use packet::Judged;
+use ports_spec::Range;
 use recording::RecordingReader;
 use sheet::Counted;
 use sheet::Draft;
@@ -42,20 +48,27 @@ struct Finished {
 }
 
 fn main() {
+    let first = argument::port(2);
+    let last = argument::port(3);
     let count = os::arg_count();
-    let mut sheet = Sheet::fresh();
-    if count < 3 {
-        say(b"usage: sheet progress|quiet FILE..\n");
+    if count < 5 || first > argument::LAST || last > argument::LAST {
+        say(b"usage: sheet progress|quiet FIRST LAST FILE..; FIRST and LAST are ports\n");
         return;
     }
     let shown = is_argument(1, b"progress");
-    let mut i: usize = 2;
+    print_all(count_all(argument::range(first, last), shown, count));
+}
+
+// The sheet of the recordings that the arguments behind the fourth name.
+fn count_all(range: Range, shown: bool, count: usize) -> Sheet {
+    let mut sheet = Sheet::fresh();
+    let mut i: usize = 4;
     while i < count {
-        progress(shown, i - 1, count - 2);
-        sheet = counted(sheet, i);
+        progress(shown, i - 3, count - 4);
+        sheet = counted(range, sheet, i);
         i += 1;
     }
-    print_all(sheet);
+    sheet
 }
 
 // Whether an argument is this one.
@@ -78,7 +91,7 @@ fn progress(shown: bool, i: usize, all: usize) {
 }
 
 // The sheet with the recording that argument i names.
-fn counted(sheet: Sheet, i: usize) -> Sheet {
+fn counted(range: Range, sheet: Sheet, i: usize) -> Sheet {
     let mut name = io::buffer();
     let n = os::arg(i, &mut name);
     let fd = os::open_read(&name[..n]);
@@ -86,7 +99,7 @@ fn counted(sheet: Sheet, i: usize) -> Sheet {
         tell(&name[..n], b": cannot be read\n");
         return sheet;
     }
-    let heard = hear_all(sheet, fd);
+    let heard = hear_all(range, sheet, fd);
     libc::close(fd);
     if !heard.whole {
         tell(&name[..n], b": cannot be read\n");
@@ -100,7 +113,7 @@ fn counted(sheet: Sheet, i: usize) -> Sheet {
 }
 
 // A recording, piece by piece.
-fn hear_all(sheet: Sheet, fd: i32) -> Finished {
+fn hear_all(range: Range, sheet: Sheet, fd: i32) -> Finished {
     let mut recv = [0u8; Receiver::RAW];
     let mut word = [0u8; Receiver::WORD];
     let mut piece = io::large_buffer();
@@ -113,22 +126,30 @@ fn hear_all(sheet: Sheet, fd: i32) -> Finished {
             return unread(draft);
         }
         if got == 0 {
-            return Finished {
-                whole: true,
-                well: tape.may_end(),
-                draft,
-            };
+            return ended(tape, draft);
         }
         let n = io::count(got, &piece);
-        let turn = hear(tape, draft, &mut recv, &mut word, &piece[0..n]);
+        let turn = hear(range, tape, draft, &mut recv, &mut word, &piece[0..n]);
         tape = turn.tape;
         draft = turn.draft;
         if !turn.go {
             return unread(draft);
         }
+        if tape.is_wrong() {
+            return ended(tape, draft);
+        }
         reads -= 1;
     }
     unread(draft)
+}
+
+// All of it that counts was read.
+fn ended(tape: RecordingReader, draft: Draft) -> Finished {
+    Finished {
+        whole: true,
+        well: tape.may_end(),
+        draft,
+    }
 }
 
 // It could not be read to its end.
@@ -142,6 +163,7 @@ fn unread(draft: Draft) -> Finished {
 
 // A piece, until more is wanted.
 fn hear(
+    range: Range,
     tape: RecordingReader,
     draft: Draft,
     recv: &mut [u8],
@@ -158,7 +180,7 @@ fn hear(
     let mut i: usize = 0;
     let mut calls = u64::MAX;
     while calls > 0 {
-        turn = call(turn.tape, turn.draft, recv, word, &piece[i..]);
+        turn = call(range, turn.tape, turn.draft, recv, word, &piece[i..]);
         i += turn.taken;
         if !turn.again {
             return turn;
@@ -170,6 +192,7 @@ fn hear(
 
 // One call, and its packet noted.
 fn call(
+    range: Range,
     start: RecordingReader,
     draft: Draft,
     recv: &mut [u8],
@@ -182,7 +205,7 @@ fn call(
     let taken = heard.taken;
     let tape = heard.tape;
     let answer = heard.answer;
-    let passed = pass(answer, draft);
+    let passed = pass(range, answer, draft);
     let behind = passed.draft;
     Turn {
         again: passed.again,
@@ -194,14 +217,14 @@ fn call(
 }
 
 // An answer: a packet is noted; of the others only a refused call ends the work.
-fn pass(answer: Answer, draft: Draft) -> Passed {
+fn pass(range: Range, answer: Answer, draft: Draft) -> Passed {
     match answer {
         Answer::More => Passed {
             again: false,
             go: true,
             draft,
         },
-        Answer::Said(judged) => judge(judged, draft),
+        Answer::Said(judged) => judge(range, judged, draft),
         Answer::Block(_) => Passed {
             again: true,
             go: true,
@@ -215,9 +238,9 @@ fn pass(answer: Answer, draft: Draft) -> Passed {
     }
 }
 
-fn judge(judged: Judged, draft: Draft) -> Passed {
+fn judge(range: Range, judged: Judged, draft: Draft) -> Passed {
     match judged {
-        Judged::Packet(delivery) => note(delivery, draft),
+        Judged::Packet(delivery) => note(range, delivery, draft),
         Judged::Refused(n) => {
             let go = n != Refusal::STATE;
             Passed {
@@ -234,9 +257,11 @@ fn judge(judged: Judged, draft: Draft) -> Passed {
     }
 }
 
-// A packet.
-fn note(delivery: Delivery, draft: Draft) -> Passed {
-    let behind = draft.note(delivery.port, delivery.sequence);
+// A packet; one of a port outside the range does not count.
+fn note(range: Range, delivery: Delivery, draft: Draft) -> Passed
+    ensures { λ p. ⌜ p .draft ≡ noting range draft (delivery .port) (delivery .sequence) ⌝ }
+{
+    let behind = draft.note(range, delivery.port, delivery.sequence);
     Passed {
         again: true,
         go: true,

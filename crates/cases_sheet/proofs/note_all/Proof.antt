@@ -5,10 +5,10 @@ use Rattle.cases_sheet.proofs.note_all.Statement.{statement}
 use Rattle.cases_sheet.proofs.note_all.Tie as tie
 
 abbrev Inv-loop : tie.InvT-loop
-Inv-loop n draft₀ left₀ draft left = Unit {0}
+Inv-loop range n draft₀ left₀ draft left = Unit {0}
 
 abbrev μ-loop : tie.MeasureT-loop
-μ-loop n draft₀ left₀ draft left = left
+μ-loop range n draft₀ left₀ draft left = left
 
 pub note-all-spec : {M : Type 1} → statement M
 note-all-spec =
