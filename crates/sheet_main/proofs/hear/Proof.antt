@@ -11,11 +11,11 @@ use Rattle.sheet_main.proofs.hear.Statement.{statement}
 use Rattle.sheet_main.proofs.hear.Tie as tie
 
 abbrev Inv-loop : tie.InvT-loop
-Inv-loop recv₀ word₀ piece turn₀ i₀ calls₀ recv word turn i calls =
+Inv-loop range recv₀ word₀ piece turn₀ i₀ calls₀ recv word turn i calls =
     (i ≤ length piece) × (length piece ≤ far) × (length recv ≡ length recv₀) × (length word ≡ length word₀)
 
 abbrev μ-loop : tie.MeasureT-loop
-μ-loop recv₀ word₀ piece turn₀ i₀ calls₀ recv word turn i calls = calls
+μ-loop range recv₀ word₀ piece turn₀ i₀ calls₀ recv word turn i calls = calls
 
 -- the part that is lent to a call
 part-length : (i : ℕ) (bs : List ℕ) → length (take (length bs - i) (drop i bs)) ≡ length bs - i
@@ -31,12 +31,12 @@ hear-spec =
     (search needs)
     (λ c κs. search needs)
     (λ c. omega (arith, c .before .before .before .before .before .call .ensures, c .before .before .before .before .before .before .before .before .before .before .loop .inv .0, c .before .before .before .before .before .before .before .before .before .before .loop .inv .1, part-length (c .before .before .before .before .before .before .before .before .before .before .loop .i) (c .before .before .before .before .before .before .before .before .before .before .before .before .before .before .args .piece .now)))
-    (λ c. omega (arith, c .before .before .before .before .before .before .before .call .kept .1 .1 .0, c .before .before .before .before .before .before .before .before .before .before .before .before .loop .inv .2))
-    (λ c. omega (arith, c .before .before .before .before .before .before .before .call .kept .1 .1 .1 .0, c .before .before .before .before .before .before .before .before .before .before .before .before .loop .inv .3))
+    (λ c. omega (arith, c .before .before .before .before .before .before .before .call .kept .1 .1 .1 .0, c .before .before .before .before .before .before .before .before .before .before .before .before .loop .inv .2))
+    (λ c. omega (arith, c .before .before .before .before .before .before .before .call .kept .1 .1 .1 .1 .0, c .before .before .before .before .before .before .before .before .before .before .before .before .loop .inv .3))
     (search needs)
     (search needs)
     (search needs)
-    (λ c. (omega (arith, c .before .before .before .before .before .before .before .call .ensures, c .before .before .before .before .before .before .before .before .before .before .before .before .loop .inv .0, c .before .before .before .before .before .before .before .before .before .before .before .before .loop .inv .1, part-length (c .before .before .before .before .before .before .before .before .before .before .before .before .loop .i) (c .before .before .before .before .before .before .before .before .before .before .before .before .before .before .before .before .args .piece .now)), c .before .before .before .before .before .before .before .before .before .before .before .before .loop .inv .1, omega (arith, c .before .before .before .before .before .before .before .call .kept .1 .1 .0, c .before .before .before .before .before .before .before .before .before .before .before .before .loop .inv .2), omega (arith, c .before .before .before .before .before .before .before .call .kept .1 .1 .1 .0, c .before .before .before .before .before .before .before .before .before .before .before .before .loop .inv .3)))
+    (λ c. (omega (arith, c .before .before .before .before .before .before .before .call .ensures, c .before .before .before .before .before .before .before .before .before .before .before .before .loop .inv .0, c .before .before .before .before .before .before .before .before .before .before .before .before .loop .inv .1, part-length (c .before .before .before .before .before .before .before .before .before .before .before .before .loop .i) (c .before .before .before .before .before .before .before .before .before .before .before .before .before .before .before .before .args .piece .now)), c .before .before .before .before .before .before .before .before .before .before .before .before .loop .inv .1, omega (arith, c .before .before .before .before .before .before .before .call .kept .1 .1 .1 .0, c .before .before .before .before .before .before .before .before .before .before .before .before .loop .inv .2), omega (arith, c .before .before .before .before .before .before .before .call .kept .1 .1 .1 .1 .0, c .before .before .before .before .before .before .before .before .before .before .before .before .loop .inv .3)))
     (search needs)
     (search needs)
     (search needs))

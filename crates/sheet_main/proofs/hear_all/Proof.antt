@@ -9,11 +9,11 @@ use Rattle.sheet_main.proofs.hear_all.Statement.{statement}
 use Rattle.sheet_main.proofs.hear_all.Tie as tie
 
 abbrev Inv-loop : tie.InvT-loop
-Inv-loop fd recv₀ word₀ piece₀ tape₀ draft₀ reads₀ recv word piece tape draft reads =
+Inv-loop range fd recv₀ word₀ piece₀ tape₀ draft₀ reads₀ recv word piece tape draft reads =
     (rawLimit ≡ length recv) × (wordBytes ≡ length word) × (65536 ≡ length piece)
 
 abbrev μ-loop : tie.MeasureT-loop
-μ-loop fd recv₀ word₀ piece₀ tape₀ draft₀ reads₀ recv word piece tape draft reads = reads
+μ-loop range fd recv₀ word₀ piece₀ tape₀ draft₀ reads₀ recv word piece tape draft reads = reads
 
 pub hear-all-spec : {M : Type 1} → statement M
 hear-all-spec =

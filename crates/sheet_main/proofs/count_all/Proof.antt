@@ -1,17 +1,17 @@
--- `sheet_main::main` is safe and ends: the recordings that may come grow fewer.
+-- `sheet_main::count_all` is safe and ends: the recordings that may come grow fewer.
 use Prim.Native.Nat.{_-_, _≤_}
 use borrow.Author.Needs.{needs}
-use Rattle.sheet_main.proofs.main.Statement.{statement}
-use Rattle.sheet_main.proofs.main.Tie as tie
+use Rattle.sheet_main.proofs.count_all.Statement.{statement}
+use Rattle.sheet_main.proofs.count_all.Tie as tie
 
 abbrev Inv-loop : tie.InvT-loop
-Inv-loop count sheet₀ shown i₀ sheet i = (2 ≤ i) × (i ≤ count)
+Inv-loop range shown count sheet₀ i₀ sheet i = (4 ≤ i) × (i ≤ count)
 
 abbrev μ-loop : tie.MeasureT-loop
-μ-loop count sheet₀ shown i₀ sheet i = count - i
+μ-loop range shown count sheet₀ i₀ sheet i = count - i
 
-pub main-spec : {M : Type 1} → statement M
-main-spec =
+pub count-all-spec : {M : Type 1} → statement M
+count-all-spec =
     tie.close
     (tie.spec Inv-loop μ-loop
     (λ c κs. search needs)

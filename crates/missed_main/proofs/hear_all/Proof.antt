@@ -1,0 +1,48 @@
+-- `missed_main::hear_all` is safe and ends: the buffers keep their lengths, and the reads that may come grow fewer.
+use native.Mathlib.Omega.{arith}
+use mathlib.Core.Path.{_≡_}
+use lib.ListN.{length}
+use borrow.Author.Needs.{needs}
+use Rattle.packet_spec.specs.Contents.{rawLimit}
+use Rattle.channel_spec.specs.Sender.{wordBytes}
+use Rattle.missed_main.proofs.hear_all.Statement.{statement}
+use Rattle.missed_main.proofs.hear_all.Tie as tie
+
+abbrev Inv-loop : tie.InvT-loop
+Inv-loop range recv₀ word₀ piece₀ tape₀ ports₀ reads₀ t10 recv word piece tape ports reads =
+    (rawLimit ≡ length recv) × (wordBytes ≡ length word) × (65536 ≡ length piece)
+
+abbrev μ-loop : tie.MeasureT-loop
+μ-loop range recv₀ word₀ piece₀ tape₀ ports₀ reads₀ t10 recv word piece tape ports reads = reads
+
+pub hear-all-spec : {M : Type 1} → statement M
+hear-all-spec =
+    tie.close
+    (tie.spec Inv-loop μ-loop
+    (λ c κs. search needs)
+    (λ c κs. search needs)
+    (λ c κs. search needs)
+    (search needs)
+    (search needs)
+    (λ c κs. search needs)
+    (search needs)
+    (λ c κs. search needs)
+    (search needs)
+    (λ c κs. search needs)
+    (search needs)
+    (search needs)
+    (λ c κs. search needs)
+    (search needs)
+    (search needs)
+    (search needs)
+    (search needs)
+    (search needs)
+    (λ c κs. search needs)
+    (search needs)
+    (λ c κs. search needs)
+    (λ c κs. search needs)
+    (search needs)
+    (λ c. omega (arith, c .before .before .before .before .before .before .before .before .before .before .before .before .before .before .before .before .before .before .before .before .loop-test .taken))
+    (λ c. omega (arith, c .before .before .before .before .before .before .before .before .before .before .before .before .before .before .before .before .before .before .before .before .loop-test .taken))
+    (search needs)
+    (search needs))
