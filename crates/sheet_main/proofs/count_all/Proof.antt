@@ -5,7 +5,7 @@ use Rattle.sheet_main.proofs.count_all.Statement.{statement}
 use Rattle.sheet_main.proofs.count_all.Tie as tie
 
 abbrev Inv-loop : tie.InvT-loop
-Inv-loop range shown count sheet₀ i₀ sheet i = (4 ≤ i) × (i ≤ count)
+Inv-loop range shown count sheet₀ i₀ sheet i = 4 ≤ i
 
 abbrev μ-loop : tie.MeasureT-loop
 μ-loop range shown count sheet₀ i₀ sheet i = count - i
@@ -15,12 +15,6 @@ count-all-spec =
     tie.close
     (tie.spec Inv-loop μ-loop
     (λ c κs. search needs)
-    (λ c κs. search needs)
-    (search needs)
-    (λ c κs. search needs)
-    (search needs)
-    (search needs)
-    (λ c κs. search needs)
     (search needs)
     (search needs)
     (search needs)
@@ -29,5 +23,4 @@ count-all-spec =
     (search needs)
     (search needs)
     (search needs)
-    (λ c κs. search needs)
     (search needs))
