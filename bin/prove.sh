@@ -1,37 +1,107 @@
 # Read by the scripts that prove before they run, behind bin/help.sh.
-mkdir -p "$top/target"
 
-# prove CRATE: proves it and what it stands on, and shows what rt says where that is refused. On standard error it says how far it is, a line
-# for each crate that was still to be proved; rt proves those that do not need each other beside each other. One check at a time: the programs
-# of a pipe start together, and two checks in one place disturb each other. With PROVED=1 the caller has just had it proved.
+# prove CRATE [ARCHIVE]: what is made of CRATE, its program or the archive, is what was proved from these sources by this toolchain: target/started
+# says so, or it is proved and made now. Of a library without an archive there is rt's own stamp.
 prove() {
-    [ -n "${PROVED:-}" ] || (
-        has_rt && cd "$top" || exit 1
-        all=$(for crate in $(sed -n "s/^$1://p" crates.txt); do [ ! -d "crates/$crate" ] || echo; done | wc -l)
-        {
-            ! command -v flock >/dev/null || flock 9
-            . bin/memory.sh
-            trap forget_memory EXIT
-            trap 'exit 1' HUP INT TERM
-            # a pipe's status is that of `far`: that all is proved is a last line
-            told=$({ rt check "$1" 2>&1 && echo "$1: ALL PROVED"; } </dev/null | far $((all + 1)))
-            case $told in
-            *"$1: ALL PROVED") ;;
-            *)
-                printf '%s\n' "$told" >&2
-                exit 1
-                ;;
-            esac
-        } 9<.
-    ) || return 1
+    has_rt || return 1
+    made=${2:-target/stamp/$1}
+    [ ! -f "$top/crates/$1/src/main.rt" ] || made=target/bin/$1
+    proved "$1" "$made" || prove_anew "$1" "$made"
 }
 
-# has_rt: the toolchain is there; else it says so.
+# has_rt: the toolchain is there, $rt in the folder $kit, and for which $machine; else it says so.
 has_rt() {
-    command -v rt >/dev/null || {
+    rt=$(command -v rt) && rt=$(readlink -f "$rt") || {
         echo "$called: the Rattle toolchain's rt is not on the path" >&2
         return 1
     }
+    kit=${RATTLE_HOME:-${rt%/*/*}}
+    machine=$(uname -m)
+}
+
+# proved CRATE FILE: whether target/started has the fingerprints of these sources and of this file.
+proved() {
+    kept=''
+    { read -r kept <"$top/target/started/$1" && [ "$kept" = "$(sources "$1") $(sha256sum <"$top/$2")" ]; } 2>/dev/null
+}
+
+# sources CRATE: a fingerprint of all that its proof hangs on: the toolchain, crates.txt, each file of the crate and of those that it stands on.
+sources() (
+    cd "$top" || exit 1
+    # shellcheck disable=SC2046
+    {
+        echo "$machine"
+        sha256sum "$kit/KIT-ID" "$rt"
+        find crates.txt $(below "$1") -name must-fail -prune -o \( -type f -o -type l \) -exec sha256sum {} + | LC_ALL=C sort
+    } 2>/dev/null | sha256sum
+)
+
+# below CRATE: the folders of the crate and of all that it stands on, by crates.txt.
+below() {
+    awk -v crate="$1" '
+        function visit(name,    words, n, i) {
+            if (seen[name]++) return
+            print "crates/" name
+            n = split(on[name], words, " ")
+            for (i = 1; i <= n; i++) if (words[i] in on) visit(words[i])
+        }
+        { sub(/#.*/, ""); at = index($0, ":") }
+        at { name = substr($0, 1, at - 1); gsub(/[ \t]/, "", name); on[name] = substr($0, at + 1) }
+        END { visit(crate) }' crates.txt
+}
+
+# prove_anew CRATE FILE: proves and makes it, and notes its fingerprints. One proof at a time: the programs of a pipe start together, and two proofs
+# in one place disturb each other.
+prove_anew() (
+    cd "$top" && mkdir -p target/started || exit 1
+    {
+        if command -v flock >/dev/null && ! flock -n 9; then
+            echo "$called: waiting for another proof in this folder" >&2
+            flock 9
+            ! proved "$1" "$2" || exit 0
+        fi
+        . bin/memory.sh
+        trap forget_memory EXIT
+        trap 'exit 1' HUP INT TERM
+        before='' now=$(sources "$1")
+        # a source that was saved meanwhile may not be in it
+        until [ "$now" = "$before" ]; do
+            before=$now
+            make "$1" "$2" || exit 1
+            now=$(sources "$1")
+        done
+        print=$(sha256sum <"$2") && echo "$now $print" >"target/started/$1.$$" && mv "target/started/$1.$$" "target/started/$1"
+    } 9<.
+)
+
+# make CRATE FILE: the crate proved and its file made, by rt; where that is refused, what it says is shown.
+make() {
+    all=$(below "$1" | wc -l)
+    case $2 in target/bin/*) take_altered "$1" "$2" ;; esac
+    # a pipe's status is that of `far`: that all is proved is a last line
+    told=$({ rt check "$1" 2>&1 && case $2 in *.a) rt staticlib "$1" 2>&1 ;; esac && echo "$1: ALL PROVED"; } </dev/null | far "$all")
+    case $told in
+    *"$1: ALL PROVED") ;;
+    *)
+        printf '%s\n' "$told" >&2
+        return 1
+        ;;
+    esac
+}
+
+# take_altered CRATE FILE: rt does not look at a program that it has made. One that is missing, was written behind rt's own stamp, or is not what
+# was started from these sources before, is taken away with that stamp, so that rt makes it anew.
+take_altered() {
+    kept=''
+    { read -r kept <"target/started/$1"; } 2>/dev/null || :
+    if [ -f "$2" ] && [ ! "$2" -nt "target/stamp/$1" ]; then
+        case $kept in
+        "$before $(sha256sum <"$2")") return 0 ;;
+        "$before "*) ;;
+        *) return 0 ;;
+        esac
+    fi
+    rm -f "$2" "target/stamp/$1"
 }
 
 # far CRATES: hands rt's lines on, and tells of each crate that is proved anew; which of how many it is.
@@ -52,14 +122,19 @@ far() {
 # start FILE ARGUMENTS..: a program compiled for x86-64 takes this shell's place, by the toolchain's C library; on another processor its emulator runs
 # it. With STACK_KIB=n on a stack of n KiB.
 start() {
-    rt=$(command -v rt)
-    kit=${RATTLE_HOME:-$(cd "$(dirname "$(readlink -f "$rt")")/.." && pwd -P)}
-    tools=$kit/on/$(uname -m)/toolchain
+    tools=$kit/on/$machine/toolchain
     emulator=$tools/bin/qemu-x86_64
     [ -x "$emulator" ] || emulator=
     [ -z "${STACK_KIB:-}" ] || ulimit -s "$STACK_KIB"
     exec ${emulator:+"$emulator"} "$tools/lib/ld-linux-x86-64.so.2" --library-path "$tools/lib" "$@"
 }
+
+# run CRATE ARGUMENTS..: its program, which `prove` has seen in this shell.
+run() (
+    program=$top/target/bin/$1
+    shift
+    start "$program" "$@"
+)
 
 # files_only FILE..: none of them is an option; a file may begin with - where it is there.
 files_only() {
@@ -111,7 +186,12 @@ heed() {
         pass_on
     } &
     passing=$!
-    PROVED=1 "$top/bin/run" "$@" <&5 2>&6 5<&- 6>&- 7<&- &
+    {
+        exec <&5 2>&6 5<&- 6>&- 7<&-
+        name=$1
+        shift
+        start "$top/target/bin/$name" "$@"
+    } &
     program=$!
     wait "$program" || ended=$?
     exec 5<&- 6>&- 7<&-
