@@ -1,5 +1,8 @@
 # Read by the scripts that prove before they run, behind bin/help.sh.
 
+# what stands before each line that a program says, and the command by which a program ends with its script
+named='' mortal=''
+
 # prove CRATE [ARCHIVE]: what is made of CRATE, its program or the archive, is what was proved from these sources by this toolchain: target/started
 # says so, or it is proved and made now. Of a library without an archive there is rt's own stamp.
 prove() {
@@ -126,7 +129,7 @@ start() {
     emulator=$tools/bin/qemu-x86_64
     [ -x "$emulator" ] || emulator=
     [ -z "${STACK_KIB:-}" ] || ulimit -s "$STACK_KIB"
-    exec ${emulator:+"$emulator"} "$tools/lib/ld-linux-x86-64.so.2" --library-path "$tools/lib" "$@"
+    exec $mortal ${emulator:+"$emulator"} "$tools/lib/ld-linux-x86-64.so.2" --library-path "$tools/lib" "$@"
 }
 
 # run CRATE ARGUMENTS..: its program, which `prove` has seen in this shell.
@@ -136,8 +139,9 @@ run() (
     start "$program" "$@"
 )
 
-# files_only FILE..: none of them is an option; a file may begin with - where it is there.
+# files_only FILE..: none of them is an option; a file may begin with - where it is there, or behind --.
 files_only() {
+    [ -z "$plain" ] || return 0
     for file; do
         case $file in
         -) [ -e - ] || usage "no file is called -; standard input is read where no file is named" ;;
@@ -146,44 +150,94 @@ files_only() {
     done
 }
 
-# can_read FILE..: whether each is a file that can be read; else it says which is not, before anything is proved.
+# unreadable FILE: why it cannot be read; nothing where it can.
+unreadable() {
+    if [ -d "$1" ]; then
+        echo 'is a directory'
+    elif [ ! -r "$1" ]; then
+        echo 'no such file, or not to be read'
+    fi
+}
+
+# can_read FILE..: says of each that cannot be read why, before anything is proved; fails where none can.
 can_read() {
     files_only "$@"
+    can=$#
     for file; do
-        why=
-        if [ -d "$file" ]; then
-            why='is a directory'
-        elif [ ! -r "$file" ]; then
-            why='no such file, or not to be read'
-        fi
-        [ -z "$why" ] || {
-            printf '%s\n' "$called: $file: $why" >&2
-            return 1
-        }
+        why=$(unreadable "$file")
+        [ -n "$why" ] || continue
+        printf '%s\n' "$called: $file: $why" >&2
+        can=$((can - 1))
     done
+    [ $# -eq 0 ] || [ "$can" -gt 0 ]
 }
 
 # from_file [FILE]: standard input is the file from here on.
 from_file() {
+    if [ -z "$plain" ] && [ "${1-}" = -- ]; then
+        plain=/
+        shift
+    fi
+    files_only "$@"
     [ $# -le 1 ] || usage "one file at most"
     [ $# -eq 1 ] || return 0
     can_read "$1" || exit 1
     command exec <"$1" || exit 1
 }
 
+# bytes_in [FILE..]: each of them, or standard input, hands on bytes as they come. A terminal in line mode holds them back, alters some and takes one
+# for the end: that is said, and what to do.
+bytes_in() {
+    if [ $# -eq 0 ] && [ -t 0 ]; then
+        takes_lines "standard input" "$(stty -a 2>/dev/null)"
+    fi
+    for file; do
+        [ ! -c "$file" ] || takes_lines "$file" "$(stty -a -F "$file" 2>/dev/null)"
+    done
+}
+
+takes_lines() { # NAME SETTINGS
+    ! has_setting "$2" icanon isig icrnl inlcr igncr istrip ixon parmrk || {
+        echo "$called: $1 is a terminal in line mode, which holds bytes back and alters them: stty -F DEVICE raw -echo, or read a file" >&2
+        exit 1
+    }
+}
+
+# bytes_out: standard output takes bytes as they are; a terminal in line mode puts others in their place: that is said, and what to do.
+bytes_out() {
+    [ -t 1 ] || return 0
+    { settings=$(stty -a <&3 2>/dev/null) || :; } 3>&1
+    ! has_setting "$settings" opost || {
+        echo "$called: standard output is a terminal in line mode, which alters bytes: stty -F DEVICE raw -echo, or write to a file" >&2
+        exit 1
+    }
+}
+
+# has_setting SETTINGS WORD..: whether one of the words stands in what stty says.
+has_setting() {
+    settings=" $(printf %s "$1" | tr '\n' ' ') "
+    shift
+    for word; do
+        case $settings in *" $word "*) return 0 ;; esac
+    done
+    return 1
+}
+
 # heed PROGRAM ARGUMENTS..: runs it, proved. A proved program cannot set its exit status: where it says something on standard error, the status
 # is 1. What it says is passed on as it comes. A signal that ends this shell ends the program: it would read on, and take what its successor waits for.
 heed() {
-    program='' talk='' ended=0
+    program='' talk='' ended=0 above=$ending
     at_end 'kill $program 2>/dev/null || :; rm -rf "$talk"'
     true 2>/dev/null 5<&0 || exec 0>/dev/null # closed: the program says that it cannot read
+    # .. also a signal that no shell sees, where there is a command for that
+    ! setpriv --pdeathsig TERM true 2>/dev/null || mortal='setpriv --pdeathsig TERM'
     # a pipe by two numbers; a program in the background has its input by another one
     talk=$(mktemp -d) && mkfifo "$talk/said" || return 1
     exec 5<&0 6<>"$talk/said" 7<"$talk/said"
     rm -rf "$talk"
     {
         exec <&7 5<&- 6>&- 7<&-
-        pass_on
+        pass_on "$1"
     } &
     passing=$!
     {
@@ -196,23 +250,42 @@ heed() {
     wait "$program" || ended=$?
     exec 5<&- 6>&- 7<&-
     wait "$passing" || ended=1
-    trap - EXIT HUP INT TERM
+    ending=$above
+    set_ending
+    case $ended in
+    0 | 1) ;;
+    141) ended=1 ;; # who read the output has gone: nothing is said
+    *) echo "$called: $1 ended with status $ended" >&2 && ended=1 ;;
+    esac
     return "$ended"
 }
 
-# pass_on: lines to standard error; fails where there was one.
+# pass_on PROGRAM: lines to standard error; fails where one of them says that something failed.
 pass_on() {
-    said=0
+    failed=0
     while IFS= read -r line || [ -n "$line" ]; do
-        printf '%s\n' "$line" >&2
-        said=1
+        printf '%s\n' "$named$line" >&2
+        harmless "$1" "$line" || failed=1
     done
-    return "$said"
+    return "$failed"
 }
 
-# heed_each PROGRAM ARGUMENTS.. -- FILE..: the same of each file, or of standard input where none is named; the status is 1 where one of them failed.
+# harmless PROGRAM LINE: what a program says though all went well.
+harmless() {
+    case $1:$2 in
+    "fixed_main:fixed: hint: "*) ;;
+    "sheet_main:recording "*" of "*) # which one it is at, and nothing behind it
+        number=${2#recording }
+        case ${number%% of *}${number#* of } in *[!0-9]*) return 1 ;; esac
+        ;;
+    *) return 1 ;;
+    esac
+}
+
+# heed_each PROGRAM ARGUMENTS.. -- FILE..: the same of each file, or of standard input where none is named; the status is 1 where one of them failed or
+# could not be read. Of more than one file each one's lines stand behind its name, as head(1) has it, and what is said names it.
 heed_each() {
-    worst=0 arguments=''
+    worst=0 arguments='' between=''
     while [ "$1" != -- ]; do
         arguments="$arguments $1"
         shift
@@ -220,11 +293,34 @@ heed_each() {
     shift
     # shellcheck disable=SC2086
     if [ $# -eq 0 ]; then
-        heed $arguments || worst=$?
-    else
-        for file; do
-            { heed $arguments || worst=$?; } <"$file" || worst=1
-        done
+        heed $arguments
+        return
     fi
+    many=$#
+    for file; do
+        [ -z "$(unreadable "$file")" ] || { worst=1 && continue; }
+        [ "$many" -eq 1 ] || head_line "$file" || return 1
+        { heed $arguments || worst=1; } <"$file" || worst=1
+    done
     return "$worst"
+}
+
+# head_line FILE: behind which its lines stand.
+head_line() {
+    named="$1: "
+    trap 'exit 1' PIPE # as where a program's reader has gone
+    printf "$between==> %s <==\n" "$1" 2>/dev/null || {
+        echo "$called: cannot write standard output" >&2
+        return 1
+    }
+    trap - PIPE
+    between='\n'
+}
+
+# put FILE: its bytes to standard output; where that fails it says so, but for a reader that has gone.
+put() {
+    cat "$1" 2>/dev/null || {
+        [ $? -eq 141 ] || echo "$called: cannot write standard output" >&2
+        return 1
+    }
 }
