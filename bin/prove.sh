@@ -9,7 +9,16 @@ prove() {
     has_rt || return 1
     made=${2:-target/stamp/$1}
     [ ! -f "$top/crates/$1/src/main.rt" ] || made=target/bin/$1
-    proved "$1" "$made" || prove_anew "$1" "$made"
+    ! proved "$1" "$made" || return 0
+    # beside this shell, so that a signal ends both at once
+    above=$ending proving='' status=0
+    at_end 'kill $proving 2>/dev/null || :'
+    prove_anew "$1" "$made" &
+    proving=$!
+    wait "$proving" || status=1
+    ending=$above
+    set_ending
+    return "$status"
 }
 
 # has_rt: the toolchain is there, $rt in the folder $kit, and for which $machine; else it says so.
@@ -53,19 +62,21 @@ below() {
         END { visit(crate) }' crates.txt
 }
 
-# prove_anew CRATE FILE: proves and makes it, and notes its fingerprints. One proof at a time: the programs of a pipe start together, and two proofs
+# prove_anew CRATE FILE: in a shell of its own, proves and makes it, and notes its fingerprints. One proof at a time: the programs of a pipe start together, and two proofs
 # in one place disturb each other.
-prove_anew() (
-    cd "$top" && mkdir -p target/started || exit 1
+prove_anew() {
+    cd "$top" && mkdir -p target/started && room=$(mktemp -d) || exit 1
+    memory=''
+    trap 'rm -rf "$room" $memory' EXIT
+    trap 'end_proof; exit 1' HUP INT TERM
     {
         if command -v flock >/dev/null && ! flock -n 9; then
             echo "$called: waiting for another proof in this folder" >&2
-            flock 9
+            flock 9 &
+            wait $!
             ! proved "$1" "$2" || exit 0
         fi
         . bin/memory.sh
-        trap forget_memory EXIT
-        trap 'exit 1' HUP INT TERM
         before='' now=$(sources "$1")
         # a source that was saved meanwhile may not be in it
         until [ "$now" = "$before" ]; do
@@ -75,21 +86,35 @@ prove_anew() (
         done
         print=$(sha256sum <"$2") && echo "$now $print" >"target/started/$1.$$" && mv "target/started/$1.$$" "target/started/$1"
     } 9<.
-)
+}
 
 # make CRATE FILE: the crate proved and its file made, by rt; where that is refused, what it says is shown.
 make() {
     all=$(below "$1" | wc -l)
     case $2 in target/bin/*) take_altered "$1" "$2" ;; esac
-    # a pipe's status is that of `far`: that all is proved is a last line
-    told=$({ rt check "$1" 2>&1 && case $2 in *.a) rt staticlib "$1" 2>&1 ;; esac && echo "$1: ALL PROVED"; } </dev/null | far "$all")
-    case $told in
-    *"$1: ALL PROVED") ;;
-    *)
-        printf '%s\n' "$told" >&2
+    # a pipe's status is that of `far`: that all is proved is a last line. It runs beside this shell, which a signal then ends at once
+    { alone rt check "$1" && case $2 in *.a) alone rt staticlib "$1" ;; esac && echo "$1: ALL PROVED"; } </dev/null 2>&1 | far "$all" >"$room/told" &
+    wait $!
+    [ "$(tail -n 1 "$room/told")" = "$1: ALL PROVED" ] || {
+        cat "$room/told" >&2
         return 1
-        ;;
-    esac
+    }
+}
+
+# alone COMMAND..: in a group of processes of its own, by whose number it can be ended with all that it has begun.
+alone() {
+    if command -v setsid >/dev/null; then
+        setsid sh -c 'echo $$ >"$0" && exec "$@"' "$room/group" "$@"
+    else
+        "$@"
+    fi
+}
+
+end_proof() {
+    kill $! 2>/dev/null || :
+    [ -s "$room/group" ] || return 0
+    kill -s TERM -- "-$(cat "$room/group")" 2>/dev/null || :
+    wait
 }
 
 # take_altered CRATE FILE: rt does not look at a program that it has made. One that is missing, was written behind rt's own stamp, or is not what
@@ -213,8 +238,26 @@ bytes_out() {
     }
 }
 
+# hint FORM [FILE..]: where a file, or standard input that is one, begins as the other form does, a line says so. Nothing is decided by it.
+hint() {
+    wanted=$1
+    shift
+    [ $# -gt 0 ] || set -- /dev/stdin
+    for file; do
+        [ -f "$file" ] || continue
+        name=$file
+        [ "$file" != /dev/stdin ] || name='standard input'
+        case $wanted:$(od -An -tx1 -N4 <"$file"):${options-} in
+        'stream: 4f f5 5f'* | 'stream: 50 f5 5f'*) printf '%s\n' "$called: $name begins as a recording does: --recording?" >&2 ;;
+        'recording: 7d 3a e2 42:'*--stream*) printf '%s\n' "$called: $name begins as a stream does: --stream?" >&2 ;;
+        'recording: 7d 3a e2 42:'*) printf '%s\n' "$called: $name begins as a stream does, which bin/board --stream reads" >&2 ;;
+        esac
+    done
+}
+
 # has_setting SETTINGS WORD..: whether one of the words stands in what stty says.
 has_setting() {
+    [ -n "$1" ] || return 1
     settings=" $(printf %s "$1" | tr '\n' ' ') "
     shift
     for word; do
