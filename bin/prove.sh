@@ -62,8 +62,8 @@ below() {
         END { visit(crate) }' crates.txt
 }
 
-# prove_anew CRATE FILE: in a shell of its own, proves and makes it, and notes its fingerprints. One proof at a time: the programs of a pipe start together, and two proofs
-# in one place disturb each other.
+# prove_anew CRATE FILE: in a shell of its own, proves and makes it, and notes its fingerprints. One proof at a time: the programs of a pipe start
+# together, and two proofs in one place disturb each other.
 prove_anew() {
     cd "$top" && mkdir -p target/started && room=$(mktemp -d) || exit 1
     memory=''
