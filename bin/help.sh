@@ -1,5 +1,6 @@
 # Read by every script before it does anything: -h or --help prints the comment at the script's head, and nothing is proved; any other
-# option is refused, but for those that the script names in $options, each once; -- ends them.
+# option is refused, but for those that the script names in $options, each once; -- ends them. One that may have its value behind a sign = stands there
+# with the sign too.
 
 # $top is the repository, $called the script in it, where it is called by a link too; cd goes where it is told.
 script=$(readlink -f "$0")
@@ -52,10 +53,10 @@ case ${1-} in
     ;;
 -?*)
     case " ${options-} " in
-    *" $1 "*) ;;
+    *" $1 "* | *" ${1%%=*}= "*) ;;
     *) usage "there is no option $1" ;;
     esac
-    case "$given " in *" $1 "*) usage "$1 is given twice" ;; esac
-    given="$given $1"
+    case "$given " in *" ${1%%=*} "*) usage "${1%%=*} is given twice" ;; esac
+    given="$given ${1%%=*}"
     ;;
 esac

@@ -42,7 +42,7 @@ static void print(size_t answer)
         damaged++;
         printf("B X\n");
         break;
-    case 3:
+    case AAS_REFUSED_ESCAPE:
         refused++;
         printf("R 3 %llu\n", (unsigned long long)state[AAS_PLACE]);
         break;
@@ -61,7 +61,7 @@ static void hand_in(int opportunistic, size_t n)
         answer = opportunistic
                      ? aas_channel_read(state, recv_buffer, sizeof recv_buffer, word_buffer, sizeof word_buffer, piece + at, n - at)
                      : aas_stream_read(state, recv_buffer, sizeof recv_buffer, piece + at, n - at);
-        if (answer == AAS_BAD_STATE || answer == AAS_SHORT_BUFFER) {
+        if (answer == AAS_REFUSED_STATE || answer == AAS_REFUSED_BUFFER) {
             fprintf(stderr, "refused %zu\n", answer);
             exit(2);
         }

@@ -1,9 +1,10 @@
 /* The rack's functions: parity made, words checked and repaired, streams read. docs/RACK.md says what is proved of them, and what a
-   caller has to see to. `bin/rack` builds the archive to link with. tests/rack holds this header to crates/rack/src.
+   caller has to see to. `bin/rack` builds the archive to link with. tests/rack holds this header to crates/rack/src, and the
+   numbers of its refusals to crates/base/src.
 
    A slice is two parameters, a pointer and a length in bytes. A receiver's state is an array of numbers that the caller lends; all
-   zeros are a fresh one. Numbers below 256 in an answer are those of the papers: 0, a word's 1, or a refusal; the others are named below.
-   NULL is for length 0 alone; memory that may change overlaps no other argument. */
+   zeros are a fresh one. Numbers below 256 in an answer are those of the papers: 0, a word's 1, or a refusal; every answer has its name
+   below. NULL is for length 0 alone; memory that may change overlaps no other argument. */
 #ifndef AAS_RACK_H
 #define AAS_RACK_H
 
@@ -14,19 +15,41 @@
 extern "C" {
 #endif
 
-/* Answers. */
+/* Answers that are no refusals. */
 enum {
     AAS_MORE = 0,       /* a piece is read: all its bytes are taken, and no answer is owed */
     AAS_CLEAN = 0,      /* of a word: clean, or parity made */
     AAS_DAMAGED = 1,    /* of a word: damaged; where it was to be repaired, beyond repair and left as it came */
-    AAS_BAD_STATE = 10,    /* refused: a count of the state is beyond its limit, or stored is not the lesser of raw and 8,272 */
-    AAS_SHORT_BUFFER = 11, /* refused: a buffer is too short */
     AAS_PUT_RIGHT = 256, /* of a word: this and n, it was repaired in n places */
     AAS_PACKET = 256,   /* a packet is delivered */
     AAS_LOCK_LOST = 257,
     AAS_BLOCK_CLEAN = 258,
     AAS_BLOCK_REPAIRED = 259, /* state[AAS_REPAIRED] says in how many places */
     AAS_BLOCK_BEYOND = 260    /* beyond repair; its message bytes are read all the same */
+};
+
+/* Refused frames: bytes were taken, and reading goes on behind the closing flag. docs/REFUSALS.md says what each means on site. */
+enum {
+    AAS_REFUSED_RAW = 1,        /* the frame has more than 8,272 raw bytes */
+    AAS_REFUSED_UNFINISHED = 2, /* the last raw byte is 7D */
+    AAS_REFUSED_ESCAPE = 3,     /* 7D is followed by something other than 5E or 5D; state[AAS_PLACE] is the place of the first such byte */
+    AAS_REFUSED_SHORT = 4,      /* fewer than 8 bytes after undoing escapes */
+    AAS_REFUSED_CHECK = 5,      /* the check differs */
+    AAS_REFUSED_FORMAT = 6,     /* the format byte is neither 0x21 nor 0x26 */
+    AAS_REFUSED_PORT = 7,       /* the port is 7D00-7EFF */
+    AAS_REFUSED_PAYLOAD = 8,    /* the payload is above 8,192 bytes as escaped */
+    AAS_REFUSED_KEY = 12        /* in format 0x26 the key length is outside 2 to 32, or fewer than seven bytes stand behind the key */
+};
+
+/* Refused calls: no number and no byte is changed, and none is taken. */
+enum {
+    AAS_REFUSED_STATE = 10,  /* a count of the state is beyond its limit, or stored is not the lesser of raw and 8,272 */
+    AAS_REFUSED_BUFFER = 11, /* recv is under 8,272 bytes, or on the channel word under 255 */
+    AAS_REFUSED_OUTPUT = 23, /* out is shorter than r */
+    AAS_REFUSED_ROOTS = 30,  /* r is above 64 */
+    AAS_REFUSED_LENGTH = 31, /* the message is not 255 - r bytes, or the word is not 255 */
+    AAS_BAD_STATE = AAS_REFUSED_STATE,    /* the names that two of them had before */
+    AAS_SHORT_BUFFER = AAS_REFUSED_BUFFER
 };
 
 /* The numbers of a state. 0 to 7 are written by a call, and 12 on the channel; the others are read and written. */

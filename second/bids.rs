@@ -1,6 +1,6 @@
 //! The office's sender, and the day that bin/day shows: bids sent, heard, heard with damage, and what a framed board would show.
 //!
-//!   second bids send               lines of bids in, the marked stream out; lines that are not sent are named on standard error
+//!   second bids send               lines of bids in, the marked stream out; lines that are not sent are named on standard error, and warned of others
 //!   second bids files DIR [SEED]   files of bids to be sent, into a folder
 //!   second bids record SEED        a recording of the stream on standard input, in pieces as the seed has them
 //!   second bids flag N | price N | parity N | marker N
@@ -14,6 +14,8 @@ use crate::cases::Random;
 use crate::channel::{self, BLOCK, MARKER, MESSAGE};
 use crate::fcs;
 use crate::packet::{self, FLAG};
+use crate::ports::MOST;
+use crate::words::refused;
 use std::io::{Read, Write};
 
 pub fn run(words: &[&str]) -> i32 {
@@ -70,20 +72,84 @@ pub fn lines(input: &[u8]) -> Vec<&[u8]> {
     lines
 }
 
-/// The marked stream of the lines that are accepted, and the names of those that are not.
+/// The marked stream of the lines that are accepted, the names of those that are not, and warnings of what the yards will make of the others.
 pub fn sent(input: &[u8]) -> (Vec<u8>, String) {
     let mut stream = vec![FLAG];
-    let mut named = String::new();
+    let mut said = Vec::new();
+    let mut desk = Desk { numbers: Vec::new(), full: false, returned: false };
     for (at, line) in lines(input).into_iter().enumerate() {
+        let mut say = |what: String| said.push(format!("line {}: {what}\n", at + 1));
         match bid(line) {
-            None => named += &format!("line {}: no bid\n", at + 1),
+            None => say(no_bid(at, line).to_string()),
             Some((port, sequence, text)) => match packet::escaped_packet(port, sequence, text, usize::MAX) {
-                Ok(bytes) => stream.extend(bytes),
-                Err(n) => named += &format!("line {}: refused {n}\n", at + 1),
+                Ok(bytes) => {
+                    stream.extend(bytes);
+                    desk.warnings(port, sequence, text).into_iter().for_each(|what| say(format!("warning: {what}")));
+                }
+                Err(n) => say(refused(n)),
             },
         }
     }
-    (channel::in_blocks(&stream, usize::MAX).expect("any space"), named)
+    (channel::in_blocks(&stream, usize::MAX).expect("any space"), said.concat())
+}
+
+fn no_bid(at: usize, line: &[u8]) -> &'static str {
+    let marks: [&[u8]; 3] = ["\u{FEFF}".as_bytes(), &[0xFF, 0xFE], &[0xFE, 0xFF]];
+    if at == 0 && marks.iter().any(|mark| line.starts_with(mark)) {
+        return "no bid: the file begins with a byte order mark: save it as plain text";
+    }
+    "no bid: a bid is PORT SEQUENCE TEXT: two numbers up to 65535, one space behind each"
+}
+
+// What was sent so far: the highest number of each port that a board watches; and what was said once.
+struct Desk {
+    numbers: Vec<(u16, u16)>,
+    full: bool,
+    returned: bool,
+}
+
+impl Desk {
+    fn warnings(&mut self, port: u16, sequence: u16, text: &[u8]) -> Vec<String> {
+        let mut all: Vec<String> = self.number_warning(port, sequence).into_iter().collect();
+        let body = text.strip_suffix(b"\r").unwrap_or(text);
+        if let Some(at) = body.iter().position(odd) {
+            let bytes: Vec<u8> = body[at..].iter().copied().take(4).take_while(odd).collect();
+            all.push(format!("not plain ASCII: the yards see {}", board::shown(&bytes)));
+        }
+        if body.len() < text.len() && !std::mem::replace(&mut self.returned, true) {
+            all.push("a carriage return ends the text, as in a file from Windows: the yards see \\x0D; not said of the lines behind it".to_string());
+        }
+        all
+    }
+
+    fn number_warning(&mut self, port: u16, sequence: u16) -> Option<String> {
+        let Some((_, last)) = self.numbers.iter_mut().find(|(p, _)| *p == port) else { return self.first_of(port, sequence) };
+        let had = format!("port {port} had number {last} before");
+        match sequence.wrapping_sub(*last) as i16 {
+            1 => *last = sequence,
+            0 => return Some(format!("repeated: {had}; the yards will not take it for a new bid")),
+            distance if distance < 0 => return Some(format!("late: {had}; the yards will not quote from it")),
+            distance => {
+                *last = sequence;
+                return Some(format!("a gap: {had}; the yards will be told: missing {}", distance - 1));
+            }
+        }
+        None
+    }
+
+    fn first_of(&mut self, port: u16, sequence: u16) -> Option<String> {
+        if self.numbers.len() == MOST {
+            let first = !std::mem::replace(&mut self.full, true);
+            return first.then(|| format!("port {port} is the seventeenth: a board watches 16, and of others cannot tell what is late or missing"));
+        }
+        self.numbers.push((port, sequence));
+        (packet::class_letter(port) != Some(b'A')).then(|| format!("port {port} is none for applications: take one from 1025 to 20735"))
+    }
+}
+
+// A byte that a board shows by its number.
+fn odd(byte: &u8) -> bool {
+    !matches!(byte, b' '..=b'~')
 }
 
 // ---- files of bids
@@ -144,6 +210,23 @@ fn line(random: &mut Random) -> Vec<u8> {
     }
 }
 
+// Lines as an office types them, on few ports or some more than a board watches, their numbers up by one or not; some end as on Windows.
+fn busy(random: &mut Random) -> Vec<u8> {
+    let ports = 1 + random.below(20) as u16;
+    let mut numbers = vec![random.next() as u16; 20];
+    let mut lines = Vec::new();
+    for _ in 0..random.below(60) {
+        let at = random.below(ports as usize);
+        numbers[at] = numbers[at].wrapping_add([1, 1, 1, 1, 0, 2, 900, 32_767, 32_768, 65_535][random.below(10)]);
+        let port = [1201, 20_735 - 3, 1020][random.below(8).saturating_sub(5)] + at as u16;
+        let texts = [&b"CORN 4.12"[..], b"OATS \\ {~}", b"WHEAT 6\xC2\xBD", b"R\xC3\xB6\xE2\x82\xAC\xC3\xA9", b"RYE\t3.10\x7F"];
+        let bytes = texts[random.below(9).saturating_sub(4)];
+        let end: &[u8] = if random.below(12) == 0 { b"\r\n" } else { b"\n" };
+        lines.extend([format!("{port} {} ", numbers[at]).as_bytes(), bytes, end].concat());
+    }
+    lines
+}
+
 fn write_files(dir: &str, seed: u64) {
     let mut random = Random::new(seed);
     std::fs::create_dir_all(dir).expect(dir);
@@ -159,6 +242,9 @@ fn write_files(dir: &str, seed: u64) {
             file.push(b'\n');
         }
         files.push(file);
+    }
+    for mark in [&b""[..], b"", b"", b"", b"\xEF\xBB\xBF", b"\xFF\xFE", b"\xFE\xFF", b"\xEF\xBB"] {
+        files.extend((0..2).map(|_| [mark, &busy(&mut random)].concat()));
     }
     for (at, file) in files.iter().enumerate() {
         std::fs::write(format!("{dir}/{at:03}.bids"), file).expect(dir);

@@ -16,6 +16,7 @@ use crate::channel::{BLOCK, MARKER, MESSAGE, ROOTS};
 use crate::listing::{self, STREAM_LIMIT};
 use crate::listing_cases::{any, recorded, small, OPPORTUNISTIC, PAPER, PLAIN};
 use crate::packet::{self, Packet, FLAG, FORMAT, PAYLOAD_LIMIT, RESTRICTED};
+use crate::words::{refused, words};
 use crate::{hex, repair};
 use std::io::{Read, Write};
 
@@ -172,8 +173,8 @@ pub fn replay() -> i32 {
     let (packets, refusal) = imported(&input());
     output(&recording(&packets));
     match refusal {
-        Some(Refusal { number, record: Some(record) }) => eprintln!("replay: refused {number} at record {record}"),
-        Some(Refusal { number, .. }) => eprintln!("replay: refused {number}"),
+        Some(Refusal { number, record: Some(record) }) => eprintln!("replay: refused {number} at record {record}: {}", words(number)),
+        Some(Refusal { number, .. }) => eprintln!("replay: {}", refused(number)),
         None => {}
     }
     refusal.is_some() as i32

@@ -86,6 +86,7 @@ mod stream;
 mod time;
 mod unit_cases;
 mod units;
+mod words;
 
 use interleaver::{Receiver, Sender};
 use std::io::{Read, Write};

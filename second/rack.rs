@@ -344,6 +344,10 @@ pub fn write(asked: &str, told: &str, seed: u64) {
     std::fs::write(asked, &script.asked).expect(asked);
     std::fs::write(told, &script.told).expect(told);
     println!("{} calls on the rack's functions, {} different answers", script.calls, script.seen.len());
+    // a word's 1 is no refusal
+    let refusals = script.seen.iter().filter(|(call, n)| *n < 256 && *n > (b"CF".contains(call) as u64)).map(|(_, n)| *n);
+    let refusals: std::collections::BTreeSet<u64> = refusals.collect();
+    println!("refused {}", refusals.iter().map(u64::to_string).collect::<Vec<_>>().join(" "));
 }
 
 /// Marked blocks with bytes altered: few in most words, many in some, a marker now and then.

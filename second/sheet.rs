@@ -93,7 +93,7 @@ pub fn show(files: &[&str]) -> i32 {
                     sheet = next;
                     None
                 }
-                Err(number) => Some(format!("refused {number}")),
+                Err(number) => Some(crate::words::refused(number)),
             },
         };
         if let Some(why) = why {

@@ -164,7 +164,7 @@ pub fn run(words: &[&str]) -> i32 {
             2
         }
         Some(Err(n)) => {
-            eprintln!("refused {n}");
+            eprintln!("{}", crate::words::refused(n));
             1
         }
         Some(Ok(())) => 0,

@@ -1,24 +1,35 @@
 //! The office's sender as a program. Standard input: lines `PORT SEQUENCE TEXT`. Standard output: the marked opportunistic stream of
 //! the accepted lines, each block before more is read, or, with `--recording`, a recording of it in records of at most 1,000 bytes. A line that
 //! is not sent is named on standard error. Where the input cannot be read further, that is said there, a line that is begun is not sent, and those
-//! before it are; where the output cannot be written, it is said and nothing more is read.
+//! before it are; where the output cannot be written, it is said and nothing more is read. Of a line that is sent, what the yards will make of it is
+//! said there too, as a warning (src/warnings.rt).
+mod warnings;
+
 ghost use Prim.Native.Nat.{_≤_};
 ghost use lib.ListN.{length};
 use base::Written;
-use libc::STDERR_FILENO;
+use console::say;
 use libc::STDIN_FILENO;
 use libc::STDOUT_FILENO;
 use office::Answer;
 use office::Hearing;
 use office::Office;
 use office::Started;
+use warnings::Watch;
 
-// How the program stands: the sender, and the bytes that wait in the output.
+// How the program stands: the sender, the bytes that wait in the output, and what the boards have seen.
 struct Stand {
     // The output could be written so far; else that was said.
     go: bool,
     office: Office,
     waiting: usize,
+    watch: Watch,
+}
+
+// How the program stands behind a piece, and whether there may be more.
+struct Step {
+    more: bool,
+    stand: Stand,
 }
 
 // How the program stands behind a call.
@@ -57,7 +68,7 @@ fn send(recording: bool) {
     let mut hold = io::large_buffer();
     match Office::start(&mut hold) {
         Started::Ready(office) => send_from(recording, office, &mut hold),
-        Started::Refused(number) => say_refused(number),
+        Started::Refused(number) => console::say_refused(number),
     }
 }
 
@@ -65,9 +76,19 @@ fn send(recording: bool) {
 fn send_from(recording: bool, office: Office, hold: &mut [u8]) {
     let mut line = io::large_buffer();
     let mut out = io::large_buffer();
-    let last = read_all(recording, office, &mut line, hold, &mut out);
+    let last = read_all(recording, begun(office), &mut line, hold, &mut out);
     if last.go {
         finish(recording, last, hold, &mut out);
+    }
+}
+
+// Before the first line.
+fn begun(office: Office) -> Stand {
+    Stand {
+        go: true,
+        office,
+        waiting: 0,
+        watch: warnings::fresh(),
     }
 }
 
@@ -81,30 +102,18 @@ fn is_asked() -> bool {
 // Reads to the end of the input, which ends a line that is begun.
 fn read_all(
     recording: bool,
-    office: Office,
+    first: Stand,
     line: &mut [u8],
     hold: &mut [u8],
     out: &mut [u8],
 ) -> Stand {
     let mut piece = io::large_buffer();
-    let mut stand = Stand {
-        go: true,
-        office,
-        waiting: 0,
-    };
+    let mut stand = first;
     let mut turns = u64::MAX;
     while turns > 0 {
-        let got = libc::read(STDIN_FILENO, &mut piece);
-        if got < 0 {
-            say(b"bids: cannot read standard input\n");
-            return stand;
-        }
-        if got == 0 {
-            return end(recording, stand, line, hold, out);
-        }
-        let n = io::count(got, &piece);
-        stand = send_piece(recording, stand, line, hold, &piece[..n], out);
-        if !stand.go {
+        let step = read_piece(recording, stand, line, hold, &mut piece, out);
+        stand = step.stand;
+        if !step.more {
             return stand;
         }
         turns -= 1;
@@ -112,7 +121,35 @@ fn read_all(
     stand
 }
 
-// A piece, sent before more is read.
+// A piece read, and sent before more is read.
+fn read_piece(
+    recording: bool,
+    stand: Stand,
+    line: &mut [u8],
+    hold: &mut [u8],
+    piece: &mut [u8],
+    out: &mut [u8],
+) -> Step {
+    let got = libc::read(STDIN_FILENO, piece);
+    if got < 0 {
+        say(b"bids: cannot read standard input\n");
+        return Step { more: false, stand };
+    }
+    if got == 0 {
+        return Step {
+            more: false,
+            stand: end(recording, stand, line, hold, out),
+        };
+    }
+    let n = io::count(got, piece);
+    let next = send_piece(recording, stand, line, hold, &piece[..n], out);
+    Step {
+        more: next.go,
+        stand: next,
+    }
+}
+
+// A piece, sent.
 fn send_piece(
     recording: bool,
     stand: Stand,
@@ -134,10 +171,12 @@ fn pass_on(recording: bool, stand: Stand, out: &[u8]) -> Stand {
         return stopped(stand);
     }
     let office = stand.office;
+    let watch = stand.watch;
     Stand {
         go: true,
         office,
         waiting: 0,
+        watch,
     }
 }
 
@@ -190,21 +229,25 @@ fn hear(
     }
     let from = place.at;
     let office = stand.office;
+    let watch = stand.watch;
     let heard = office.hear(line, hold, piece, &mut out[from..]);
     let taken = heard.taken;
+    let end = line_end(office.stored, taken, line.len());
     Turn {
         taken,
-        stand: told(heard, from, out.len()),
+        stand: told(heard, watch, &line[0..end], from, out.len()),
     }
 }
 
 // The output could not be written.
 fn stopped(stand: Stand) -> Stand {
     let office = stand.office;
+    let watch = stand.watch;
     Stand {
         go: false,
         office,
         waiting: 0,
+        watch,
     }
 }
 
@@ -223,53 +266,81 @@ fn make_room(recording: bool, stand: Stand, out: &[u8]) -> Place
     }
 }
 
-// Behind an answer.
-fn told(heard: Hearing, from: usize, length: usize) -> Stand
+// How many bytes of a line stand in its buffer, of so many before the call and of those that it took, its end among them.
+fn line_end(stored: usize, taken: usize, length: usize) -> usize
+    ensures { λ r. ⌜ r ≤ length ⌝ }
+{
+    let begun = base::least(stored, length);
+    onward(begun, taken - base::least(taken, 1), length)
+}
+
+// Behind an answer to a line.
+fn told(heard: Hearing, watch: Watch, line: &[u8], from: usize, length: usize) -> Stand
     requires { ⌜ from ≤ length ⌝ }
 {
     let answer = heard.answer;
     let office = heard.office;
+    let number = office.lines;
     Stand {
         go: true,
         office,
-        waiting: from + told_bytes(answer, office.lines, length - from),
+        waiting: from + told_bytes(answer, number, line, length - from),
+        watch: watched(answer, watch, number, line),
     }
 }
 
 // How many bytes of the output an answer fills; a line that is not sent is named.
-fn told_bytes(answer: Answer, line: u64, room: usize) -> usize
+fn told_bytes(answer: Answer, number: u64, line: &[u8], room: usize) -> usize
     ensures { λ r. ⌜ r ≤ room ⌝ }
 {
     match answer {
         Answer::More => 0,
         Answer::Sent(n) => base::least(n, room),
         Answer::NoBid => {
-            name_line(line);
-            say(b": no bid\n");
+            name_line(number);
+            say_no_bid(number, line);
             0
         }
-        Answer::Refused(number) => {
-            name_line(line);
-            say(b": ");
-            say_refused(number);
+        Answer::Refused(refusal) => {
+            name_line(number);
+            console::say_refused(refusal);
             0
         }
     }
 }
 
-fn name_line(line: u64) {
+// Of a line that is sent what the boards will make of it.
+fn watched(answer: Answer, watch: Watch, number: u64, line: &[u8]) -> Watch {
+    match answer {
+        Answer::More => watch,
+        Answer::Sent(_) => watch.heed(number, line),
+        Answer::NoBid => watch,
+        Answer::Refused(_) => watch,
+    }
+}
+
+fn name_line(number: u64) {
     say(b"line ");
-    io::print_decimal(STDERR_FILENO, line);
+    console::say_number(number);
+    say(b": ");
 }
 
-fn say_refused(number: u8) {
-    say(b"refused ");
-    io::print_decimal(STDERR_FILENO, number as u64);
-    say(b"\n");
+// A line that is no bid; the first may be none by a mark that an editor put there.
+fn say_no_bid(number: u64, line: &[u8]) {
+    if number == 1 && has_mark(line) {
+        say(b"no bid: the file begins with a byte order mark: save it as plain text\n");
+        return;
+    }
+    say(b"no bid: a bid is PORT SEQUENCE TEXT: two numbers up to 65535, one space behind each\n");
 }
 
-fn say(text: &[u8]) {
-    io::write_all(STDERR_FILENO, text);
+// Whether a line begins with a byte order mark, of UTF-8 or of UTF-16.
+fn has_mark(line: &[u8]) -> bool {
+    begins(line, b"\xEF\xBB\xBF") || begins(line, b"\xFF\xFE") || begins(line, b"\xFE\xFF")
+}
+
+fn begins(line: &[u8], first: &[u8]) -> bool {
+    check::same(&line[0..base::least(first.len(), line.len())], first)
 }
 
 // The end of the input: it ends a line that is begun.
@@ -280,8 +351,10 @@ fn end(recording: bool, stand: Stand, line: &mut [u8], hold: &mut [u8], out: &mu
     }
     let from = place.at;
     let office = stand.office;
+    let watch = stand.watch;
     let heard = office.close(line, hold, &mut out[from..]);
-    told(heard, from, out.len())
+    let end = line_end(office.stored, heard.taken, line.len());
+    told(heard, watch, &line[0..end], from, out.len())
 }
 
 // The last block.

@@ -7,7 +7,7 @@ use base::Written;
 use capture::CaptureReader;
 use channel::Answer;
 use channel::Receiver;
-use libc::STDERR_FILENO;
+use console::say;
 use libc::STDIN_FILENO;
 use libc::STDOUT_FILENO;
 use packet::Delivery;
@@ -48,7 +48,7 @@ fn main() {
     while reads > 0 {
         let got = libc::read(STDIN_FILENO, &mut piece);
         if got < 0 {
-            fail(b"capture: cannot read standard input\n");
+            say(b"capture: cannot read standard input\n");
             return;
         }
         if got == 0 {
@@ -154,7 +154,7 @@ fn judge(judged: Judged, number: u32, recv: &[u8], out: &mut [u8]) -> Passed {
         Judged::Refused(n) => {
             let go = n != Refusal::STATE;
             if !go {
-                fail(b"capture: the recording is too long\n");
+                say(b"capture: the recording is too long\n");
             }
             Passed {
                 again: go,
@@ -197,9 +197,9 @@ fn finish(tape: RecordingReader) {
         return;
     }
     let at = tape.spot;
-    fail(b"capture: no whole recording: X ");
-    io::print_decimal(STDERR_FILENO, at.offset);
-    fail(b"\n");
+    say(b"capture: no whole recording: X ");
+    console::say_number(at.offset);
+    say(b"\n");
 }
 
 // What was written, to standard output; whether all of it went there.
@@ -207,9 +207,8 @@ fn put(written: Written, out: &[u8]) -> bool {
     match written {
         Written::Wrote(n) => print(&out[0..base::least(n, out.len())]),
         Written::Refused(number) => {
-            fail(b"capture: refused ");
-            io::print_decimal(STDERR_FILENO, number as u64);
-            fail(b"\n");
+            say(b"capture: ");
+            console::say_refused(number);
             false
         }
     }
@@ -219,10 +218,6 @@ fn print(bytes: &[u8]) -> bool {
     if io::write_all(STDOUT_FILENO, bytes) {
         return true;
     }
-    fail(b"capture: cannot write standard output\n");
+    say(b"capture: cannot write standard output\n");
     false
-}
-
-fn fail(message: &[u8]) {
-    io::write_all(STDERR_FILENO, message);
 }

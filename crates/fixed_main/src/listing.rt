@@ -50,7 +50,7 @@ pub fn list_all(parity: usize, depth: usize) {
 fn list_next(sub: Sub, totals: Totals, recv: &mut [u8], word: &mut [u8], piece: &mut [u8]) -> Turn {
     let got = libc::read(STDIN_FILENO, piece);
     if got < 0 {
-        crate::say(b"fixed: cannot read standard input\n");
+        console::say(b"fixed: cannot read standard input\n");
         return stopped(sub, totals);
     }
     if got == 0 {
@@ -120,7 +120,7 @@ fn is_more(answer: Answer) -> bool {
 // Whether a call was not refused, and its line went to standard output.
 fn tell(answer: Answer) -> bool {
     if is_refused(answer) {
-        crate::say(b"fixed: a call was refused\n");
+        console::say(b"fixed: a call was refused\n");
         return false;
     }
     let mut text = [0u8; Line::LONGEST];

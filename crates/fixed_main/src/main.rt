@@ -6,7 +6,7 @@ mod sending;
 
 ghost use Prim.Native.Nat.{_≤_};
 use base::Written;
-use libc::STDERR_FILENO;
+use console::say;
 use libc::STDOUT_FILENO;
 use subchannel_sender::Counted;
 
@@ -34,14 +34,9 @@ fn usage() {
     say(b"usage: fixed send|list R DEPTH <IN >OUT; R and DEPTH are numbers from 0 to 64\n");
 }
 
-fn say(text: &[u8]) {
-    io::write_all(STDERR_FILENO, text);
-}
-
 fn say_refused(number: u8) {
-    say(b"fixed: refused ");
-    io::print_decimal(STDERR_FILENO, number as u64);
-    say(b"\n");
+    say(b"fixed: ");
+    console::say_refused(number);
 }
 
 // The number of an argument, of one or two digits; else 100.

@@ -94,7 +94,7 @@ pub fn send_all(parity: usize, depth: usize) {
         let held = read_on(&mut hold, have, want);
         have = held.have;
         if held.failed {
-            crate::say(b"fixed: cannot read standard input\n");
+            console::say(b"fixed: cannot read standard input\n");
             return;
         }
         hint(reads, &hold[0..have]);
@@ -118,7 +118,7 @@ fn hint(reads: u64, begin: &[u8]) {
         return;
     }
     if check::same(&begin[0..4], b"\x7D\x3A\xE2\x42") {
-        crate::say(
+        console::say(
             b"fixed: hint: begins as marked blocks do, those of bin/bids say; a plain stream is sent here\n",
         );
     }

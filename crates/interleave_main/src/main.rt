@@ -2,11 +2,11 @@
 //! sender and ends with the closing push, `pull` the receiving side. Each piece goes on as it comes. Where something fails it says so on
 //! standard error and stops.
 use base::Written;
+use console::say;
 use interleaver::Back;
 use interleaver::Matrix;
 use interleaver::Pulled;
 use interleaver::Pushed;
-use libc::STDERR_FILENO;
 use libc::STDIN_FILENO;
 use libc::STDOUT_FILENO;
 
@@ -45,10 +45,6 @@ fn main() {
 
 fn usage() {
     say(b"usage: interleave push|pull DEPTH <IN >OUT; a depth is a number from 0 to 64\n");
-}
-
-fn say(text: &[u8]) {
-    io::write_all(STDERR_FILENO, text);
 }
 
 // A number of one or two digits; else one that is no depth.
@@ -158,9 +154,8 @@ fn put(written: Written, out: &[u8]) -> bool {
     match written {
         Written::Wrote(n) => print(&out[0..base::least(n, out.len())]),
         Written::Refused(number) => {
-            say(b"interleave: refused ");
-            io::print_decimal(STDERR_FILENO, number as u64);
-            say(b"\n");
+            say(b"interleave: ");
+            console::say_refused(number);
             false
         }
     }

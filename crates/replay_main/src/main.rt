@@ -6,7 +6,7 @@ use base::Refusal;
 use base::Written;
 use capture::CaptureReader;
 use capture::Ended;
-use libc::STDERR_FILENO;
+use console::say;
 use libc::STDIN_FILENO;
 use libc::STDOUT_FILENO;
 use packet::Delivery;
@@ -63,7 +63,7 @@ fn replay(out: &mut [u8]) {
     while reads > 0 {
         let got = libc::read(STDIN_FILENO, &mut piece);
         if got < 0 {
-            fail(b"replay: cannot read standard input\n");
+            say(b"replay: cannot read standard input\n");
             return;
         }
         if got == 0 {
@@ -209,7 +209,7 @@ fn fits(sent: Sent) -> bool {
     if sent.bytes <= MOST {
         return true;
     }
-    fail(b"replay: the recording is full\n");
+    say(b"replay: the recording is full\n");
     false
 }
 
@@ -223,13 +223,13 @@ fn finish(capture: CaptureReader, sent: Sent) {
 
 // A refusal and the record that it is for; the first 24 bytes are no record.
 fn say_refused(number: u8, record: u64) {
-    fail(b"replay: refused ");
-    io::print_decimal(STDERR_FILENO, number as u64);
+    say(b"replay: refused ");
+    console::say_number(number as u64);
     if number != Refusal::CAPTURE {
-        fail(b" at record ");
-        io::print_decimal(STDERR_FILENO, record);
+        say(b" at record ");
+        console::say_number(record);
     }
-    fail(b"\n");
+    console::say_why(number);
 }
 
 // Stream bytes in a record; whether all of it went to standard output.
@@ -237,9 +237,8 @@ fn put(written: Written, out: &[u8]) -> bool {
     match written {
         Written::Wrote(n) => record(&out[0..base::least(n, out.len())]),
         Written::Refused(number) => {
-            fail(b"replay: refused ");
-            io::print_decimal(STDERR_FILENO, number as u64);
-            fail(b"\n");
+            say(b"replay: ");
+            console::say_refused(number);
             false
         }
     }
@@ -255,10 +254,6 @@ fn print(bytes: &[u8]) -> bool {
     if io::write_all(STDOUT_FILENO, bytes) {
         return true;
     }
-    fail(b"replay: cannot write standard output\n");
+    say(b"replay: cannot write standard output\n");
     false
-}
-
-fn fail(message: &[u8]) {
-    io::write_all(STDERR_FILENO, message);
 }

@@ -250,9 +250,8 @@ fn tell_counted(name: &[u8], counted: Counted) {
         Counted::Counts => {}
         Counted::Wrong => tell(name, b": ends in X\n"),
         Counted::Refused(n) => {
-            tell(name, b": refused ");
-            io::print_decimal(STDERR_FILENO, n as u64);
-            say(b"\n");
+            tell(name, b": ");
+            console::say_refused(n);
         }
     }
 }

@@ -1,11 +1,11 @@
 //! Layer 2 units as a program. `unit write LENGTH DELIMITER AUDIO OPPORTUNISTIC FIXED`: the unit of these files on standard output. `unit read LENGTH
 //! DELIMITER AUDIO-LENGTH FIXED-LENGTH UNIT AUDIO OPPORTUNISTIC FIXED`: the parts of the unit in a file, into files. `-` stands for no file. Where it
-//! refuses it says the number on standard error, and writes nothing; so where the file goes on behind its unit.
+//! refuses it says so on standard error, by number and in words, and writes nothing; so where the file goes on behind its unit.
 //!
 //! Of a file the first 65,536 bytes are read: no unit holds as many, so the answer is that of the whole file. A number counts up to
 //! 1,000,000,000,000: whatever is above is above every length.
 use base::Written;
-use libc::STDERR_FILENO;
+use console::say;
 use libc::STDOUT_FILENO;
 
 // Whether a file could be read, and how many bytes it gave.
@@ -57,14 +57,9 @@ fn usage() {
     );
 }
 
-fn say(text: &[u8]) {
-    io::write_all(STDERR_FILENO, text);
-}
-
 fn refuse(number: u8) {
-    say(b"unit: refused ");
-    io::print_decimal(STDERR_FILENO, number as u64);
-    say(b"\n");
+    say(b"unit: ");
+    console::say_refused(number);
 }
 
 // A unit written.
@@ -172,7 +167,7 @@ fn bytes_of(size: usize) -> usize {
 // A file that goes on behind its unit holds another one, or its length is another.
 fn say_behind(end: usize) {
     say(b"unit: the unit ends at byte ");
-    io::print_decimal(STDERR_FILENO, end as u64);
+    console::say_number(end as u64);
     say(b", and the file goes on: nothing is written\n");
 }
 
