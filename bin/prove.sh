@@ -122,7 +122,7 @@ end_proof() {
 take_altered() {
     kept=''
     { read -r kept <"target/started/$1"; } 2>/dev/null || :
-    if [ -f "$2" ] && [ ! "$2" -nt "target/stamp/$1" ]; then
+    if [ -f "$2" ] && [ -z "$(find "$2" -newer "target/stamp/$1" 2>/dev/null)" ]; then
         case $kept in
         "$before $(sha256sum <"$2")") return 0 ;;
         "$before "*) ;;
