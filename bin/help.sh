@@ -56,7 +56,7 @@ case ${1-} in
     *" $1 "* | *" ${1%%=*}= "*) ;;
     *) usage "there is no option $1" ;;
     esac
-    case "$given " in *" ${1%%=*} "*) usage "${1%%=*} is given twice" ;; esac
+    case "$given " in *" ${1%%=*} "*) usage "options stand first, each once: ${1%%=*}" ;; esac
     given="$given ${1%%=*}"
     ;;
 esac

@@ -1,7 +1,8 @@
 //! The board, what the manager reads: the text of a stream or of a recording, line by line.
 //!
-//!   second board [--recording|--stream] [--blocks]
-//!                              the text of standard input: the bare opportunistic stream, or a recording; clean and repaired blocks too
+//!   second board [--recording|--stream] [--blocks] [--ports=A-B]
+//!                              the text of standard input: the bare opportunistic stream, or a recording; clean and repaired blocks too;
+//!                              of packets those of the ports from A to B alone
 //!   second feed FIFO TEXT STREAM
 //!                              the stream's bytes, one by one, into the FIFO; the file TEXT must have all lines of the bytes so far before
 //!                              the next one is sent, and none of a later byte
@@ -30,7 +31,12 @@ use crate::parity::WORD;
 use crate::ports::{self, Place, Verdict, FREE, MOST};
 use crate::stream::Reader;
 use std::io::{Read, Write};
+use std::ops::RangeInclusive;
 use std::time::{Duration, Instant};
+
+/// The ports whose packets are noted and shown.
+pub type Watched = RangeInclusive<u16>;
+pub const EVERY: Watched = 0..=u16::MAX;
 
 enum Ear {
     Channel(Receiver),
@@ -39,6 +45,7 @@ enum Ear {
 
 pub struct Board {
     blocks_too: bool,
+    watched: Watched,
     ear: Ear,
     buffer: Vec<u8>,
     word: Vec<u8>,
@@ -49,7 +56,12 @@ pub struct Board {
 impl Board {
     pub fn new(opportunistic: bool, blocks_too: bool) -> Self {
         let ear = if opportunistic { Ear::Channel(Receiver::new()) } else { Ear::Plain(Reader::new()) };
-        Board { blocks_too, ear, buffer: vec![0; RAW_LIMIT], word: vec![0; WORD], table: [FREE; MOST], text: String::new() }
+        Board { blocks_too, watched: EVERY, ear, buffer: vec![0; RAW_LIMIT], word: vec![0; WORD], table: [FREE; MOST], text: String::new() }
+    }
+
+    /// The same of these ports alone.
+    pub fn watching(self, watched: Watched) -> Self {
+        Board { watched, ..self }
     }
 
     /// Further bytes of the stream.
@@ -97,6 +109,9 @@ impl Board {
 
     fn packet(&mut self, packet: &Packet) {
         let Packet { port, sequence, .. } = packet;
+        if !self.watched.contains(port) {
+            return;
+        }
         let verdict = ports::note(&mut self.table, *port, *sequence);
         match verdict {
             Ok(Verdict::Distance(distance @ 2..)) => self.line(&format!("! missing {port} {}", distance - 1)),
@@ -151,19 +166,23 @@ pub fn shown(payload: &[u8]) -> String {
 
 /// The text of a bare stream.
 pub fn of_stream(stream: &[u8], blocks_too: bool) -> String {
-    let mut board = Board::new(true, blocks_too);
+    stream_watched(stream, blocks_too, EVERY)
+}
+
+fn stream_watched(stream: &[u8], blocks_too: bool, watched: Watched) -> String {
+    let mut board = Board::new(true, blocks_too).watching(watched);
     board.hear(stream);
     board.text
 }
 
 /// The text of a recording.
 pub fn of_recording(recording: &[u8], blocks_too: bool) -> String {
-    near_limit(recording, blocks_too, STREAM_LIMIT)
+    near_limit(recording, blocks_too, EVERY, STREAM_LIMIT)
 }
 
-/// The same where the stream may have so many bytes.
-fn near_limit(recording: &[u8], blocks_too: bool, most: u64) -> String {
-    let mut board = Board::new(recording.first() == Some(&OPPORTUNISTIC), blocks_too);
+/// The same of these ports, where the stream may have so many bytes.
+fn near_limit(recording: &[u8], blocks_too: bool, watched: Watched, most: u64) -> String {
+    let mut board = Board::new(recording.first() == Some(&OPPORTUNISTIC), blocks_too).watching(watched);
     let (places, wrong) = apart(recording, most);
     board.hear(&places.iter().map(|place| recording[*place]).collect::<Vec<_>>());
     board.text + &last_line(wrong, 0)
@@ -174,17 +193,24 @@ pub fn last_line(wrong: Option<usize>, before: u64) -> String {
     wrong.map_or(String::new(), |offset| format!("! wrong at {}\n", before + offset as u64))
 }
 
+/// `--ports=A-B`
+fn ports_of(word: &str) -> Option<Watched> {
+    let (first, last) = word.strip_prefix("--ports=")?.split_once('-')?;
+    Some(first.parse().ok()?..=last.parse().ok()?)
+}
+
 pub fn are_options(words: &[&str]) -> bool {
-    words.iter().all(|word| ["--recording", "--stream", "--blocks"].contains(word))
+    words.iter().all(|word| ["--recording", "--stream", "--blocks"].contains(word) || ports_of(word).is_some())
 }
 
 /// `second board ..`; of two flags for the input the last one counts.
 pub fn show(options: &[&str]) -> std::io::Result<()> {
     let blocks_too = options.contains(&"--blocks");
-    let recording = options.iter().rfind(|option| **option != "--blocks") == Some(&"--recording");
+    let recording = options.iter().rfind(|option| ["--recording", "--stream"].contains(option)) == Some(&"--recording");
+    let watched = options.iter().find_map(|option| ports_of(option)).unwrap_or(EVERY);
     let mut bytes = Vec::new();
     std::io::stdin().read_to_end(&mut bytes)?;
-    let text = if recording { of_recording(&bytes, blocks_too) } else { of_stream(&bytes, blocks_too) };
+    let text = if recording { near_limit(&bytes, blocks_too, watched, STREAM_LIMIT) } else { stream_watched(&bytes, blocks_too, watched) };
     std::io::stdout().write_all(text.as_bytes())
 }
 
@@ -295,8 +321,34 @@ fn blocks() {
     assert_eq!(of_recording(&PAPER[..18], false), "! wrong at 18\n");
     assert_eq!([&[][..], &MARKER, &[PLAIN]].map(|bytes| of_recording(bytes, false)), ["! wrong at 0\n", "! wrong at 0\n", ""]);
     let short = [PLAIN, 0xF5, 0x5F, 5, 0, FLAG, 0x00, FLAG, 0x00, FLAG];
-    assert_eq!(near_limit(&short, false, 3), "! frame refused 4\n! wrong at 8\n");
-    assert_eq!(near_limit(&short, false, 5), "! frame refused 4\n! frame refused 4\n");
+    assert_eq!(near_limit(&short, false, EVERY, 3), "! frame refused 4\n! wrong at 8\n");
+    assert_eq!(near_limit(&short, false, EVERY, 5), "! frame refused 4\n! frame refused 4\n");
+}
+
+/// Of some ports alone: what is shown is what is shown of a stream in which no other packet was sent, whatever else stands in it.
+fn watched(random: &mut Random) {
+    for _ in 0..200 {
+        let ports: Vec<u16> = (0..1 + random.below(20)).map(|_| 1000 + random.below(30) as u16).collect();
+        let (first, last) = (1000 + random.below(30) as u16, 1000 + random.below(30) as u16);
+        let mut frames = vec![vec![FLAG], vec![0x00, FLAG]];
+        let mut inside = frames.clone();
+        for _ in 0..60 {
+            let (port, sequence) = (ports[random.below(ports.len())], random.below(6) as u16);
+            let frame = match random.below(8) {
+                0 => vec![0x41, 0x7D, 0x21, FLAG],
+                1 => restricted(port, sequence, 7),
+                _ => escaped(port, sequence, b"bid"),
+            };
+            if frame[0] == 0x41 || first <= port && port <= last {
+                inside.push(frame.clone());
+            }
+            frames.push(frame);
+        }
+        let recording = |frames: &[Vec<u8>]| recorded(PLAIN, &frames.concat(), || 50);
+        assert_eq!(near_limit(&recording(&frames), true, first..=last, STREAM_LIMIT), of_recording(&recording(&inside), true));
+        let blocks = |frames: &[Vec<u8>]| channel::in_blocks(&frames.concat(), usize::MAX).unwrap();
+        assert_eq!(stream_watched(&blocks(&frames), false, first..=last), of_stream(&blocks(&inside), false));
+    }
 }
 
 /// The payload of a text.
@@ -355,6 +407,7 @@ fn held_to_listing(recording: &[u8]) {
 pub fn test(random: &mut Random) -> usize {
     lines();
     blocks();
+    watched(random);
     let all: Vec<u8> = (0..=255).collect();
     assert_eq!(undone(&shown(&all)), all);
     for n in 0..300 {

@@ -5,7 +5,7 @@
 //!
 //! And as cases for the library, with every room for the text: crates/cases_board/src/reading.rt has their form and that of an answer.
 
-use crate::board::{apart, last_line, Board};
+use crate::board::{apart, last_line, Board, Watched, EVERY};
 use crate::cases::{self, Case, Random};
 use crate::channel::{self, MARKER};
 use crate::channel_cases::stray;
@@ -146,27 +146,42 @@ struct Run {
     start: usize,
     bare: bool,
     blocks_too: bool,
+    watched: Watched,
     room: usize,
     bytes: Vec<u8>,
+}
+
+/// A range of ports: all, some about those of a day, one of them, none, or any.
+fn watched(random: &mut Random) -> Watched {
+    let mut of_day = || 0x1400 + random.below(20) as u16;
+    let (a, b) = (of_day(), of_day());
+    match random.below(10) {
+        0..=4 => EVERY,
+        5..=6 => a.min(b)..=a.max(b),
+        7 => a..=a,
+        8 => a + 1..=a,
+        _ => random.next() as u16..=random.next() as u16,
+    }
 }
 
 impl Run {
     /// A stream or a recording.
     fn new(size: usize, room: usize, bare: bool, bytes: &[u8]) -> Self {
-        Run { size, seed: 0, lent: RAW_LIMIT, start: 0, bare, blocks_too: true, room, bytes: bytes.to_vec() }
+        Run { size, seed: 0, lent: RAW_LIMIT, start: 0, bare, blocks_too: true, watched: EVERY, room, bytes: bytes.to_vec() }
     }
 
     fn case(self) -> Case {
         let flags = (self.bare as u64) << 62 | (self.blocks_too as u64) << 63;
         let number = self.seed | (self.size as u64) << 32 | (self.start as u64) << 46 | (self.lent as u64) << 48 | flags;
-        Case { asked: b'b', number, space: self.room as u16, bytes: self.bytes }
+        let bytes = [&self.watched.start().to_le_bytes()[..], &self.watched.end().to_le_bytes(), &self.bytes].concat();
+        Case { asked: b'b', number, space: self.room as u16, bytes }
     }
 }
 
 /// The lines of each answer of a stream or of a recording, with the number of bytes read when it is given.
-fn answers_of(bare: bool, blocks_too: bool, bytes: &[u8]) -> Vec<(usize, Vec<u8>)> {
+fn answers_of(bare: bool, blocks_too: bool, watched: Watched, bytes: &[u8]) -> Vec<(usize, Vec<u8>)> {
     let places = if bare { (0..bytes.len()).collect() } else { apart(bytes, STREAM_LIMIT).0 };
-    let mut board = Board::new(bare || bytes.first() == Some(&OPPORTUNISTIC), blocks_too);
+    let mut board = Board::new(bare || bytes.first() == Some(&OPPORTUNISTIC), blocks_too).watching(watched);
     let mut answers = Vec::new();
     for place in places {
         let mut piece = &bytes[place..place + 1];
@@ -178,13 +193,15 @@ fn answers_of(bare: bool, blocks_too: bool, bytes: &[u8]) -> Vec<(usize, Vec<u8>
     answers
 }
 
-/// Bytes read out by calls, the output for text lent; what is told of them.
-pub fn read_by_calls(number: u64, bytes: &[u8], out: &mut [u8]) -> Vec<u8> {
+/// Bytes read out by calls, a range's two ends before them, the output for text lent; what is told of them.
+pub fn read_by_calls(number: u64, case: &[u8], out: &mut [u8]) -> Vec<u8> {
+    let (ends, bytes) = case.split_at(4);
+    let watched = u16::from_le_bytes([ends[0], ends[1]])..=u16::from_le_bytes([ends[2], ends[3]]);
     let (size, lent, start) = ((number >> 32) as usize & 0x3FFF, (number >> 48) as usize & 0x3FFF, number >> 46 & 3);
     let (bare, blocks_too) = (number >> 62 & 1 == 1, number >> 63 == 1);
     let before = if start == NEAR { u64::MAX - 300 } else { 0 };
     let wrong = apart(bytes, STREAM_LIMIT).1;
-    let mut answers = answers_of(bare, blocks_too, bytes).into_iter().peekable();
+    let mut answers = answers_of(bare, blocks_too, watched, bytes).into_iter().peekable();
     let (mut at, mut end, mut seed) = (0, 0, number & 0x7FFFFFFF);
     let (mut told, mut owed) = (Vec::new(), Vec::new());
     loop {
@@ -253,6 +270,9 @@ pub fn all(random: &mut Random, cases: &mut Vec<Case>) {
     for room in [1, 3, 24, 4096] {
         let payloads = [vec![0x80; 8192], vec![b'\\'; 8192], vec![b'a'; 1]];
         runs.push(Run::new(4096, room, true, &in_blocks(&packets(&payloads))));
+    }
+    for run in &mut runs {
+        run.watched = watched(random);
     }
     cases.extend(runs.into_iter().map(Run::case));
 }

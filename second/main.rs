@@ -2,7 +2,7 @@
 //! code, so that the two can be held against each other.
 //!
 //!   second bids ARGUMENTS..  the office's sender, and a day of it (bids.rs)
-//!   second board [--recording|--stream] [--blocks]
+//!   second board [--recording|--stream] [--blocks] [--ports=A-B]
 //!                            what the manager reads of standard input: of a bare opportunistic stream, or of a recording (board.rs)
 //!   second boards DIR [SEED] streams and recordings for the board, into a folder (board_cases.rs)
 //!   second feed FIFO TEXT STREAM
@@ -156,7 +156,7 @@ fn main() {
     };
     if done.is_none() {
         eprintln!("usage: second bids ARGUMENTS.. | fcs HEX | parity R HEX | word R HEX | repair R HEX | interleave push|pull DEPTH | list | missed | kinds FILE..");
-        eprintln!("  | fixed send|list R DEPTH | fixed steady R DEPTH PAYLOAD MIB | fixed streams DIR [SEED] | board [--recording|--stream] [--blocks] | boards DIR [SEED] | feed FIFO TEXT STREAM");
+        eprintln!("  | fixed send|list R DEPTH | fixed steady R DEPTH PAYLOAD MIB | fixed streams DIR [SEED] | board [--recording|--stream] [--blocks] [--ports=A-B] | boards DIR [SEED] | feed FIFO TEXT STREAM");
         eprintln!("  | capture | replay | captures DIR [SEED] | viewed");
         eprintln!("  | recordings DIR [SEED] | steady plain|marked MIB | samples DIR | cases calls|interleaver|stream|channel|listing|board|four|unit|capture [SEED]");
         eprintln!("  | compare CASES ANSWERS .. | test [SEED] | words R PLACES N | time N M | noise ARGUMENTS.. | numbered FILE [SEED] | ports CASES ANSWERS [SEED] | unit ARGUMENTS..");

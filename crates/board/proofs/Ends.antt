@@ -25,9 +25,11 @@ use Rattle.listing_spec.specs.declared.Spot.{Spot}
 use Rattle.listing_spec.specs.Lines.{given, longest}
 use Rattle.ports_spec.specs.declared.Entry.{Entry}
 use Rattle.ports_spec.specs.declared.Noted.{Noted}
+use Rattle.ports_spec.specs.declared.Range.{Range}
 use Rattle.ports_spec.specs.Ports.{unfit, noting}
+use Rattle.ports_spec.specs.Range.{inside}
 use Rattle.ports_spec.proofs.Keeping.{fit-noted}
-use Rattle.board_spec.specs.Meaning.{tableBehind}
+use Rattle.board_spec.specs.Meaning.{tableBehind, regards}
 use Rattle.board_spec.specs.Parts.{lead}
 use Rattle.board_spec.proofs.Split.{lead-short, remark-short}
 use Rattle.lines.specs.Piece.{pieceOf}
@@ -37,8 +39,8 @@ use Rattle.recording.proofs.Kept.{Kept, hear-kept}
 use Rattle.board.specs.declared.owed.Owed.{Owed}
 use Rattle.board.specs.declared.readout.Wants.the-variants.{More, Again}
 use Rattle.board.specs.Source.{Source, source, memoryIn, sourceOwes, sourceHand, sourceEat, sourceAll, sourceHear}
-use Rattle.board.specs.Owed.{alone, withText, owing, forth, forthBy}
-use Rattle.board.specs.Call.{Screen, screen, recvOn, owedOn, Part, part, partly, heardBy, takesOn, nearBy, takes}
+use Rattle.board.specs.Owed.{alone, nothing, withText, owing, forth, forthBy}
+use Rattle.board.specs.Call.{Screen, screen, recvOn, owedOn, Part, part, partly, tableFor, heardBy, takesOn, nearBy, takes}
 use Rattle.board.specs.Runs.{Shows, more, again, done, piece, Run}
 use Rattle.board.proofs.Sources.{source-hand-one, hear-bare, hear-taped}
 use Rattle.board.proofs.Left.{Whole, piece-whole, forth-short, left-by}
@@ -90,16 +92,18 @@ unfolding forthBy
 by-short zero o recv h = h
 by-short (suc n) o recv h = by-short n (forth o recv) recv (forth-short o recv h)
 
-owing-short : (b : Bool) (t : List Entry) (e : Event) → owing b t (given e) .piece .length ≤ longest
-owing-short b t (said (packet p)) = go (noting t (p .port) (p .sequence) .0) (eqb (p .format) keyFormat)
+owing-short : (b : Bool) (r : Range) (t : List Entry) (e : Event) → owing b r t (given e) .piece .length ≤ longest
+owing-short b r t (said (packet p)) = go (noting t (p .port) (p .sequence) .0) (inside r (p .port)) (eqb (p .format) keyFormat)
   where
-    go : (v : Noted) (f : Bool) → pick f (alone (pieceOf (lead v (delivery p)))) (withText (pieceOf (lead v (delivery p))) (delivery p)) .piece .length ≤ longest
-    go v true = lead-short v (delivery p)
-    go v false = lead-short v (delivery p)
-owing-short b t (said (refusal n)) = remark-short b (given (said (refusal n)))
-owing-short b t (said (broken n)) = remark-short b (given (said (broken n)))
-owing-short b t (block c) = remark-short b (given (block c))
-owing-short b t lost = remark-short b (given lost)
+    go : (v : Noted) (n f : Bool)
+        → pick n (pick f (alone (pieceOf (lead v (delivery p)))) (withText (pieceOf (lead v (delivery p))) (delivery p))) nothing .piece .length ≤ longest
+    go v true true = lead-short v (delivery p)
+    go v true false = lead-short v (delivery p)
+    go v false f = omega arith
+owing-short b r t (said (refusal n)) = remark-short b (given (said (refusal n)))
+owing-short b r t (said (broken n)) = remark-short b (given (said (broken n)))
+owing-short b r t (block c) = remark-short b (given (block c))
+owing-short b r t lost = remark-short b (given lost)
 
 table-fit : (t : List Entry) (e : Event) → unfit t ≡ false → unfit (tableBehind t e) ≡ false
 table-fit t (said (packet p)) h = fit-noted t (p .port) (p .sequence) h
@@ -107,6 +111,14 @@ table-fit t (said (refusal n)) h = h
 table-fit t (said (broken n)) h = h
 table-fit t (block c) h = h
 table-fit t lost h = h
+
+-- by the range
+range-fit : (r : Range) (t : List Entry) (e : Event) → unfit t ≡ false → unfit (tableFor r t e) ≡ false
+range-fit r t e h = go (regards r e)
+  where
+    go : (f : Bool) → unfit (pick f (tableBehind t e) t) ≡ false
+    go true = table-fit t e h
+    go false = h
 
 -- ---- a call that is safe is not refused ..
 pub safe-on : (room : ℕ) (s : Screen) (bs : List ℕ) (k : ℕ) → Safe s (length bs + k) → takes room s bs ≡ takesOn room s bs
@@ -132,9 +144,9 @@ heard-safe : (s : Screen) (n : ℕ) (r : Option Event × ℕ × Source) → unfi
 heard-safe s n (none, m, x) f i = record { source = i; fit = f; short = omega arith; whole = piece-whole [] }
 heard-safe s n (some e, m, x) f i = record {
   source = i;
-  fit = table-fit (s .table) e f;
-  short = owing-short (s .blocks) (s .table) e;
-  whole = owed-whole (s .blocks) (s .table) e;
+  fit = range-fit (s .range) (s .table) e f;
+  short = owing-short (s .blocks) (s .range) (s .table) e;
+  whole = owed-whole (s .blocks) (s .range) (s .table) e;
 }
 
 behind-safe : (s : Screen) (bs : List ℕ) (k : ℕ) → Safe s (length bs + k)

@@ -1,4 +1,5 @@
 -- What a call writes and leaves is what the bytes mean.
+-- linesFor        the lines of an answer, by the range
 -- owing-left      what is owed of an answer is its lines
 -- meant-append    bytes one after the other
 -- takes-means     a call
@@ -23,17 +24,20 @@ use Rattle.bid.specs.Line.{feed}
 use Rattle.listing_spec.specs.Lines.{given}
 use Rattle.ports_spec.specs.declared.Entry.{Entry}
 use Rattle.ports_spec.specs.declared.Noted.{Noted}
+use Rattle.ports_spec.specs.declared.Range.{Range}
 use Rattle.ports_spec.specs.Ports.{noting}
+use Rattle.ports_spec.specs.Range.{inside}
 use Rattle.board_spec.specs.Text.{shownText}
-use Rattle.board_spec.specs.Meaning.{Line, writtenAll, eventLines, tableBehind, boardLines}
+use Rattle.board_spec.specs.Meaning.{Line, writtenAll, packetLines, eventLines, tableBehind, boardLines, regards, regarded}
 use Rattle.board_spec.specs.Parts.{lead, remark}
 use Rattle.board_spec.proofs.Split.{all-written, lines-split, remark-is, lead-some}
+use Rattle.board_spec.proofs.Ranges.{regarded-joined}
 use Rattle.lines.specs.Piece.{pieceOf}
 use Rattle.board.specs.declared.readout.Wants.{Wants}
 use Rattle.board.specs.declared.readout.Wants.the-variants.{More, Again, Refused}
 use Rattle.board.specs.Source.{Source, memoryIn, sourceOwes, sourceHand, sourceEat, sourceAll, sourceHear}
-use Rattle.board.specs.Owed.{alone, nothing, withText, owing, left}
-use Rattle.board.specs.Call.{Screen, screen, readoutOf, recvOn, owedOn, Part, partly, heardBy, takesOn, soundState, takesBy, takes}
+use Rattle.board.specs.Owed.{alone, nothing, withText, owedPacket, owing, left}
+use Rattle.board.specs.Call.{Screen, screen, readoutOf, recvOn, owedOn, Part, partly, tableFor, heardBy, takesOn, soundState, takesBy, takes}
 use Rattle.board.specs.Runs.{tableAll, shownBy, meant, Shows, more, again, ShowsAll, done, piece}
 use Rattle.board.proofs.Sources.{source-hand-one, ThereIn, source-there}
 use Rattle.board.proofs.Left.{Whole, piece-whole, left-none, left-new, left-by}
@@ -53,15 +57,25 @@ packet-left v p recv h false =
     left-new (lead v (delivery p)) (withText (pieceOf (lead v (delivery p))) (delivery p)) recv refl refl (lead-some v (delivery p))
     ∙ ap (λ (t : List ℕ). lead v (delivery p) ++ (shownText t ++ (feed ∷ []))) h
 
-pub owing-left : (b : Bool) (t : List Entry) (e : Event) (s : Source) → ThereIn e s
-    → left (owing b t (given e)) (memoryIn (s .deck) .recv) ≡ writtenAll (eventLines b t e)
-owing-left b t (said (packet p)) s h =
-    packet-left (noting t (p .port) (p .sequence) .0) p (memoryIn (s .deck) .recv) (h .0) (eqb (p .format) keyFormat)
-    ∙ sym (lines-split (noting t (p .port) (p .sequence) .0) p)
-owing-left b t (said (refusal n)) s h = alone-left (remark b (given (said (refusal n)))) (memoryIn (s .deck) .recv) ∙ sym (remark-is b t (said (refusal n)) tt)
-owing-left b t (said (broken n)) s h = alone-left (remark b (given (said (broken n)))) (memoryIn (s .deck) .recv) ∙ sym (remark-is b t (said (broken n)) tt)
-owing-left b t (block c) s h = alone-left (remark b (given (block c))) (memoryIn (s .deck) .recv) ∙ sym (remark-is b t (block c) tt)
-owing-left b t lost s h = alone-left (remark b (given lost)) (memoryIn (s .deck) .recv) ∙ sym (remark-is b t lost tt)
+-- the lines of an answer, by the range
+abbrev pub linesFor : Bool → Range → List Entry → Event → List Line
+linesFor b r t e = pick (regards r e) (eventLines b t e) []
+
+pub owing-left : (b : Bool) (r : Range) (t : List Entry) (e : Event) (s : Source) → ThereIn e s
+    → left (owing b r t (given e)) (memoryIn (s .deck) .recv) ≡ writtenAll (linesFor b r t e)
+unfolding writtenAll
+owing-left b r t (said (packet p)) s h = go (inside r (p .port))
+  where
+    go : (f : Bool) → left (pick f (owedPacket (noting t (p .port) (p .sequence) .0) (delivery p)) nothing) (memoryIn (s .deck) .recv)
+        ≡ writtenAll (pick f (packetLines (noting t (p .port) (p .sequence) .0) p) [])
+    go true =
+        packet-left (noting t (p .port) (p .sequence) .0) p (memoryIn (s .deck) .recv) (h .0) (eqb (p .format) keyFormat)
+        ∙ sym (lines-split (noting t (p .port) (p .sequence) .0) p)
+    go false = left-none nothing (memoryIn (s .deck) .recv) refl
+owing-left b r t (said (refusal n)) s h = alone-left (remark b (given (said (refusal n)))) (memoryIn (s .deck) .recv) ∙ sym (remark-is b t (said (refusal n)) tt)
+owing-left b r t (said (broken n)) s h = alone-left (remark b (given (said (broken n)))) (memoryIn (s .deck) .recv) ∙ sym (remark-is b t (said (broken n)) tt)
+owing-left b r t (block c) s h = alone-left (remark b (given (block c))) (memoryIn (s .deck) .recv) ∙ sym (remark-is b t (block c) tt)
+owing-left b r t lost s h = alone-left (remark b (given lost)) (memoryIn (s .deck) .recv) ∙ sym (remark-is b t lost tt)
 
 -- ---- all that is to be shown
 table-append : (t : List Entry) (xs ys : List Event) → tableAll t (xs ++ ys) ≡ tableAll (tableAll t xs) ys
@@ -82,40 +96,67 @@ ahead text r = (text ++ r .0, r .1)
 pub ahead-twice : (xs ys : List ℕ) (r : List ℕ × Screen) → ahead xs (ahead ys r) ≡ ahead (xs ++ ys) r
 ahead-twice xs ys r = λ i. (sym (append-assoc xs ys (r .0)) i, r .1)
 
-shown-ahead : (xs ys : List ℕ) (b : Bool) (t : List Entry) (r : List Event × Source) → shownBy (xs ++ ys) b t r ≡ ahead xs (shownBy ys b t r)
-shown-ahead xs ys b t r = λ i. (append-assoc xs ys (writtenAll (boardLines b t (r .0))) i, screen b nothing (tableAll t (r .0)) (r .1))
+shown-ahead : (xs ys : List ℕ) (b : Bool) (r : Range) (t : List Entry) (x : List Event × Source) → shownBy (xs ++ ys) b r t x ≡ ahead xs (shownBy ys b r t x)
+shown-ahead xs ys b r t x =
+    λ i. (append-assoc xs ys (writtenAll (boardLines b t (regarded r (x .0)))) i, screen b r nothing (tableAll t (regarded r (x .0))) (x .1))
 
--- an answer first
-shown-answer : (text : List ℕ) (b : Bool) (t : List Entry) (e : Event) (r : List Event × Source)
-    → shownBy text b t (tell (some e) r) ≡ ahead text (shownBy (writtenAll (eventLines b t e)) b (tableBehind t e) r)
-unfolding boardLines
-shown-answer text b t e r =
-    λ i. (text ++ all-written (eventLines b t e) (boardLines b (tableBehind t e) (r .0)) i, screen b nothing (tableAll (tableBehind t e) (r .0)) (r .1))
+-- an answer first: its lines, and those of the others by the table behind it
+lines-first : (b : Bool) (r : Range) (t : List Entry) (e : Event) (es : List Event)
+    → boardLines b t (regarded r (e ∷ es)) ≡ linesFor b r t e ++ boardLines b (tableFor r t e) (regarded r es)
+unfolding boardLines regarded
+lines-first b r t e es = go (regards r e)
+  where
+    go : (f : Bool) → boardLines b t (pick f (e ∷ regarded r es) (regarded r es))
+        ≡ pick f (eventLines b t e) [] ++ boardLines b (pick f (tableBehind t e) t) (regarded r es)
+    go true = refl
+    go false = refl
+
+table-first : (r : Range) (t : List Entry) (e : Event) (es : List Event) → tableAll t (regarded r (e ∷ es)) ≡ tableAll (tableFor r t e) (regarded r es)
+unfolding regarded
+table-first r t e es = go (regards r e)
+  where
+    go : (f : Bool) → tableAll t (pick f (e ∷ regarded r es) (regarded r es)) ≡ tableAll (pick f (tableBehind t e) t) (regarded r es)
+    go true = refl
+    go false = refl
+
+shown-answer : (text : List ℕ) (b : Bool) (r : Range) (t : List Entry) (e : Event) (x : List Event × Source)
+    → shownBy text b r t (tell (some e) x) ≡ ahead text (shownBy (writtenAll (linesFor b r t e)) b r (tableFor r t e) x)
+shown-answer text b r t e x =
+    (λ i. (text ++ writtenAll (lines-first b r t e (x .0) i), screen b r nothing (table-first r t e (x .0) i) (x .1)))
+    ∙ (λ i. (
+      text ++ all-written (linesFor b r t e) (boardLines b (tableFor r t e) (regarded r (x .0))) i,
+      screen b r nothing (tableAll (tableFor r t e) (regarded r (x .0))) (x .1),
+    ))
 
 -- answers one after the other
-shown-then : (text : List ℕ) (b : Bool) (t : List Entry) (r : List Event × Source) (k : Source → List Event × Source)
-    → shownBy text b t (andThen r k) ≡ ahead (shownBy text b t r .0) (shownBy [] b (tableAll t (r .0)) (k (r .1)))
-shown-then text b t r k =
-    let es : List Event = k (r .1) .0 in
+shown-then : (text : List ℕ) (b : Bool) (r : Range) (t : List Entry) (x : List Event × Source) (k : Source → List Event × Source)
+    → shownBy text b r t (andThen x k) ≡ ahead (shownBy text b r t x .0) (shownBy [] b r (tableAll t (regarded r (x .0))) (k (x .1)))
+shown-then text b r t x k =
+    let ds : List Event = regarded r (x .0) in
+    let es : List Event = regarded r (k (x .1) .0) in
     (λ i. (
-      text ++ writtenAll (lines-append b t (r .0) es i),
-      screen b nothing (table-append t (r .0) es i) (k (r .1) .1),
+      text ++ writtenAll (boardLines b t (regarded-joined r (x .0) (k (x .1) .0) i)),
+      screen b r nothing (tableAll t (regarded-joined r (x .0) (k (x .1) .0) i)) (k (x .1) .1),
     ))
     ∙ (λ i. (
-      text ++ all-written (boardLines b t (r .0)) (boardLines b (tableAll t (r .0)) es) i,
-      screen b nothing (tableAll (tableAll t (r .0)) es) (k (r .1) .1),
+      text ++ writtenAll (lines-append b t ds es i),
+      screen b r nothing (table-append t ds es i) (k (x .1) .1),
     ))
     ∙ (λ i. (
-      sym (append-assoc text (writtenAll (boardLines b t (r .0))) (writtenAll (boardLines b (tableAll t (r .0)) es))) i,
-      screen b nothing (tableAll (tableAll t (r .0)) es) (k (r .1) .1),
+      text ++ all-written (boardLines b t ds) (boardLines b (tableAll t ds) es) i,
+      screen b r nothing (tableAll (tableAll t ds) es) (k (x .1) .1),
+    ))
+    ∙ (λ i. (
+      sym (append-assoc text (writtenAll (boardLines b t ds)) (writtenAll (boardLines b (tableAll t ds) es))) i,
+      screen b r nothing (tableAll (tableAll t ds) es) (k (x .1) .1),
     ))
 
 -- bytes one after the other: what they mean behind the first is had from the screen then
 pub meant-append : (s : Screen) (bs cs : List ℕ) → meant s (bs ++ cs) ≡ ahead (meant s bs .0) (meant (meant s bs .1) cs)
 meant-append s bs cs =
-    ap (shownBy (owedOn s) (s .blocks) (s .table)) (all-append sourceOwes sourceHand sourceEat source-hand-one (s .source) bs cs)
-    ∙ shown-then (owedOn s) (s .blocks) (s .table) (sourceAll (s .source) bs) (λ x. sourceAll x cs)
-    ∙ ap (λ (o : List ℕ). ahead (meant s bs .0) (shownBy o (s .blocks) (meant s bs .1 .table) (sourceAll (meant s bs .1 .source) cs)))
+    ap (shownBy (owedOn s) (s .blocks) (s .range) (s .table)) (all-append sourceOwes sourceHand sourceEat source-hand-one (s .source) bs cs)
+    ∙ shown-then (owedOn s) (s .blocks) (s .range) (s .table) (sourceAll (s .source) bs) (λ x. sourceAll x cs)
+    ∙ ap (λ (o : List ℕ). ahead (meant s bs .0) (shownBy o (s .blocks) (s .range) (meant s bs .1 .table) (sourceAll (meant s bs .1 .source) cs)))
     (sym (left-none nothing (recvOn (meant s bs .1)) refl))
 
 -- ---- a call
@@ -130,21 +171,21 @@ Means p bs m = MeansBy (p .wants) (p .text) (p .taken) (p .screen) bs m
 
 partly-means : (room : ℕ) (s : Screen) (bs : List ℕ) → Whole (s .owed) → room ≤ length (owedOn s) → Means (partly room s) bs (meant s bs)
 partly-means room s bs w h =
-    ap (λ (o : List ℕ). shownBy o (s .blocks) (s .table) (sourceAll (s .source) bs)) (sym (take-append-drop room (owedOn s)))
-    ∙ shown-ahead (take room (owedOn s)) (drop room (owedOn s)) (s .blocks) (s .table) (sourceAll (s .source) bs)
-    ∙ ap (λ (o : List ℕ). ahead (take room (owedOn s)) (shownBy o (s .blocks) (s .table) (sourceAll (s .source) bs)))
+    ap (λ (o : List ℕ). shownBy o (s .blocks) (s .range) (s .table) (sourceAll (s .source) bs)) (sym (take-append-drop room (owedOn s)))
+    ∙ shown-ahead (take room (owedOn s)) (drop room (owedOn s)) (s .blocks) (s .range) (s .table) (sourceAll (s .source) bs)
+    ∙ ap (λ (o : List ℕ). ahead (take room (owedOn s)) (shownBy o (s .blocks) (s .range) (s .table) (sourceAll (s .source) bs)))
     (sym (left-by room (s .owed) (recvOn s) w h .0))
 
 heard-means : (s : Screen) (bs : List ℕ) (r : Option Event × ℕ × Source) → sourceAll (s .source) bs ≡ told sourceOwes sourceHand sourceEat r bs
     → With ThereIn (r .0) (r .2) → Means (heardBy s r) bs (meant s bs)
-unfolding boardLines writtenAll
+unfolding boardLines regarded writtenAll
 heard-means s bs (none, n, x) e h =
-    ap (shownBy (owedOn s) (s .blocks) (s .table)) e ∙ (λ i. (append-nil (owedOn s) i, screen (s .blocks) nothing (s .table) x))
+    ap (shownBy (owedOn s) (s .blocks) (s .range) (s .table)) e ∙ (λ i. (append-nil (owedOn s) i, screen (s .blocks) (s .range) nothing (s .table) x))
 heard-means s bs (some a, n, x) e h =
-    ap (shownBy (owedOn s) (s .blocks) (s .table)) e
-    ∙ shown-answer (owedOn s) (s .blocks) (s .table) a (sourceAll x (drop n bs))
-    ∙ ap (λ (o : List ℕ). ahead (owedOn s) (shownBy o (s .blocks) (tableBehind (s .table) a) (sourceAll x (drop n bs))))
-    (sym (owing-left (s .blocks) (s .table) a x h))
+    ap (shownBy (owedOn s) (s .blocks) (s .range) (s .table)) e
+    ∙ shown-answer (owedOn s) (s .blocks) (s .range) (s .table) a (sourceAll x (drop n bs))
+    ∙ ap (λ (o : List ℕ). ahead (owedOn s) (shownBy o (s .blocks) (s .range) (tableFor (s .range) (s .table) a) (sourceAll x (drop n bs))))
+    (sym (owing-left (s .blocks) (s .range) (s .table) a x h))
 
 on-means : (room : ℕ) (s : Screen) (bs : List ℕ) → Whole (s .owed) → Means (takesOn room s bs) bs (meant s bs)
 unfolding takesOn
@@ -164,20 +205,22 @@ takes-means room s bs w = go (soundState (readoutOf s) (length bs)) (roomy (recv
     go true true = on-means room s bs w
 
 -- the piece keeps within its bytes
-pub owed-whole : (b : Bool) (t : List Entry) (e : Event) → Whole (owing b t (given e))
-owed-whole b t (said (packet p)) = go (eqb (p .format) keyFormat)
+pub owed-whole : (b : Bool) (r : Range) (t : List Entry) (e : Event) → Whole (owing b r t (given e))
+owed-whole b r t (said (packet p)) = go (noting t (p .port) (p .sequence) .0) (inside r (p .port)) (eqb (p .format) keyFormat)
   where
-    go : (f : Bool) → Whole (pick f (alone (pieceOf (lead (noting t (p .port) (p .sequence) .0) (delivery p)))) (withText (pieceOf (lead (noting t (p .port) (p .sequence) .0) (delivery p))) (delivery p)))
-    go true = piece-whole (lead (noting t (p .port) (p .sequence) .0) (delivery p))
-    go false = piece-whole (lead (noting t (p .port) (p .sequence) .0) (delivery p))
-owed-whole b t (said (refusal n)) = piece-whole (remark b (given (said (refusal n))))
-owed-whole b t (said (broken n)) = piece-whole (remark b (given (said (broken n))))
-owed-whole b t (block c) = piece-whole (remark b (given (block c)))
-owed-whole b t lost = piece-whole (remark b (given lost))
+    go : (v : Noted) (n f : Bool)
+        → Whole (pick n (pick f (alone (pieceOf (lead v (delivery p)))) (withText (pieceOf (lead v (delivery p))) (delivery p))) nothing)
+    go v true true = piece-whole (lead v (delivery p))
+    go v true false = piece-whole (lead v (delivery p))
+    go v false f = piece-whole []
+owed-whole b r t (said (refusal n)) = piece-whole (remark b (given (said (refusal n))))
+owed-whole b r t (said (broken n)) = piece-whole (remark b (given (said (broken n))))
+owed-whole b r t (block c) = piece-whole (remark b (given (block c)))
+owed-whole b r t lost = piece-whole (remark b (given lost))
 
 heard-whole : (s : Screen) (r : Option Event × ℕ × Source) → Whole (heardBy s r .screen .owed)
 heard-whole s (none, n, x) = piece-whole []
-heard-whole s (some e, n, x) = owed-whole (s .blocks) (s .table) e
+heard-whole s (some e, n, x) = owed-whole (s .blocks) (s .range) (s .table) e
 
 pub takes-whole : (room : ℕ) (s : Screen) (bs : List ℕ) → Whole (s .owed) → Whole (takes room s bs .screen .owed)
 unfolding takesOn
@@ -218,10 +261,10 @@ settled-meant : (s : Screen) (bs : List ℕ) → Settled (meant s bs .1)
 settled-meant s bs = record { nothing-owed = refl; heard = settled sourceOwes sourceHand sourceEat source-hand-one (s .source) bs }
 
 settled-none : (s : Screen) → Settled s → meant s [] ≡ ([], s)
-unfolding boardLines writtenAll
+unfolding boardLines regarded writtenAll
 settled-none s h =
-    (λ i. shownBy (left (h .nothing-owed i) (recvOn s)) (s .blocks) (s .table) (drain sourceOwes sourceHand sourceEat (h .heard i) (s .source) (rest sourceOwes sourceHand sourceEat [])))
-    ∙ (λ i. (left-none nothing (recvOn s) refl i ++ [], screen (s .blocks) (sym (h .nothing-owed) i) (s .table) (s .source)))
+    (λ i. shownBy (left (h .nothing-owed i) (recvOn s)) (s .blocks) (s .range) (s .table) (drain sourceOwes sourceHand sourceEat (h .heard i) (s .source) (rest sourceOwes sourceHand sourceEat [])))
+    ∙ (λ i. (left-none nothing (recvOn s) refl i ++ [], screen (s .blocks) (s .range) (sym (h .nothing-owed) i) (s .table) (s .source)))
 
 module _ (rooms : ℕ → ℕ) where
   -- a piece

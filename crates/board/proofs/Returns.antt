@@ -3,6 +3,7 @@
 -- forth-on, forth-next        a byte further
 -- packet-alone, packet-text   a packet
 -- answer-other, answer-none   an answer that is no packet
+-- packet-outside, packet-inside   a packet, by the range
 -- finish-bare ..              behind the last byte
 -- bare-is, heard-bare, heard-taped   one call on what comes in
 use Prim.Native.Nat.{ℕ, suc, _≤_, _<_}
@@ -26,6 +27,9 @@ use Rattle.bid.specs.Line.{feed}
 use Rattle.listing_spec.specs.Apart.{well}
 use Rattle.ports_spec.specs.declared.Entry.{Entry}
 use Rattle.ports_spec.specs.declared.Noted.{Noted}
+use Rattle.ports_spec.specs.declared.Range.{Range}
+use Rattle.ports_spec.specs.Ports.{noting}
+use Rattle.ports_spec.specs.Range.{inside}
 use Rattle.ports.specs.declared.by_value.Ports.{Ports}
 use Rattle.board_spec.specs.Text.{shownByte}
 use Rattle.board_spec.specs.Meaning.{wrongAt, written, writtenAll}
@@ -97,35 +101,53 @@ Other (Said (Broken n)) = Unit {0}
 Other (Block c) = Unit {0}
 Other LockLost = Unit {0}
 
-other-owing : (b : Bool) (t : List Entry) (a : Answer) → Other a → alone (pieceOf (remark b a)) ≡ owing b t a
-other-owing b t More h = refl
-other-owing b t (Said (Delivered d)) h = absurd h
-other-owing b t (Said (Refused n)) h = refl
-other-owing b t (Said (Broken n)) h = refl
-other-owing b t (Block c) h = refl
-other-owing b t LockLost h = refl
+other-owing : (b : Bool) (r : Range) (t : List Entry) (a : Answer) → Other a → alone (pieceOf (remark b a)) ≡ owing b r t a
+other-owing b r t More h = refl
+other-owing b r t (Said (Delivered d)) h = absurd h
+other-owing b r t (Said (Refused n)) h = refl
+other-owing b r t (Said (Broken n)) h = refl
+other-owing b r t (Block c) h = refl
+other-owing b r t LockLost h = refl
 
-other-ports : (p : Ports) (a : Answer) → Other a → p ≡ portsBy p a
-other-ports p More h = refl
-other-ports p (Said (Delivered d)) h = absurd h
-other-ports p (Said (Refused n)) h = refl
-other-ports p (Said (Broken n)) h = refl
-other-ports p (Block c) h = refl
-other-ports p LockLost h = refl
+other-ports : (r : Range) (p : Ports) (a : Answer) → Other a → p ≡ portsBy r p a
+other-ports r p More h = refl
+other-ports r p (Said (Delivered d)) h = absurd h
+other-ports r p (Said (Refused n)) h = refl
+other-ports r p (Said (Broken n)) h = refl
+other-ports r p (Block c) h = refl
+other-ports r p LockLost h = refl
 
 -- with something else owed
 abbrev owingOf : Readout → Owed → Readout
-owingOf r o = record { bare = r .bare; blocks = r .blocks; tape = r .tape; ports = r .ports; owed = o }
+owingOf r o = record { bare = r .bare; blocks = r .blocks; range = r .range; tape = r .tape; ports = r .ports; owed = o }
 
 pub answer-other : (r : Readout) (a : Answer) {p : Piece} {o : Owed} {x : Readout} → Other a → p ≡ pieceOf (remark (r .blocks) a) → o ≡ alone p → x ≡ owingOf r o
     → x ≡ answeredBy r a
 answer-other r a h e f g =
-    let q = f ∙ ap alone e ∙ other-owing (r .blocks) (r .ports .entries) a h in
-    g ∙ (λ i. record { bare = r .bare; blocks = r .blocks; tape = r .tape; ports = other-ports (r .ports) a h i; owed = q i })
+    let q = f ∙ ap alone e ∙ other-owing (r .blocks) (r .range) (r .ports .entries) a h in
+    g ∙ (λ i. record { bare = r .bare; blocks = r .blocks; range = r .range; tape = r .tape; ports = other-ports (r .range) (r .ports) a h i; owed = q i })
 
 pub answer-none : (r : Readout) (a : Answer) {o : Owed} {x : Readout} → a ≡ More → o ≡ nothing → x ≡ owingOf r o → x ≡ answeredBy r a
 answer-none r a {o} e f g =
     g ∙ ap (owingOf r) f ∙ ap (answeredBy r) (sym e)
+
+-- ---- a packet, by: is its port inside the range
+abbrev packetBy : Readout → Delivery → Bool → Readout
+packetBy r d t = record {
+  bare = r .bare;
+  blocks = r .blocks;
+  range = r .range;
+  tape = r .tape;
+  ports = record { entries = pick t (noting (r .ports .entries) (d .port) (d .sequence) .1) (r .ports .entries) };
+  owed = pick t (owedPacket (noting (r .ports .entries) (d .port) (d .sequence) .0) d) nothing;
+}
+
+module _ (r : Readout) (d : Delivery) {x : Readout} where
+  pub packet-outside : {o : Owed} → inside (r .range) (d .port) ≡ false → o ≡ nothing → x ≡ owingOf r o → x ≡ answeredBy r (Said (Delivered d))
+  packet-outside e f g = g ∙ ap (owingOf r) f ∙ ap (packetBy r d) (sym e)
+
+  pub packet-inside : inside (r .range) (d .port) ≡ true → x ≡ packetBy r d true → x ≡ answeredBy r (Said (Delivered d))
+  packet-inside e g = g ∙ ap (packetBy r d) (sym e)
 
 -- ---- behind the last byte
 module _ (r : Readout) {p : Piece} where

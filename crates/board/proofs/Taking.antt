@@ -19,9 +19,7 @@ use Rattle.channel_spec.specs.Meaning.{Event, said, block, lost}
 use Rattle.channel.specs.Call.{sound, roomy}
 use Rattle.channel_spec.specs.Answer.{answered}
 use Rattle.listing_spec.specs.Lines.{longest, given}
-use Rattle.ports.specs.declared.by_value.Ports.{Ports}
 use Rattle.ports.specs.ByValue.{soundPorts}
-use Rattle.board_spec.specs.Meaning.{tableBehind}
 use Rattle.recording.specs.declared.reader.RecordingReader.{RecordingReader}
 use Rattle.recording.specs.declared.reader.Hearing.{Hearing}
 use Rattle.recording.specs.Call.{deckOf, isMore}
@@ -33,28 +31,21 @@ use Rattle.board.specs.declared.readout.Took.{Took}
 use Rattle.board.specs.Source.{source, sourceHear}
 use Rattle.board.specs.Owed.{owes, left, forthBy, soundOwed}
 use Rattle.board.specs.Call.{Screen, screenOf, Part, part, partly, heardBy, takesOn, nearBy, soundState, takesBy, takes, tookOf, TookIs}
-use Rattle.board.specs.Private.{PutIs, HeardIs, portsBy, answeredBy}
+use Rattle.board.specs.Private.{PutIs, HeardIs, answeredBy}
 use Rattle.board.proofs.Left.{Whole, left-none, left-owes, left-by}
 
 -- with something else owed, and with the tape further on
 abbrev owingOf : Readout → Owed → Readout
-owingOf r o = record { bare = r .bare; blocks = r .blocks; tape = r .tape; ports = r .ports; owed = o }
+owingOf r o = record { bare = r .bare; blocks = r .blocks; range = r .range; tape = r .tape; ports = r .ports; owed = o }
 
 abbrev onTape : Readout → RecordingReader → Readout
-onTape r t = record { bare = r .bare; blocks = r .blocks; tape = t; ports = r .ports; owed = r .owed }
+onTape r t = record { bare = r .bare; blocks = r .blocks; range = r .range; tape = t; ports = r .ports; owed = r .owed }
 
 sound-owed : (r : Readout) (n : ℕ) → soundState r n ≡ true → soundOwed (r .owed) ≡ true
 sound-owed r n e =
     let a = and-parts (sound (r .tape .receiver)) (nearBy (r .bare) (r .tape .spot) n && (soundPorts (r .ports) && soundOwed (r .owed))) e in
     let b = and-parts (nearBy (r .bare) (r .tape .spot) n) (soundPorts (r .ports) && soundOwed (r .owed)) (a .1) in
     and-parts (soundPorts (r .ports)) (soundOwed (r .owed)) (b .1) .1
-
-ports-behind : (p : Ports) (e : Event) → portsBy p (given e) ≡ record { entries = tableBehind (p .entries) e }
-ports-behind p (said (packet q)) = refl
-ports-behind p (said (refusal n)) = refl
-ports-behind p (said (broken n)) = refl
-ports-behind p (block c) = refl
-ports-behind p lost = refl
 
 module _ (r : Readout) (recv word bs out : List ℕ) where
   abbrev s : Screen

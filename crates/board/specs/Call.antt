@@ -3,6 +3,7 @@
 -- Screen, screenOf        the board with its buffers
 -- freshReadout            before the first byte
 -- Part                    what a call gives
+-- tableFor                the table behind an answer, by the range
 -- takesOn, takes, TookIs  one call, behind its refusals, and that the code's results are those
 -- lastLines               behind the last byte
 use Prim.Native.Nat.{ℕ}
@@ -18,8 +19,9 @@ use Rattle.channel.specs.Call.{sound, roomy}
 use Rattle.listing_spec.specs.Lines.{given}
 use Rattle.listing_spec.specs.declared.Spot.{Spot}
 use Rattle.ports_spec.specs.declared.Entry.{Entry}
+use Rattle.ports_spec.specs.declared.Range.{Range}
 use Rattle.ports.specs.ByValue.{freshPorts, soundPorts}
-use Rattle.board_spec.specs.Meaning.{Line, tableBehind, ending}
+use Rattle.board_spec.specs.Meaning.{Line, tableBehind, regards, ending}
 use Rattle.recording.specs.Call.{freshTape, deckOf, tapeOf, nearSpot}
 use Rattle.board.specs.declared.owed.Owed.{Owed}
 use Rattle.board.specs.declared.readout.Readout.{Readout}
@@ -32,31 +34,33 @@ use Rattle.board.specs.Owed.{nothing, owing, left, forthBy, soundOwed}
 -- the board, with the buffers lent
 pub record Screen : Type 0 where
   pub blocks : Bool
+  pub range : Range
   pub owed : Owed
   pub table : List Entry
   pub source : Source
 
 -- .. put together
-abbrev pub screen : Bool → Owed → List Entry → Source → Screen
-screen b o t s = record { blocks = b; owed = o; table = t; source = s }
+abbrev pub screen : Bool → Range → Owed → List Entry → Source → Screen
+screen b r o t s = record { blocks = b; range = r; owed = o; table = t; source = s }
 
 -- a board and its buffers
 abbrev pub screenOf : Readout → List ℕ → List ℕ → Screen
-screenOf r recv word = screen (r .blocks) (r .owed) (r .ports .entries) (source (r .bare) (deckOf (r .tape) recv word))
+screenOf r recv word = screen (r .blocks) (r .range) (r .owed) (r .ports .entries) (source (r .bare) (deckOf (r .tape) recv word))
 
 -- .. and a screen's board
 abbrev pub readoutOf : Screen → Readout
 readoutOf s = record {
   bare = s .source .bare;
   blocks = s .blocks;
+  range = s .range;
   tape = tapeOf (s .source .deck);
   ports = record { entries = s .table };
   owed = s .owed;
 }
 
 -- before the first byte: nothing heard, no port held, nothing owed
-abbrev pub freshReadout : Bool → Bool → Readout
-freshReadout bare blocks = record { bare = bare; blocks = blocks; tape = freshTape; ports = freshPorts; owed = nothing }
+abbrev pub freshReadout : Bool → Bool → Range → Readout
+freshReadout bare blocks range = record { bare = bare; blocks = blocks; range = range; tape = freshTape; ports = freshPorts; owed = nothing }
 
 -- the receive buffer
 abbrev pub recvOn : Screen → List ℕ
@@ -79,12 +83,18 @@ part w n text s = record { wants = w; taken = n; text = text; screen = s }
 
 -- so much of the text owed has room
 abbrev pub partly : ℕ → Screen → Part
-partly room s = part Again 0 (take room (owedOn s)) (screen (s .blocks) (forthBy room (s .owed) (recvOn s)) (s .table) (s .source))
+partly room s = part Again 0 (take room (owedOn s)) (screen (s .blocks) (s .range) (forthBy room (s .owed) (recvOn s)) (s .table) (s .source))
+
+-- the table behind an answer: a packet of another port is not noted
+abbrev pub tableFor : Range → List Entry → Event → List Entry
+tableFor r t e = pick (regards r e) (tableBehind t e) t
 
 -- all of it is out, by what is heard then: nothing, or an answer, whose lines are owed
 abbrev pub heardBy : Screen → Option Event × ℕ × Source → Part
-heardBy s (none, n, x) = part More n (owedOn s) (screen (s .blocks) nothing (s .table) x)
-heardBy s (some e, n, x) = part Again n (owedOn s) (screen (s .blocks) (owing (s .blocks) (s .table) (given e)) (tableBehind (s .table) e) x)
+heardBy s (none, n, x) = part More n (owedOn s) (screen (s .blocks) (s .range) nothing (s .table) x)
+heardBy s (some e, n, x) =
+    part Again n (owedOn s)
+    (screen (s .blocks) (s .range) (owing (s .blocks) (s .range) (s .table) (given e)) (tableFor (s .range) (s .table) e) x)
 
 -- one call behind refusals 10 and 11
 unfoldable pub takesOn : ℕ → Screen → List ℕ → Part

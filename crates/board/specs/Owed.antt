@@ -20,7 +20,9 @@ use Rattle.bid.specs.Line.{feed}
 use Rattle.listing_spec.specs.Lines.{longest}
 use Rattle.ports_spec.specs.declared.Entry.{Entry}
 use Rattle.ports_spec.specs.declared.Noted.{Noted}
+use Rattle.ports_spec.specs.declared.Range.{Range}
 use Rattle.ports_spec.specs.Ports.{noting}
+use Rattle.ports_spec.specs.Range.{inside}
 use Rattle.board_spec.specs.Text.{shownByte, shownText}
 use Rattle.board_spec.specs.Parts.{lead, remark}
 use Rattle.lines.specs.declared.piece.Piece.{Piece}
@@ -43,14 +45,14 @@ withText p d = record { piece = p; out = 0; text = true; delivery = d; at = 0 }
 abbrev pub owedPacket : Noted → Delivery → Owed
 owedPacket v d = pick (eqb (d .format) keyFormat) (alone (pieceOf (lead v d))) (withText (pieceOf (lead v d)) d)
 
--- an answer, by the table before it
-abbrev pub owing : Bool → List Entry → Answer → Owed
-owing b t (Said (Delivered d)) = owedPacket (noting t (d .port) (d .sequence) .0) d
-owing b t (Said (Refused n)) = alone (pieceOf (remark b (Said (Refused n))))
-owing b t (Said (Broken n)) = alone (pieceOf (remark b (Said (Broken n))))
-owing b t (Block c) = alone (pieceOf (remark b (Block c)))
-owing b t LockLost = alone (pieceOf (remark b LockLost))
-owing b t More = nothing
+-- an answer, by the range and the table before it: of a packet of another port nothing
+abbrev pub owing : Bool → Range → List Entry → Answer → Owed
+owing b r t (Said (Delivered d)) = pick (inside r (d .port)) (owedPacket (noting t (d .port) (d .sequence) .0) d) nothing
+owing b r t (Said (Refused n)) = alone (pieceOf (remark b (Said (Refused n))))
+owing b r t (Said (Broken n)) = alone (pieceOf (remark b (Said (Broken n))))
+owing b r t (Block c) = alone (pieceOf (remark b (Block c)))
+owing b r t LockLost = alone (pieceOf (remark b LockLost))
+owing b r t More = nothing
 
 -- some is owed
 abbrev pub owes : Owed → Bool

@@ -8,6 +8,7 @@ use mathlib.Core.Bool.{Bool}
 use mathlib.Core.List.{List, _++_}
 use mathlib.Core.Option.{Option}
 use lib.ListN.{length, take, drop}
+use Rattle.base.specs.Choice.{pick}
 use Rattle.channel_spec.specs.Meaning.{Event}
 use Rattle.board.specs.declared.owed.Owed.{Owed}
 use Rattle.board.specs.declared.owed.Put.{Put}
@@ -17,7 +18,9 @@ use Rattle.channel_spec.specs.Answer.{answered}
 use Rattle.channel_spec.specs.declared.Answer.{Answer}
 use Rattle.channel_spec.specs.declared.Answer.the-variants.{More, Said, Block, LockLost}
 use Rattle.ports.specs.declared.by_value.Ports.{Ports}
+use Rattle.ports_spec.specs.declared.Range.{Range}
 use Rattle.ports_spec.specs.Ports.{noting}
+use Rattle.ports_spec.specs.Range.{inside}
 use Rattle.recording.specs.declared.reader.Hearing.{Hearing}
 use Rattle.recording.specs.Deck.{Deck}
 use Rattle.recording.specs.Call.{deckOf}
@@ -41,21 +44,22 @@ BareIs m bs r l k =
 abbrev pub HeardIs : Bool → Option Event × ℕ × Source → Hearing → List ℕ → List ℕ → Type 0
 HeardIs b x r l k = (r .answer ≡ answered (x .0)) × (x ≡ (x .0, r .taken, source b (deckOf (r .tape) l k)))
 
--- a packet is noted; nothing else changes the table
-abbrev pub portsBy : Ports → Answer → Ports
-portsBy p (Said (Delivered d)) = record { entries = noting (p .entries) (d .port) (d .sequence) .1 }
-portsBy p (Said (Refused n)) = p
-portsBy p (Said (Broken n)) = p
-portsBy p (Block c) = p
-portsBy p LockLost = p
-portsBy p More = p
+-- a packet of the range is noted; nothing else changes the table
+abbrev pub portsBy : Range → Ports → Answer → Ports
+portsBy r p (Said (Delivered d)) = record { entries = pick (inside r (d .port)) (noting (p .entries) (d .port) (d .sequence) .1) (p .entries) }
+portsBy r p (Said (Refused n)) = p
+portsBy r p (Said (Broken n)) = p
+portsBy r p (Block c) = p
+portsBy r p LockLost = p
+portsBy r p More = p
 
 -- a board behind an answer: what it shows is owed
 abbrev pub answeredBy : Readout → Answer → Readout
 answeredBy r a = record {
   bare = r .bare;
   blocks = r .blocks;
+  range = r .range;
   tape = r .tape;
-  ports = portsBy (r .ports) a;
-  owed = owing (r .blocks) (r .ports .entries) a;
+  ports = portsBy (r .range) (r .ports) a;
+  owed = owing (r .blocks) (r .range) (r .ports .entries) a;
 }

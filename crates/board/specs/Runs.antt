@@ -14,7 +14,8 @@ use Rattle.packet_spec.specs.Contents.{rawLimit}
 use Rattle.channel_spec.specs.Sender.{wordBytes}
 use Rattle.channel_spec.specs.Meaning.{Event}
 use Rattle.ports_spec.specs.declared.Entry.{Entry}
-use Rattle.board_spec.specs.Meaning.{tableBehind, boardLines, writtenAll}
+use Rattle.ports_spec.specs.declared.Range.{Range}
+use Rattle.board_spec.specs.Meaning.{tableBehind, boardLines, regarded, writtenAll}
 use Rattle.board.specs.declared.readout.Readout.{Readout}
 use Rattle.board.specs.declared.readout.Wants.the-variants.{More, Again}
 use Rattle.board.specs.Source.{Source, sourceAll}
@@ -26,13 +27,14 @@ abbrev pub tableAll : List Entry → List Event → List Entry
 tableAll t [] = t
 tableAll t (e ∷ es) = tableAll (tableBehind t e) es
 
--- what answers show behind a text, and the board behind them
-abbrev pub shownBy : List ℕ → Bool → List Entry → List Event × Source → List ℕ × Screen
-shownBy text b t r = (text ++ writtenAll (boardLines b t (r .0)), screen b nothing (tableAll t (r .0)) (r .1))
+-- what answers show behind a text, and the board behind them: packets of ports outside its range are none of its business
+abbrev pub shownBy : List ℕ → Bool → Range → List Entry → List Event × Source → List ℕ × Screen
+shownBy text b r t x =
+    (text ++ writtenAll (boardLines b t (regarded r (x .0))), screen b r nothing (tableAll t (regarded r (x .0))) (x .1))
 
 -- what bytes mean to a board: what is owed comes first, then the lines of their answers
 abbrev pub meant : Screen → List ℕ → List ℕ × Screen
-meant s bs = shownBy (owedOn s) (s .blocks) (s .table) (sourceAll (s .source) bs)
+meant s bs = shownBy (owedOn s) (s .blocks) (s .range) (s .table) (sourceAll (s .source) bs)
 
 -- call number i has an output of `rooms i` bytes
 module _ (rooms : ℕ → ℕ) where

@@ -24,6 +24,7 @@ use packet::Judged;
 use packet::Packet;
 use ports::Noted;
 use ports::Ports;
+use ports_spec::Range;
 use recording::Hearing;
 use recording::RecordingReader;
 
@@ -33,6 +34,8 @@ pub struct Readout {
     pub bare: bool,
     /// Clean and repaired blocks are told too.
     pub blocks: bool,
+    /// Packets of these ports alone are noted and shown.
+    pub range: Range,
     pub tape: RecordingReader,
     pub ports: Ports,
     pub owed: Owed,
@@ -85,12 +88,13 @@ impl Took {
 
 impl Readout {
     /// Before the first byte.
-    pub fn fresh(bare: bool, blocks: bool) -> Self
-        ensures { λ r. ⌜ r ≡ freshReadout bare blocks ⌝ }
+    pub fn fresh(bare: bool, blocks: bool, range: Range) -> Self
+        ensures { λ r. ⌜ r ≡ freshReadout bare blocks range ⌝ }
     {
         Readout {
             bare,
             blocks,
+            range,
             tape: RecordingReader::fresh(),
             ports: Ports::fresh(),
             owed: Owed::nothing(),
@@ -99,13 +103,15 @@ impl Readout {
 
     // With something else owed.
     fn owing(self, owed: Owed) -> Self
-        ensures { λ r. ⌜ r ≡ record { bare = self .bare; blocks = self .blocks; tape = self .tape; ports = self .ports; owed = owed } ⌝ }
+        ensures { λ r. ⌜ r ≡ record { bare = self .bare; blocks = self .blocks; range = self .range; tape = self .tape; ports = self .ports; owed = owed } ⌝ }
     {
+        let range = self.range;
         let tape = self.tape;
         let ports = self.ports;
         Readout {
             bare: self.bare,
             blocks: self.blocks,
+            range,
             tape,
             ports,
             owed,
@@ -114,13 +120,15 @@ impl Readout {
 
     // With the tape further on.
     fn on(self, tape: RecordingReader) -> Self
-        ensures { λ r. ⌜ r ≡ record { bare = self .bare; blocks = self .blocks; tape = tape; ports = self .ports; owed = self .owed } ⌝ }
+        ensures { λ r. ⌜ r ≡ record { bare = self .bare; blocks = self .blocks; range = self .range; tape = tape; ports = self .ports; owed = self .owed } ⌝ }
     {
+        let range = self.range;
         let ports = self.ports;
         let owed = self.owed;
         Readout {
             bare: self.bare,
             blocks: self.blocks,
+            range,
             tape,
             ports,
             owed,
@@ -160,10 +168,14 @@ impl Readout {
         whole
     }
 
-    // A packet is noted, and owed.
+    // A packet of the range is noted, and owed.
     fn deliver(self, delivery: Delivery) -> Self
         ensures { λ r. ⌜ r ≡ answeredBy self (Said (Delivered delivery)) ⌝ }
     {
+        let range = self.range;
+        if !range.has(delivery.port) {
+            return self.owing(Owed::nothing());
+        }
         let before = self.ports;
         let tape = self.tape;
         let told = before.note(delivery.port, delivery.sequence);
@@ -172,6 +184,7 @@ impl Readout {
         Readout {
             bare: self.bare,
             blocks: self.blocks,
+            range,
             tape,
             ports,
             owed: owed_packet(noted, delivery),

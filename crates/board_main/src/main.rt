@@ -1,7 +1,7 @@
-//! The board as a program, `board stream|recording [blocks]`: on standard output what the manager reads of standard input, the bytes of an
-//! opportunistic channel as they are, or a recording; with `blocks` clean and repaired blocks are told too. Bytes are read as they come, and what
-//! they show is out before the next are read. Where something fails it says so on standard error and stops; where the input is no whole recording,
-//! it says so behind the last line.
+//! The board as a program, `board stream|recording [blocks] [FIRST LAST]`: on standard output what the manager reads of standard input, the bytes
+//! of an opportunistic channel as they are, or a recording; with `blocks` clean and repaired blocks are told too; with two numbers, packets of the
+//! ports from FIRST to LAST alone. Bytes are read as they come, and what they show is out before the next are read. Where something fails it says
+//! so on standard error and stops; where the input is no whole recording, it says so behind the last line.
 ghost use Prim.Native.Nat.{_≤_};
 ghost use lib.ListN.{length};
 use board::Readout;
@@ -10,6 +10,7 @@ use channel::Receiver;
 use libc::STDERR_FILENO;
 use libc::STDIN_FILENO;
 use libc::STDOUT_FILENO;
+use ports_spec::Range;
 
 // The board behind a call.
 struct Turn {
@@ -24,30 +25,100 @@ struct Turn {
 // Bytes of text that a call may write.
 const ROOM: usize = 8192;
 
+// No port has this number.
+const NO_PORT: u32 = 65536;
+
 fn main() {
     let count = os::arg_count();
     if count == 2 {
-        choose(false);
+        choose(false, Range::all());
         return;
     }
     if count == 3 && is_argument(2, b"blocks") {
-        choose(true);
+        choose(true, Range::all());
+        return;
+    }
+    if count == 4 {
+        choose_ports(false, argument(2), argument(3));
+        return;
+    }
+    if count == 5 && is_argument(2, b"blocks") {
+        choose_ports(true, argument(3), argument(4));
         return;
     }
     usage();
 }
 
+// .. with ports from a first to a last.
+fn choose_ports(blocks: bool, first: u32, last: u32) {
+    if first > last || last >= NO_PORT {
+        usage();
+        return;
+    }
+    choose(
+        blocks,
+        Range {
+            first: low(first),
+            last: low(last),
+        },
+    );
+}
+
+// A number below 65,536 in 16 bits.
+fn low(n: u32) -> u16 {
+    (n % NO_PORT) as u16
+}
+
 // What the first argument asks for.
-fn choose(blocks: bool) {
+fn choose(blocks: bool, range: Range) {
     if is_argument(1, b"stream") {
-        show(Readout::fresh(true, blocks));
+        show(Readout::fresh(true, blocks, range));
         return;
     }
     if is_argument(1, b"recording") {
-        show(Readout::fresh(false, blocks));
+        show(Readout::fresh(false, blocks, range));
         return;
     }
     usage();
+}
+
+// The number of an argument, of one to five digits; else one that no port has.
+fn argument(i: usize) -> u32 {
+    let mut space = io::buffer();
+    let n = os::arg(i, &mut space);
+    number(&space[..n])
+}
+
+fn number(text: &[u8]) -> u32 {
+    if text.len() == 0 || text.len() > 5 {
+        return NO_PORT;
+    }
+    digits(text)
+}
+
+fn digits(text: &[u8]) -> u32 {
+    let mut n: u32 = 0;
+    let mut i: usize = 0;
+    while i < text.len() {
+        let d = digit(text[i]);
+        if d > 9 {
+            return NO_PORT;
+        }
+        n = n * 10 + d;
+        if NO_PORT <= n {
+            return NO_PORT;
+        }
+        i += 1;
+    }
+    n
+}
+
+// A digit's value, or 10.
+fn digit(b: u8) -> u32 {
+    if b < b'0' || b > b'9' {
+        return 10;
+    }
+    (b - b'0') as u32
 }
 
 // Whether an argument is this one.
@@ -58,7 +129,7 @@ fn is_argument(i: usize, text: &[u8]) -> bool {
 }
 
 fn usage() {
-    say(b"usage: board stream|recording [blocks] <IN\n");
+    say(b"usage: board stream|recording [blocks] [FIRST LAST] <IN\n");
 }
 
 fn say(text: &[u8]) {

@@ -3,7 +3,11 @@ pub mod Text
 pub mod Line
 pub mod Marks
 pub mod Split
+pub mod Ranges
+pub mod Every
 pub mod Typed
 pub mod Ordered
+pub mod Inside
 pub mod Sixteen
+pub mod Watched
 pub mod Numbers

@@ -3,6 +3,7 @@
 -- bytes    all 256 bytes, as they are shown
 -- table    answers, and the text shown of them
 -- blocks   the same where every block is to be told
+-- ranges   the same where a range of ports is told
 -- recordings   recordings, those that do not end as one among them
 use Prim.Native.Nat.{ℕ}
 use mathlib.Core.Path.{_≡_, refl}
@@ -17,10 +18,13 @@ use Rattle.channel_spec.specs.declared.Condition.the-variants.{Clean, Repaired,
 use Rattle.listing_spec.specs.Apart.{nextAt, inStream, apart}
 use Rattle.listing_spec.specs.Lines.{decimalBy, decimal}
 use Rattle.listing_spec.specs.Meaning.{heard}
+use Rattle.ports_spec.specs.declared.Range.{Range}
 use Rattle.ports_spec.specs.Ports.{placeOf, freePlace, twice, noting}
+use Rattle.ports_spec.specs.Range.{range, everyPort}
 use Rattle.board_spec.specs.Text.{shownByte, shownText, bidText}
 use Rattle.board_spec.specs.Meaning.{Line, bid, missing, unwatched, late, repeated, restricted, refusedFrame, brokenFrame}
-use Rattle.board_spec.specs.Meaning.{cleanBlock, repairedBlock, beyondRepair, lockLost, wrongAt, written, writtenAll, boardLines, shows, recordingText}
+use Rattle.board_spec.specs.Meaning.{cleanBlock, repairedBlock, beyondRepair, lockLost, wrongAt, written, writtenAll, boardLines}
+use Rattle.board_spec.specs.Meaning.{regarded, shows, recordingText}
 
 -- a line of each kind
 abbrev lineRows : List (Line × List ℕ)
@@ -264,10 +268,10 @@ rows =
     []
 
 abbrev gives : Bool → List (List Event × List ℕ) → List (List Event × List ℕ)
-gives b rs = map (λ r. (r .0, shows b (r .0))) rs
+gives b rs = map (λ r. (r .0, shows b everyPort (r .0))) rs
 
 pub table : gives false rows ≡ rows
-unfolding decimalBy decimal placeOf freePlace twice noting shownByte shownText bidText written writtenAll boardLines
+unfolding decimalBy decimal placeOf freePlace twice noting shownByte shownText bidText written writtenAll boardLines regarded
 table = refl
 
 -- where every block is to be told
@@ -283,8 +287,58 @@ blockRows =
     []
 
 pub blocks : gives true blockRows ≡ blockRows
-unfolding decimalBy decimal placeOf freePlace twice noting shownByte shownText bidText written writtenAll boardLines
+unfolding decimalBy decimal placeOf freePlace twice noting shownByte shownText bidText written writtenAll boardLines regarded
 blocks = refl
+
+-- where a range of ports is told
+abbrev rangeRows : List (Range × List Event × List ℕ)
+rangeRows =
+    -- 5 to 6, both ends, and the ports beside them: 5 1 a\n6 1 b\n
+    (
+      range 5 6,
+      open-to 4 1 (120 ∷ []) ∷ open-to 5 1 (97 ∷ []) ∷ open-to 6 1 (98 ∷ []) ∷ open-to 7 1 (120 ∷ []) ∷ [],
+      53 ∷ 32 ∷ 49 ∷ 32 ∷ 97 ∷ 10 ∷ 54 ∷ 32 ∷ 49 ∷ 32 ∷ 98 ∷ 10 ∷ [],
+    ) ∷
+    -- one port, others between its packets, one of them for subscribers: 5 1 a\n! missing 5 1\n5 3 c\n
+    (
+      range 5 5,
+      open-to 5 1 (97 ∷ []) ∷ open-to 6 9 (120 ∷ []) ∷ said (packet (keyPacket 9 (1 ∷ 2 ∷ []) 4 2 (98 ∷ []))) ∷ open-to 5 3 (99 ∷ []) ∷ [],
+      53 ∷ 32 ∷ 49 ∷ 32 ∷ 97 ∷ 10 ∷ 33 ∷ 32 ∷ 109 ∷ 105 ∷ 115 ∷ 115 ∷ 105 ∷ 110 ∷ 103 ∷ 32 ∷ 53 ∷ 32 ∷ 49 ∷ 10 ∷ 53 ∷ 32 ∷ 51 ∷ 32 ∷ 99 ∷ 10 ∷ [],
+    ) ∷
+    -- frames refused, blocks and a lost lock are told whatever the range:
+    -- ! block beyond repair\n! frame refused 5\n! frame refused 3 17\n! lock lost\n
+    (
+      range 5 5,
+      open-to 6 1 (97 ∷ []) ∷ block Clean ∷ block Beyond ∷ said (refusal 5) ∷ said (broken 17) ∷ lost ∷ open-to 6 3 (99 ∷ []) ∷ [],
+      33 ∷ 32 ∷ 98 ∷ 108 ∷ 111 ∷ 99 ∷ 107 ∷ 32 ∷ 98 ∷ 101 ∷ 121 ∷ 111 ∷ 110 ∷ 100 ∷ 32 ∷ 114 ∷ 101 ∷ 112 ∷ 97 ∷ 105 ∷ 114 ∷ 10 ∷ 33 ∷ 32 ∷ 102 ∷ 114 ∷
+          97 ∷ 109 ∷ 101 ∷ 32 ∷ 114 ∷ 101 ∷ 102 ∷ 117 ∷ 115 ∷ 101 ∷ 100 ∷ 32 ∷ 53 ∷ 10 ∷ 33 ∷ 32 ∷ 102 ∷ 114 ∷ 97 ∷ 109 ∷ 101 ∷ 32 ∷ 114 ∷ 101 ∷ 102 ∷
+          117 ∷ 115 ∷ 101 ∷ 100 ∷ 32 ∷ 51 ∷ 32 ∷ 49 ∷ 55 ∷ 10 ∷ 33 ∷ 32 ∷ 108 ∷ 111 ∷ 99 ∷ 107 ∷ 32 ∷ 108 ∷ 111 ∷ 115 ∷ 116 ∷ 10 ∷ [],
+    ) ∷
+    -- the first greater than the last: no port
+    (
+      range 6 5,
+      open-to 5 1 (97 ∷ []) ∷ open-to 6 1 (98 ∷ []) ∷ [],
+      [],
+    ) ∷
+    -- seventeen ports, the first of them outside, so that the last has a place:
+    -- 2 1 x\n .. 17 1 x\n! late 17 0 y\n
+    (
+      range 2 17,
+      open-to 1 1 (120 ∷ []) ∷ open-to 2 1 (120 ∷ []) ∷ open-to 3 1 (120 ∷ []) ∷ open-to 4 1 (120 ∷ []) ∷ open-to 5 1 (120 ∷ []) ∷
+          open-to 6 1 (120 ∷ []) ∷ open-to 7 1 (120 ∷ []) ∷ open-to 8 1 (120 ∷ []) ∷ open-to 9 1 (120 ∷ []) ∷ open-to 10 1 (120 ∷ []) ∷
+          open-to 11 1 (120 ∷ []) ∷ open-to 12 1 (120 ∷ []) ∷ open-to 13 1 (120 ∷ []) ∷ open-to 14 1 (120 ∷ []) ∷ open-to 15 1 (120 ∷ []) ∷
+          open-to 16 1 (120 ∷ []) ∷ open-to 17 1 (120 ∷ []) ∷ open-to 17 0 (121 ∷ []) ∷ [],
+      50 ∷ 32 ∷ 49 ∷ 32 ∷ 120 ∷ 10 ∷ 51 ∷ 32 ∷ 49 ∷ 32 ∷ 120 ∷ 10 ∷ 52 ∷ 32 ∷ 49 ∷ 32 ∷ 120 ∷ 10 ∷ 53 ∷ 32 ∷ 49 ∷ 32 ∷
+          120 ∷ 10 ∷ 54 ∷ 32 ∷ 49 ∷ 32 ∷ 120 ∷ 10 ∷ 55 ∷ 32 ∷ 49 ∷ 32 ∷ 120 ∷ 10 ∷ 56 ∷ 32 ∷ 49 ∷ 32 ∷ 120 ∷ 10 ∷ 57 ∷ 32 ∷ 49 ∷ 32 ∷ 120 ∷ 10 ∷ 49 ∷ 48 ∷
+          32 ∷ 49 ∷ 32 ∷ 120 ∷ 10 ∷ 49 ∷ 49 ∷ 32 ∷ 49 ∷ 32 ∷ 120 ∷ 10 ∷ 49 ∷ 50 ∷ 32 ∷ 49 ∷ 32 ∷ 120 ∷ 10 ∷ 49 ∷ 51 ∷ 32 ∷ 49 ∷ 32 ∷ 120 ∷ 10 ∷ 49 ∷ 52 ∷
+          32 ∷ 49 ∷ 32 ∷ 120 ∷ 10 ∷ 49 ∷ 53 ∷ 32 ∷ 49 ∷ 32 ∷ 120 ∷ 10 ∷ 49 ∷ 54 ∷ 32 ∷ 49 ∷ 32 ∷ 120 ∷ 10 ∷ 49 ∷ 55 ∷ 32 ∷ 49 ∷ 32 ∷ 120 ∷ 10 ∷ 33 ∷ 32 ∷
+          108 ∷ 97 ∷ 116 ∷ 101 ∷ 32 ∷ 49 ∷ 55 ∷ 32 ∷ 48 ∷ 32 ∷ 121 ∷ 10 ∷ [],
+    ) ∷
+    []
+
+pub ranges : map (λ r. (r .0, r .1, shows false (r .0) (r .1))) rangeRows ≡ rangeRows
+unfolding decimalBy decimal placeOf freePlace twice noting shownByte shownText bidText written writtenAll boardLines regarded
+ranges = refl
 
 -- recordings: what is shown, and what is said behind the last byte
 abbrev recordingRows : List (List ℕ × List ℕ)
@@ -322,7 +376,7 @@ recordingRows =
     ) ∷
     []
 
-pub recordings : map (λ r. (r .0, recordingText false (r .0))) recordingRows ≡ recordingRows
-unfolding decimalBy decimal placeOf freePlace twice noting shownByte shownText bidText written writtenAll boardLines
+pub recordings : map (λ r. (r .0, recordingText false everyPort (r .0))) recordingRows ≡ recordingRows
+unfolding decimalBy decimal placeOf freePlace twice noting shownByte shownText bidText written writtenAll boardLines regarded
     heard apart inStream nextAt judge closed closedBy judgeContents judgeBody scan last wrongFrom right plain escape escapeByte fcs register entered
 recordings = refl

@@ -52,7 +52,7 @@ pub own : (p : Packet) (ps : List Packet) → numbersOf (p .port) (p ∷ ps) ≡
 unfolding numbersOf
 own p ps = rw (eq-eqb (p .port) (p .port) refl) refl
 
-other : (q : ℕ) (p : Packet) (ps : List Packet) → p .port ≢ q → numbersOf q (p ∷ ps) ≡ numbersOf q ps
+pub other : (q : ℕ) (p : Packet) (ps : List Packet) → p .port ≢ q → numbersOf q (p ∷ ps) ≡ numbersOf q ps
 unfolding numbersOf
 other q p ps n = rw (ne-eqb (p .port) q n) refl
 

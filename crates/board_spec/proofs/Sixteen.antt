@@ -125,11 +125,11 @@ held-all (x ∷ t) h = go (x .held) (held-all t) h
     go false r h = absurd (omega arith)
 
 -- the table holds no port but these
-abbrev Within : List ℕ → List Entry → Type 0
+abbrev pub Within : List ℕ → List Entry → Type 0
 Within qs t = (q : ℕ) → (lastOf q t ≡ none → ⊥) → Member q qs
 
 -- of no more ports than the table has places a new one finds a free place
-has-place : (t : List Entry) (qs : List ℕ) (port : ℕ) → unfit t ≡ false → length qs ≤ length t → Within qs t → Member port qs
+pub has-place : (t : List Entry) (qs : List ℕ) (port : ℕ) → unfit t ≡ false → length qs ≤ length t → Within qs t → Member port qs
     → lastOf port t ≡ none → length t ≤ freePlace t → ⊥
 has-place t qs port f l w m e k =
     let d : Distinct (port ∷ heldPorts t) = ((λ n. held-last t port n e), held-distinct t (or-right (ltb placeLimit (length t)) (twice t) f)) in
@@ -139,7 +139,7 @@ has-place t qs port f l w m e k =
     each x (inl g) = subst (λ (y : ℕ). Member y qs) (sym g) m
     each x (inr g) = w x (held-last t x g)
 
-noted-length : (t : List Entry) (port sequence : ℕ) → length (noting t port sequence .1) ≡ length t
+pub noted-length : (t : List Entry) (port sequence : ℕ) → length (noting t port sequence .1) ≡ length t
 noted-length t port sequence =
     noting-ways t port sequence (λ x. length (x .1) ≡ length t) refl
     (λ h. length-set t (placeOf port t) (entry port (lastBehind (lastAt t port) sequence))) (λ h k. length-set t (freePlace t) (entry port sequence)) refl

@@ -74,7 +74,7 @@ pub accepting-each : (input : List ℕ) → Each IsAccepted (acceptedLines input
 accepting-each input = from-each (linesOf input)
 
 -- lines that the sender accepts, typed plainly, are shown as they were typed
-plain-typed : (ls : List (List ℕ)) → Each IsAccepted ls → Each Plainly ls → asShown ls ≡ typed ls
+pub plain-typed : (ls : List (List ℕ)) → Each IsAccepted ls → Each Plainly ls → asShown ls ≡ typed ls
 unfolding asShown typed
 plain-typed [] a h = refl
 plain-typed (l ∷ ls) a h =

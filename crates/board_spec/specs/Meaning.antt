@@ -3,7 +3,8 @@
 -- packetLines      the lines of a delivered packet, by what it is to its port
 -- eventLines       the lines of an answer; tableBehind, the table of ports behind it
 -- boardLines       the lines of answers, one after the other
--- shows            what is shown: their bytes; boardText, of a byte string, and recordingText, of a recording
+-- regarded         answers without the packets of ports outside the range that the board is told
+-- shows            what is shown of them: their bytes; boardText, of a byte string, and recordingText, of a recording
 use Prim.Native.Nat.{ℕ}
 use mathlib.Core.Bool.{Bool, true, false}
 use mathlib.Core.List.{List, [], _∷_, _++_}
@@ -22,7 +23,9 @@ use Rattle.listing_spec.specs.Meaning.{heard}
 use Rattle.ports_spec.specs.declared.Entry.{Entry}
 use Rattle.ports_spec.specs.declared.Noted.{Noted}
 use Rattle.ports_spec.specs.declared.Noted.the-variants.{First, InOrder, Repeated, Missing, Late, Refused}
+use Rattle.ports_spec.specs.declared.Range.{Range}
 use Rattle.ports_spec.specs.Ports.{noting, freshTable}
+use Rattle.ports_spec.specs.Range.{inside}
 use Rattle.board_spec.specs.Text.{bidText}
 
 -- a line: a bid, or a remark
@@ -167,18 +170,31 @@ unfoldable pub boardLines : Bool → List Entry → List Event → List Line
 boardLines b t [] = []
 boardLines b t (e ∷ es) = eventLines b t e ++ boardLines b (tableBehind t e) es
 
+-- by the range that a board is told: a packet of another port is none of its business; every other answer is
+abbrev pub regards : Range → Event → Bool
+regards r (said (packet p)) = inside r (p .port)
+regards r (said (refusal n)) = true
+regards r (said (broken place)) = true
+regards r (block c) = true
+regards r lost = true
+
+-- answers without the packets of other ports: those are neither noted nor shown
+unfoldable pub regarded : Range → List Event → List Event
+regarded r [] = []
+regarded r (e ∷ es) = pick (regards r e) (e ∷ regarded r es) (regarded r es)
+
 -- what is shown of answers, from a fresh table
-abbrev pub shows : Bool → List Event → List ℕ
-shows b es = writtenAll (boardLines b freshTable es)
+abbrev pub shows : Bool → Range → List Event → List ℕ
+shows b r es = writtenAll (boardLines b freshTable (regarded r es))
 
 -- .. of the bytes of an opportunistic channel
-abbrev pub boardText : Bool → List ℕ → List ℕ
-boardText b bs = shows b (answers bs)
+abbrev pub boardText : Bool → Range → List ℕ → List ℕ
+boardText b r bs = shows b r (answers bs)
 
 -- behind a recording that does not end as one: the offset of the first wrong byte, or its length where it ends early
 abbrev pub ending : Spot → List Line
 ending p = pick (well (p .place)) [] (wrongAt (p .offset) ∷ [])
 
 -- .. of a recording
-abbrev pub recordingText : Bool → List ℕ → List ℕ
-recordingText b file = shows b (heard (onChannel file) (apart freshSpot file .0)) ++ writtenAll (ending (apart freshSpot file .1))
+abbrev pub recordingText : Bool → Range → List ℕ → List ℕ
+recordingText b r file = shows b r (heard (onChannel file) (apart freshSpot file .0)) ++ writtenAll (ending (apart freshSpot file .1))

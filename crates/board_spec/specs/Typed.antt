@@ -5,6 +5,7 @@
 -- Plainly             a line typed plainly: numbers without leading zeros, the text printable and without a backslash
 -- bidsAmong           the bids among lines shown
 -- packetsAmong        the packets among frame answers
+-- linesIn, packetsIn  lines, and packets, of the ports inside a range
 -- asBid, currentFrom  a packet's bid; the packets that are shown as bids: neither late nor repeated, and for everybody
 -- numbersOf, ByOne    a port's sequence numbers, and that they rise by one
 -- Among               packets of these ports alone
@@ -25,7 +26,9 @@ use Rattle.bid.specs.Input.{linesOf}
 use Rattle.ports_spec.specs.declared.Entry.{Entry}
 use Rattle.ports_spec.specs.declared.Noted.{Noted}
 use Rattle.ports_spec.specs.declared.Noted.the-variants.{First, InOrder, Repeated, Missing, Late, Refused}
+use Rattle.ports_spec.specs.declared.Range.{Range}
 use Rattle.ports_spec.specs.Ports.{noting}
+use Rattle.ports_spec.specs.Range.{inside}
 use Rattle.board_spec.specs.Text.{backslash, printable, bidText}
 use Rattle.board_spec.specs.Meaning.{Line, bid, missing, unwatched, late, repeated, restricted, refusedFrame, brokenFrame}
 use Rattle.board_spec.specs.Meaning.{cleanBlock, repairedBlock, beyondRepair, lockLost, wrongAt}
@@ -54,6 +57,11 @@ typed (l ∷ ls) = (l ++ feed ∷ []) ++ typed ls
 unfoldable pub asShown : List (List ℕ) → List ℕ
 asShown [] = []
 asShown (l ∷ ls) = (bidText (port l) (sequence l) (text l) ++ feed ∷ []) ++ asShown ls
+
+-- those of the ports inside a range
+unfoldable pub linesIn : Range → List (List ℕ) → List (List ℕ)
+linesIn r [] = []
+linesIn r (l ∷ ls) = pick (inside r (port l)) (l ∷ linesIn r ls) (linesIn r ls)
 
 -- no leading zero: one digit, or the first is another
 abbrev pub NoZeros : List ℕ → Type 0
@@ -96,6 +104,11 @@ packetsAmong [] = []
 packetsAmong (packet p ∷ ts) = p ∷ packetsAmong ts
 packetsAmong (refusal n ∷ ts) = packetsAmong ts
 packetsAmong (broken n ∷ ts) = packetsAmong ts
+
+-- packets of the ports inside a range
+unfoldable pub packetsIn : Range → List Packet → List Packet
+packetsIn r [] = []
+packetsIn r (p ∷ ps) = pick (inside r (p .port)) (p ∷ packetsIn r ps) (packetsIn r ps)
 
 -- a packet's bid
 abbrev pub asBid : Packet → Line

@@ -1,7 +1,8 @@
 //! A stream or a recording read out by calls. The number of the case: 31 bits that say how it is cut; from bit 32 on, 14 bits for the length of a
 //! piece (0: as those bits say), 2 for how the board stands at first, 14 for the length of the receive buffer, and a bit each for bare bytes and
-//! for blocks told. The output is lent to each call anew; the first piece is empty. Each call is told as the bytes taken, what it wants (0: more,
-//! 1: another call) and how many bytes it wrote, and those. Last comes what is still to be said: its length, and its bytes.
+//! for blocks told. Its first four bytes: the first and the last port of the range. The output is lent to each call anew; the first piece is empty.
+//! Each call is told as the bytes taken, what it wants (0: more, 1: another call) and how many bytes it wrote, and those. Last comes what is still to
+//! be said: its length, and its bytes.
 use board::Owed;
 use board::Readout;
 use board::Wants;
@@ -11,6 +12,7 @@ use lines::Piece;
 use listing_spec::Spot;
 use ports::Entry;
 use ports::Ports;
+use ports_spec::Range;
 use recording::RecordingReader;
 
 // The receive buffer's least length, and the longest one that is lent.
@@ -22,23 +24,44 @@ struct Place {
     cut: Cut,
 }
 
+// Bytes before those that are read out: the range.
+const ENDS: usize = 4;
+
 pub fn read_out(number: u64, bytes: &[u8], out: &mut [u8]) {
+    if bytes.len() < ENDS {
+        return;
+    }
+    let range = Range {
+        first: end_at(bytes, 0),
+        last: end_at(bytes, 2),
+    };
+    lend(number, range, &bytes[ENDS..], out);
+}
+
+fn end_at(bytes: &[u8], at: usize) -> u16 {
+    cases::half(cases::pair_at(bytes, at) as u64)
+}
+
+fn lend(number: u64, range: Range, bytes: &[u8], out: &mut [u8]) {
     let mut recv = [0u8; Receiver::RAW];
     let mut word = [0u8; Receiver::WORD];
     let n = (number / 0x1000000000000 % 16384) as usize;
     if RECV < n {
         return;
     }
-    run(start(number), bytes, &mut recv[0..n], &mut word, out);
+    run(start(number, range), bytes, &mut recv[0..n], &mut word, out);
 }
 
 // The first piece.
-fn start(number: u64) -> Place {
+fn start(number: u64, range: Range) -> Place {
     let bare = number / 0x4000000000000000 % 2 == 1;
     let blocks = number / 0x8000000000000000 == 1;
     let size = (number / 0x100000000 % 16384) as usize;
     Place {
-        readout: begin(number / 0x400000000000 % 4, Readout::fresh(bare, blocks)),
+        readout: begin(
+            number / 0x400000000000 % 4,
+            Readout::fresh(bare, blocks, range),
+        ),
         cut: Cut::start(number, size, 0),
     }
 }
@@ -54,11 +77,13 @@ fn begin(kind: u64, fresh: Readout) -> Readout {
 }
 
 fn near(fresh: Readout) -> Readout {
+    let range = fresh.range;
     let ports = fresh.ports;
     let owed = fresh.owed;
     Readout {
         bare: fresh.bare,
         blocks: fresh.blocks,
+        range,
         tape: RecordingReader {
             spot: Spot {
                 place: listing_spec::Place::Mode,
@@ -74,6 +99,7 @@ fn near(fresh: Readout) -> Readout {
 }
 
 fn twice(fresh: Readout) -> Readout {
+    let range = fresh.range;
     let tape = fresh.tape;
     let owed = fresh.owed;
     let held = Entry {
@@ -84,6 +110,7 @@ fn twice(fresh: Readout) -> Readout {
     Readout {
         bare: fresh.bare,
         blocks: fresh.blocks,
+        range,
         tape,
         ports: Ports {
             entries: [held; 16],
@@ -93,6 +120,7 @@ fn twice(fresh: Readout) -> Readout {
 }
 
 fn longer(fresh: Readout) -> Readout {
+    let range = fresh.range;
     let tape = fresh.tape;
     let ports = fresh.ports;
     let owed = fresh.owed;
@@ -100,6 +128,7 @@ fn longer(fresh: Readout) -> Readout {
     Readout {
         bare: fresh.bare,
         blocks: fresh.blocks,
+        range,
         tape,
         ports,
         owed: Owed {

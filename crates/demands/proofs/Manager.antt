@@ -1,6 +1,7 @@
 -- What the office typed is what the manager reads. For every input of the office, however it is cut (`Sends`); whatever stray bytes come before
 -- what goes out, the marker first appearing where that begins; whichever bytes of its words are altered, up to 16 in each (`Airs`):
 -- bids-delivered   the packets delivered are those of the lines that the sender accepted, once each, in order, and nothing else; no lock is lost
+-- Of a board that is told no range, or the range of all ports:
 -- bids-not-old     the bids among the lines shown are those of the accepted lines' packets that are neither late nor repeated, in order, and no
 -- others; of a port that finds no place in the table neither can be told, and each is a bid ..
 -- .. and where each port's sequence numbers rise by one:
@@ -11,7 +12,9 @@
 -- input-shown      .. and where no line is named, and the last ends in a line feed: it is the input itself
 -- bids-read, bids-typed-read, typed-is-read   bids-not-old, bids-as-typed and board-text by the board's calls, however what comes in is cut and
 -- whatever room each call has: they come to their end, and that is what they write
-use Prim.Native.Nat.{ℕ, zero, suc, _≤_}
+-- ..-in            each of these of a board that is told any range of ports: the same of the accepted lines of the ports inside. What is asked of
+-- numbers, of ports and of plain typing is asked of those alone: other ports may hold anything, and take no place among the 16
+use Prim.Native.Nat.{ℕ, zero, suc, _≤_, _<_}
 use native.Mathlib.Omega.{arith}
 use mathlib.Core.Path.{_≡_, sym, _∙_, ap, subst}
 use mathlib.Core.Bool.{Bool, true, false}
@@ -32,13 +35,18 @@ use Rattle.bid.specs.Input.{linesOf, packetsOf, complaints}
 use Rattle.office.specs.Meaning.{sentFor}
 use Rattle.office.proofs.Cutting.{bids-sent}
 use Rattle.office.proofs.Board.{packets-accepted}
+use Rattle.ports_spec.specs.declared.Range.{Range}
 use Rattle.ports_spec.specs.Ports.{placeLimit, freshTable}
-use Rattle.board_spec.specs.Meaning.{boardLines, writtenAll, boardText}
-use Rattle.board_spec.specs.Typed.{acceptedLines, typed, asShown, Plainly, bidsAmong, packetsAmong, asBid, currentFrom, numbersOf, ByOne, Among}
+use Rattle.ports_spec.specs.Range.{everyPort, inside}
+use Rattle.board_spec.specs.Meaning.{boardLines, writtenAll, regarded, boardText}
+use Rattle.board_spec.specs.Typed.{acceptedLines, linesIn, typed, asShown, Plainly, bidsAmong, packetsAmong, packetsIn, asBid, currentFrom}
+use Rattle.board_spec.specs.Typed.{numbersOf, ByOne, Among}
 use Rattle.board_spec.proofs.Marks.{bids-current}
-use Rattle.board_spec.proofs.Typed.{bids-typed, packets-open, shown-typed, lines-typed, unnamed}
+use Rattle.board_spec.proofs.Typed.{IsOpen, packets-open, accepting-each, shown-typed, lines-typed, unnamed}
 use Rattle.board_spec.proofs.Ordered.{delivered-packets, bids-in-order}
 use Rattle.board_spec.proofs.Sixteen.{Good, only-bids}
+use Rattle.board_spec.proofs.Ranges.{regarded-frames, regarded-blocks, regarded-losses, regarded-every}
+use Rattle.board_spec.proofs.Inside.{bids-inside, typed-inside, each-inside, rising-inside, packets-every, lines-every}
 use Rattle.board.specs.Call.{freshReadout}
 use Rattle.board.specs.Runs.{EveryShow}
 use Rattle.board.proofs.Demands.{shown-bare}
@@ -77,6 +85,11 @@ good-received [] vs = tt
 good-received (w ∷ ws) [] = tt
 good-received (w ∷ ws) (v ∷ vs) = (good-for (altered w v), good-received ws vs)
 
+-- their ports have 16 bits
+ports-fit : (ps : List Packet) → Each Accepted ps → Each (λ (p : Packet). p .port < 65536) ps
+ports-fit [] h = tt
+ports-fit (p ∷ ps) h = (h .0 .port-fits, ports-fit ps (h .1))
+
 module _ {input out air : List ℕ} (bytes : Bytes input) (sends : Sends input out) (airs : Airs out air) where
   accepted : Each Accepted (packetsOf input)
   accepted = packets-accepted input bytes
@@ -96,26 +109,114 @@ module _ {input out air : List ℕ} (bytes : Bytes input) (sends : Sends input o
       (delivered-as-sent (airs .stray) (packetsOf input) accepted (subst (FirstMarker (airs .stray)) (went-out sends) (airs .first)) (airs .came)
       (subst (λ ws. Received parityBytes ws (airs .came)) the-words (airs .altered))))
 
+  -- ---- a board that is told a range of ports
+  module _ (r : Range) where
+    frames-in : frames (regarded r (answers air)) ≡ map delivered (packetsIn r (packetsOf input))
+    frames-in = regarded-frames r (answers air) (packetsOf input) (bids-delivered .0)
+
+    -- whatever the sequence numbers: the bids among the lines shown are those of the accepted lines that are neither late nor repeated
+    pub bids-not-old-in : (b : Bool)
+        → bidsAmong (boardLines b freshTable (regarded r (answers air))) ≡ map asBid (currentFrom freshTable (packetsIn r (packetsOf input)))
+    bids-not-old-in b =
+        bids-current b (regarded r (answers air)) freshTable
+        ∙ ap (λ (ts : List Told). map asBid (currentFrom freshTable (packetsAmong ts))) frames-in
+        ∙ ap (λ (ps : List Packet). map asBid (currentFrom freshTable ps)) (delivered-packets (packetsIn r (packetsOf input)))
+
+    -- .. by the board's calls, however what comes in is cut and whatever room each has: they come to their end, and write these lines
+    pub bids-read-in : (b : Bool) → EveryShow (freshReadout true b r) air λ s text u.
+        (text ≡ writtenAll (boardLines b freshTable (regarded r (answers air))))
+        × (bidsAmong (boardLines b freshTable (regarded r (answers air))) ≡ map asBid (currentFrom freshTable (packetsIn r (packetsOf input))))
+    bids-read-in b recv word big long rooms some-room pieces cut =
+        let x = shown-bare b r air recv word big long rooms some-room pieces cut in
+        (x .0, λ n text u run. (x .1 n text u run .0, bids-not-old-in b))
+
+    -- ---- the sequence numbers of each port inside rise by one
+    module _ (rising : (q : ℕ) → inside r q ≡ true → ByOne (numbersOf q (packetsOf input))) where
+      open-in : Each IsOpen (packetsIn r (packetsOf input))
+      open-in = each-inside r IsOpen (packetsOf input) (packets-open input)
+
+      -- the bids among the lines shown are the lines of these ports that the sender accepted, once each, in order ..
+      pub bids-as-shown-in : (b : Bool)
+          → writtenAll (bidsAmong (boardLines b freshTable (regarded r (answers air)))) ≡ asShown (linesIn r (acceptedLines input))
+      bids-as-shown-in b =
+          ap writtenAll
+          (bids-in-order b (regarded r (answers air)) (packetsIn r (packetsOf input)) frames-in open-in (rising-inside r (packetsOf input) rising))
+          ∙ bids-inside r input
+
+      -- .. as typed
+      pub bids-as-typed-in : Each Plainly (linesIn r (acceptedLines input)) → (b : Bool)
+          → writtenAll (bidsAmong (boardLines b freshTable (regarded r (answers air)))) ≡ typed (linesIn r (acceptedLines input))
+      bids-as-typed-in plain b = bids-as-shown-in b ∙ typed-inside r input plain
+
+      -- .. by the board's calls, of any number of ports: among the lines that they write
+      pub bids-typed-read-in : Each Plainly (linesIn r (acceptedLines input)) → (b : Bool) → EveryShow (freshReadout true b r) air λ s text u.
+          (text ≡ writtenAll (boardLines b freshTable (regarded r (answers air))))
+          × (writtenAll (bidsAmong (boardLines b freshTable (regarded r (answers air)))) ≡ typed (linesIn r (acceptedLines input)))
+      bids-typed-read-in plain b recv word big long rooms some-room pieces cut =
+          let x = shown-bare b r air recv word big long rooms some-room pieces cut in
+          (x .0, λ n text u run. (x .1 n text u run .0, bids-as-typed-in plain b))
+
+      -- ---- of at most 16 ports inside
+      module _ (ports : List ℕ) (few : length ports ≤ placeLimit) (among : Among ports (packetsIn r (packetsOf input))) where
+        -- nothing else is shown ..
+        pub all-as-shown-in : boardText false r air ≡ asShown (linesIn r (acceptedLines input))
+        all-as-shown-in =
+            let d = bids-delivered in
+            let es : List Event = regarded r (answers air) in
+            let good : Each Good (blocks es) =
+            subst (Each Good) (sym (regarded-blocks r (answers air) ∙ d .1)) (good-received (sentWords (packetsOf input)) (airs .came)) in
+            ap writtenAll
+            (only-bids ports few es (packetsIn r (packetsOf input)) frames-in good (regarded-losses r (answers air) ∙ d .2) open-in among
+            (rising-inside r (packetsOf input) rising))
+            ∙ bids-inside r input
+
+        module _ (plain : Each Plainly (linesIn r (acceptedLines input))) where
+          -- .. the text on the board is those lines, byte for byte ..
+          pub board-text-in : boardText false r air ≡ typed (linesIn r (acceptedLines input))
+          board-text-in = all-as-shown-in ∙ typed-inside r input plain
+
+          -- .. by the board's calls, however what comes in is cut and whatever room each has: they come to their end, and what they write is that
+          pub typed-is-read-in : EveryShow (freshReadout true false r) air λ s text u. text ≡ typed (linesIn r (acceptedLines input))
+          typed-is-read-in recv word big long rooms some-room pieces cut =
+              let x = shown-bare false r air recv word big long rooms some-room pieces cut in
+              (x .0, λ n text u run. x .1 n text u run .0 ∙ board-text-in)
+
+  -- ---- the range of all ports: what comes in is regarded whole
+  fits : Each (λ (p : Packet). p .port < 65536) (packetsOf input)
+  fits = ports-fit (packetsOf input) accepted
+
+  pub whole-regarded : regarded everyPort (answers air) ≡ answers air
+  whole-regarded =
+      regarded-every (answers air)
+      (subst (Each (λ (p : Packet). p .port < 65536)) (sym (ap packetsAmong (bids-delivered .0) ∙ delivered-packets (packetsOf input))) fits)
+
+  whole-packets : packetsIn everyPort (packetsOf input) ≡ packetsOf input
+  whole-packets = packets-every (packetsOf input) fits
+
+  whole-lines : linesIn everyPort (acceptedLines input) ≡ acceptedLines input
+  whole-lines = lines-every (acceptedLines input) (accepting-each input)
+
   -- whatever the sequence numbers: the bids among the lines shown are those of the accepted lines that are neither late nor repeated
   pub bids-not-old : (b : Bool) → bidsAmong (boardLines b freshTable (answers air)) ≡ map asBid (currentFrom freshTable (packetsOf input))
   bids-not-old b =
-      bids-current b (answers air) freshTable ∙ ap (λ (ts : List Told). map asBid (currentFrom freshTable (packetsAmong ts))) (bids-delivered .0)
-      ∙ ap (λ (ps : List Packet). map asBid (currentFrom freshTable ps)) (delivered-packets (packetsOf input))
+      ap (λ (es : List Event). bidsAmong (boardLines b freshTable es)) (sym whole-regarded) ∙ bids-not-old-in everyPort b
+      ∙ ap (λ (ps : List Packet). map asBid (currentFrom freshTable ps)) whole-packets
 
   -- .. by the board's calls, however what comes in is cut and whatever room each has: they come to their end, and write these lines
-  pub bids-read : (b : Bool) → EveryShow (freshReadout true b) air λ s text u.
+  pub bids-read : (b : Bool) → EveryShow (freshReadout true b everyPort) air λ s text u.
       (text ≡ writtenAll (boardLines b freshTable (answers air)))
       × (bidsAmong (boardLines b freshTable (answers air)) ≡ map asBid (currentFrom freshTable (packetsOf input)))
   bids-read b recv word big long rooms some-room pieces cut =
-      let x = shown-bare b air recv word big long rooms some-room pieces cut in
-      (x .0, λ n text u run. (x .1 n text u run .0, bids-not-old b))
+      let x = shown-bare b everyPort air recv word big long rooms some-room pieces cut in
+      (x .0, λ n text u run. (x .1 n text u run .0 ∙ ap (λ (es : List Event). writtenAll (boardLines b freshTable es)) whole-regarded, bids-not-old b))
 
   -- ---- each port's sequence numbers rise by one
   module _ (rising : (q : ℕ) → ByOne (numbersOf q (packetsOf input))) where
     -- the bids among the lines shown are the lines that the sender accepted, once each, in order ..
     pub bids-as-shown : (b : Bool) → writtenAll (bidsAmong (boardLines b freshTable (answers air))) ≡ asShown (acceptedLines input)
     bids-as-shown b =
-        ap writtenAll (bids-in-order b (answers air) (packetsOf input) (bids-delivered .0) (packets-open input) rising) ∙ bids-typed input
+        ap (λ (es : List Event). writtenAll (bidsAmong (boardLines b freshTable es))) (sym whole-regarded)
+        ∙ bids-as-shown-in everyPort (λ q h. rising q) b ∙ ap asShown whole-lines
 
     -- .. as typed
     pub bids-as-typed : Each Plainly (acceptedLines input) → (b : Bool)
@@ -123,33 +224,30 @@ module _ {input out air : List ℕ} (bytes : Bytes input) (sends : Sends input o
     bids-as-typed plain b = bids-as-shown b ∙ shown-typed input plain
 
     -- .. by the board's calls, of any number of ports: among the lines that they write
-    pub bids-typed-read : Each Plainly (acceptedLines input) → (b : Bool) → EveryShow (freshReadout true b) air λ s text u.
+    pub bids-typed-read : Each Plainly (acceptedLines input) → (b : Bool) → EveryShow (freshReadout true b everyPort) air λ s text u.
         (text ≡ writtenAll (boardLines b freshTable (answers air)))
         × (writtenAll (bidsAmong (boardLines b freshTable (answers air))) ≡ typed (acceptedLines input))
     bids-typed-read plain b recv word big long rooms some-room pieces cut =
-        let x = shown-bare b air recv word big long rooms some-room pieces cut in
+        let x = bids-read b recv word big long rooms some-room pieces cut in
         (x .0, λ n text u run. (x .1 n text u run .0, bids-as-typed plain b))
 
     -- ---- of at most 16 ports
     module _ (ports : List ℕ) (few : length ports ≤ placeLimit) (among : Among ports (packetsOf input)) where
       -- nothing else is shown ..
-      pub all-as-shown : boardText false air ≡ asShown (acceptedLines input)
-      all-as-shown =
-          let d = bids-delivered in
-          let good : Each Good (blocks (answers air)) = subst (Each Good) (sym (d .1)) (good-received (sentWords (packetsOf input)) (airs .came)) in
-          ap writtenAll (only-bids ports few (answers air) (packetsOf input) (d .0) good (d .2) (packets-open input) among rising) ∙ bids-typed input
+      pub all-as-shown : boardText false everyPort air ≡ asShown (acceptedLines input)
+      all-as-shown = all-as-shown-in everyPort (λ q h. rising q) ports few (subst (Among ports) (sym whole-packets) among) ∙ ap asShown whole-lines
 
       module _ (plain : Each Plainly (acceptedLines input)) where
         -- .. the text on the board is those lines, byte for byte ..
-        pub board-text : boardText false air ≡ typed (acceptedLines input)
+        pub board-text : boardText false everyPort air ≡ typed (acceptedLines input)
         board-text = all-as-shown ∙ shown-typed input plain
 
         -- .. by the board's calls, however what comes in is cut and whatever room each has: they come to their end, and what they write is that ..
-        pub typed-is-read : EveryShow (freshReadout true false) air λ s text u. text ≡ typed (acceptedLines input)
+        pub typed-is-read : EveryShow (freshReadout true false everyPort) air λ s text u. text ≡ typed (acceptedLines input)
         typed-is-read recv word big long rooms some-room pieces cut =
-            let x = shown-bare false air recv word big long rooms some-room pieces cut in
+            let x = shown-bare false everyPort air recv word big long rooms some-room pieces cut in
             (x .0, λ n text u run. x .1 n text u run .0 ∙ board-text)
 
         -- .. and where no line is named, and the last ends in a line feed, it is the input itself
-        pub input-shown : (bs : List ℕ) → input ≡ bs ++ feed ∷ [] → complaints input ≡ [] → boardText false air ≡ input
+        pub input-shown : (bs : List ℕ) → input ≡ bs ++ feed ∷ [] → complaints input ≡ [] → boardText false everyPort air ≡ input
         input-shown bs e unspoken = board-text ∙ ap typed (unnamed input unspoken) ∙ ap (λ (l : List ℕ). typed (linesOf l)) e ∙ lines-typed bs ∙ sym e

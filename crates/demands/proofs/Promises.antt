@@ -156,6 +156,8 @@ use Rattle.lines.proofs.piece.Piece.lead as lines-lead
 use Rattle.lines.proofs.piece.Piece.remark as lines-remark
 use Rattle.lines.proofs.piece.Piece.wrong_at as lines-wrong-at
 use Rattle.lines.proofs.piece.Piece.none as lines-none
+use Rattle.ports_spec.proofs.Range.all as ports-spec-all
+use Rattle.ports_spec.proofs.Range.has as ports-spec-has
 use Rattle.ports.proofs.rule as ports-rule
 use Rattle.ports.proofs.by_value.Ports.fresh as ports-fresh
 use Rattle.ports.proofs.by_value.Ports.sound as ports-sound
@@ -536,11 +538,12 @@ pub unit-read-means : Means unit-read.Statement.statement unit-read.Kinds.ps uni
     outcome w (now (out .exit)) ≡ unit-reading.readUnit size delimiter audio fixed (now unit) (now (out .entry))
 unit-read-means = (λ M. unit-read.Met.met, λ κs a. tt, λ κs a z ws. (λ p. p, λ p. p))
 
--- ---- a board. Before the first byte: nothing heard, no port held, nothing owed
+-- ---- a board, of this range of ports. Before the first byte: nothing heard, no port held, nothing owed
 pub board-fresh-means : Means board-fresh.Statement.statement board-fresh.Kinds.ps board-fresh.Kinds.r board-fresh.Reads.Asked board-fresh.Reads.Learnt
-    λ κs bare blocks r. r ≡ record {
+    λ κs bare blocks range r. r ≡ record {
       bare = bare;
       blocks = blocks;
+      range = range;
       tape = record {
         spot = record { place = Mode; offset = 0; count = 0 };
         channel = false;
@@ -653,6 +656,15 @@ sheet-close-means = (λ M. sheet-close.Met.met, λ κs a. tt, λ κs a z ws. (λ
 -- what becomes of a recording, in the code's words
 pub sheet-answered-is : (n : ℕ) → (answerOf counts ≡ sheet-answer.Counts) × (answerOf wrong ≡ sheet-answer.Wrong) × (answerOf (refuses n) ≡ sheet-answer.Refused n)
 sheet-answered-is n = (refl, refl, refl)
+
+-- ---- a range of ports: all of them, and whether one is inside
+pub ports-spec-all-means : Means ports-spec-all.Statement.statement ports-spec-all.Kinds.ps ports-spec-all.Kinds.r ports-spec-all.Reads.Asked ports-spec-all.Reads.Learnt
+    λ κs r. r ≡ record { first = 0; last = 65535 }
+ports-spec-all-means = (λ M. ports-spec-all.Met.met, λ κs a. tt, λ κs a z ws. (λ p. p, λ p. p))
+
+pub ports-spec-has-means : Means ports-spec-has.Statement.statement ports-spec-has.Kinds.ps ports-spec-has.Kinds.r ports-spec-has.Reads.Asked ports-spec-has.Reads.Learnt
+    λ κs self port r. r ≡ leb (self .first) port && leb port (self .last)
+ports-spec-has-means = (λ M. ports-spec-has.Met.met, λ κs a. tt, λ κs a z ws. (λ p. p, λ p. p))
 
 -- ---- a table of ports: by value ..
 pub ports-rule-means : Means ports-rule.Statement.statement ports-rule.Kinds.ps ports-rule.Kinds.r ports-rule.Reads.Asked ports-rule.Reads.Learnt

@@ -5,3 +5,4 @@ pub mod Numbers
 pub mod Refusing
 pub mod Rule
 pub mod Signed
+pub mod Determined

@@ -13,6 +13,7 @@ fresh-spec =
     (λ c i. record {
       bare = c .before .before .before .args .bare;
       blocks = c .before .before .before .args .blocks;
+      range = c .before .before .before .args .range;
       tape = c .before .before .fresh .ensures i;
       ports = c .before .fresh2 .ensures i;
       owed = c .nothing .ensures i;
