@@ -1,5 +1,6 @@
 # Read by every script before it does anything: -h or --help prints the comment at the script's head, and nothing is proved; any other
-# option is refused, but for those that the script names in $options; one that may have its value behind a sign = stands there with the sign too.
+# option is refused, but for those that the script names in $options, each once; -- ends them. One that may have its value behind a sign = stands there
+# with the sign too.
 
 # $top is the repository, $called the script in it, where it is called by a link too; cd goes where it is told.
 script=$(readlink -f "$0")
@@ -24,22 +25,38 @@ numbers() {
     for argument; do case $argument in '' | *[!0-9]*) usage "no number: $argument" ;; esac; done
 }
 
-# at_end COMMANDS: runs them where this shell ends, by a signal too, of which it then dies: not every sh does so by itself.
+# at_end COMMANDS: runs them where this shell ends, by a signal too, of which it then dies: not every sh does so by itself. What was asked for before
+# is run behind them.
 at_end() {
-    # shellcheck disable=SC2064
-    trap "$1" EXIT
-    for signal in HUP INT TERM; do trap "trap - EXIT $signal; $1; kill -s $signal \$\$; exit 1" "$signal"; done
+    ending="$1${ending:+; $ending}"
+    set_ending
 }
 
+set_ending() {
+    trap - EXIT HUP INT TERM
+    [ -n "$ending" ] || return 0
+    # shellcheck disable=SC2064
+    trap "$ending" EXIT
+    for signal in HUP INT TERM; do trap "trap - EXIT $signal; $ending; kill -s $signal \$\$; exit 1" "$signal"; done
+}
+
+# a script that has options reads this file again for each: what it was given before is kept. $plain is / behind --, where every argument is a name
+[ "${reading-}" = $$ ] || reading=$$ ending='' given='' plain=''
 case ${1-} in
 -h | --help)
     sed -n '2,$ { /^#/!q; s/^# \{0,1\}//p; }' "$script" || exit 1
     exit 0
+    ;;
+--)
+    [ -n "$plain" ] || shift
+    plain=/
     ;;
 -?*)
     case " ${options-} " in
     *" $1 "* | *" ${1%%=*}= "*) ;;
     *) usage "there is no option $1" ;;
     esac
+    case "$given " in *" ${1%%=*} "*) usage "options stand first, each once: ${1%%=*}" ;; esac
+    given="$given ${1%%=*}"
     ;;
 esac

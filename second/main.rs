@@ -94,6 +94,12 @@ use interleaver::{Receiver, Sender};
 use std::io::{Read, Write};
 
 fn main() {
+    std::panic::set_hook(Box::new(|failed| {
+        let said = failed.payload();
+        let text = said.downcast_ref::<String>().cloned().or(said.downcast_ref::<&str>().map(|text| text.to_string())).unwrap_or_default();
+        say_failed(&text, failed.location().map(|place| format!("{}:{}", place.file(), place.line())).unwrap_or_default());
+        std::process::exit(1);
+    }));
     let args: Vec<String> = std::env::args().skip(1).collect();
     let words: Vec<&str> = args.iter().map(String::as_str).collect();
     let done = match words[..] {
@@ -160,6 +166,18 @@ fn main() {
         eprintln!("  | compare CASES ANSWERS .. | test [SEED] | words R PLACES N | time N M | noise ARGUMENTS.. | numbered FILE [SEED] | ports CASES ANSWERS [SEED] | unit ARGUMENTS..");
         eprintln!("  | sheet [--ports A-B] FILE.. | months DIR [SEED] | tallies CASES ANSWERS [SEED] | rack CASES ANSWERS [SEED] | time-rack MIB");
         std::process::exit(2);
+    }
+}
+
+/// A line of what failed: of a file what the system says, of anything else where in this program; none where the reader of the output has gone.
+fn say_failed(text: &str, place: String) {
+    let system = text.split_once("message: \"").and_then(|(_, rest)| rest.split_once('"')).map(|(reason, _)| reason);
+    let print = text.strip_prefix("failed printing to stdout: ").and_then(|rest| rest.split_once(" (os error"));
+    match (system, print) {
+        (Some("Broken pipe"), _) | (_, Some(("Broken pipe", _))) => {}
+        (Some(reason), _) => eprintln!("second: {}: {reason}", text.split(": Os {").next().unwrap_or(text).trim_start_matches("called `Result::unwrap()` on an `Err` value")),
+        (_, Some((reason, _))) => eprintln!("second: standard output: {reason}"),
+        _ => eprintln!("second: {text} ({place})"),
     }
 }
 
@@ -300,8 +318,8 @@ fn compare(files: &[&str]) -> i32 {
 /// Reads the cases and the proved code's answers, and counts them, and where the second program answers otherwise. The cases are read
 /// back from the file, so that a seed need not be told twice.
 fn compare_file(asked: &str, told: &str) -> (usize, usize) {
-    let asked = std::fs::read(asked).expect("cases");
-    let told = std::fs::read(told).expect("answers");
+    let asked = std::fs::read(asked).expect(asked);
+    let told = std::fs::read(told).expect(told);
     let (mut at, mut from, mut count, mut differ) = (0, 0, 0, 0);
     let mut carried = cases::Carried::new();
     while at < asked.len() {

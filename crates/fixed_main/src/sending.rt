@@ -97,6 +97,7 @@ pub fn send_all(parity: usize, depth: usize) {
             console::say(b"fixed: cannot read standard input\n");
             return;
         }
+        hint(reads, &hold[0..have]);
         if held.ended {
             finish(parity, depth, matrix, &hold[0..have], &mut out);
             return;
@@ -108,6 +109,18 @@ pub fn send_all(parity: usize, depth: usize) {
             return;
         }
         reads -= 1;
+    }
+}
+
+// The first bytes read: a plain stream begins with no marker. Blocks are sent as they are all the same, and the receiver will not read them as such.
+fn hint(reads: u64, begin: &[u8]) {
+    if reads < u64::MAX || begin.len() < 4 {
+        return;
+    }
+    if check::same(&begin[0..4], b"\x7D\x3A\xE2\x42") {
+        console::say(
+            b"fixed: hint: begins as marked blocks do, those of bin/bids say; a plain stream is sent here\n",
+        );
     }
 }
 

@@ -1,6 +1,6 @@
 //! Layer 2 units as a program. `unit write LENGTH DELIMITER AUDIO OPPORTUNISTIC FIXED`: the unit of these files on standard output. `unit read LENGTH
 //! DELIMITER AUDIO-LENGTH FIXED-LENGTH UNIT AUDIO OPPORTUNISTIC FIXED`: the parts of the unit in a file, into files. `-` stands for no file. Where it
-//! refuses it says so on standard error, by number and in words, and writes nothing.
+//! refuses it says so on standard error, by number and in words, and writes nothing; so where the file goes on behind its unit.
 //!
 //! Of a file the first 65,536 bytes are read: no unit holds as many, so the answer is that of the whole file. A number counts up to
 //! 1,000,000,000,000: whatever is above is above every length.
@@ -145,7 +145,30 @@ fn read_parts(asked: Asked, audio: usize, fixed: usize, n: usize, unit: &[u8]) {
         &unit[0..base::least(n, unit.len())],
         &mut out,
     );
+    if is_read(found) && n > bytes_of(asked.size) {
+        say_behind(bytes_of(asked.size));
+        return;
+    }
     share(found, audio, fixed, &out);
+}
+
+fn is_read(found: Written) -> bool {
+    match found {
+        Written::Wrote(_) => true,
+        Written::Refused(_) => false,
+    }
+}
+
+// The bytes of a unit of so many bits.
+fn bytes_of(size: usize) -> usize {
+    size / 8 + base::least(size % 8, 1)
+}
+
+// A file that goes on behind its unit holds another one, or its length is another.
+fn say_behind(end: usize) {
+    say(b"unit: the unit ends at byte ");
+    console::say_number(end as u64);
+    say(b", and the file goes on: nothing is written\n");
 }
 
 // What was read, into files.

@@ -21,4 +21,5 @@ print-bytes-spec =
     (search needs)
     (search needs)
     (search needs)
+    (search needs)
     (search needs))
