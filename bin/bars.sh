@@ -1,13 +1,24 @@
 #!/bin/sh
-# bin/bars.sh <LINES >PICTURE: the lines of bin/sheet on standard input as a picture (SVG) on standard output: the loss of each port as a bar. bin/sheet
-# --plot calls it.
+# bin/bars.sh [RECORDINGS OTHERS] <LINES >PICTURE: the lines of bin/sheet on standard input as a picture (SVG) on standard output: the loss of each port
+# as a bar; of how many recordings, and how many of them do not count. bin/sheet --plot calls it.
 # Status: 0 drawn; 1 the picture could not be written; 2 usage error.
 # Example: bin/sheet samples/morning.rec | bin/bars.sh >target/sheet.svg
 set -eu
 . "$(dirname "$(readlink -f "$0")")/help.sh"
-[ $# -eq 0 ] || usage "it reads standard input"
+[ $# -eq 0 ] || [ $# -eq 2 ] || usage "it reads standard input"
+numbers 2 "$@"
 export LC_ALL=C # figures with a point
-awk '
+awk -v recordings="${1:-}" -v others="${2:-0}" '
+    # of how many recordings it is
+    function of_which(    text) {
+        if (recordings == "") return ""
+        text = " of " (recordings == 1 ? "a recording" : recordings " recordings")
+        return others > 0 ? text ", of which " others (others == 1 ? " does" : " do") " not count" : text
+    }
+    # what is not nothing is not 0.00
+    function percent(share) {
+        return share > 0 && share < 0.00005 ? "&lt;0.01 %" : sprintf("%.2f %%", 100 * share)
+    }
     { port[NR] = $1; missing[NR] = $6; total[NR] = $7; share[NR] = $7 > 0 ? $6 / $7 : 0; if (share[NR] > most) most = share[NR] }
     END {
         step = 24; left = 70; wide = 420; top = 56; height = top + step * NR + 40
@@ -17,13 +28,14 @@ awk '
         if (!scale) scale = 1
         printf "<svg xmlns=\"http://www.w3.org/2000/svg\" width=\"900\" height=\"%d\" font-family=\"sans-serif\" font-size=\"13\">\n", height
         printf "<rect width=\"900\" height=\"%d\" fill=\"white\"/>\n", height
-        print "<text x=\"16\" y=\"24\" font-size=\"16\">Loss by port: missing of all that were to come</text>"
+        print "<text x=\"16\" y=\"24\" font-size=\"16\">Loss by port" of_which() ": missing of all that were to come</text>"
         printf "<text x=\"%d\" y=\"46\" text-anchor=\"end\" fill=\"#555\">port</text>\n", left - 10
         for (i = 1; i <= NR; i++) {
             y = top + step * (i - 1)
             printf "<text x=\"%d\" y=\"%d\" text-anchor=\"end\">%s</text>\n", left - 10, y + 14, port[i]
             printf "<rect x=\"%d\" y=\"%d\" width=\"%.1f\" height=\"16\" fill=\"#2b6ca3\"/>\n", left, y + 2, wide * share[i] / scale
-            printf "<text x=\"%.1f\" y=\"%d\" fill=\"#333\">%.2f %% (%s of %s)</text>\n", left + wide * share[i] / scale + 6, y + 14, 100 * share[i], missing[i], total[i]
+            figures = percent(share[i]) " (" missing[i] " of " total[i] ")"
+            printf "<text x=\"%.1f\" y=\"%d\" fill=\"#333\">%s</text>\n", left + wide * share[i] / scale + 6, y + 14, figures
         }
         y = top + step * NR + 6
         printf "<line x1=\"%d\" y1=\"%d\" x2=\"%d\" y2=\"%d\" stroke=\"#555\"/>\n", left, y, left + wide, y
