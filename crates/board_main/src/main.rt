@@ -157,11 +157,25 @@ fn show(fresh: Readout) {
         let n = io::count(got, &piece);
         let turn = read_out(readout, &mut recv, &mut word, &piece[0..n], &mut out);
         readout = turn.next;
-        if !turn.go {
+        if !goes_on(turn) {
             return;
         }
         reads -= 1;
     }
+}
+
+// Whether more is to be read: not where it was said why not, nor behind a recording's wrong byte, where nothing more is shown.
+fn goes_on(turn: Turn) -> bool {
+    let next = turn.next;
+    let tape = next.tape;
+    if !turn.go {
+        return false;
+    }
+    if tape.is_wrong() {
+        finish(next);
+        return false;
+    }
+    true
 }
 
 // A piece, until more is wanted.

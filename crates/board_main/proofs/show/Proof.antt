@@ -38,6 +38,7 @@ show-spec =
     (search needs)
     (search needs)
     (search needs)
+    (search needs)
     (λ c. omega (arith, c .before .before .before .before .before .before .before .before .before .before .before .before .before .before .before .before .before .before .before .loop-test .taken))
     (λ c. omega (arith, c .before .before .before .before .before .before .before .before .before .before .before .before .before .before .before .before .before .before .before .loop-test .taken))
     (search needs)
