@@ -247,19 +247,16 @@ bytes_out() {
     }
 }
 
-# hint FORM [FILE..]: where a file, or standard input that is one, begins as the other form does, a line says so. Nothing is decided by it.
+# hint [FILE..]: where a file, or standard input that is one, is read as a recording and begins as a stream does, a line says so. Nothing is decided by it.
 hint() {
-    wanted=$1
-    shift
     [ $# -gt 0 ] || set -- /dev/stdin
     for file; do
         [ -f "$file" ] || continue
         name=$file
         [ "$file" != /dev/stdin ] || name='standard input'
-        case $wanted:$(od -An -tx1 -N4 <"$file"):${options-} in
-        'stream: 4f f5 5f'* | 'stream: 50 f5 5f'*) printf '%s\n' "$called: $name begins as a recording does: --recording?" >&2 ;;
-        'recording: 7d 3a e2 42:'*--stream*) printf '%s\n' "$called: $name begins as a stream does: --stream?" >&2 ;;
-        'recording: 7d 3a e2 42:'*) printf '%s\n' "$called: $name begins as a stream does, which bin/board --stream reads" >&2 ;;
+        case $(od -An -tx1 -N4 <"$file"):${options-} in
+        ' 7d 3a e2 42:'*--stream*) printf '%s\n' "$called: $name begins as a stream does: --stream?" >&2 ;;
+        ' 7d 3a e2 42:'*) printf '%s\n' "$called: $name begins as a stream does, which bin/board --stream reads" >&2 ;;
         esac
     done
 }

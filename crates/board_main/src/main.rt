@@ -155,12 +155,35 @@ fn show(fresh: Readout) {
             return;
         }
         let n = io::count(got, &piece);
-        let turn = read_out(readout, &mut recv, &mut word, &piece[0..n], &mut out);
+        let turn = read_piece(reads, readout, &mut recv, &mut word, &piece[0..n], &mut out);
         readout = turn.next;
         if !goes_on(turn) {
             return;
         }
         reads -= 1;
+    }
+}
+
+// A piece read: the first one may be worth a hint.
+fn read_piece(
+    reads: u64,
+    start: Readout,
+    recv: &mut [u8],
+    word: &mut [u8],
+    piece: &[u8],
+    out: &mut [u8],
+) -> Turn {
+    hint(start.bare, reads, piece);
+    read_out(start, recv, word, piece, out)
+}
+
+// The first bytes of a stream: where they are a recording's, that is said. They are read as told all the same.
+fn hint(bare: bool, reads: u64, begin: &[u8]) {
+    if !bare || reads < u64::MAX || begin.len() < 3 {
+        return;
+    }
+    if check::same(&begin[0..3], b"\x4F\xF5\x5F") || check::same(&begin[0..3], b"\x50\xF5\x5F") {
+        say(b"board: hint: begins as a recording does: --recording?\n");
     }
 }
 
