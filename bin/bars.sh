@@ -1,19 +1,24 @@
 #!/bin/sh
-# bin/bars.sh [RECORDINGS OTHERS] <LINES >PICTURE: the lines of bin/sheet on standard input as a picture (SVG) on standard output: the loss of each port
-# as a bar; of how many recordings, and how many of them do not count. bin/sheet --plot calls it.
+# bin/bars.sh [RECORDINGS OTHERS [FIRST LAST]] <LINES >PICTURE: the lines of bin/sheet on standard input as a picture (SVG) on standard output: the loss
+# of each port as a bar; of how many recordings, how many of them do not count, and of which ports. bin/sheet --plot calls it.
 # Status: 0 drawn; 1 the picture could not be written; 2 usage error.
 # Example: bin/sheet samples/morning.rec | bin/bars.sh >target/sheet.svg
 set -eu
 . "$(dirname "$(readlink -f "$0")")/help.sh"
-[ $# -eq 0 ] || [ $# -eq 2 ] || usage "it reads standard input"
-numbers 2 "$@"
+[ $# -eq 0 ] || [ $# -eq 2 ] || [ $# -eq 4 ] || usage "it reads standard input"
+numbers 4 "$@"
+. "$top/bin/prove.sh"
 export LC_ALL=C # figures with a point
-awk -v recordings="${1:-}" -v others="${2:-0}" '
+awk -v recordings="${1:-}" -v others="${2:-0}" -v first="${3:-}" -v last="${4:-}" '
     # of how many recordings it is
     function of_which(    text) {
         if (recordings == "") return ""
         text = " of " (recordings == 1 ? "a recording" : recordings " recordings")
         return others > 0 ? text ", of which " others (others == 1 ? " does" : " do") " not count" : text
+    }
+    # .. and of which ports
+    function of_ports() {
+        return first == "" ? "" : first == last ? ", port " first + 0 : ", ports " first + 0 " to " last + 0
     }
     # what is not nothing is not 0.00
     function percent(share) {
@@ -28,8 +33,9 @@ awk -v recordings="${1:-}" -v others="${2:-0}" '
         if (!scale) scale = 1
         printf "<svg xmlns=\"http://www.w3.org/2000/svg\" width=\"900\" height=\"%d\" font-family=\"sans-serif\" font-size=\"13\">\n", height
         printf "<rect width=\"900\" height=\"%d\" fill=\"white\"/>\n", height
-        print "<text x=\"16\" y=\"24\" font-size=\"16\">Loss by port" of_which() ": missing of all that were to come</text>"
+        print "<text x=\"16\" y=\"24\" font-size=\"16\">Loss by port" of_which() of_ports() ": missing of all that were to come</text>"
         printf "<text x=\"%d\" y=\"46\" text-anchor=\"end\" fill=\"#555\">port</text>\n", left - 10
+        if (NR == 0) printf "<text x=\"%d\" y=\"46\" fill=\"#555\">no packet of such a port came in</text>\n", left
         for (i = 1; i <= NR; i++) {
             y = top + step * (i - 1)
             printf "<text x=\"%d\" y=\"%d\" text-anchor=\"end\">%s</text>\n", left - 10, y + 14, port[i]
@@ -42,4 +48,4 @@ awk -v recordings="${1:-}" -v others="${2:-0}" '
         for (i = 0; i <= 4; i++)
             printf "<text x=\"%.1f\" y=\"%d\" text-anchor=\"middle\" fill=\"#555\">%g %%</text>\n", left + wide * i / 4, y + 18, 100 * scale * i / 4
         print "</svg>"
-    }' || exit 1
+    }' | put /dev/stdin || exit 1

@@ -93,12 +93,17 @@ make() {
     all=$(below "$1" | wc -l)
     case $2 in target/bin/*) take_altered "$1" "$2" ;; esac
     # a pipe's status is that of `far`: that all is proved is a last line. It runs beside this shell, which a signal then ends at once
-    { alone rt check "$1" && case $2 in *.a) alone rt staticlib "$1" ;; esac && echo "$1: ALL PROVED"; } </dev/null 2>&1 | far "$all" >"$room/told" &
+    { alone rt check "$1" && case $2 in *.a) make_archive "$1" ;; esac && echo "$1: ALL PROVED"; } 3>&2 </dev/null 2>&1 | far "$all" >"$room/told" &
     wait $!
     [ "$(tail -n 1 "$room/told")" = "$1: ALL PROVED" ] || {
         cat "$room/told" >&2
         return 1
     }
+}
+
+make_archive() {
+    echo "$called: all is proved; the archive is made" >&3
+    alone rt staticlib "$1"
 }
 
 # alone COMMAND..: in a group of processes of its own, by whose number it can be ended with all that it has begun.
@@ -231,6 +236,11 @@ bytes_in() {
 }
 
 takes_lines() { # NAME SETTINGS
+    case $2 in *' min = 0;'*)
+        echo "$called: $1 is a terminal that ends where no byte waits: stty -F DEVICE raw -echo min 1, or read a file" >&2
+        exit 1
+        ;;
+    esac
     ! has_setting "$2" icanon isig icrnl inlcr igncr istrip ixon parmrk || {
         echo "$called: $1 is a terminal in line mode, which holds bytes back and alters them: stty -F DEVICE raw -echo, or read a file" >&2
         exit 1
