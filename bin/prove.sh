@@ -1,4 +1,4 @@
-# Read by the scripts that prove before they run, behind bin/help.sh.
+# Read behind bin/help.sh by the scripts that prove before they run, and by bin/screen, which proves nothing and reads a file as they do.
 
 # what stands before each line that a program says, and the command by which a program ends with its script
 named='' mortal=''
@@ -241,7 +241,7 @@ takes_lines() { # NAME SETTINGS
         exit 1
         ;;
     esac
-    ! has_setting "$2" icanon isig icrnl inlcr igncr istrip ixon parmrk || {
+    ! has_setting "$2" icanon isig icrnl inlcr igncr istrip iuclc ixon parmrk || {
         echo "$called: $1 is a terminal in line mode, which holds bytes back and alters them: stty -F DEVICE raw -echo, or read a file" >&2
         exit 1
     }
@@ -264,7 +264,7 @@ hint() {
         [ -f "$file" ] || continue
         name=$file
         [ "$file" != /dev/stdin ] || name='standard input'
-        case $(od -An -tx1 -N4 <"$file"):${options-} in
+        case $(exec 2>/dev/null && od -An -tx1 -N4 <"$file"):${options-} in
         ' 7d 3a e2 42:'*--stream*) printf '%s\n' "$called: $name begins as a stream does: --stream?" >&2 ;;
         ' 7d 3a e2 42:'*) printf '%s\n' "$called: $name begins as a stream does, which bin/board --stream reads" >&2 ;;
         esac
