@@ -22,7 +22,7 @@
 -- plain-listing, channel-listing, totals, sent-totals   the listing's lines and totals
 -- described, e-or-x                                     recordings as described, and no others, print `E`
 -- cut-short, wrong-first, wrong-mark, wrong-second, limit-passed   what others print
--- x-offset, x-rest, decimal-value                       the offset that `X` prints, what comes behind it, and numbers as they are printed
+-- x-offset, x-rest, shown-rest, decimal-value           the offset that `X` prints, what comes behind it, and numbers as they are printed
 -- recorded-by-calls, next-payload                       a recording's answers by calls, where it ends, and where a payload stands
 -- listed-by-calls, listed-at-last, finished-at-last     the listing by calls
 -- line-number, close-number                             the number of a line that the office tells of
@@ -71,7 +71,9 @@ use Rattle.listing_spec.specs.Meaning.{heard, totalLine, listing}
 use Rattle.listing_spec.specs.declared.Place.the-variants.{Wrong}
 use Rattle.listing_spec.proofs.Described as recordings
 use Rattle.listing_spec.proofs.Offsets.{offset-right, offset-wrong}
-use Rattle.listing_spec.proofs.Wrong.{wrong-listing}
+use Rattle.listing_spec.proofs.Wrong.{wrong-rest, wrong-listing}
+use Rattle.ports_spec.specs.declared.Range.{Range}
+use Rattle.board_spec.specs.Meaning.{writtenAll, shows, ending, recordingText}
 use Rattle.listing_spec.proofs.Totals.{packets-counted, refusals-counted, damaged-counted, lost-counted, sent-counted}
 use Rattle.packet_spec.specs.Contents.{rawLimit, Packet, contents, payloadAt}
 use Rattle.packet_spec.proofs.Only.{judge-only}
@@ -285,6 +287,13 @@ x-offset file = (offset-right file, offset-wrong file)
 -- .. and what comes behind a wrong byte changes nothing: it need not be read
 pub x-rest : (file more : List ℕ) → isWrong (apart freshSpot file .1 .place) ≡ true → listing (file ++ more) ≡ listing file
 x-rest = wrong-listing
+
+-- .. on a board either
+pub shown-rest : (b : Bool) (r : Range) (file more : List ℕ) → isWrong (apart freshSpot file .1 .place) ≡ true
+    → recordingText b r (file ++ more) ≡ recordingText b r file
+shown-rest b r file more e =
+    let x = wrong-rest file more e in
+    λ i. shows b r (heard (x .1 i) (x .0 i .0)) ++ writtenAll (ending (x .0 i .1))
 
 -- a number below 10^20 (the code's are below 2^64) is printed in decimal digits without leading zeros: digits alone, their value is the number,
 -- and where it is not 0 the first is not `0`
