@@ -92,8 +92,7 @@ put_proof() {
         echo "toolchain: $(rt version)"
         echo "linked by: $($cc --version | sed -n 1p)"
         echo "gate's last line: $gate"
-        echo
-        sed -n '/^## What is proved, and what is assumed/,/^## /p' README.md | sed '/^## /d; /^$/N; /^\n$/D'
+        awk '/^## / { on = /^## What is proved/; next } on' README.md
         [ "$architecture" = amd64 ] || echo "
 For $architecture: the programs are compiled from the modules of which the toolchain's compiler made the objects that were proved for x86-64, by the same
 compiler; with them goes package/os.c in place of the toolchain's own C functions. Nothing proves compiler, C library and os.c."
@@ -117,7 +116,7 @@ put_control() {
     {
         echo "tirunqesh ($version) unstable; urgency=medium"
         echo
-        awk -v this="## $version" '/^## / { on = $0 == this; next } on && NF { sub(/^- /, "  * ") || sub(/^  /, "    "); print }' CHANGELOG.md
+        awk -v this="## $version" '/^## / { on = $0 == this; next } on && NF { sub(/^- /, "  * ") || sub(/^  /, "    "); print }' CHANGELOG.md | fmt -t -w 78
         echo
         echo " -- $maintainer  $(LC_ALL=C date -u -d "@$SOURCE_DATE_EPOCH" '+%a, %d %b %Y %H:%M:%S +0000')"
     } | gzip -9n >"$documents/changelog.gz"
@@ -129,11 +128,13 @@ put_control() {
 # pack: both files, put in place whole. Times are the commit's, owners are root.
 pack() {
     package=tirunqesh_${version}_$architecture
+    chmod -R u=rwX,go=rX "$tree" # a clone may have been made with another umask
     find "$tree" -exec touch -h -d "@$SOURCE_DATE_EPOCH" {} +
     mkdir -p target/package
     DPKG_DEB_THREADS_MAX=1 dpkg-deb --root-owner-group -Zxz --build "$tree" "$room/$package.deb" >"$room/said" || fail "no package"
-    tar -C "$tree/usr" --sort=name --owner=0 --group=0 --numeric-owner --mtime="@$SOURCE_DATE_EPOCH" --format=gnu --transform "s|^[.]|tirunqesh-$version|;" \
-        -cf "$room/archive" . || fail "no archive"
+    mv "$tree/usr" "$room/tirunqesh-$version"
+    tar -C "$room" --sort=name --owner=0 --group=0 --numeric-owner --mtime="@$SOURCE_DATE_EPOCH" --format=gnu -cf "$room/archive" "tirunqesh-$version" ||
+        fail "no archive"
     gzip -9n <"$room/archive" >"$room/$package.tar.gz"
     for file in "$package.deb" "$package.tar.gz"; do
         mv "$room/$file" "target/package/$file"
