@@ -39,7 +39,8 @@ module() {
         (cd "$top" && RATTLE_HOME="$room/kit" rt "$verb" "$1") >"$modules/$1.log" 2>&1 </dev/null || :
     } 9<"$top"
     [ -s "$room/words" ] || fail "$1: the toolchain did not compile it; target/package/modules/$1.log has what it said"
-    "$clang" --target=x86_64-unknown-linux-gnu --no-default-config -S -emit-llvm -Xclang -disable-llvm-passes -x ir "$room/module.bc" -o "$room/module.ll" || fail "$1: no text"
+    "$clang" --target=x86_64-unknown-linux-gnu --no-default-config -S -emit-llvm -Xclang -disable-llvm-passes -x ir "$room/module.bc" -o "$room/module.ll" ||
+        fail "$1: its module is none"
     object=$top/target/obj/$1.o
     if [ "$verb" = try ]; then
         # what made the module is named in it
@@ -88,5 +89,6 @@ object() {
 
 # layout: how aarch64 lays out numbers, as the compiler itself says.
 layout() {
-    echo 'int none;' | "$clang" --target=aarch64-unknown-linux-gnu --no-default-config -x c -S -emit-llvm - -o - | sed -n 's/^target datalayout = "\(.*\)"$/\1/p'
+    echo 'int none;' | "$clang" --target=aarch64-unknown-linux-gnu --no-default-config -x c -S -emit-llvm - -o - |
+        sed -n 's/^target datalayout = "\(.*\)"$/\1/p'
 }

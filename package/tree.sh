@@ -1,7 +1,7 @@
 # Read by bin/package: the folder $tree, as it is installed, part by part. usr/ in it is what the archive has too.
 
-# put_programs: the programs, where the scripts look for them, static and without symbols. For x86-64 the toolchain's own C functions go with them, for another processor package/os.c. There,
-# structures of the C library may be laid out in another way than the module says: only functions that have none are allowed.
+# put_programs: the programs, where the scripts look for them, static and without symbols. For x86-64 the toolchain's own C functions go with them, for
+# another processor package/os.c.
 put_programs() {
     home=$tree/usr/lib/tirunqesh
     mkdir -p "$home/target/bin"
@@ -9,15 +9,20 @@ put_programs() {
     [ "$architecture" = amd64 ] || functions=package/os.c
     for program in $programs; do
         object "$program" "$architecture"
-        if [ "$architecture" != amd64 ]; then
-            for name in $("${tools}nm" -u "$object" | awk '{ print $2 }'); do
-                case $name in
-                rattle_* | read | write | close | memcpy | memmove | memset | memcmp | bcmp | __xpg_strerror_r | fsync | fdatasync | isatty | unlink | rename) ;;
-                *) fail "$program calls $name: see whether it takes a structure, which $architecture may lay out in another way (package/tree.sh)" ;;
-                esac
-            done
-        fi
+        [ "$architecture" = amd64 ] || plain_calls "$program" "$object"
         $cc -O2 -static-pie -s -Wl,--gc-sections -Wl,--build-id=none -o "$home/target/bin/$program" "$object" "$functions" || fail "$program: not linked"
+    done
+}
+
+# plain_calls PROGRAM OBJECT: a structure of the C library may be laid out in another way than the module says, which was made for x86-64. Only functions
+# that have none are allowed.
+plain_calls() {
+    for name in $("${tools}nm" -u "$2" | awk '{ print $2 }'); do
+        case $name in
+        rattle_* | read | write | close | fsync | fdatasync | isatty | unlink | rename | mkdir | rmdir) ;;
+        memcpy | memmove | memset | memcmp | bcmp | __xpg_strerror_r) ;;
+        *) fail "$1 calls $name: see first whether it takes a structure, and whether $architecture lays that out as x86-64 does (package/tree.sh)" ;;
+        esac
     done
 }
 
