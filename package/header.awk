@@ -43,7 +43,7 @@ function finish(    i) {
 function described(i,    line, k, n, does, answers) {
     n = split(comment[i], line, "\n")
     for (k = 1; k <= n; k++)
-        if (answers != "" || line[k] ~ /^(0 |As above)/) answers = answers (answers == "" ? "" : " ") line[k]
+        if (answers != "" || line[k] ~ /^0[ ,]/) answers = answers (answers == "" ? "" : " ") line[k]
         else does = does (does == "" ? "" : " ") line[k]
     begin(named[i], does)
     print ".sp\n" troff(declared[i]) "\n.fi\n.SH DESCRIPTION\n" troff(installed(does)) >file

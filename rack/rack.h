@@ -90,8 +90,8 @@ size_t aas_parity_make(size_t r, const uint8_t *message, size_t message_length, 
    0 clean; 1 damaged; 30 r above 64; 31 word not 255 bytes. */
 size_t aas_word_check(size_t r, const uint8_t *word, size_t word_length);
 
-/* Repairs such a word in its place: up to r / 2 altered bytes are put right.
-   0 it was clean; 256 + n repaired in n places; 1 beyond repair, left as it came; 30, 31 as above. */
+/* Repairs a word of 255 bytes, the last r of them parity, in its place: up to r / 2 altered bytes are put right.
+   0 it was clean; 256 + n repaired in n places; 1 beyond repair, left as it came; 30 r above 64; 31 word not 255 bytes. */
 size_t aas_word_repair(size_t r, uint8_t *word, size_t word_length);
 
 /* Reads a plain stream. One call gives at most one answer, and takes no byte behind the one that caused it: hand in the rest of the
@@ -101,8 +101,9 @@ size_t aas_word_repair(size_t r, uint8_t *word, size_t word_length);
    With 10 and 11 the call is refused: no number and no byte is changed, and none is taken. */
 size_t aas_stream_read(uint64_t state[12], uint8_t *recv, size_t recv_length, const uint8_t *piece, size_t piece_length);
 
-/* Reads the opportunistic channel in the same way; damaged words are repaired.
-   As above, and 257 lock lost; 258 a clean block, 259 a repaired one, 260 one beyond repair; 11 also for word under 255 bytes. */
+/* Reads the opportunistic channel as aas_stream_read reads a plain stream; damaged words are repaired.
+   0, 256, 1 to 8, 10, 11 and 12 as there; 257 lock lost; 258 a clean block, 259 a repaired one, 260 one beyond repair; 11 also for word
+   under 255 bytes. */
 size_t aas_channel_read(uint64_t state[21], uint8_t *recv, size_t recv_length, uint8_t *word, size_t word_length, const uint8_t *piece,
                         size_t piece_length);
 
