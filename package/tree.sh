@@ -8,7 +8,7 @@ put_programs() {
     functions=$kit/lib/libos_c.a
     [ "$architecture" = amd64 ] || functions=package/os.c
     for program in $programs; do
-        object "$program" "$architecture"
+        object_for "$architecture" "$program"
         [ "$architecture" = amd64 ] || plain_calls "$program" "$object"
         $cc -O2 -static-pie -s -Wl,--gc-sections -Wl,--build-id=none -o "$home/target/bin/$program" "$object" "$functions" || fail "$program: not linked"
     done
@@ -17,7 +17,7 @@ put_programs() {
 # plain_calls PROGRAM OBJECT: a structure of the C library may be laid out in another way than the module says, which was made for x86-64. Only functions
 # that have none are allowed.
 plain_calls() {
-    for name in $("${tools}nm" -u "$2" | awk '{ print $2 }'); do
+    for name in $("${prefix}nm" -u "$2" | awk '{ print $2 }'); do
         case $name in
         rattle_* | read | write | close | fsync | fdatasync | isatty | unlink | rename | mkdir | rmdir) ;;
         memcpy | memmove | memset | memcmp | bcmp | __xpg_strerror_r) ;;
@@ -59,10 +59,10 @@ as_installed() {
 put_rack() {
     library=$home/librack.a
     if [ "$architecture" = amd64 ]; then
-        cp target/staticlib/librack.a "$library"
+        cp target/staticlib/librack.a "$library" # as it was proved
     else
-        object rack "$architecture"
-        (cd "$room" && "${tools}ar" rcsD "$library" rack.o) || fail "rack: no archive"
+        object_for "$architecture" rack
+        (cd "$room" && "${prefix}ar" rcsD "$library" rack.o) || fail "rack: no archive"
     fi
     mkdir -p "$tree/usr/include/tirunqesh" "$tree/usr/lib/$triplet/pkgconfig" "$room/man3" "$tree/usr/share/man/man3"
     cp rack/rack.h "$tree/usr/include/tirunqesh/"
