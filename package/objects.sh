@@ -58,17 +58,16 @@ compiled() (
     "$toolchain/bin/clang" "$@" 2>"$room/said"
 )
 
-# make_module NAME: the crate's module as text, target/package/modules/NAME.ll, and the words with which the toolchain compiles it, NAME.words. A program's
-# comes without a proof, from `rt try`; a library is proved once more for it. What made the module is named in it: that name is put in which the object has.
+# make_module NAME: the crate's module as text, target/package/modules/NAME.ll, and the words with which the toolchain compiles it, NAME.words. A library is
+# proved once more for it. A program's comes without a proof, from the tool that `rt try` calls, here over the proved libraries. What made the module is
+# named in it: that name is put in which the object has.
 make_module() {
     say "$1: its module"
     mkdir -p "$modules"
     shadow_kit
-    verb=try
-    [ -f "$top/crates/$1/src/main.rt" ] || verb=staticlib
     { # one check at a time, as in `prove`
         ! command -v flock >/dev/null || flock 9
-        (cd "$top" && RATTLE_HOME="$room/kit" rt "$verb" "$1") >"$modules/$1.log" 2>&1 </dev/null || :
+        if [ -f "$top/crates/$1/src/main.rt" ]; then tried "$1"; else RATTLE_HOME="$room/kit" rt staticlib "$1"; fi >"$modules/$1.log" 2>&1 </dev/null || :
     } 9<"$top"
     [ -s "$room/words" ] || fail "$1: the toolchain did not compile it; target/package/modules/$1.log has what it said"
     "$toolchain/bin/clang" --target=x86_64-unknown-linux-gnu --no-default-config -S -emit-llvm -Xclang -disable-llvm-passes -x ir "$room/module.bc" \
@@ -76,6 +75,18 @@ make_module() {
     maker=$(LC_ALL=C tr -c ' -~' '\n' <"$object" | sed -n '/^rattle logic=[0-9a-f]*$/ { p; q; }')
     sed "s/^\(![0-9]* = !{!\)\"rattle-cases\"}\$/\1\"$maker\"}/" "$room/module.ll" >"$modules/$1.ll"
     mv "$room/words" "$modules/$1.words"
+}
+
+# tried NAME: the program lowered and compiled from the libraries that `rattle build` takes, in their order.
+tried() {
+    own=$kit/on/$machine name=$1
+    set -- "crates/$name/src/main.rt" --crate-name "$name" --extern "std=$own/rlib/std.rlib"
+    for below in $(sed -n "s/^$name://p" crates.txt); do
+        library=$own/rlib/$below.rlib
+        [ ! -d "crates/$below" ] || library=target/rlib/$below.rlib
+        set -- "$@" --extern "$below=$library"
+    done
+    "$own/bin/rattle-cases" --toolchain "$room/kit/on/$machine/toolchain" --link "$kit/lib/libos_c.a" "$@" -L dependency=target/rlib -L "dependency=$own/rlib"
 }
 
 # shadow_kit: makes $room/kit, which is the toolchain but for its compiler: that one keeps in $room the module that it is to compile at -O3 and the words that
