@@ -1,4 +1,4 @@
-# Read by every script before it does anything: -h or --help prints the comment at the script's head, and nothing is proved; any other
+# Read by every script before it does anything: -h or --help prints the comment at the script's head, --version the version, and nothing is proved; any other
 # option is refused, but for those that the script names in $options, each once; -- ends them. One that may have its value behind a sign = stands there
 # with the sign too.
 
@@ -8,11 +8,34 @@ top=${script%/*/*}
 called=${script#"$top/"}
 unset CDPATH
 
+# In a package (bin/package; COMMIT stands there, and nothing is proved) the head says tirunqesh-NAME, and $called is the name that was called.
+installed='' headed=$called
+if [ -f "$top/COMMIT" ]; then
+    installed=1 headed=tirunqesh-${script##*/} called=${0##*/}
+    case $called in "${script##*/}" | *[!A-Za-z0-9_.-]*) called=$headed ;; esac
+fi
+
+# head_of: the comment at the script's head, as it holds here.
+head_of() {
+    sed -n '2,$ { /^#/!q; s/^# \{0,1\}//p; }' "$script" | sed "s|$headed|$called|g${installed:+; s|/usr/share/|${top%/lib/tirunqesh}/share/|g}"
+}
+
+# version: that of VERSION, and the commit.
+version() {
+    commit='no commit is known'
+    if [ -n "$installed" ]; then
+        commit=$(cut -c 1-12 "$top/COMMIT")
+    elif [ -e "$top/.git" ] && commit=$(git -C "$top" rev-parse --short=12 HEAD 2>/dev/null); then
+        [ -z "$(git --no-optional-locks -C "$top" status --porcelain)" ] || commit=$commit-dirty
+    fi
+    echo "$called $(cat "$top/VERSION") ($commit)"
+}
+
 # usage [WHAT]: says what is wrong with the arguments, and how the script is called, by the lines of its head that begin with its name.
 usage() {
     {
-        [ $# -eq 0 ] || printf '%s\n' "$0: $1"
-        sed -n "2,\$ { /^#/!q; s|^# \(${called}[^:]*\): .*|\1|p; }" "$script" | sed '1s/^/usage: /; 2,$s/^/   or: /'
+        [ $# -eq 0 ] || printf '%s\n' "$called: $1"
+        head_of | sed -n "s|^\($called[^:]*\): .*|\1|p" | sed '1s/^/usage: /; 2,$s/^/   or: /'
         echo "--help says more"
     } >&2
     exit 2
@@ -44,7 +67,11 @@ set_ending() {
 [ "${reading-}" = $$ ] || reading=$$ ending='' given='' plain=''
 case ${1-} in
 -h | --help)
-    sed -n '2,$ { /^#/!q; s/^# \{0,1\}//p; }' "$script" || exit 1
+    head_of || exit 1
+    exit 0
+    ;;
+--version)
+    version || exit 1
     exit 0
     ;;
 --)

@@ -6,6 +6,7 @@ named='' mortal=''
 # prove CRATE [ARCHIVE]: what is made of CRATE, its program or the archive, is what was proved from these sources by this toolchain: target/started
 # says so, or it is proved and made now. Of a library without an archive there is rt's own stamp.
 prove() {
+    [ -z "$installed" ] || return 0
     has_rt || return 1
     made=${2:-target/stamp/$1}
     [ ! -f "$top/crates/$1/src/main.rt" ] || made=target/bin/$1
@@ -155,6 +156,7 @@ far() {
 # start FILE ARGUMENTS..: a program compiled for x86-64 takes this shell's place, by the toolchain's C library; on another processor its emulator runs
 # it. With STACK_KIB=n on a stack of n KiB.
 start() {
+    [ -z "$installed" ] || exec $mortal "$@" # a package's programs need no C library but what is in them
     tools=$kit/on/$machine/toolchain
     emulator=$tools/bin/qemu-x86_64
     [ -x "$emulator" ] || emulator=
