@@ -113,6 +113,16 @@ compiler; with them goes package/os.c in place of the toolchain's own C function
     } >"$documents/PROOF.txt"
 }
 
+# changes: those of this version, as Debian's changelogs have them.
+changes() {
+    awk -v this="## $version" '
+        /^## / { on = $0 == this }
+        !on || !NF || /^## / { next }
+        /^- / { if (line != "") print line; line = "  *"; $1 = ""; $0 = $0 }
+        { for (i = 1; i <= NF; i++) if (length(line " " $i) > 78) { print line; line = "    " $i } else line = line " " $i }
+        END { print line }' CHANGELOG.md
+}
+
 # put_control: what only a Debian package has.
 put_control() {
     mkdir -p "$tree/DEBIAN" "$tree/usr/share/lintian/overrides"
@@ -121,7 +131,7 @@ put_control() {
     {
         echo "tirunqesh ($version) unstable; urgency=medium"
         echo
-        awk -v this="## $version" '/^## / { on = $0 == this; next } on && NF { sub(/^- /, "  * ") || sub(/^  /, "    "); print }' CHANGELOG.md | fmt -t -w 78
+        changes
         echo
         echo " -- $maintainer  $(LC_ALL=C date -u -d "@$SOURCE_DATE_EPOCH" '+%a, %d %b %Y %H:%M:%S +0000')"
     } | gzip -9n >"$documents/changelog.gz"
