@@ -35,7 +35,7 @@ version() {
 usage() {
     {
         [ $# -eq 0 ] || printf '%s\n' "$called: $1"
-        head_of | sed -n "s|^\($called[^:]*\): .*|\1|p" | sed '1s/^/usage: /; 2,$s/^/   or: /'
+        head_of | sed -n "s|^\(${called}[^:]*\): .*|\1|p" | sed '1s/^/usage: /; 2,$s/^/   or: /'
         echo "--help says more"
     } >&2
     exit 2
