@@ -8,9 +8,10 @@ top=${script%/*/*}
 called=${script#"$top/"}
 unset CDPATH
 
-# In a package (bin/package; COMMIT stands there, and nothing is proved) the head says tirunqesh-NAME, and $called is the name that was called.
+# In a package (bin/package; COMMIT stands there, no source does, and nothing is proved) the head says tirunqesh-NAME, and $called is the name that
+# was called.
 installed='' headed=$called
-if [ -f "$top/COMMIT" ]; then
+if [ -f "$top/COMMIT" ] && [ ! -e "$top/crates" ] && [ ! -e "$top/crates.txt" ]; then
     installed=1 headed=tirunqesh-${script##*/} called=${0##*/}
     case $called in "${script##*/}" | *[!A-Za-z0-9_.-]*) called=$headed ;; esac
 fi
