@@ -26,16 +26,17 @@ awk -v recordings="${1:-}" -v others="${2:-0}" -v first="${3:-}" -v last="${4:-}
     }
     { port[NR] = $1; missing[NR] = $6; total[NR] = $7; share[NR] = $7 > 0 ? $6 / $7 : 0; if (share[NR] > most) most = share[NR] }
     END {
-        step = 24; left = 70; wide = 420; top = 56; height = top + step * NR + 40
+        step = 24; left = 70; wide = 420; top = 74; height = top + step * NR + 40
         # the scale ends at the next of 1, 2, 5, 10, 20, 50, 100 percent
         n = split("0.01 0.02 0.05 0.1 0.2 0.5 1", ends, " ")
         for (i = 1; i <= n; i++) if (!scale && most <= ends[i]) scale = ends[i]
         if (!scale) scale = 1
         printf "<svg xmlns=\"http://www.w3.org/2000/svg\" width=\"900\" height=\"%d\" font-family=\"sans-serif\" font-size=\"13\">\n", height
         printf "<rect width=\"900\" height=\"%d\" fill=\"white\"/>\n", height
-        print "<text x=\"16\" y=\"24\" font-size=\"16\">Loss by port" of_which() of_ports() ": missing of all that were to come</text>"
-        printf "<text x=\"%d\" y=\"46\" text-anchor=\"end\" fill=\"#555\">port</text>\n", left - 10
-        if (NR == 0) printf "<text x=\"%d\" y=\"46\" fill=\"#555\">no packet of such a port came in</text>\n", left
+        print "<text x=\"16\" y=\"24\" font-size=\"16\">Loss by port" of_which() "</text>"
+        print "<text x=\"16\" y=\"44\" fill=\"#555\">missing of all that were to come" of_ports() "</text>"
+        printf "<text x=\"%d\" y=\"66\" text-anchor=\"end\" fill=\"#555\">port</text>\n", left - 10
+        if (NR == 0) printf "<text x=\"%d\" y=\"66\" fill=\"#555\">no packet of such a port came in</text>\n", left
         for (i = 1; i <= NR; i++) {
             y = top + step * (i - 1)
             printf "<text x=\"%d\" y=\"%d\" text-anchor=\"end\">%s</text>\n", left - 10, y + 14, port[i]
