@@ -18,7 +18,8 @@ fi
 
 # head_of: the comment at the script's head, as it holds here.
 head_of() {
-    sed -n '2,$ { /^#/!q; s/^# \{0,1\}//p; }' "$script" | sed "s|$headed|$called|g${installed:+; s|/usr/share/|${top%/lib/tirunqesh}/share/|g}"
+    root=$(printf '%s\n' "${top%/lib/tirunqesh}" | sed 's/[\\|&]/\\&/g')
+    sed -n '2,$ { /^#/!q; s/^# \{0,1\}//p; }' "$script" | sed "s|$headed|$called|g${installed:+; s|/usr/share/|$root/share/|g}"
 }
 
 # version: that of VERSION, and the commit.

@@ -262,13 +262,15 @@ bytes_out() {
 # hint [FILE..]: where a file, or standard input that is one, is read as a recording and begins as a stream does, a line says so. Nothing is decided by it.
 hint() {
     [ $# -gt 0 ] || set -- /dev/stdin
+    reader=bin/board
+    [ -z "$installed" ] || reader=tirunqesh-board
     for file; do
         [ -f "$file" ] || continue
         name=$file
         [ "$file" != /dev/stdin ] || name='standard input'
         case $(exec 2>/dev/null && od -An -tx1 -N4 <"$file"):${options-} in
         ' 7d 3a e2 42:'*--stream*) printf '%s\n' "$called: $name begins as a stream does: --stream?" >&2 ;;
-        ' 7d 3a e2 42:'*) printf '%s\n' "$called: $name begins as a stream does, which bin/board --stream reads" >&2 ;;
+        ' 7d 3a e2 42:'*) printf '%s\n' "$called: $name begins as a stream does, which $reader --stream reads" >&2 ;;
         esac
     done
 }

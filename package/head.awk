@@ -1,5 +1,6 @@
 # A script of bin/ as it is installed (form=script), or its manual page (form=manual), from the comment at its head; or a users' page as it is installed
-# (form=page). Read by bin/package, which gives besides `form` the `name` of the script, the `commands` that are installed, `version` and `date`.
+# (form=page). Read by bin/package, which gives besides `form` the `name` of the script, the `commands` that are installed, the pages that are `left` out,
+# `version` and `date`.
 # A head is a list of items: one or more that begin with the script's name (how it is called, a colon, what it does), one that begins with `Status:`, one
 # that begins with `Example:`. Names and paths become those of an installed tree, and what is said of proving goes: nothing is proved there.
 
@@ -27,12 +28,32 @@ function renamed(text,    each, i, n, done, at) {
     return text
 }
 
+# .. and with what lies in a folder of the sources where it is installed; where the folder stands behind a path, that says already where it is
+function moved(text, folder,    done, at) {
+    while (at = index(text, folder)) {
+        done = done substr(text, 1, at - 1)
+        done = done (done ~ /[A-Za-z0-9_.\/-]$/ ? "" : "/usr/share/tirunqesh/") folder
+        text = substr(text, at + length(folder))
+    }
+    return done text
+}
+
+# a page that names one which is not installed: that one stays in docs/, which is docs: until all others are placed
+function unlinked(text,    each, i, n, link) {
+    n = split(left, each, " ")
+    for (i = 1; i <= n; i++) {
+        link = "\\[" each[i] "\\]\\((docs/)?" each[i] "[.]md\\)"
+        gsub(link, "docs:" each[i] ".md of the sources", text)
+        gsub("docs/" each[i] "[.]md", "docs:" each[i] ".md", text)
+    }
+    return text
+}
+
 # .. and with the paths that files have there
 function placed(text) {
-    text = renamed(text)
-    gsub(/samples\//, "/usr/share/tirunqesh/samples/", text)
-    gsub(/viewer\//, "/usr/share/tirunqesh/viewer/", text)
+    text = moved(moved(unlinked(renamed(text)), "samples/"), "viewer/")
     while (match(text, /docs\/[A-Z]+[.]md/)) text = substr(text, 1, RSTART - 1) "/usr/share/doc/tirunqesh/" substr(text, RSTART + 5)
+    gsub(/docs:/, "docs/", text)
     return text
 }
 
@@ -133,7 +154,10 @@ function manual(    i, all, called, see) {
     print ".fi\n.SH DESCRIPTION"
     for (i = 1; i <= items; i++) {
         all = all " " item[i]
-        if (item[i] ~ /^Status:/) statuses(item[i])
+        if (item[i] ~ /^Status:/) {
+            print ".PP\n" troff("`--help` says the same, `--version` the version and the commit.")
+            statuses(item[i])
+        }
         else if (item[i] ~ /^Example:/) examples(substr(item[i], 10))
         else
             print (i > 1 ? ".PP\n" : "") troff(described(item[i], called))

@@ -1,5 +1,8 @@
 # Read by bin/package: the folder $tree, as it is installed, part by part. usr/ in it is what the archive has too.
 
+# pages that serve engineers stay out
+left='BENCHMARKS DECISIONS MAP PROMISES'
+
 # put_programs: the programs, where the scripts look for them, static and without symbols. For x86-64 the toolchain's own C functions go with them, for
 # another processor package/os.c.
 put_programs() {
@@ -17,7 +20,8 @@ put_programs() {
 # plain_calls PROGRAM OBJECT: a structure of the C library may be laid out in another way than the module says, which was made for x86-64. Only functions
 # that have none are allowed.
 plain_calls() {
-    for name in $("${prefix}nm" -u "$2" | awk '{ print $2 }'); do
+    "${prefix}nm" -u "$2" >"$room/calls" || fail "$1: what it calls is not known"
+    for name in $(awk '{ print $2 }' "$room/calls"); do
         case $name in
         rattle_* | read | write | close | fsync | fdatasync | isatty | unlink | rename | mkdir | rmdir) ;;
         memcpy | memmove | memset | memcmp | bcmp | __xpg_strerror_r) ;;
@@ -52,7 +56,7 @@ put_scripts() {
 
 # as_installed FORM NAME: standard input as package/head.awk has it.
 as_installed() {
-    LC_ALL=C awk -v form="$1" -v name="$2" -v commands="$commands" -v version="$version" -v date="$date" -f package/head.awk
+    LC_ALL=C awk -v form="$1" -v name="$2" -v commands="$commands" -v left="$left" -v version="$version" -v date="$date" -f package/head.awk
 }
 
 # put_rack: the functions for C, their header, their pages.
@@ -76,10 +80,8 @@ put_pages() {
     documents=$tree/usr/share/doc/tirunqesh
     mkdir -p "$documents/examples" "$tree/usr/share/tirunqesh"
     for page in docs/*.md; do
-        case ${page#docs/} in
-        BENCHMARKS.md | DECISIONS.md | MAP.md | PROMISES.md) ;;
-        *) as_installed page '' <"$page" >"$documents/${page#docs/}" ;;
-        esac
+        name=${page#docs/}
+        case " $left " in *" ${name%.md} "*) ;; *) as_installed page '' <"$page" >"$documents/$name" ;; esac
     done
     cp docs/*.svg "$documents/"
     as_installed page '' <CHANGELOG.md >"$documents/CHANGELOG.md"
@@ -95,14 +97,16 @@ put_proof() {
         echo "Tirunqesh $version for $architecture, of $date, by $maintainer"
         echo "commit: $commit"
         echo "toolchain: $(rt version)"
-        echo "linked by: $($cc --version | sed -n 1p)"
+        echo "linked by: $($cc --version | sed -n 1p), $($cc -Wl,--version 2>/dev/null | sed -n 1p)"
+        echo "C library: libc.a, SHA-256 $(sha256sum <"$($cc -print-file-name=libc.a)" | cut -d ' ' -f 1)"
         echo "gate's last line: $gate"
-        awk '/^## / { on = /^## What is proved/; next } on' README.md
+        awk '/^## / { on = /^## What is proved/; next } on' README.md | as_installed page ''
         [ "$architecture" = amd64 ] || echo "
 For $architecture: the programs are compiled from the modules of which the toolchain's compiler made the objects that were proved for x86-64, by the same
 compiler; with them goes package/os.c in place of the toolchain's own C functions. Nothing proves compiler, C library and os.c."
         echo
-        echo "What the toolchain said of each program when it was proved here, the functions of C among it whose contracts were assumed:"
+        echo "What the toolchain said of each program when it was proved here; of the functions of C whose contracts were assumed it names three a library at"
+        echo "most, and how many there are:"
         for program in $programs rack; do sed -n "s/^\(axioms .*\|logic=.*\)$/    $program: \1/p" "target/log/$program.say"; done
         echo
         echo "What was packed (SHA-256):"
@@ -136,7 +140,8 @@ put_control() {
         echo " -- $maintainer  $(LC_ALL=C date -u -d "@$SOURCE_DATE_EPOCH" '+%a, %d %b %Y %H:%M:%S +0000')"
     } | gzip -9n >"$documents/changelog.gz"
     size=$(find "$tree/usr" -type f -exec cat {} + | wc -c)
-    sed "s/VERSION/$version/; s/ARCHITECTURE/$architecture/; s/MAINTAINER/$maintainer/; s/SIZE/$((size / 1024 + 1))/" package/control >"$tree/DEBIAN/control"
+    name=$(printf '%s\n' "$maintainer" | sed 's/[\\/&]/\\&/g') # a name may have signs that are sed's own
+    sed "s/VERSION/$version/; s/ARCHITECTURE/$architecture/; s/MAINTAINER/$name/; s/SIZE/$((size / 1024 + 1))/" package/control >"$tree/DEBIAN/control"
     (cd "$tree" && find usr -type f | LC_ALL=C sort | xargs md5sum) >"$tree/DEBIAN/md5sums"
 }
 
