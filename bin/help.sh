@@ -24,13 +24,14 @@ head_of() {
 
 # version: that of VERSION, and the commit.
 version() {
-    commit='no commit is known'
+    commit=''
     if [ -n "$installed" ]; then
         commit=$(cut -c 1-12 "$top/COMMIT")
-    elif [ -e "$top/.git" ] && commit=$(git -C "$top" rev-parse --short=12 HEAD 2>/dev/null); then
-        [ -z "$(git --no-optional-locks -C "$top" status --porcelain)" ] || commit=$commit-dirty
+    elif [ -e "$top/.git" ]; then
+        commit=$(git -C "$top" rev-parse --short=12 HEAD 2>/dev/null) || commit=''
+        [ -z "$commit" ] || [ -z "$(git --no-optional-locks -C "$top" status --porcelain)" ] || commit=$commit-dirty
     fi
-    echo "$called $(cat "$top/VERSION") ($commit)"
+    echo "$called $(cat "$top/VERSION") (${commit:-no commit is known})"
 }
 
 # usage [WHAT]: says what is wrong with the arguments, and how the script is called, by the lines of its head that begin with its name.
