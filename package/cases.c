@@ -1,23 +1,12 @@
 /* Calls of package/os.c, or of the toolchain's functions in its place, and what they answer: tests/package links it with either, and the lines must be the
    same. It is called in an empty folder, with a few arguments of every kind. */
 #include <errno.h>
-#include <stddef.h>
-#include <stdint.h>
 #include <stdio.h>
 #include <string.h>
 #include <fcntl.h>
 #include <sys/stat.h>
 #include <unistd.h>
-
-int32_t rattle_open_to_read(const uint8_t *path);
-int32_t rattle_open_new(const uint8_t *path, uint32_t mode);
-int32_t rattle_open_to_overwrite(const uint8_t *path, uint32_t mode);
-int32_t rattle_open_to_append(const uint8_t *path);
-int32_t rattle_open_to_update(const uint8_t *path);
-int32_t rattle_errno(void);
-void rattle_set_errno(int32_t error);
-size_t rattle_arg_count(void);
-ptrdiff_t rattle_arg(size_t i, uint8_t *buffer, size_t length);
+#include "os.h"
 
 static uint8_t path[4096];
 

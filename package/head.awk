@@ -83,18 +83,6 @@ function colon(item) {
     return match(item, /: /) ? RSTART : 0
 }
 
-# text for the page: signs that troff takes for its own, and `words` in bold
-function troff(text,    part, i, n, out) {
-    gsub(/\\/, "\\e", text)
-    gsub(/-/, "\\-", text)
-    gsub(/'/, "\\(aq", text)
-    gsub(/~/, "\\(ti", text)
-    gsub(/\^/, "\\(ha", text)
-    n = split(text, part, "`")
-    for (i = 1; i <= n; i++) out = out (i % 2 ? part[i] : "\\fB" part[i] "\\fR")
-    return out ~ /^[.]/ ? "\\&" out : out
-}
-
 # what a command does, in a line: its first clause, without marks
 function brief(item,    text, at) {
     text = substr(item, colon(item) + 2)

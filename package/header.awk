@@ -1,18 +1,6 @@
 # Manual pages of the functions that a C header declares, each from the comment above it, and one of the header itself, from the comment at its head and the
 # names below it. Read by bin/package, which gives the header, `folder`, where the pages go, `page`, the name of the header's own, `version` and `date`.
 
-# text for a page: signs that troff takes for its own, and `words` in bold
-function troff(text,    part, i, n, out) {
-    gsub(/\\/, "\\e", text)
-    gsub(/-/, "\\-", text)
-    gsub(/'/, "\\(aq", text)
-    gsub(/~/, "\\(ti", text)
-    gsub(/\^/, "\\(ha", text)
-    n = split(text, part, "`")
-    for (i = 1; i <= n; i++) out = out (i % 2 ? part[i] : "\\fB" part[i] "\\fR")
-    return out ~ /^[.]/ ? "\\&" out : out
-}
-
 # what holds of the repository and not of an installed tree: sentences that name a script, a test or a source of it
 function installed(text,    sentence, i, n, out) {
     n = split(text, sentence, /[.] /)

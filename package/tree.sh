@@ -56,7 +56,7 @@ put_scripts() {
 
 # as_installed FORM NAME: standard input as package/head.awk has it.
 as_installed() {
-    LC_ALL=C awk -v form="$1" -v name="$2" -v commands="$commands" -v left="$left" -v version="$version" -v date="$date" -f package/head.awk
+    LC_ALL=C awk -v form="$1" -v name="$2" -v commands="$commands" -v left="$left" -v version="$version" -v date="$date" -f package/troff.awk -f package/head.awk
 }
 
 # put_rack: the functions for C, their header, their pages.
@@ -71,7 +71,7 @@ put_rack() {
     mkdir -p "$tree/usr/include/tirunqesh" "$tree/usr/lib/$triplet/pkgconfig" "$room/man3" "$tree/usr/share/man/man3"
     cp rack/rack.h "$tree/usr/include/tirunqesh/"
     sed "s/VERSION/$version/" package/tirunqesh-rack.pc >"$tree/usr/lib/$triplet/pkgconfig/tirunqesh-rack.pc"
-    LC_ALL=C awk -v folder="$room/man3" -v page=tirunqesh-rack -v version="$version" -v date="$date" -f package/header.awk rack/rack.h
+    LC_ALL=C awk -v folder="$room/man3" -v page=tirunqesh-rack -v version="$version" -v date="$date" -f package/troff.awk -f package/header.awk rack/rack.h
     for page in "$room"/man3/*; do gzip -9n <"$page" >"$tree/usr/share/man/man3/${page##*/}.gz"; done
 }
 

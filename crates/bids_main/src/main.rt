@@ -3,6 +3,8 @@
 //! is not sent is named on standard error. Where the input cannot be read further, that is said there, a line that is begun is not sent, and those
 //! before it are; where the output cannot be written, it is said and nothing more is read. Of a line that is sent, what the yards will make of it is
 //! said there too, as a warning (src/warnings.rt).
+mod naming;
+mod output;
 mod warnings;
 
 ghost use Prim.Native.Nat.{_≤_};
@@ -10,11 +12,14 @@ ghost use lib.ListN.{length};
 use base::Written;
 use console::say;
 use libc::STDIN_FILENO;
-use libc::STDOUT_FILENO;
+use naming::name_line;
+use naming::say_no_bid;
 use office::Answer;
 use office::Hearing;
 use office::Office;
 use office::Started;
+use output::print;
+use output::put;
 use warnings::Watch;
 
 // How the program stands: the sender, the bytes that wait in the output, and what the boards have seen.
@@ -45,9 +50,6 @@ struct Place {
     well: bool,
     at: usize,
 }
-
-// Bytes of a record, at most.
-const RECORD: usize = 1000;
 
 fn main() {
     if os::arg_count() < 2 {
@@ -319,30 +321,6 @@ fn watched(answer: Answer, watch: Watch, number: u64, line: &[u8]) -> Watch {
     }
 }
 
-fn name_line(number: u64) {
-    say(b"line ");
-    console::say_number(number);
-    say(b": ");
-}
-
-// A line that is no bid; the first may be none by a mark that an editor put there.
-fn say_no_bid(number: u64, line: &[u8]) {
-    if number == 1 && has_mark(line) {
-        say(b"no bid: the file begins with a byte order mark: save it as plain text\n");
-        return;
-    }
-    say(b"no bid: a bid is PORT SEQUENCE TEXT: two numbers up to 65535, one space behind each\n");
-}
-
-// Whether a line begins with a byte order mark, of UTF-8 or of UTF-16.
-fn has_mark(line: &[u8]) -> bool {
-    begins(line, b"\xEF\xBB\xBF") || begins(line, b"\xFF\xFE") || begins(line, b"\xFE\xFF")
-}
-
-fn begins(line: &[u8], first: &[u8]) -> bool {
-    check::same(&line[0..base::least(first.len(), line.len())], first)
-}
-
 // The end of the input: it ends a line that is begun.
 fn end(recording: bool, stand: Stand, line: &mut [u8], hold: &mut [u8], out: &mut [u8]) -> Stand {
     let place = make_room(recording, stand, out);
@@ -375,31 +353,4 @@ fn written(w: Written) -> usize {
         Written::Wrote(n) => n,
         Written::Refused(_) => 0,
     }
-}
-
-// Writes bytes of the stream, or records of them; whether all went out.
-fn put(recording: bool, bytes: &[u8]) -> bool {
-    if !recording {
-        return print(bytes);
-    }
-    let mut at: usize = 0;
-    while at < bytes.len() {
-        let n = base::least(bytes.len() - at, RECORD);
-        let end = at + n;
-        let head = [0xF5, 0x5F, (n % 256) as u8, (n / 256 % 256) as u8];
-        if !print(&head) || !print(&bytes[at..end]) {
-            return false;
-        }
-        at = end;
-    }
-    true
-}
-
-// Bytes to standard output; whether all went there.
-fn print(bytes: &[u8]) -> bool {
-    if io::write_all(STDOUT_FILENO, bytes) {
-        return true;
-    }
-    say(b"bids: cannot write standard output\n");
-    false
 }

@@ -119,7 +119,7 @@ fn hint(reads: u64, begin: &[u8]) {
     }
     if check::same(&begin[0..4], b"\x7D\x3A\xE2\x42") {
         console::say(
-            b"fixed: hint: begins as marked blocks do, those of bin/bids say; a plain stream is sent here\n",
+            b"fixed: hint: begins as marked blocks do, as the office sends them; a plain stream is sent here\n",
         );
     }
 }

@@ -1,9 +1,9 @@
--- `bids_main::put` is safe and ends: the place stays within the bytes.
+-- `bids_main::output::put` is safe and ends: the place stays within the bytes.
 use borrow.Author.Needs.{needs}
 use lib.ListN.{length}
 use Prim.Native.Nat.{_-_, _≤_}
-use Rattle.bids_main.proofs.put.Statement.{statement}
-use Rattle.bids_main.proofs.put.Tie as tie
+use Rattle.bids_main.proofs.output.put.Statement.{statement}
+use Rattle.bids_main.proofs.output.put.Tie as tie
 
 abbrev Inv-loop : tie.InvT-loop
 Inv-loop recording bytes at₀ at = at ≤ length bytes
