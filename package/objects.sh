@@ -1,4 +1,4 @@
-# Read by bin/package behind bin/prove.sh: the objects of proved crates, for x86-64 as the toolchain made them, for another processor compiled from the
+# Read by bin/package behind lib/prove.sh: the objects of proved crates, for x86-64 as the toolchain made them, for another processor compiled from the
 # very module of which it made them. $room is a folder of the caller's; $kit is the toolchain's folder, for this $machine.
 toolchain=$kit/on/$machine/toolchain
 modules=$top/target/package/modules
@@ -20,12 +20,12 @@ proved_object() {
 object_for() {
     proved_object "$2"
     [ "$1" != amd64 ] || return 0
-    gives "$2" || { make_module "$2" && gives "$2"; } || fail "$2: its module does not give the object that was proved"
+    gives_object "$2" || { make_module "$2" && gives_object "$2"; } || fail "$2: its module does not give the object that was proved"
     sed 's/^target triple = .*/target triple = "aarch64-unknown-linux-gnu"/
         s/^target datalayout = .*/target datalayout = "'"$(layout)"'"/
         s/ "target-cpu"="x86-64"//' "$modules/$2.ll" >"$room/other.ll"
     object=$room/$2.o
-    compiled "$room/other.ll" "$modules/$2.words" aarch64-unknown-linux-gnu "$object" || fail "$2: it does not compile for $1"
+    compile_module "$room/other.ll" "$modules/$2.words" aarch64-unknown-linux-gnu "$object" || fail "$2: it does not compile for $1"
 }
 
 # layout: how aarch64 lays out numbers, as the compiler itself says.
@@ -34,14 +34,15 @@ layout() {
         sed -n 's/^target datalayout = "\(.*\)"$/\1/p'
 }
 
-# gives NAME: whether the module that is kept gives, compiled for x86-64, byte for byte the object that was proved.
-gives() {
-    [ -f "$modules/$1.ll" ] && compiled "$modules/$1.ll" "$modules/$1.words" x86_64-unknown-linux-gnu "$room/again.o" && cmp -s "$room/again.o" "$object"
+# gives_object NAME: whether the module that is kept gives, compiled for x86-64, byte for byte the object that was proved.
+gives_object() {
+    [ -f "$modules/$1.ll" ] && compile_module "$modules/$1.ll" "$modules/$1.words" x86_64-unknown-linux-gnu "$room/again.o" &&
+        cmp -s "$room/again.o" "$object"
 }
 
-# compiled MODULE WORDS TRIPLE OBJECT: by the toolchain's compiler, with the words that it is called with by the toolchain; those that name a processor are
-# for that of TRIPLE.
-compiled() (
+# compile_module MODULE WORDS TRIPLE OBJECT: by the toolchain's compiler, with the words that it is called with by the toolchain; those that name a processor
+# are for that of TRIPLE.
+compile_module() (
     words=$2 triple=$3 out=$4
     set -- "$1"
     while IFS= read -r word; do
@@ -67,7 +68,11 @@ make_module() {
     shadow_kit
     { # one check at a time, as in `prove`
         ! command -v flock >/dev/null || flock 9
-        if [ -f "$top/crates/$1/src/main.rt" ]; then tried "$1"; else RATTLE_HOME="$room/kit" rt staticlib "$1"; fi >"$modules/$1.log" 2>&1 </dev/null || :
+        if [ -f "$top/crates/$1/src/main.rt" ]; then
+            lower_program "$1"
+        else
+            RATTLE_HOME="$room/kit" rt staticlib "$1"
+        fi >"$modules/$1.log" 2>&1 </dev/null || :
     } 9<"$top"
     [ -s "$room/words" ] || fail "$1: the toolchain did not compile it; target/package/modules/$1.log has what it said"
     "$toolchain/bin/clang" --target=x86_64-unknown-linux-gnu --no-default-config -S -emit-llvm -Xclang -disable-llvm-passes -x ir "$room/module.bc" \
@@ -77,8 +82,8 @@ make_module() {
     mv "$room/words" "$modules/$1.words"
 }
 
-# tried NAME: the program lowered and compiled from the libraries that `rattle build` takes, in their order.
-tried() {
+# lower_program NAME: the program lowered and compiled from the libraries that `rattle build` takes, in their order.
+lower_program() {
     own=$kit/on/$machine name=$1
     set -- "crates/$name/src/main.rt" --crate-name "$name" --extern "std=$own/rlib/std.rlib"
     for below in $(sed -n "s/^$name://p" crates.txt); do

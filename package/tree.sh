@@ -30,20 +30,17 @@ plain_calls() {
     done
 }
 
-# put_scripts: the scripts that users call, by their installed names. What only serves engineers, in a clone, stays out.
+# put_scripts: the scripts that users call, by their installed names, and what they read. What only serves engineers, in a clone, stays out.
 put_scripts() {
     commands=''
     for script in bin/*; do
         case ${script#bin/} in
-        day | edges | package | rack | run | second | memory.sh) continue ;;
-        *.sh) ;;
+        day | edges | package | rack | run | second) ;;
         *) commands="$commands ${script#bin/}" ;;
         esac
     done
-    mkdir -p "$home/bin" "$tree/usr/bin" "$tree/usr/share/man/man1"
-    for script in bin/*.sh; do
-        case $script in bin/memory.sh) ;; *) cp "$script" "$home/bin/" ;; esac
-    done
+    mkdir -p "$home/bin" "$home/lib" "$tree/usr/bin" "$tree/usr/share/man/man1"
+    cp lib/help.sh lib/prove.sh lib/files.sh lib/bars.awk "$home/lib/"
     for name in $commands; do
         as_installed script "$name" <"bin/$name" >"$home/bin/$name"
         chmod 755 "$home/bin/$name"
@@ -56,7 +53,8 @@ put_scripts() {
 
 # as_installed FORM NAME: standard input as package/head.awk has it.
 as_installed() {
-    LC_ALL=C awk -v form="$1" -v name="$2" -v commands="$commands" -v left="$left" -v version="$version" -v date="$date" -f package/troff.awk -f package/head.awk
+    LC_ALL=C awk -v form="$1" -v name="$2" -v commands="$commands" -v left="$left" -v version="$version" -v date="$date" \
+        -f package/troff.awk -f package/head.awk
 }
 
 # put_rack: the functions for C, their header, their pages.
@@ -117,8 +115,8 @@ compiler; with them goes package/os.c in place of the toolchain's own C function
     } >"$documents/PROOF.txt"
 }
 
-# changes: those of this version, as Debian's changelogs have them.
-changes() {
+# print_changes: those of this version, as Debian's changelogs have them.
+print_changes() {
     awk -v this="## $version" '
         /^## / { on = $0 == this }
         !on || !NF || /^## / { next }
@@ -135,7 +133,7 @@ put_control() {
     {
         echo "tirunqesh ($version) unstable; urgency=medium"
         echo
-        changes
+        print_changes
         echo
         echo " -- $maintainer  $(LC_ALL=C date -u -d "@$SOURCE_DATE_EPOCH" '+%a, %d %b %Y %H:%M:%S +0000')"
     } | gzip -9n >"$documents/changelog.gz"

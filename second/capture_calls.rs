@@ -59,13 +59,7 @@ impl Reader {
         if store.len() < LONGEST {
             return Err(11);
         }
-        for (i, byte) in piece.iter().enumerate() {
-            let answer = self.byte(store, *byte);
-            if answer.is_some() {
-                return Ok((answer, i + 1));
-            }
-        }
-        Ok((None, piece.len()))
+        Ok(stream::taken(piece, |byte| self.byte(store, byte)))
     }
 
     /// What the end of the file says; none: it is whole.

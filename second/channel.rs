@@ -3,7 +3,7 @@
 use crate::packet::{Frame, FLAG, RAW_LIMIT};
 use crate::parity::{self, WORD};
 use crate::repair;
-use crate::stream::Reader;
+use crate::stream::{taken, Reader};
 
 pub const MARKER: [u8; 4] = [0x7D, 0x3A, 0xE2, 0x42];
 pub const ROOTS: u64 = 32;
@@ -113,12 +113,6 @@ impl Receiver {
         if owed.is_some() {
             return Ok((owed, 0));
         }
-        for (i, byte) in piece.iter().enumerate() {
-            let answer = self.byte(word, *byte);
-            if answer.is_some() {
-                return Ok((answer, i + 1));
-            }
-        }
-        Ok((None, piece.len()))
+        Ok(taken(piece, |byte| self.byte(word, byte)))
     }
 }

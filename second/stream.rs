@@ -52,13 +52,7 @@ impl Reader {
         if buffer.len() < RAW_LIMIT {
             return Err(11);
         }
-        for (i, byte) in piece.iter().enumerate() {
-            let answer = self.byte(buffer, *byte);
-            if answer.is_some() {
-                return Ok((answer, i + 1));
-            }
-        }
-        Ok((None, piece.len()))
+        Ok(taken(piece, |byte| self.byte(buffer, byte)))
     }
 }
 
@@ -74,4 +68,15 @@ pub fn piece_length(seed: u64, left: usize) -> (usize, u64) {
         _ => (random / 2048 % 300) as usize,
     };
     (length.min(left), seed % 0x80000000 * 69069 % 0x80000000 + 1)
+}
+
+/// What a call makes of a piece: its first answer (none: more wanted), and the bytes taken for it.
+pub fn taken<T>(piece: &[u8], mut reads: impl FnMut(u8) -> Option<T>) -> (Option<T>, usize) {
+    for (i, byte) in piece.iter().enumerate() {
+        let answer = reads(*byte);
+        if answer.is_some() {
+            return (answer, i + 1);
+        }
+    }
+    (None, piece.len())
 }

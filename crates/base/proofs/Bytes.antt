@@ -1,9 +1,13 @@
--- Laws of `Each`, and so of lists of bytes: in lists joined, cut and repeated.
+-- Laws of `Each`, and so of lists of bytes.
+-- each-append, each-append-left, each-append-right   in lists joined, and in either of them
+-- each-take, each-drop                               in lists cut
+-- each-replicate                                     in a member repeated
+-- bytes-of                                           a list of bytes, by its members
 use mathlib.Core.Path.{sym, subst}
 use mathlib.Core.List.{List, [], _∷_, _++_}
-use Prim.Native.Nat.{ℕ, zero, suc}
-use lib.ListN.{take, drop, replicate, take-append-drop}
-use Rattle.base.specs.Bytes.{Each}
+use Prim.Native.Nat.{ℕ, zero, suc, _<_}
+use lib.ListN.{take, drop, getD, replicate, take-append-drop}
+use Rattle.base.specs.Bytes.{Each, Bytes}
 
 pub each-append : {A : Type 0} (Q : A → Type 0) (xs ys : List A) → Each Q xs → Each Q ys → Each Q (xs ++ ys)
 each-append Q [] ys h k = k
@@ -26,3 +30,8 @@ each-drop Q n xs h = each-append-right Q (take n xs) (drop n xs) (subst (Each Q)
 pub each-replicate : {A : Type 0} (Q : A → Type 0) (n : ℕ) (a : A) → Q a → Each Q (replicate n a)
 each-replicate Q zero a h = tt
 each-replicate Q (suc n) a h = (h, each-replicate Q n a h)
+
+-- the members of a slice of bytes are bytes
+pub bytes-of : (xs : List ℕ) → ((i : ℕ) → getD xs i 0 < 256) → Bytes xs
+bytes-of [] h = tt
+bytes-of (x ∷ xs) h = (h 0, bytes-of xs (λ i. h (suc i)))

@@ -1,11 +1,17 @@
 -- Laws of reading by calls, proved once for any reader whose `hand` makes one of the owed moves.
--- hear-hand, -eat, -end, all-..     one move of a call, as a loop makes it, and of a whole string
+-- run-append                        the reading of two strings, one behind the other
+-- after-none, after-one, one-after, after-more, after-after   bytes counted on
+-- hear-hand, hear-eat, hear-end     one move of a call, as a loop makes it
+-- all-hand, all-eat, all-end        .. and of a whole string
 -- hear-by, all-by                   what holds at the end, and over each move, holds of a call, and of all answers
 -- law                               the law of a call: its answer is the first, and the others are had from its state and the bytes left
--- fits, more-iff                    "more wanted" exactly when all bytes are taken and no answer is owed
+-- FitsBy, Fits, fits, more-iff      "more wanted" exactly when all bytes are taken and no answer is owed
 -- none-owed                         of a reader that never owes a move: it fits that
--- cut, cut-ends, ..-first..         every way of cutting yields the answers and the final state of the uncut string, and comes to its end
--- yields-within, ..-first-within    both of a call that looks first, where it is safe for the bytes that may still come
+-- with-hear, inv-hear               what holds of every answer with the state behind it, and of every state, holds of a call's
+-- settled, ends                     a whole string leaves no move owed, and its calls come to their end
+-- all-append                        two strings, one behind the other
+-- cut                               every way of cutting yields the answers and the final state of the uncut string
+-- yields-within                     .. and comes to its end: of a call that looks first, where it is safe for the bytes that may still come
 -- yields-all, yields-first          .. where that is a fact of the state alone; with a word half handed on too
 -- yields-so                         .. and in other words
 use Prim.Native.Nat.{ℕ, zero, suc, _+_, _≤_, zero-le, suc-le-suc}
@@ -22,7 +28,7 @@ use Rattle.base.specs.Calls.ReadsAll.{done, piece}
 use Rattle.base.specs.Calls as calls
 
 module _ {S A : Type 0} where
-  pub tell-then : (o : Option A) (r : List A × S) (k : S → List A × S) → andThen (tell o r) k ≡ tell o (andThen r k)
+  tell-then : (o : Option A) (r : List A × S) (k : S → List A × S) → andThen (tell o r) k ≡ tell o (andThen r k)
   tell-then none r k = refl
   tell-then (some a) r k = refl
 
@@ -211,7 +217,7 @@ module _ {S A : Type 0} (pend : S → ℕ) (hand : S → Option A × S) (eat : S
         all-by (λ s bs x. pend (x .1) ≡ 0) (λ s e. e) (λ s n bs x e q. settled-tell (hand s .0) x q) (λ s b bs x e q. settled-tell (eat s b .0) x q)
 
     -- whatever the calls yield is what the piece means ..
-    pub reads-all : {s : S} {bs : List ℕ} {xs : List A} {t : S} → Reads hear s bs xs t → all s bs ≡ (xs, t)
+    reads-all : {s : S} {bs : List ℕ} {xs : List A} {t : S} → Reads hear s bs xs t → all s bs ≡ (xs, t)
     reads-all {s} {bs} (more n e) = law s bs ∙ ap (λ r. told r bs) e
     reads-all {s} {bs} (answer {a = a} n e r) = law s bs ∙ ap (λ q. told q bs) e ∙ ap (tell (some a)) (reads-all r)
 
@@ -250,15 +256,15 @@ module _ {S A : Type 0} (pend : S → ℕ) (hand : S → Option A × S) (eat : S
     cut h (piece {ps = ps} r rs) = piece-then (joined ps) r (cut (settled-piece r) rs)
 
     -- .. from every state, where there is a piece: what is owed comes with the first ..
-    pub cut-first : {s : S} {p : List ℕ} {ps : List (List ℕ)} {xs : List A} {t : S} → ReadsAll hear s (p ∷ ps) xs t → (xs, t) ≡ all s (joined (p ∷ ps))
+    cut-first : {s : S} {p : List ℕ} {ps : List (List ℕ)} {xs : List A} {t : S} → ReadsAll hear s (p ∷ ps) xs t → (xs, t) ≡ all s (joined (p ∷ ps))
     cut-first {ps = ps} (piece r rs) = piece-then (joined ps) r (cut (settled-piece r) rs)
 
     -- .. and every way of cutting comes to its end
-    pub cut-ends : (ps : List (List ℕ)) (s : S) → pend s ≡ 0 → ReadsAll hear s ps (all s (joined ps) .0) (all s (joined ps) .1)
+    cut-ends : (ps : List (List ℕ)) (s : S) → pend s ≡ 0 → ReadsAll hear s ps (all s (joined ps) .0) (all s (joined ps) .1)
     cut-ends [] s h = rw h done
     cut-ends (p ∷ ps) s h = rw (all-append s p (joined ps)) (piece (ends s p) (cut-ends ps (all s p .1) (settled s p)))
 
-    pub cut-first-ends : (p : List ℕ) (ps : List (List ℕ)) (s : S) → ReadsAll hear s (p ∷ ps) (all s (joined (p ∷ ps)) .0) (all s (joined (p ∷ ps)) .1)
+    cut-first-ends : (p : List ℕ) (ps : List (List ℕ)) (s : S) → ReadsAll hear s (p ∷ ps) (all s (joined (p ∷ ps)) .0) (all s (joined (p ∷ ps)) .1)
     cut-first-ends p ps s = rw (all-append s p (joined ps)) (piece (ends s p) (cut-ends ps (all s p .1) (settled s p)))
 
     -- A guarded call: it is the bare call wherever the state is safe for the bytes that may still come, and behind it the state is safe for
@@ -311,7 +317,7 @@ module _ {S A : Type 0} (pend : S → ℕ) (hand : S → Option A × S) (eat : S
       }
 
       -- .. and from every state, where there is a piece
-      pub yields-first-within : (s : S) (p : List ℕ) (ps : List (List ℕ)) → Safe s (length (joined (p ∷ ps)))
+      yields-first-within : (s : S) (p : List ℕ) (ps : List (List ℕ)) → Safe s (length (joined (p ∷ ps)))
           → Yields call s (p ∷ ps) λ xs t. (xs, t) ≡ all s (joined (p ∷ ps))
       yields-first-within s p ps i = record {
         ends = (all s (joined (p ∷ ps)) .0, all s (joined (p ∷ ps)) .1, bare-all i (cut-first-ends p ps s));

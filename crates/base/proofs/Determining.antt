@@ -1,7 +1,8 @@
 -- What proves a function's promise determined (specs/Determined): two things that one definition gives are one.
--- same     two results
--- buffer   what a lent buffer then holds, and the parameters behind it
--- skip     a parameter that no callee can change, and those behind it
+-- same                       two results
+-- same-answer, same-output   .. of one outcome: the answers, and what the outputs hold
+-- buffer                     what a lent buffer then holds, and the parameters behind it
+-- skip                       a parameter that no callee can change, and those behind it
 use mathlib.Core.Path.{_≡_, sym, ap, _∙_}
 use mathlib.Core.List.{List}
 use Prim.Native.Nat.{ℕ}

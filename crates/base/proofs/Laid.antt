@@ -57,6 +57,7 @@ laid-copied {l} {bs} {y} {at} h e =
     record {
       ends = refl;
       holds = tail-put at l y
-          ∙ ap (λ (z : List ℕ). take at l ++ z) (e ∙ ap (copied bs) (tail-is at l) ∙ copied-fits bs (drop at l) k ∙ ap (λ (z : List ℕ). bs ++ z) (drop-drop (length bs) at l))
+          ∙ ap (λ (z : List ℕ). take at l ++ z) (e ∙ ap (copied bs) (tail-is at l) ∙ copied-fits bs (drop at l) k
+          ∙ ap (λ (z : List ℕ). bs ++ z) (drop-drop (length bs) at l))
           ∙ sym (append-assoc (take at l) bs (drop (at + length bs) l)) ∙ sym (sets-eq bs l at h);
     }

@@ -3,13 +3,15 @@
 -- part-next, part-over   the same of the first n members
 -- part-set               a store before the place leaves what is left
 -- drop-take              of the first m members, those from a place on
-use mathlib.Core.Path.{_≡_, sym, ap}
-use mathlib.Core.List.{List, [], _∷_}
+-- drop-same              of members that are all the same
+-- map-same               .. and what a function makes of them
+use mathlib.Core.Path.{_≡_, refl, sym, ap}
+use mathlib.Core.List.{List, [], _∷_, map}
 use Prim.Native.Nat.{ℕ, zero, suc, _+_, _-_, _<_, _≤_}
-use native.Mathlib.Nat.{sub-zero, suc-sub-suc}
+use native.Mathlib.Nat.{sub-zero, zero-sub, suc-sub-suc}
 use native.Mathlib.Numerals.{add-one}
 use native.Mathlib.Omega.{arith}
-use lib.ListN.{length, take, drop, getD, set, drop-of-length-le, length-take}
+use lib.ListN.{length, take, drop, getD, set, replicate, drop-of-length-le, length-take}
 use lib.Seq.{drop-cons, slice-cons, take-set-lt, drop-set-lt, take-nil}
 
 pub next : (l : List ℕ) (i : ℕ) → i < length l → drop i l ≡ getD l i 0 ∷ drop (i + 1) l
@@ -32,3 +34,12 @@ drop-take zero m l = simp sub-zero
 drop-take (suc n) zero l = let e : 0 - suc n ≡ 0 = omega arith in ap (λ (k : ℕ). take k (drop (suc n) l)) (sym e)
 drop-take (suc n) (suc m) [] = sym (take-nil (suc m - suc n))
 drop-take (suc n) (suc m) (b ∷ l) = simp suc-sub-suc (drop-take n m l)
+
+pub drop-same : {A : Type 0} (x : A) (n k : ℕ) → drop n (replicate k x) ≡ replicate (k - n) x
+drop-same x zero k = simp sub-zero
+drop-same x (suc n) zero = simp zero-sub
+drop-same x (suc n) (suc k) = simp suc-sub-suc (drop-same x n k)
+
+pub map-same : {A B : Type 0} (f : A → B) (n : ℕ) (x : A) → map f (replicate n x) ≡ replicate n (f x)
+map-same f zero x = refl
+map-same f (suc n) x = ap (λ l. f x ∷ l) (map-same f n x)

@@ -4,9 +4,11 @@
 -- and-parts        .. and as equations
 -- and-false        two tests of which the second fails
 -- one-and          .. of which the first holds
+-- and-true         .. of which both hold
+-- or-left, or-right   either of two tests that both fail
 -- all, all-at      a test at each number below n, computed once, holds at each of them: how a whole table's rule is proved
 use mathlib.Core.Path.{_≡_, refl, sym, ap, _∙_, subst}
-use mathlib.Core.Bool.{Bool, true, false, _&&_, false≢true}
+use mathlib.Core.Bool.{Bool, true, false, _&&_, _||_, false≢true, true≢false}
 use mathlib.Core.Logic.{⊎-elim}
 use Prim.Native.Nat.{ℕ, zero, suc, _≤_, _<_}
 use native.Mathlib.Nat.{not-suc-le-zero, le-of-suc-le-suc, eq-or-lt-of-le}
@@ -38,6 +40,17 @@ and-l false b t = t
 pub and-r : (a b : Bool) → T (a && b) → T b
 and-r true b t = t
 and-r false b t = absurd t
+
+pub and-true : {a b : Bool} → a ≡ true → b ≡ true → a && b ≡ true
+and-true p q = rw (p, q) refl
+
+pub or-left : (a b : Bool) → a || b ≡ false → a ≡ false
+or-left true b e = absurd (true≢false e)
+or-left false b e = refl
+
+pub or-right : (a b : Bool) → a || b ≡ false → b ≡ false
+or-right true b e = absurd (true≢false e)
+or-right false b e = e
 
 pub and-false : (t : Bool) → t && false ≡ false
 and-false true = refl

@@ -1,11 +1,13 @@
 -- Laws of calls that write.
 -- write-fits, write-short    the outcome where the output has room for the result, and where it has not
--- ..-keeps                   a refused call leaves the output as it was
+-- wrote-copied, wrote-fits, wrote-short   the same of a result whose length is known
+-- refused-keeps, write-keeps, pick-keeps   a refused call leaves the output as it was
 -- room-wrote, room-never     with room the result is written, and no call is refused
 -- write-is                   what is written is the result
 -- copied-fits                with room, copying leaves the bytes and what stood behind them
+-- copied-over                without, as many bytes as there is room for
 -- copied-next, copied-done   a turn of the loop that copies, and its end
-use mathlib.Core.Path.{_≡_, refl, sym, ap, _∙_}
+use mathlib.Core.Path.{_≡_, refl, sym, ap, ap₂, _∙_}
 use mathlib.Core.Bool.{Bool, true, false}
 use mathlib.Core.List.{List, [], _∷_, _++_, append-nil}
 use Prim.Native.Nat.{ℕ, _+_, _≤_, _<_, min}
@@ -25,11 +27,25 @@ pub copied-fits : (bs dst : List ℕ) → length bs ≤ length dst → copied bs
 unfolding copied
 copied-fits bs dst h = ap (λ (l : List ℕ). l ++ drop (length bs) dst) (take-all (length dst) bs h)
 
+pub copied-over : (bs dst : List ℕ) → length dst ≤ length bs → copied bs dst ≡ take (length dst) bs
+unfolding copied
+copied-over bs dst h = ap (λ (l : List ℕ). take (length dst) bs ++ l) (over dst (length bs) h) ∙ append-nil (take (length dst) bs)
+
 pub write-fits : (bs out : List ℕ) → length bs ≤ length out → write bs out ≡ outcome (Wrote (length bs)) (copied bs out)
 write-fits bs out h = simp (le-ltb (length out) (length bs) h, copied-fits bs out h)
 
 pub write-short : (bs out : List ℕ) → length out < length bs → write bs out ≡ refused 23 out
 write-short bs out h = simp (lt-ltb (length out) (length bs) h)
+
+module _ (bs out : List ℕ) (n : ℕ) (l : length bs ≡ n) where
+  pub wrote-copied : {after : List ℕ} → n ≤ length out → after ≡ copied bs out → outcome (Wrote n) after ≡ write bs out
+  wrote-copied h e = ap₂ (λ (m : ℕ) (x : List ℕ). outcome (Wrote m) x) (sym l) e ∙ sym (write-fits bs out (omega arith))
+
+  pub wrote-fits : {after : List ℕ} → n ≤ length out → after ≡ bs ++ drop n out → outcome (Wrote n) after ≡ write bs out
+  wrote-fits h e = wrote-copied h (e ∙ ap (λ (m : ℕ). bs ++ drop m out) (sym l) ∙ sym (copied-fits bs out (omega arith)))
+
+  pub wrote-short : length out < n → refused 23 out ≡ write bs out
+  wrote-short h = sym (write-short bs out (omega arith))
 
 pub refused-keeps : (n : ℕ) (out : List ℕ) → Keeps out (refused n out)
 refused-keeps n out m e = refl

@@ -1,5 +1,5 @@
--- Each    a fact of each member of a list
--- Bytes   the lists of bytes
+-- Each            a fact of each member of a list
+-- IsByte, Bytes   a byte, and the lists of bytes
 use mathlib.Core.List.{List, [], _∷_}
 use Prim.Native.Nat.{ℕ, _<_}
 

@@ -1,10 +1,15 @@
 -- Reading by calls, of any reader. It has a state; at a state it may owe moves (`pend` of them), it makes one of them (`hand`), and
 -- it takes one byte (`eat`).
--- run, all          what it makes of a whole byte string: its answers, and the state behind it
--- hear              what one call makes of it: at most one answer, with the bytes taken and the state
+-- joined                pieces one behind the other
+-- run, all              what it makes of a whole byte string: its answers, and the state behind it
+-- hear                  what one call makes of it: at most one answer, with the bytes taken and the state
+-- tell, andThen, drain, rest                  of `run` and `all`: an answer before others; moves before the rest; the rest
+-- unless, oneMore, after, first, wait         of `hear`: an answer ends it; bytes counted; moves before the bytes; the bytes
+-- toldBy, told          a call's answer, and those of the bytes that it left
+-- With                  a fact of an answer, where there is one, and the state
 -- owesNone, handsNone   of a reader that never owes a move
--- Reads, ReadsAll   a piece handed in until "more wanted", and pieces one after the other
--- Yields            .. such calls come to their end, and what all of them yield
+-- Reads, ReadsAll       a piece handed in until "more wanted", and pieces one after the other
+-- Yields                .. such calls come to their end (ends), and what all of them yield (always)
 use Prim.Native.Nat.{ℕ, zero, suc, _+_}
 use mathlib.Core.Path.{_≡_}
 use mathlib.Core.List.{List, [], _∷_, _++_}

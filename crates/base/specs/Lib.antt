@@ -1,5 +1,6 @@
 pub mod Choice
 pub mod Bytes
+pub mod Highest
 pub mod UpTo
 pub mod Written
 pub mod Private

@@ -1,5 +1,5 @@
 -- What private functions alone are promised by, here and above.
--- Laid   bytes stored in a buffer from a place on: what every function that stores byte after byte promises
+-- Laid   bytes stored in a buffer from a place on: what every function that stores byte after byte promises (ends, holds)
 use mathlib.Core.Path.{_≡_}
 use mathlib.Core.List.{List}
 use Prim.Native.Nat.{ℕ, _+_}

@@ -1,7 +1,7 @@
--- Outcome          what a call that writes answers, and what it leaves in the output lent to it
--- Keeps            that a refused call leaves the output as it was
--- refused, write   the two outcomes: every call that writes is promised by them
--- copied           what copying leaves
+-- Outcome, outcome   what a call that writes answers (answer), and what it leaves in the output lent to it (output)
+-- Keeps              that a refused call leaves the output as it was
+-- refused, write     the two outcomes: every call that writes is promised by them
+-- copied             what copying leaves
 use Prim.Native.Nat.{ℕ}
 use mathlib.Core.Path.{_≡_}
 use mathlib.Core.List.{List, _++_}

@@ -1,4 +1,4 @@
--- The public function's promise determines its result.
+-- The public function's promise determines its result: read-determined.
 use mathlib.Core.Path.{refl}
 use Rattle.base.specs.Determined.{Determined}
 use Rattle.base.proofs.Determining.{same}

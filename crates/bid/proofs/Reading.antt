@@ -25,7 +25,7 @@ use Rattle.bid.specs.Line.{space, past, noNumber, number, port, sequence
 use Rattle.bid.proofs.Decimal.{number-none}
 
 -- no second part
-pub no-sequence : (l : List ℕ) → length (upTo space l) ≡ length l → sequence l ≡ noNumber
+no-sequence : (l : List ℕ) → length (upTo space l) ≡ length l → sequence l ≡ noNumber
 unfolding upTo
 no-sequence l e =
     let h : length l ≤ length (upTo space l) + 1 = omega arith in

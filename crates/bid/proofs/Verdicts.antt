@@ -1,8 +1,8 @@
 -- Laws of what the sender says of a line.
--- judged-empty .. judged-free    the first refusal that applies, or none
+-- judged-empty, judged-long, judged-barred, judged-free    the first refusal that applies, or none
 -- verdict-none, verdict-bid      by what the line is read as
 -- verdict-first                  the first 8,205 bytes of a line decide
--- accepted-bid                   an accepted line is a bid of which nothing is refused ..
+-- AcceptedLine, accepted-bid     an accepted line is a bid of which nothing is refused ..
 -- accepted-is                    .. and of bytes it is a packet that the sender takes
 use Prim.Native.Nat.{ℕ, _+_, _-_, _≤_, _<_}
 use native.Mathlib.Omega.{arith}
@@ -22,11 +22,11 @@ use Rattle.base.proofs.Tests.{by-eq, by-le, by-test}
 use Rattle.packet_spec.specs.Port.{barred}
 use Rattle.packet_spec.specs.Contents.{payloadLimit, Packet}
 use Rattle.packet_spec.specs.Escape.{escape}
-use Rattle.packet_spec.proofs.Escaping.{plain-short}
-use Rattle.packet_spec.proofs.Round.{plain-undoes}
+use Rattle.packet_spec.proofs.Round.{escape-least}
 use Rattle.packet.proofs.Sending.{refusing-empty, refusing-long, refusing-barred, refusing-none}
 use Rattle.packet_spec.specs.Sender.{headFits, Accepted}
-use Rattle.bid.specs.Line.{space, past, noNumber, number, port, sequence, text, isBid, lineLimit, Verdict, noBid, refused, accepted, judged, bidOf, verdict}
+use Rattle.bid.specs.Line.{space, past, noNumber, number, port, sequence, text, isBid, lineLimit, Verdict, noBid, refused, accepted, judged}
+use Rattle.bid.specs.Line.{bidOf, verdict}
 use Rattle.bid.proofs.Decimal.{number-long}
 use Rattle.bid.proofs.Reading.{bid-no-port, bid-no-sequence, bid-both}
 
@@ -59,9 +59,6 @@ unfolding verdict
 verdict-bid l e = ap (λ (t : Bool). pick t (judged (bidOf l)) noBid) e
 
 -- ---- the first 8,205 bytes decide
-escape-least : (bs : List ℕ) → length bs ≤ length (escape bs)
-escape-least bs = omega (arith, plain-short (escape bs), ap length (plain-undoes bs))
-
 long-text : (p : Packet) → payloadLimit < length (p .payload) → judged p ≡ refused 21
 long-text p h = judged-long p (λ e. omega arith) (omega (arith, escape-least (p .payload)))
 

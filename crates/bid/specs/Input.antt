@@ -1,13 +1,15 @@
 -- The office's input, line by line.
--- linesOf       its lines
+-- linesFrom, linesOf       its lines
 -- verdicts      what the sender says of each
 -- packetsOf     the packets of the accepted lines, in order: what is sent is their stream
--- complaints    the number of each line that is not sent, and why
+-- numbered                 the next line's number
+-- complaintsFrom, complaints   the number of each line that is not sent, and why
 use Prim.Native.Nat.{ℕ, _+_}
 use mathlib.Core.List.{List, [], _∷_, _++_, map}
 use lib.Dec.{eqb, ltb}
 use lib.ListN.{length}
 use Rattle.base.specs.Choice.{pick}
+use Rattle.base.specs.Highest.{highest}
 use Rattle.packet_spec.specs.Contents.{Packet}
 use Rattle.bid.specs.Line.{feed, Verdict, noBid, refused, accepted, verdict}
 
@@ -21,7 +23,7 @@ abbrev pub linesOf : List ℕ → List (List ℕ)
 linesOf bs = linesFrom [] bs
 
 -- what the sender says of each
-abbrev pub verdicts : List ℕ → List Verdict
+abbrev verdicts : List ℕ → List Verdict
 verdicts bs = map verdict (linesOf bs)
 
 -- the packets of the accepted
@@ -36,8 +38,8 @@ abbrev pub packetsOf : List ℕ → List Packet
 packetsOf bs = packets (verdicts bs)
 
 -- the highest line number
-abbrev pub lastNumber : ℕ
-lastNumber = 18446744073709551615
+abbrev lastNumber : ℕ
+lastNumber = highest
 
 -- the next line's number
 abbrev pub numbered : ℕ → ℕ

@@ -1,7 +1,9 @@
 -- A line of the office's input, `PORT SEQUENCE TEXT`: what the sender makes of it.
--- past            the bytes behind the first c
--- number          one to five digits, at most 65,535
--- port, sequence, text       the three parts of a line
+-- feed, space, isDigit       bytes that mean something
+-- past                       the bytes behind the first c
+-- digitLimit, value, numberFrom, number, noNumber   one to five digits, at most 65,535
+-- port, sequence, text, textAt   the three parts of a line, and where the last begins
+-- isBid, bidOf, judged       both numbers are there; the packet then, and what the sender says of it
 -- Verdict, verdict           no bid, refused by its number, or a packet to be sent
 -- lineLimit                  so many first bytes decide that
 -- reading                    what the call that reads a line answers

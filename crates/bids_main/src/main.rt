@@ -44,19 +44,12 @@ struct Turn {
     stand: Stand,
 }
 
-// Where the output goes on.
-struct Place {
-    // What had to go out first went out.
-    well: bool,
-    at: usize,
-}
-
 fn main() {
     if os::arg_count() < 2 {
         send(false);
         return;
     }
-    if is_asked() {
+    if console::is_argument(1, b"--recording") {
         if print(&[0x4F]) {
             send(true);
         }
@@ -94,13 +87,6 @@ fn begun(office: Office) -> Stand {
     }
 }
 
-// Whether a recording is asked for.
-fn is_asked() -> bool {
-    let mut text = io::buffer();
-    let n = os::arg(1, &mut text);
-    check::same(&text[..n], b"--recording")
-}
-
 // Reads to the end of the input, which ends a line that is begun.
 fn read_all(
     recording: bool,
@@ -109,11 +95,10 @@ fn read_all(
     hold: &mut [u8],
     out: &mut [u8],
 ) -> Stand {
-    let mut piece = io::large_buffer();
     let mut stand = first;
     let mut turns = u64::MAX;
     while turns > 0 {
-        let step = read_piece(recording, stand, line, hold, &mut piece, out);
+        let step = read_piece(recording, stand, line, hold, out);
         stand = step.stand;
         if !step.more {
             return stand;
@@ -129,12 +114,12 @@ fn read_piece(
     stand: Stand,
     line: &mut [u8],
     hold: &mut [u8],
-    piece: &mut [u8],
     out: &mut [u8],
 ) -> Step {
-    let got = libc::read(STDIN_FILENO, piece);
+    let mut piece = io::large_buffer();
+    let got = libc::read(STDIN_FILENO, &mut piece);
     if got < 0 {
-        say(b"bids: cannot read standard input\n");
+        say_unread();
         return Step { more: false, stand };
     }
     if got == 0 {
@@ -143,7 +128,7 @@ fn read_piece(
             stand: end(recording, stand, line, hold, out),
         };
     }
-    let n = io::count(got, piece);
+    let n = io::count(got, &piece);
     let next = send_piece(recording, stand, line, hold, &piece[..n], out);
     Step {
         more: next.go,
@@ -151,7 +136,11 @@ fn read_piece(
     }
 }
 
-// A piece, sent.
+fn say_unread() {
+    console::say_unread(b"bids");
+}
+
+// A piece, sent: the stream's blocks go out, those of a recording wait for full records.
 fn send_piece(
     recording: bool,
     stand: Stand,
@@ -161,33 +150,10 @@ fn send_piece(
     out: &mut [u8],
 ) -> Stand {
     let next = take(recording, stand, line, hold, piece, out);
+    if recording || !next.go {
+        return next;
+    }
     pass_on(recording, next, out)
-}
-
-// The stream's blocks go out; those of a recording wait for full records.
-fn pass_on(recording: bool, stand: Stand, out: &[u8]) -> Stand {
-    if recording || !stand.go {
-        return stand;
-    }
-    if !print(&out[0..base::least(stand.waiting, out.len())]) {
-        return stopped(stand);
-    }
-    let office = stand.office;
-    let watch = stand.watch;
-    Stand {
-        go: true,
-        office,
-        waiting: 0,
-        watch,
-    }
-}
-
-// The place n further on, or the end.
-fn onward(at: usize, n: usize, end: usize) -> usize
-    requires { ⌜ at ≤ end ⌝ }
-    ensures { λ r. ⌜ (at ≤ r) × (r ≤ end) ⌝ }
-{
-    at + base::least(n, end - at)
 }
 
 // All lines of a piece.
@@ -203,9 +169,12 @@ fn take(
     let mut at: usize = 0;
     while at < piece.len() {
         let turn = hear(recording, next, line, hold, &piece[at..], out);
-        let to = onward(at, turn.taken, piece.len());
+        let to = console::onward(at, turn.taken, piece.len());
         next = turn.stand;
-        if to == at {
+        if !next.go {
+            return next;
+        }
+        if to <= at {
             return next;
         }
         at = to;
@@ -213,7 +182,7 @@ fn take(
     next
 }
 
-// Bytes up to the end of a line; none are taken where the output could not be written.
+// Bytes up to the end of a line.
 fn hear(
     recording: bool,
     stand: Stand,
@@ -222,49 +191,59 @@ fn hear(
     piece: &[u8],
     out: &mut [u8],
 ) -> Turn {
-    let place = make_room(recording, stand, out);
-    if !place.well {
-        return Turn {
-            taken: 0,
-            stand: stopped(stand),
-        };
-    }
-    let from = place.at;
+    let from = base::least(stand.waiting, out.len());
     let office = stand.office;
     let watch = stand.watch;
     let heard = office.hear(line, hold, piece, &mut out[from..]);
-    let taken = heard.taken;
-    let end = line_end(office.stored, taken, line.len());
     Turn {
-        taken,
-        stand: told(heard, watch, &line[0..end], from, out.len()),
+        taken: heard.taken,
+        stand: behind(recording, office.stored, heard, watch, from, line, out),
     }
 }
 
-// The output could not be written.
-fn stopped(stand: Stand) -> Stand {
+// The end of the input: it ends a line that is begun.
+fn end(recording: bool, stand: Stand, line: &mut [u8], hold: &mut [u8], out: &mut [u8]) -> Stand {
+    let from = base::least(stand.waiting, out.len());
+    let office = stand.office;
+    let watch = stand.watch;
+    let heard = office.close(line, hold, &mut out[from..]);
+    behind(recording, office.stored, heard, watch, from, line, out)
+}
+
+// Behind an answer to a line, of which so many bytes stood in its buffer before, with room for the blocks of the next one.
+fn behind(
+    recording: bool,
+    stored: usize,
+    heard: Hearing,
+    watch: Watch,
+    from: usize,
+    line: &[u8],
+    out: &[u8],
+) -> Stand
+    requires { ⌜ from ≤ length (now out) ⌝ }
+{
+    let end = line_end(stored, heard.taken, line.len());
+    let next = told(heard, watch, &line[0..end], from, out.len());
+    make_room(recording, next, out)
+}
+
+// With too little room for a line's blocks, what waits goes out.
+fn make_room(recording: bool, stand: Stand, out: &[u8]) -> Stand {
+    if out.len() - base::least(stand.waiting, out.len()) < Office::OUTPUT {
+        return pass_on(recording, stand, out);
+    }
+    stand
+}
+
+// What waits goes out.
+fn pass_on(recording: bool, stand: Stand, out: &[u8]) -> Stand {
     let office = stand.office;
     let watch = stand.watch;
     Stand {
-        go: false,
+        go: put(recording, &out[0..base::least(stand.waiting, out.len())]),
         office,
         waiting: 0,
         watch,
-    }
-}
-
-// Where the output goes on: with too little room for a line's blocks, what waits is put out first.
-fn make_room(recording: bool, stand: Stand, out: &[u8]) -> Place
-    ensures { λ p. ⌜ p .at ≤ length (now (out .entry)) ⌝ }
-{
-    let waiting = base::least(stand.waiting, out.len());
-    if out.len() - waiting < Office::OUTPUT {
-        let well = put(recording, &out[0..waiting]);
-        return Place { well, at: 0 };
-    }
-    Place {
-        well: true,
-        at: waiting,
     }
 }
 
@@ -273,7 +252,7 @@ fn line_end(stored: usize, taken: usize, length: usize) -> usize
     ensures { λ r. ⌜ r ≤ length ⌝ }
 {
     let begun = base::least(stored, length);
-    onward(begun, taken - base::least(taken, 1), length)
+    console::onward(begun, taken - base::least(taken, 1), length)
 }
 
 // Behind an answer to a line.
@@ -321,30 +300,12 @@ fn watched(answer: Answer, watch: Watch, number: u64, line: &[u8]) -> Watch {
     }
 }
 
-// The end of the input: it ends a line that is begun.
-fn end(recording: bool, stand: Stand, line: &mut [u8], hold: &mut [u8], out: &mut [u8]) -> Stand {
-    let place = make_room(recording, stand, out);
-    if !place.well {
-        return stopped(stand);
-    }
-    let from = place.at;
-    let office = stand.office;
-    let watch = stand.watch;
-    let heard = office.close(line, hold, &mut out[from..]);
-    let end = line_end(office.stored, heard.taken, line.len());
-    told(heard, watch, &line[0..end], from, out.len())
-}
-
 // The last block.
 fn finish(recording: bool, stand: Stand, hold: &[u8], out: &mut [u8]) {
-    let place = make_room(recording, stand, out);
-    if !place.well {
-        return;
-    }
-    let at = place.at;
+    let from = base::least(stand.waiting, out.len());
     let office = stand.office;
-    let n = written(office.finish(hold, &mut out[at..]));
-    let all = onward(at, n, out.len());
+    let n = written(office.finish(hold, &mut out[from..]));
+    let all = console::onward(from, n, out.len());
     put(recording, &out[0..all]);
 }
 

@@ -2,9 +2,10 @@
 //! how a board shows a byte. A warning is a line `line N: warning: ..` on standard error; what is sent does not depend on it.
 ghost use Prim.Native.Nat.{_≤_};
 ghost use lib.ListN.{length};
+use crate::naming::name_line;
 use bid::Found;
+use board_lines::Piece;
 use console::say;
-use lines::Piece;
 use packet::Class;
 use ports::Entry;
 use ports::Noted;
@@ -61,9 +62,8 @@ impl Watch {
 }
 
 fn warn(number: u64) {
-    say(b"line ");
-    console::say_number(number);
-    say(b": warning: ");
+    name_line(number);
+    say(b"warning: ");
 }
 
 // What a sequence number is to the last one of its port; whether it was said that a port finds no place.

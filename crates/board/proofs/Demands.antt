@@ -52,13 +52,16 @@ module _ (blocks : Bool) (range : Range) (recv word : List ℕ) (recv-room : raw
   -- all that is to be shown
   shown-start : (bare : Bool) (bs : List ℕ) (es : List Event) → sourceAll (start bare .source) bs .0 ≡ es → meant (start bare) bs .0 ≡ shows blocks range es
   shown-start bare bs es e =
-      ap (λ (o : List ℕ). o ++ shows blocks range (sourceAll (start bare .source) bs .0)) (left-none nothing (recvOn (start bare)) refl) ∙ ap (shows blocks range) e
+      ap (λ (o : List ℕ). o ++ shows blocks range (sourceAll (start bare .source) bs .0)) (left-none nothing (recvOn (start bare)) refl)
+      ∙ ap (shows blocks range) e
 
-  every : (bare : Bool) (bs : List ℕ) → NearBy bare freshSpot (length bs) → (rooms : ℕ → ℕ) → ((i : ℕ) → 0 < rooms i) → (pieces : List (List ℕ)) → joined pieces ≡ bs
+  every : (bare : Bool) (bs : List ℕ) → NearBy bare freshSpot (length bs) → (rooms : ℕ → ℕ) → ((i : ℕ) → 0 < rooms i) → (pieces : List (List ℕ))
+      → joined pieces ≡ bs
       → Run rooms 0 (start bare) pieces
       × ((n : ℕ) (text : List ℕ) (u : Screen) → ShowsAll rooms 0 (start bare) pieces n text u → (text, u) ≡ meant (start bare) bs)
   every bare bs h rooms some-room pieces e = (
-    run-ends rooms some-room pieces 0 (start bare) (safe-start bare (length (joined pieces)) (subst (λ (l : List ℕ). NearBy bare freshSpot (length l)) (sym e) h)),
+    run-ends rooms some-room pieces 0 (start bare)
+        (safe-start bare (length (joined pieces)) (subst (λ (l : List ℕ). NearBy bare freshSpot (length l)) (sym e) h)),
     λ n text u r. sym (all-means rooms (settled-start bare) (piece-whole []) r) ∙ ap (meant (start bare)) e,
   )
 
@@ -73,15 +76,18 @@ shown-bare blocks range bs recv word a b rooms some-room pieces e =
 
 -- a recording below 2^64 bytes: with what is said behind its last byte
 pub shown-taped : (blocks : Bool) (range : Range) (file : List ℕ) → length file ≤ far
-    → EveryShow (freshReadout false blocks range) file λ s text u. (text ++ writtenAll (lastLines (readoutOf u)) ≡ recordingText blocks range file) × (u ≡ meant s file .1)
+    → EveryShow (freshReadout false blocks range) file λ s text u. (text ++ writtenAll (lastLines (readoutOf u)) ≡ recordingText blocks range file)
+    × (u ≡ meant s file .1)
 shown-taped blocks range file h recv word a b rooms some-room pieces e =
     let q = every blocks range recv word a b false file (omega arith) rooms some-room pieces e in
     let d = deck-means recv word a b file in
-    let m = shown-start blocks range recv word a b false file (heard (onChannel file) (apart freshSpot file .0)) (ap (λ x. x .0) (all-taped (fresh recv word) file) ∙ d .0) in (
+    let m = shown-start blocks range recv word a b false file (heard (onChannel file) (apart freshSpot file .0))
+    (ap (λ x. x .0) (all-taped (fresh recv word) file) ∙ d .0) in (
       q .0,
       λ n text u r. (
         (λ i. (ap (λ x. x .0) (q .1 n text u r) ∙ m) i ++ writtenAll (lastLines (readoutOf (q .1 n text u r i .1))))
-            ∙ ap (λ x. shows blocks range (heard (onChannel file) (apart freshSpot file .0)) ++ writtenAll (lastBy (x .1 .bare) (x .1 .deck .spot))) (all-taped (fresh recv word) file)
+            ∙ ap (λ x. shows blocks range (heard (onChannel file) (apart freshSpot file .0)) ++ writtenAll (lastBy (x .1 .bare) (x .1 .deck .spot)))
+            (all-taped (fresh recv word) file)
             ∙ ap (λ x. shows blocks range (heard (onChannel file) (apart freshSpot file .0)) ++ writtenAll (ending x)) (d .1),
         ap (λ x. x .1) (q .1 n text u r),
       ),

@@ -1,7 +1,8 @@
 -- Calls come to their end: with room for a byte at least in each, a run exists for every cutting.
 -- Safe                  so many bytes may still come: no call on them is refused
--- safe-on, safe-behind  a call that is safe is not refused, and behind it the rest may still come
+-- safe-on               a call that is safe is not refused, and behind it the rest may still come
 -- run-ends              such a run
+-- NearBy, SafeSource    the offset cannot pass its width on n bytes more; n bytes of what comes in may still come
 use Prim.Native.Nat.{ℕ, zero, suc, _+_, _-_, _≤_, _<_}
 use native.Mathlib.Omega.{arith}
 use mathlib.Core.Path.{_≡_, refl, sym, _∙_, ap, subst}
@@ -32,7 +33,7 @@ use Rattle.ports_spec.proofs.Keeping.{fit-noted}
 use Rattle.board_spec.specs.Meaning.{tableBehind, regards}
 use Rattle.board_spec.specs.Parts.{lead}
 use Rattle.board_spec.proofs.Split.{lead-short, remark-short}
-use Rattle.lines.specs.Piece.{pieceOf}
+use Rattle.board_lines.specs.Piece.{pieceOf}
 use Rattle.recording.specs.Deck.{Deck, deckHear}
 use Rattle.recording.specs.Call.{far}
 use Rattle.recording.proofs.Kept.{Kept, hear-kept}
@@ -185,7 +186,8 @@ module _ (rooms : ℕ → ℕ) (some-room : (i : ℕ) → 0 < rooms i) where
 
   -- where what is owed has room
   abbrev Hears : List Event → Type 0
-  Hears es = (i : ℕ) (s : Screen) (bs : List ℕ) (n : ℕ) → sourceAll (s .source) bs .0 ≡ es → Safe s (length bs + n) → length (owedOn s) ≤ rooms i → Ended i s bs n
+  Hears es = (i : ℕ) (s : Screen) (bs : List ℕ) (n : ℕ) → sourceAll (s .source) bs .0 ≡ es → Safe s (length bs + n) → length (owedOn s) ≤ rooms i
+      → Ended i s bs n
 
   -- .. and where so many bytes of it are left
   abbrev Writes : List Event → Type 0

@@ -3,6 +3,9 @@
 -- left-none, left-some   nothing is owed, or something
 -- left-forth, left-by    behind a byte, behind n bytes
 -- text-is                a piece's text
+-- piece-whole, forth-whole, forth-short   a piece keeps within its bytes, and does so a byte further
+-- left-new, left-next    a new piece, and the next one
+-- owes-left, left-owes   some is owed exactly where some is left
 use Prim.Native.Nat.{ℕ, zero, suc, _+_, _-_, _/_, _%_, _≤_, _<_}
 use native.Mathlib.Omega.{arith}
 use mathlib.Core.Path.{_≡_, refl, sym, _∙_, ap, subst}
@@ -18,7 +21,7 @@ use Rattle.base.proofs.Tests.{by-test}
 use Rattle.bid.specs.Line.{feed}
 use Rattle.listing_spec.specs.Lines.{longest}
 use Rattle.board_spec.specs.Text.{backslash, printable, sixteenth, shownByte, shownText}
-use Rattle.lines.specs.Piece.{pieceOf, textOf}
+use Rattle.board_lines.specs.Piece.{pieceOf, textOf}
 use Rattle.board.specs.declared.owed.Owed.{Owed}
 use Rattle.board.specs.Owed.{alone, nothing, owes, payloadIn, leftBehind, left, textByte, textPiece, nextPiece, further, forth, forthBy}
 
@@ -109,7 +112,8 @@ left-forth o recv w e = left-some o recv e ∙ go (ltb (suc (o .out)) (o .piece 
     first = ap (λ (l : List ℕ). l ++ behind) (slice-cons (o .out) (o .piece .length) (o .piece .bytes) 0 (ltb-true _ _ e) w)
 
     go : (t : Bool) → ltb (suc (o .out)) (o .piece .length) ≡ t
-        → drop (o .out) (textOf (o .piece)) ++ leftBehind (o .text) (drop (o .at) (payloadIn (o .delivery) recv)) ≡ getD (o .piece .bytes) (o .out) 0 ∷ left (forth o recv) recv
+        → drop (o .out) (textOf (o .piece)) ++ leftBehind (o .text) (drop (o .at) (payloadIn (o .delivery) recv)) ≡ getD (o .piece .bytes) (o .out) 0 ∷ left
+        (forth o recv) recv
     go true h =
         first
         ∙ ap (λ (l : List ℕ). b ∷ l) (sym (left-some (further o) recv h))

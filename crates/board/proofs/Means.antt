@@ -4,6 +4,9 @@
 -- meant-append    bytes one after the other
 -- takes-means     a call
 -- shows-means, all-means   calls one after the other: any cutting, any room
+-- ahead, ahead-twice   behind a text, behind two
+-- MeansBy, Means  what a call's result means, by what it wants
+-- owed-whole, takes-whole, Settled   the piece keeps within its bytes; where all has been read nothing is owed
 use Prim.Native.Nat.{ℕ, _+_, _≤_}
 use native.Mathlib.Omega.{arith}
 use mathlib.Core.Path.{_≡_, refl, sym, _∙_, ap, subst}
@@ -32,7 +35,7 @@ use Rattle.board_spec.specs.Meaning.{Line, writtenAll, packetLines, eventLines,
 use Rattle.board_spec.specs.Parts.{lead, remark}
 use Rattle.board_spec.proofs.Split.{all-written, lines-split, remark-is, lead-some}
 use Rattle.board_spec.proofs.Ranges.{regarded-joined}
-use Rattle.lines.specs.Piece.{pieceOf}
+use Rattle.board_lines.specs.Piece.{pieceOf}
 use Rattle.board.specs.declared.readout.Wants.{Wants}
 use Rattle.board.specs.declared.readout.Wants.the-variants.{More, Again, Refused}
 use Rattle.board.specs.Source.{Source, memoryIn, sourceOwes, sourceHand, sourceEat, sourceAll, sourceHear}
@@ -72,7 +75,8 @@ owing-left b r t (said (packet p)) s h = go (inside r (p .port))
         packet-left (noting t (p .port) (p .sequence) .0) p (memoryIn (s .deck) .recv) (h .0) (eqb (p .format) keyFormat)
         ∙ sym (lines-split (noting t (p .port) (p .sequence) .0) p)
     go false = left-none nothing (memoryIn (s .deck) .recv) refl
-owing-left b r t (said (refusal n)) s h = alone-left (remark b (given (said (refusal n)))) (memoryIn (s .deck) .recv) ∙ sym (remark-is b t (said (refusal n)) tt)
+owing-left b r t (said (refusal n)) s h = alone-left (remark b (given (said (refusal n)))) (memoryIn (s .deck) .recv)
+    ∙ sym (remark-is b t (said (refusal n)) tt)
 owing-left b r t (said (broken n)) s h = alone-left (remark b (given (said (broken n)))) (memoryIn (s .deck) .recv) ∙ sym (remark-is b t (said (broken n)) tt)
 owing-left b r t (block c) s h = alone-left (remark b (given (block c))) (memoryIn (s .deck) .recv) ∙ sym (remark-is b t (block c) tt)
 owing-left b r t lost s h = alone-left (remark b (given lost)) (memoryIn (s .deck) .recv) ∙ sym (remark-is b t lost tt)
@@ -263,7 +267,8 @@ settled-meant s bs = record { nothing-owed = refl; heard = settled sourceOwes so
 settled-none : (s : Screen) → Settled s → meant s [] ≡ ([], s)
 unfolding boardLines regarded writtenAll
 settled-none s h =
-    (λ i. shownBy (left (h .nothing-owed i) (recvOn s)) (s .blocks) (s .range) (s .table) (drain sourceOwes sourceHand sourceEat (h .heard i) (s .source) (rest sourceOwes sourceHand sourceEat [])))
+    (λ i. shownBy (left (h .nothing-owed i) (recvOn s)) (s .blocks) (s .range) (s .table)
+    (drain sourceOwes sourceHand sourceEat (h .heard i) (s .source) (rest sourceOwes sourceHand sourceEat [])))
     ∙ (λ i. (left-none nothing (recvOn s) refl i ++ [], screen (s .blocks) (s .range) (sym (h .nothing-owed) i) (s .table) (s .source)))
 
 module _ (rooms : ℕ → ℕ) where

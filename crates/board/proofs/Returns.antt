@@ -6,6 +6,9 @@
 -- packet-outside, packet-inside   a packet, by the range
 -- finish-bare ..              behind the last byte
 -- bare-is, heard-bare, heard-taped   one call on what comes in
+-- next-byte                   a byte of the text
+-- Other                       an answer that is no packet
+-- finish-well, finish-wrong   of a recording that ends as one, and of another
 use Prim.Native.Nat.{ℕ, suc, _≤_, _<_}
 use mathlib.Core.Path.{_≡_, refl, sym, _∙_, ap, subst}
 use mathlib.Core.Bool.{Bool, true, false}
@@ -34,8 +37,8 @@ use Rattle.ports.specs.declared.by_value.Ports.{Ports}
 use Rattle.board_spec.specs.Text.{shownByte}
 use Rattle.board_spec.specs.Meaning.{wrongAt, written, writtenAll}
 use Rattle.board_spec.specs.Parts.{lead, remark}
-use Rattle.lines.specs.declared.piece.Piece.{Piece}
-use Rattle.lines.specs.Piece.{pieceOf}
+use Rattle.board_lines.specs.declared.Piece.{Piece}
+use Rattle.board_lines.specs.Piece.{pieceOf}
 use Rattle.recording.specs.declared.reader.RecordingReader.{RecordingReader}
 use Rattle.recording.specs.declared.reader.Hearing.{Hearing}
 use Rattle.recording.specs.Deck.{Deck}
@@ -81,7 +84,8 @@ module _ (o : Owed) (recv : List ℕ) where
 
   pub forth-next : {n : ℕ} {r : Owed} → o .piece .length ≤ n → n ≡ suc (o .out) → r ≡ nextPiece o recv → r ≡ forth o recv
   unfolding forth
-  forth-next h k e = e ∙ ap (λ t. pick t (further o) (nextPiece o recv)) (sym (le-ltb (suc (o .out)) (o .piece .length) (subst (λ m. o .piece .length ≤ m) k h)))
+  forth-next h k e = e ∙ ap (λ t. pick t (further o) (nextPiece o recv))
+      (sym (le-ltb (suc (o .out)) (o .piece .length) (subst (λ m. o .piece .length ≤ m) k h)))
 
 -- ---- a packet
 module _ (v : Noted) (d : Delivery) {r : Owed} {p : Piece} (is : p ≡ pieceOf (lead v d)) where
@@ -121,7 +125,8 @@ other-ports r p LockLost h = refl
 abbrev owingOf : Readout → Owed → Readout
 owingOf r o = record { bare = r .bare; blocks = r .blocks; range = r .range; tape = r .tape; ports = r .ports; owed = o }
 
-pub answer-other : (r : Readout) (a : Answer) {p : Piece} {o : Owed} {x : Readout} → Other a → p ≡ pieceOf (remark (r .blocks) a) → o ≡ alone p → x ≡ owingOf r o
+pub answer-other : (r : Readout) (a : Answer) {p : Piece} {o : Owed} {x : Readout} → Other a → p ≡ pieceOf (remark (r .blocks) a) → o ≡ alone p
+    → x ≡ owingOf r o
     → x ≡ answeredBy r a
 answer-other r a h e f g =
     let q = f ∙ ap alone e ∙ other-owing (r .blocks) (r .range) (r .ports .entries) a h in
@@ -171,7 +176,8 @@ module _ (r : Readout) {p : Piece} where
 
 -- ---- what comes in
 pub bare-is : (t : RecordingReader) (recv word bs : List ℕ) {h : ChannelHearing} {l k : List ℕ} → HearingIs (hearCall (memory (t .receiver) recv word) bs) h l k
-    → BareIs (deckOf t recv word) bs (record { answer = h .answer; taken = h .taken; tape = record { spot = t .spot; channel = t .channel; receiver = h .receiver } }) l k
+    → BareIs (deckOf t recv word) bs
+    (record { answer = h .answer; taken = h .taken; tape = record { spot = t .spot; channel = t .channel; receiver = h .receiver } }) l k
 bare-is t recv word bs h = (
   ap (λ x. x .answer) (h .0),
   ap (λ x. x .taken) (h .0),
@@ -194,7 +200,8 @@ module _ (r : Readout) (recv word bs : List ℕ) (ok : soundState r (length bs) 
   pub heard-bare : {h : Hearing} {l k : List ℕ} → r .bare ≡ true → BareIs m bs h l k → HeardIs (r .bare) (sourceHear (source (r .bare) m) bs) h l k
   heard-bare {h} {l} {k} e b =
       subst (λ (t : Bool). HeardIs t (sourceHear (source t m) bs) h l k) (sym e)
-      (subst (λ (x : Option Event × ℕ × Source). HeardIs true x h l k) (sym (hear-bare m bs ∙ ap (λ (x : Option Event × ℕ × Memory). (x .0, x .1, source true (withMemory m (x .2)))) (sym bare-on))) (
+      (subst (λ (x : Option Event × ℕ × Source). HeardIs true x h l k)
+      (sym (hear-bare m bs ∙ ap (λ (x : Option Event × ℕ × Memory). (x .0, x .1, source true (withMemory m (x .2)))) (sym bare-on))) (
         b .0,
         (λ i. (hearCall (memoryIn m) bs .0, sym (b .1) i, source true (sym (b .2) i))),
       ))

@@ -3,6 +3,7 @@
 -- hear-bare, hear-taped    a call is the receiver's, or the tape's
 -- all-bare, all-taped      so are all answers
 -- source-there             a delivered payload stands in the receive buffer
+-- ThereIn                  that, of a source
 use Prim.Native.Nat.{ℕ, suc}
 use mathlib.Core.Path.{_≡_, refl}
 use mathlib.Core.Bool.{Bool, true, false}
@@ -35,13 +36,15 @@ module _ (m : Deck) where
       → sourceHear (source true m) bs ≡ (hearOn (memoryIn m) bs .0, hearOn (memoryIn m) bs .1, source true (withMemory m (hearOn (memoryIn m) bs .2)))
   unfolding sourceOwes sourceHand sourceEat
   hear-bare =
-      hear-seen owed handOn eatByte hand-one sourceOwes sourceHand sourceEat source-hand-one (λ (c : Memory). source true (withMemory m c)) (λ (a : Event). a) (λ o. o)
+      hear-seen owed handOn eatByte hand-one sourceOwes sourceHand sourceEat source-hand-one (λ (c : Memory). source true (withMemory m c)) (λ (a : Event). a)
+      (λ o. o)
       (λ l. l) refl (λ a. refl) refl (λ a xs. refl) (λ c. refl) (λ c n e. refl) (λ c b. refl) (memoryIn m)
 
   pub all-bare : (bs : List ℕ) → sourceAll (source true m) bs ≡ (hearAll (memoryIn m) bs .0, source true (withMemory m (hearAll (memoryIn m) bs .1)))
   unfolding sourceOwes sourceHand sourceEat
   all-bare =
-      all-seen owed handOn eatByte hand-one sourceOwes sourceHand sourceEat source-hand-one (λ (c : Memory). source true (withMemory m c)) (λ (a : Event). a) (λ o. o)
+      all-seen owed handOn eatByte hand-one sourceOwes sourceHand sourceEat source-hand-one (λ (c : Memory). source true (withMemory m c)) (λ (a : Event). a)
+      (λ o. o)
       (λ l. l) refl (λ a. refl) refl (λ a xs. refl) (λ c. refl) (λ c n e. refl) (λ c b. refl) (memoryIn m)
 
 -- .. and a recording's

@@ -94,13 +94,15 @@ module _ (r : Readout) (recv word bs out : List ℕ) where
       -- all that is owed is out, by what is heard
       heard-took : (o : Option Event) (n : ℕ) (t : RecordingReader) (l k : List ℕ) {x : Readout} → put .written ≡ length T → out′ ≡ T ++ drop (length T) out
           → x ≡ answeredBy (onTape r t) (answered o)
-          → TookIs (heardBy s (o, n, source (r .bare) (deckOf t l k))) (record { wants = pick (isMore (answered o)) More Again; taken = n; written = put .written; next = x })
+          → TookIs (heardBy s (o, n, source (r .bare) (deckOf t l k)))
+          (record { wants = pick (isMore (answered o)) More Again; taken = n; written = put .written; next = x })
           l k out out′
       heard-took none n t l k w e f = ((λ i. record { wants = More; taken = n; written = w i; next = f i }), refl, refl, e)
       heard-took (some a) n t l k {x} w e f = (go a f, refl, refl, e)
         where
           go : (a : Event) → x ≡ answeredBy (onTape r t) (given a)
-              → record { wants = pick (isMore (given a)) More Again; taken = n; written = put .written; next = x } ≡ tookOf (heardBy s (some a, n, source (r .bare) (deckOf t l k)))
+              → record { wants = pick (isMore (given a)) More Again; taken = n; written = put .written; next = x } ≡ tookOf
+              (heardBy s (some a, n, source (r .bare) (deckOf t l k)))
           go (said (packet q)) f = λ i. record { wants = Again; taken = n; written = w i; next = f i }
           go (said (refusal m)) f = λ i. record { wants = Again; taken = n; written = w i; next = f i }
           go (said (broken m)) f = λ i. record { wants = Again; taken = n; written = w i; next = f i }
@@ -108,7 +110,8 @@ module _ (r : Readout) (recv word bs out : List ℕ) where
           go lost f = λ i. record { wants = Again; taken = n; written = w i; next = f i }
 
       module _ {h : Hearing} {l k : List ℕ} (all : owes (put .owed) ≡ false)
-          (heard : HeardIs (r .bare) (sourceHear (source (r .bare) (deckOf (r .tape) recv word)) bs) h l k) {x : Readout} (next : x ≡ answeredBy (onTape r (h .tape)) (h .answer)) where
+          (heard : HeardIs (r .bare) (sourceHear (source (r .bare) (deckOf (r .tape) recv word)) bs) h l k) {x : Readout}
+          (next : x ≡ answeredBy (onTape r (h .tape)) (h .answer)) where
         over : length T ≤ put .written
         over = omega (arith, ap length (sym rest ∙ left-none (put .owed) recv all), length-drop (put .written) T)
 
@@ -125,9 +128,11 @@ module _ (r : Readout) (recv word bs out : List ℕ) where
             (le-ltb (length out) (length T) (omega (arith, over, p .written)))
             ∙ ap (heardBy s) (heard .1)
 
-        took : TookIs (takesOn (length out) s bs) (record { wants = pick (isMore (h .answer)) More Again; taken = h .taken; written = put .written; next = x }) l k out out′
+        took : TookIs (takesOn (length out) s bs) (record { wants = pick (isMore (h .answer)) More Again; taken = h .taken; written = put .written; next = x })
+            l k out out′
         took =
-            subst (λ (q : Part). TookIs q (record { wants = pick (isMore (h .answer)) More Again; taken = h .taken; written = put .written; next = x }) l k out out′)
+            subst (λ (q : Part). TookIs q (record { wants = pick (isMore (h .answer)) More Again; taken = h .taken; written = put .written; next = x }) l k out
+            out′)
             (sym heard-it)
             (subst (λ a. TookIs (heardBy s (o, h .taken, source (r .bare) (deckOf (h .tape) l k)))
             (record { wants = pick (isMore a) More Again; taken = h .taken; written = put .written; next = x }) l k out out′) (sym (heard .0))
@@ -139,13 +144,15 @@ module _ (r : Readout) (recv word bs out : List ℕ) where
         pub take-more : isMore (h .answer) ≡ true
             → TookIs (takesOn (length out) s bs) (record { wants = More; taken = h .taken; written = put .written; next = x }) l k out out′
         take-more e =
-            subst (λ t. TookIs (takesOn (length out) s bs) (record { wants = pick t More Again; taken = h .taken; written = put .written; next = x }) l k out out′) e took
+            subst (λ t. TookIs (takesOn (length out) s bs) (record { wants = pick t More Again; taken = h .taken; written = put .written; next = x }) l k out
+            out′) e took
 
         -- .. or one
         pub take-answer : isMore (h .answer) ≡ false
             → TookIs (takesOn (length out) s bs) (record { wants = Again; taken = h .taken; written = put .written; next = x }) l k out out′
         take-answer e =
-            subst (λ t. TookIs (takesOn (length out) s bs) (record { wants = pick t More Again; taken = h .taken; written = put .written; next = x }) l k out out′) e took
+            subst (λ t. TookIs (takesOn (length out) s bs) (record { wants = pick t More Again; taken = h .taken; written = put .written; next = x }) l k out
+            out′) e took
 
   -- ---- refused with 10, with 11, or let on
   refusing : (n : ℕ) {x : Took} → x ≡ record { wants = Refused n; taken = 0; written = 0; next = r } → TookIs (part (Refused n) 0 [] s) x recv word out out
@@ -155,13 +162,15 @@ module _ (r : Readout) (recv word bs out : List ℕ) where
       → TookIs (takes (length out) s bs) x recv word out out
   take-unsound {x} e h = subst (λ t. TookIs (takesBy t (roomy recv word) (length out) s bs) x recv word out out) (sym e) (refusing 10 h)
 
-  pub take-cramped : {x : Took} → soundState r (length bs) ≡ true → roomy recv word ≡ false → x ≡ record { wants = Refused 11; taken = 0; written = 0; next = r }
+  pub take-cramped : {x : Took} → soundState r (length bs) ≡ true → roomy recv word ≡ false
+      → x ≡ record { wants = Refused 11; taken = 0; written = 0; next = r }
       → TookIs (takes (length out) s bs) x recv word out out
   take-cramped {x} e f h =
       subst (λ t. TookIs (takesBy t (roomy recv word) (length out) s bs) x recv word out out) (sym e)
       (subst (λ t. TookIs (takesBy true t (length out) s bs) x recv word out out) (sym f) (refusing 11 h))
 
-  pub take-let-on : {x : Took} {l k out′ : List ℕ} → soundState r (length bs) ≡ true → roomy recv word ≡ true → TookIs (takesOn (length out) s bs) x l k out out′
+  pub take-let-on : {x : Took} {l k out′ : List ℕ} → soundState r (length bs) ≡ true → roomy recv word ≡ true
+      → TookIs (takesOn (length out) s bs) x l k out out′
       → TookIs (takes (length out) s bs) x l k out out′
   take-let-on {x} {l} {k} {out′} e f h =
       subst (λ t. TookIs (takesBy t (roomy recv word) (length out) s bs) x l k out out′) (sym e)

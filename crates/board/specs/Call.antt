@@ -6,6 +6,12 @@
 -- tableFor                the table behind an answer, by the range
 -- takesOn, takes, TookIs  one call, behind its refusals, and that the code's results are those
 -- lastLines               behind the last byte
+-- screen, readoutOf       a screen put together, and its board
+-- recvOn, owedOn          the receive buffer, the text owed
+-- part, partly, heardBy   what a call gives, put together; where the text owed has no room; where all of it is out
+-- nearBy, soundState      what 10 asks
+-- takesBy, tookOf         a call by its refusals, and the code's result of it
+-- lastBy                  behind the last byte, by: are the bytes bare
 use Prim.Native.Nat.{ℕ}
 use mathlib.Core.Path.{_≡_}
 use mathlib.Core.Bool.{Bool, true, false, _&&_}

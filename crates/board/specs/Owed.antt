@@ -4,6 +4,9 @@
 -- left                       the text itself
 -- forth, forthBy             a byte of it is out, n bytes
 -- soundOwed                  what 10 asks of it
+-- owedPacket, payloadIn      what is owed of a packet, and its payload where it stands
+-- owes, leftBehind           some is owed; what is left behind the piece
+-- textByte, textPiece, nextPiece, further   the next byte of a text, its line feed, the next piece; the same piece a byte further
 use Prim.Native.Nat.{ℕ, zero, suc}
 use mathlib.Core.Bool.{Bool, true, false}
 use mathlib.Core.List.{List, [], _∷_, _++_}
@@ -25,8 +28,8 @@ use Rattle.ports_spec.specs.Ports.{noting}
 use Rattle.ports_spec.specs.Range.{inside}
 use Rattle.board_spec.specs.Text.{shownByte, shownText}
 use Rattle.board_spec.specs.Parts.{lead, remark}
-use Rattle.lines.specs.declared.piece.Piece.{Piece}
-use Rattle.lines.specs.Piece.{pieceOf, textOf}
+use Rattle.board_lines.specs.declared.Piece.{Piece}
+use Rattle.board_lines.specs.Piece.{pieceOf, textOf}
 use Rattle.board.specs.declared.owed.Owed.{Owed}
 
 -- a piece, and nothing behind it

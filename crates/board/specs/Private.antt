@@ -2,6 +2,7 @@
 -- PutIs             a part of what is owed is written
 -- BareIs, HeardIs   one call on what comes in
 -- answeredBy        a board behind an answer
+-- portsBy           a packet of the range is noted; nothing else changes the table
 use Prim.Native.Nat.{ℕ, min}
 use mathlib.Core.Path.{_≡_}
 use mathlib.Core.Bool.{Bool}

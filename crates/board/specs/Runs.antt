@@ -4,6 +4,7 @@
 -- ShowsAll   pieces one after the other
 -- Run        such a run
 -- EveryShow  bytes that come in, cut in every way, in calls with every room
+-- tableAll, shownBy   the table behind answers, and what they show
 use Prim.Native.Nat.{ℕ, suc, _≤_, _<_}
 use mathlib.Core.Path.{_≡_}
 use mathlib.Core.Bool.{Bool}

@@ -3,6 +3,8 @@
 -- Source                           which of the two, and the tape with its buffers
 -- sourceOwes, sourceHand, sourceEat   a byte of it
 -- sourceAll, sourceHear            all its bytes, and one call
+-- source, memoryIn, withMemory     the source of these; the receiver with its buffers, taken out and put back
+-- barely, taped, owesBy, handBy, eatBy   what the receiver makes of a bare byte, and the tape of a recording's; each by: is it bare
 use Prim.Native.Nat.{ℕ}
 use mathlib.Core.Bool.{Bool, true, false}
 use mathlib.Core.List.{List}

@@ -7,8 +7,8 @@ ghost use lib.ListN.{length};
 ghost use Rattle.listing_spec.specs.Lines.{longest};
 ghost use Rattle.board.specs.Owed.{alone, nothing, withText, owes, soundOwed, nextPiece, forth};
 ghost use Rattle.board.specs.Private.{PutIs};
-use lines::Line;
-use lines::Piece;
+use board_lines::Piece;
+use listing_lines::Line;
 use packet::Delivery;
 
 /// Text that is owed: the rest of a piece, and behind it perhaps a packet's text and the line feed that ends it.

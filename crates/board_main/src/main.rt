@@ -7,9 +7,10 @@ ghost use lib.ListN.{length};
 use board::Readout;
 use board::Wants;
 use channel::Receiver;
-use libc::STDERR_FILENO;
+use console::LAST_PORT;
+use console::is_argument;
+use console::say;
 use libc::STDIN_FILENO;
-use libc::STDOUT_FILENO;
 use ports_spec::Range;
 
 // The board behind a call.
@@ -25,48 +26,30 @@ struct Turn {
 // Bytes of text that a call may write.
 const ROOM: usize = 8192;
 
-// No port has this number.
-const NO_PORT: u32 = 65536;
-
 fn main() {
-    let count = os::arg_count();
-    if count == 2 {
-        choose(false, Range::all());
+    if is_argument(2, b"blocks") {
+        choose_ports(true, 3);
         return;
     }
-    if count == 3 && is_argument(2, b"blocks") {
-        choose(true, Range::all());
-        return;
-    }
-    if count == 4 {
-        choose_ports(false, argument(2), argument(3));
-        return;
-    }
-    if count == 5 && is_argument(2, b"blocks") {
-        choose_ports(true, argument(3), argument(4));
-        return;
-    }
-    usage();
+    choose_ports(false, 2);
 }
 
-// .. with ports from a first to a last.
-fn choose_ports(blocks: bool, first: u32, last: u32) {
-    if first > last || last >= NO_PORT {
+// Of all ports, or of those that two arguments from this place on name, the first and the last.
+fn choose_ports(blocks: bool, place: usize)
+    requires { ⌜ place ≤ 3 ⌝ }
+{
+    let count = os::arg_count();
+    if count == place {
+        choose(blocks, Range::all());
+        return;
+    }
+    let first = console::port(place);
+    let last = console::port(place + 1);
+    if count != place + 2 || first > last || last > LAST_PORT {
         usage();
         return;
     }
-    choose(
-        blocks,
-        Range {
-            first: low(first),
-            last: low(last),
-        },
-    );
-}
-
-// A number below 65,536 in 16 bits.
-fn low(n: u32) -> u16 {
-    (n % NO_PORT) as u16
+    choose(blocks, console::range(first, last));
 }
 
 // What the first argument asks for.
@@ -82,58 +65,8 @@ fn choose(blocks: bool, range: Range) {
     usage();
 }
 
-// The number of an argument, of one to five digits; else one that no port has.
-fn argument(i: usize) -> u32 {
-    let mut space = io::buffer();
-    let n = os::arg(i, &mut space);
-    number(&space[..n])
-}
-
-fn number(text: &[u8]) -> u32 {
-    if text.len() == 0 || text.len() > 5 {
-        return NO_PORT;
-    }
-    digits(text)
-}
-
-fn digits(text: &[u8]) -> u32 {
-    let mut n: u32 = 0;
-    let mut i: usize = 0;
-    while i < text.len() {
-        let d = digit(text[i]);
-        if d > 9 {
-            return NO_PORT;
-        }
-        n = n * 10 + d;
-        if NO_PORT <= n {
-            return NO_PORT;
-        }
-        i += 1;
-    }
-    n
-}
-
-// A digit's value, or 10.
-fn digit(b: u8) -> u32 {
-    if b < b'0' || b > b'9' {
-        return 10;
-    }
-    (b - b'0') as u32
-}
-
-// Whether an argument is this one.
-fn is_argument(i: usize, text: &[u8]) -> bool {
-    let mut space = io::buffer();
-    let n = os::arg(i, &mut space);
-    check::same(&space[..n], text)
-}
-
 fn usage() {
     say(b"usage: board stream|recording [blocks] [FIRST LAST] <IN\n");
-}
-
-fn say(text: &[u8]) {
-    io::write_all(STDERR_FILENO, text);
 }
 
 // Standard input, piece by piece as it comes.
@@ -147,7 +80,7 @@ fn show(fresh: Readout) {
     while reads > 0 {
         let got = libc::read(STDIN_FILENO, &mut piece);
         if got < 0 {
-            say(b"board: cannot read standard input\n");
+            say_unread();
             return;
         }
         if got == 0 {
@@ -162,6 +95,10 @@ fn show(fresh: Readout) {
         }
         reads -= 1;
     }
+}
+
+fn say_unread() {
+    console::say_unread(b"board");
 }
 
 // A piece read: the first one may be worth a hint.
@@ -289,9 +226,5 @@ fn put(n: usize, text: &[u8]) {
 
 // Text to standard output; whether all went there.
 fn print(text: &[u8]) -> bool {
-    if io::write_all(STDOUT_FILENO, text) {
-        return true;
-    }
-    say(b"board: cannot write standard output\n");
-    false
+    console::print(b"board", text)
 }

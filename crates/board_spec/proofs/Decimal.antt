@@ -3,6 +3,8 @@
 -- decimal-each, decimal-some, decimal-five   each of them a digit; one at least; below 65,536 at most five
 -- number-decimal   a number below 65,536 printed, and read again, is the same
 -- decimal-number   a number typed without leading zeros is printed as it was typed
+-- printedLimit, Printed   numbers of at most 20 digits, and what is printed of one
+-- IsDigit          a byte is a digit
 use Prim.Native.Nat.{ℕ, zero, suc, _+_, _-_, _*_, _/_, _%_, _≤_, _<_}
 use native.Mathlib.Omega.{arith}
 use mathlib.Core.Path.{_≡_, refl, sym, _∙_, ap}
@@ -17,8 +19,8 @@ use Rattle.base.specs.Choice.{pick}
 use Rattle.base.proofs.Tests.{by-eq, by-le, and-parts}
 use Rattle.bid.specs.Line.{isDigit, digits, value, noNumber, numberFrom, number}
 use Rattle.bid.proofs.Decimal.{number-is, number-none, number-long}
-use Rattle.listing_spec.specs.Lines.{decimalBy, decimal}
-use Rattle.listing_spec.proofs.Digits.{last-digit, more-digits, digits-next}
+use Rattle.text.specs.Text.{decimalBy, decimal}
+use Rattle.text.proofs.Digits.{last-digit, more-digits, digits-next}
 use Rattle.board_spec.specs.Typed.{NoZeros}
 
 -- so many numbers have at most k + 1 digits

@@ -4,6 +4,7 @@
 -- line-printable            a line is printable bytes and then one line feed: no payload ends it, or begins another
 -- bid-first, remark-first   a bid's line begins with a digit, any other with `! `
 -- line-plain                a line that the sender accepts, typed plainly, is shown as it was typed
+-- Low, Fits, Closed         numbers of at most 20 digits, what a line shows, and bytes that end in their one line feed
 use Prim.Native.Nat.{ℕ, _+_, _≤_, _<_}
 use native.Mathlib.Omega.{arith}
 use native.Mathlib.Numerals.{unary-clauses}
@@ -18,11 +19,11 @@ use Rattle.base.proofs.Bytes.{each-append}
 use Rattle.base.proofs.Tests.{by-eq}
 use Rattle.base.proofs.UpTo.{up-to-stop, up-to-go, up-to-none}
 use Rattle.bid.specs.Line.{feed, space, past, noNumber, port, sequence, text, number as numberIn}
-use Rattle.listing_spec.specs.Lines.{decimal}
+use Rattle.text.specs.Text.{ascii, decimal, number}
 use Rattle.board_spec.specs.Text.{shownText, bidText}
 use Rattle.board_spec.specs.Typed.{Plainly, isBid}
 use Rattle.board_spec.specs.Meaning.{Line, bid, missing, unwatched, late, repeated, restricted, refusedFrame, brokenFrame}
-use Rattle.board_spec.specs.Meaning.{cleanBlock, repairedBlock, beyondRepair, lockLost, wrongAt, number, written}
+use Rattle.board_spec.specs.Meaning.{cleanBlock, repairedBlock, beyondRepair, lockLost, wrongAt, written}
 use Rattle.board_spec.specs.Meaning.{missingText, unwatchedText, lateText, repeatedText, restrictedText}
 use Rattle.board_spec.specs.Meaning.{refusedText, cleanText, repairedText, beyondText, lostText, wrongText}
 use Rattle.board_spec.proofs.Text.{Printable, all-printable, text-apart, text-printable, text-plain}
@@ -120,13 +121,13 @@ digit-printable (b ∷ w) h = ((omega (arith, h .0 .0), omega (arith, h .0 .1)),
 decimal-printable : (n : ℕ) → Low n → Each Printable (decimal n)
 decimal-printable n h = digit-printable (decimal n) (decimal-each n h)
 
-last-number : (n : ℕ) → Low n → Closed (number n feed)
+last-number : (n : ℕ) → Low n → Closed (number n "\n")
 last-number n h = (decimal n, refl, decimal-printable n h)
 
 spaced : (n : ℕ) (x : List ℕ) → Low n → Each Printable x → Each Printable (decimal n ++ space ∷ x)
 spaced n x h k = each-append Printable (decimal n) (space ∷ x) (decimal-printable n h) ((omega arith, omega arith), k)
 
-one-number : (n : ℕ) → Low n → Each Printable (number n space)
+one-number : (n : ℕ) → Low n → Each Printable (number n " ")
 one-number n h = spaced n [] h tt
 
 whole-bid : (p s : ℕ) (t : List ℕ) → Low p × Low s × Bytes t → Closed (bidText p s t ++ feed ∷ [])
@@ -139,15 +140,15 @@ whole-bid p s t f = (
 pub line-printable : (l : Line) → Fits l → Closed (written l)
 unfolding written
 line-printable (bid p s t) f = whole-bid p s t f
-line-printable (missing p n) f = ahead missingText (all-printable missingText tt) (ahead (number p space) (one-number p (f .0)) (last-number n (f .1)))
+line-printable (missing p n) f = ahead missingText (all-printable missingText tt) (ahead (number p " ") (one-number p (f .0)) (last-number n (f .1)))
 line-printable (unwatched p) f = ahead unwatchedText (all-printable unwatchedText tt) (last-number p f)
 line-printable (late p s t) f = ahead lateText (all-printable lateText tt) (whole-bid p s t f)
 line-printable (repeated p s t) f = ahead repeatedText (all-printable repeatedText tt) (whole-bid p s t f)
 line-printable (restricted p s k) f =
-    let both = each-append Printable (number p space) (number s space) (one-number p (f .0)) (one-number s (f .1)) in
-    ahead restrictedText (all-printable restrictedText tt) (ahead (number p space ++ number s space) both (last-number k (f .2)))
+    let both = each-append Printable (number p " ") (number s " ") (one-number p (f .0)) (one-number s (f .1)) in
+    ahead restrictedText (all-printable restrictedText tt) (ahead (number p " " ++ number s " ") both (last-number k (f .2)))
 line-printable (refusedFrame n) f = ahead refusedText (all-printable refusedText tt) (last-number n f)
-line-printable (brokenFrame n) f = ahead refusedText (all-printable refusedText tt) (ahead (number 3 space) (one-number 3 (omega arith)) (last-number n f))
+line-printable (brokenFrame n) f = ahead refusedText (all-printable refusedText tt) (ahead (number 3 " ") (one-number 3 (omega arith)) (last-number n f))
 line-printable cleanBlock f = (cleanText, refl, all-printable cleanText tt)
 line-printable (repairedBlock n) f = ahead repairedText (all-printable repairedText tt) (last-number n f)
 line-printable beyondRepair f = (beyondText, refl, all-printable beyondText tt)
@@ -167,7 +168,7 @@ bid-first p s t h =
     (first-digit (decimal p) ((space ∷ rest p s t) ++ feed ∷ []) (decimal-some p) (decimal-each p h))
 
 -- .. and any other with `! `
-pub remark-first : (l : Line) → isBid l ≡ false → take 2 (written l) ≡ 33 ∷ 32 ∷ []
+pub remark-first : (l : Line) → isBid l ≡ false → take 2 (written l) ≡ ascii "! "
 unfolding written
 remark-first (bid p s t) e = absurd (true≢false e)
 remark-first (missing p n) e = refl

@@ -6,6 +6,9 @@
 -- current-bid         the bids among a packet's lines: its own, where it is neither late nor repeated and everybody may read it; else none
 -- bids-current        so of all answers: the bids among their lines are those of such packets, in order, and no others
 -- blocks-apart        the same whether clean and repaired blocks are told or not
+-- Older               a distance of none, or back
+-- plain-lines         a packet for everybody is shown as one of format 0x21
+-- SameBut             packets alike but for key and payload
 use Prim.Native.Nat.{ℕ, zero, suc, _≤_, _<_}
 use mathlib.Core.Path.{_≡_, refl, sym, _∙_, ap}
 use mathlib.Core.Logic.{_≢_}

@@ -2,6 +2,9 @@
 -- Ready, ready-step   each port's numbers go on from its last one; behind a packet they still do, and the packet is current
 -- all-current         such packets, for everybody, are all current
 -- bids-in-order       .. and so the bids among the lines are theirs, once each, in order
+-- Follows, InTurn     a port's numbers behind its last one; what a packet in order is to its port
+-- ready-fresh, own, other   from a fresh table; numbers of the packet's own port, and of another
+-- open-shown, delivered-packets   one for everybody is shown; the packets among those delivered are they
 use Prim.Native.Nat.{ℕ, _+_, _%_, _≤_, _<_}
 use native.Mathlib.Omega.{arith}
 use mathlib.Core.Path.{_≡_, refl, sym, _∙_, ap, subst}

@@ -6,6 +6,7 @@
 -- regarded-frames    the frames left are those of the packets inside; refused and broken ones stay
 -- regarded-blocks, regarded-losses   blocks and lost locks stay, each
 -- regarded-every     the range of all leaves all, where ports have 16 bits
+-- AllInside, framesIn   each packet's port is inside; the frames of the packets inside, and every refused or broken one
 use Prim.Native.Nat.{suc, _<_}
 use native.Mathlib.Omega.{arith}
 use mathlib.Core.Path.{_≡_, refl, sym, _∙_, ap}

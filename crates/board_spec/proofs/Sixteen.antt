@@ -3,6 +3,8 @@
 -- pigeon      different members of a list are no more than it has
 -- has-place   a new port finds a free place
 -- only-bids   packets in order are shown as their bids, and nothing else is
+-- Good, Within  blocks clean or repaired and no lock lost; a table that holds no port but these
+-- noted-length  a packet noted leaves the table's length
 use Prim.Native.Nat.{ℕ, suc, _≤_, _<_}
 use native.Mathlib.Omega.{arith}
 use mathlib.Core.Path.{_≡_, refl, sym, _∙_, ap, subst}
@@ -15,7 +17,7 @@ use lib.ListN.{length, length-set}
 use borrow.Author.Tests.{eq-eqb, ne-eqb}
 use Rattle.base.specs.Bytes.{Each}
 use Rattle.base.specs.Choice.{pick}
-use Rattle.base.proofs.Tests.{by-eq}
+use Rattle.base.proofs.Tests.{by-eq, or-right}
 use Rattle.packet_spec.specs.Contents.{Packet, plainFormat, keyFormat}
 use Rattle.packet_spec.specs.Frame.{Told, packet, refusal, broken}
 use Rattle.stream.specs.Sender.{delivered}
@@ -27,7 +29,7 @@ use Rattle.ports_spec.specs.declared.Noted.{Noted}
 use Rattle.ports_spec.specs.declared.Noted.the-variants.{First, InOrder}
 use Rattle.ports_spec.specs.Distance.{lastBehind}
 use Rattle.ports_spec.specs.Ports.{placeLimit, placeOf, freePlace, lastOf, twice, unfit, entry, lastAt, noting, freshTable}
-use Rattle.ports_spec.proofs.Laws.{noting-ways, others-noted, away-by, once, or-right, fresh-fit, fresh-none}
+use Rattle.ports_spec.proofs.Laws.{noting-ways, others-noted, away-by, once, fresh-fit, fresh-none}
 use Rattle.ports_spec.proofs.Keeping.{fit-noted}
 use Rattle.board_spec.specs.Meaning.{Line, packetLines, refusedFrame, brokenFrame, boardLines}
 use Rattle.board_spec.specs.Typed.{asBid, numbersOf, ByOne, Member, Among}

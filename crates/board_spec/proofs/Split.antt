@@ -4,6 +4,7 @@
 -- remark-is     the lines of an answer that is no packet are its remark
 -- lead-short, remark-short   neither has more than 128 bytes; lead-some: a lead has one at least
 -- remark-none   exactly these have no remark: "more wanted", a packet, and where blocks are not to be told one that is clean or repaired
+-- NoPacket, Silent   an answer that is no packet, and one without a remark
 use Prim.Native.Nat.{ℕ, _+_, _≤_}
 use native.Mathlib.Omega.{arith}
 use mathlib.Core.Path.{_≡_, refl, sym, _∙_, ap}
@@ -24,13 +25,12 @@ use Rattle.channel_spec.specs.declared.Condition.the-variants.{Clean, Repaired,
 use Rattle.channel_spec.specs.declared.Answer.{Answer}
 use Rattle.channel_spec.specs.declared.Answer.the-variants.{More, Said, Block, LockLost}
 use Rattle.bid.specs.Line.{feed}
-use Rattle.listing_spec.specs.Lines.{decimal}
-use Rattle.listing_spec.proofs.Digits.{digits-short}
+use Rattle.text.proofs.Digits.{digits-short, number-short}
 use Rattle.ports_spec.specs.declared.Entry.{Entry}
 use Rattle.ports_spec.specs.declared.Noted.{Noted}
 use Rattle.ports_spec.specs.declared.Noted.the-variants.{First, InOrder, Repeated, Missing, Late, Refused}
 use Rattle.board_spec.specs.Text.{heading, shownText, bidText}
-use Rattle.board_spec.specs.Meaning.{Line, restricted, lateText, repeatedText, number, written, writtenAll, aheadOf, ownLine, packetLines, eventLines}
+use Rattle.board_spec.specs.Meaning.{Line, restricted, lateText, repeatedText, written, writtenAll, aheadOf, ownLine, packetLines, eventLines}
 use Rattle.board_spec.specs.Parts.{ownLead, lead, behind, remark}
 
 -- lines joined
@@ -89,10 +89,6 @@ remark-is b t (block c) h = refl
 remark-is b t lost h = append-nil _
 
 -- ---- how long: each number has at most 20 digits
-module _ (n b : ℕ) where
-  number-short : length (number n b) ≤ 21
-  number-short = omega (arith, length-append (decimal n) (b ∷ []), digits-short n)
-
 heading-between : (p s : ℕ) → (1 ≤ length (heading p s)) × (length (heading p s) ≤ 42)
 heading-between p s = (simp length-append (omega arith), simp length-append (omega (arith, digits-short p, digits-short s)))
 
@@ -143,7 +139,7 @@ pub remark-short : (b : Bool) (a : Answer) → length (remark b a) ≤ 128
 unfolding written writtenAll
 remark-short b More = omega arith
 remark-short b (Said (Delivered d)) = omega arith
-remark-short b (Said (RefusedFrame n)) = omega (arith, number-short n feed)
+remark-short b (Said (RefusedFrame n)) = omega (arith, number-short n "\n")
 remark-short b (Said (Broken n)) = simp length-append (omega (arith, digits-short 3, digits-short n))
 remark-short true (Block Clean) = omega arith
 remark-short false (Block Clean) = omega arith

@@ -3,6 +3,7 @@
 -- text-apart       payloads shown alike are the same
 -- text-printable   only printable bytes are shown
 -- text-plain       printable bytes without a backslash are shown as they are
+-- Printable, allPrintable, all-printable   a byte, and bytes, that are printable; the test of it
 use Prim.Native.Nat.{ℕ, _+_, _-_, _*_, _≤_, _<_}
 use native.Mathlib.Omega.{arith}
 use mathlib.Core.Path.{_≡_, refl, sym, _∙_, ap}

@@ -5,6 +5,8 @@
 -- shown-typed       .. and where they were typed plainly, they are shown as they were typed
 -- lines-typed       the lines of an input that ends in a line feed, each with its line feed, are that input
 -- unnamed           where the sender names no line, it accepts each
+-- IsOpen, IsAccepted   a packet as the office sends it, and a line that the sender accepts
+-- plain-typed       accepted lines, typed plainly, are shown as they were typed
 use Prim.Native.Nat.{ℕ, _<_}
 use native.Mathlib.Omega.{arith}
 use mathlib.Core.Path.{_≡_, refl, sym, _∙_, ap, subst}

@@ -1,10 +1,15 @@
 -- What the board shows of a stream's answers, line by line.
--- Line, written    a line, and its bytes
--- packetLines      the lines of a delivered packet, by what it is to its port
+-- Line             a line: a bid (bid), or a remark (missing, unwatched, late, repeated, restricted, refusedFrame, brokenFrame, cleanBlock,
+--                  repairedBlock, beyondRepair, lockLost, wrongAt)
+-- missingText, unwatchedText, lateText, repeatedText, restrictedText, refusedText, cleanText, repairedText, beyondText, lostText, wrongText
+--                  the first words of remarks
+-- written, writtenAll   a line's bytes, and those of lines
+-- aheadOf, ownLine, packetLines   the lines of a delivered packet, by what it is to its port
+-- blockLines       a block's line
 -- eventLines       the lines of an answer; tableBehind, the table of ports behind it
 -- boardLines       the lines of answers, one after the other
--- regarded         answers without the packets of ports outside the range that the board is told
--- shows            what is shown of them: their bytes; boardText, of a byte string, and recordingText, of a recording
+-- regards, regarded   answers without the packets of ports outside the range that the board is told
+-- shows            what is shown of them: their bytes; boardText, of a byte string; ending and recordingText, of a recording
 use Prim.Native.Nat.{ℕ}
 use mathlib.Core.Bool.{Bool, true, false}
 use mathlib.Core.List.{List, [], _∷_, _++_}
@@ -15,10 +20,10 @@ use Rattle.packet_spec.specs.Frame.{packet, refusal, broken}
 use Rattle.channel_spec.specs.Meaning.{Event, said, block, lost, answers}
 use Rattle.channel_spec.specs.declared.Condition.{Condition}
 use Rattle.channel_spec.specs.declared.Condition.the-variants.{Clean, Repaired, Beyond}
-use Rattle.bid.specs.Line.{feed, space}
+use Rattle.bid.specs.Line.{feed}
 use Rattle.listing_spec.specs.declared.Spot.{Spot}
 use Rattle.listing_spec.specs.Apart.{freshSpot, apart, well, onChannel}
-use Rattle.listing_spec.specs.Lines.{decimal}
+use Rattle.text.specs.Text.{ascii, number}
 use Rattle.listing_spec.specs.Meaning.{heard}
 use Rattle.ports_spec.specs.declared.Entry.{Entry}
 use Rattle.ports_spec.specs.declared.Noted.{Noted}
@@ -44,73 +49,68 @@ pub data Line : Type 0 where
   lockLost : Line
   wrongAt : ℕ → Line
 
--- ---- the first words of remarks, as ASCII
--- `! missing `
+-- ---- the first words of remarks
+-- packets are missing
 abbrev pub missingText : List ℕ
-missingText = 33 ∷ 32 ∷ 109 ∷ 105 ∷ 115 ∷ 115 ∷ 105 ∷ 110 ∷ 103 ∷ 32 ∷ []
+missingText = ascii "! missing "
 
--- `! unwatched `
+-- a port finds no place in the table
 abbrev pub unwatchedText : List ℕ
-unwatchedText = 33 ∷ 32 ∷ 117 ∷ 110 ∷ 119 ∷ 97 ∷ 116 ∷ 99 ∷ 104 ∷ 101 ∷ 100 ∷ 32 ∷ []
+unwatchedText = ascii "! unwatched "
 
--- `! late `
+-- a packet is late
 abbrev pub lateText : List ℕ
-lateText = 33 ∷ 32 ∷ 108 ∷ 97 ∷ 116 ∷ 101 ∷ 32 ∷ []
+lateText = ascii "! late "
 
--- `! repeated `
+-- a packet is repeated
 abbrev pub repeatedText : List ℕ
-repeatedText = 33 ∷ 32 ∷ 114 ∷ 101 ∷ 112 ∷ 101 ∷ 97 ∷ 116 ∷ 101 ∷ 100 ∷ 32 ∷ []
+repeatedText = ascii "! repeated "
 
--- `! restricted `
+-- a packet is for subscribers
 abbrev pub restrictedText : List ℕ
-restrictedText = 33 ∷ 32 ∷ 114 ∷ 101 ∷ 115 ∷ 116 ∷ 114 ∷ 105 ∷ 99 ∷ 116 ∷ 101 ∷ 100 ∷ 32 ∷ []
+restrictedText = ascii "! restricted "
 
--- `! frame refused `
+-- a frame is refused
 abbrev pub refusedText : List ℕ
-refusedText = 33 ∷ 32 ∷ 102 ∷ 114 ∷ 97 ∷ 109 ∷ 101 ∷ 32 ∷ 114 ∷ 101 ∷ 102 ∷ 117 ∷ 115 ∷ 101 ∷ 100 ∷ 32 ∷ []
+refusedText = ascii "! frame refused "
 
--- `! block clean`
+-- a block is clean
 abbrev pub cleanText : List ℕ
-cleanText = 33 ∷ 32 ∷ 98 ∷ 108 ∷ 111 ∷ 99 ∷ 107 ∷ 32 ∷ 99 ∷ 108 ∷ 101 ∷ 97 ∷ 110 ∷ []
+cleanText = ascii "! block clean"
 
--- `! block repaired `
+-- .. repaired
 abbrev pub repairedText : List ℕ
-repairedText = 33 ∷ 32 ∷ 98 ∷ 108 ∷ 111 ∷ 99 ∷ 107 ∷ 32 ∷ 114 ∷ 101 ∷ 112 ∷ 97 ∷ 105 ∷ 114 ∷ 101 ∷ 100 ∷ 32 ∷ []
+repairedText = ascii "! block repaired "
 
--- `! block beyond repair`
+-- .. beyond repair
 abbrev pub beyondText : List ℕ
-beyondText =
-    33 ∷ 32 ∷ 98 ∷ 108 ∷ 111 ∷ 99 ∷ 107 ∷ 32 ∷ 98 ∷ 101 ∷ 121 ∷ 111 ∷ 110 ∷ 100 ∷ 32 ∷ 114 ∷ 101 ∷ 112 ∷ 97 ∷ 105 ∷ 114 ∷ []
+beyondText = ascii "! block beyond repair"
 
--- `! lock lost`
+-- lock is lost
 abbrev pub lostText : List ℕ
-lostText = 33 ∷ 32 ∷ 108 ∷ 111 ∷ 99 ∷ 107 ∷ 32 ∷ 108 ∷ 111 ∷ 115 ∷ 116 ∷ []
+lostText = ascii "! lock lost"
 
--- `! wrong at `
+-- a recording does not end as one
 abbrev pub wrongText : List ℕ
-wrongText = 33 ∷ 32 ∷ 119 ∷ 114 ∷ 111 ∷ 110 ∷ 103 ∷ 32 ∷ 97 ∷ 116 ∷ 32 ∷ []
-
--- a number, and the space or the line feed behind it
-abbrev pub number : ℕ → ℕ → List ℕ
-number n b = decimal n ++ (b ∷ [])
+wrongText = ascii "! wrong at "
 
 -- a line's bytes: `PORT SEQUENCE TEXT`, `! missing PORT COUNT`, `! unwatched PORT`, `! late PORT SEQUENCE TEXT`, `! repeated PORT SEQUENCE TEXT`,
 -- `! restricted PORT SEQUENCE KEYNUMBER`, `! frame refused NUMBER`, `! frame refused 3 PLACE`, `! block clean`, `! block repaired COUNT`,
 -- `! block beyond repair`, `! lock lost`, `! wrong at OFFSET`, each with its line feed
 unfoldable pub written : Line → List ℕ
 written (bid port sequence payload) = bidText port sequence payload ++ (feed ∷ [])
-written (missing port n) = missingText ++ number port space ++ number n feed
-written (unwatched port) = unwatchedText ++ number port feed
+written (missing port n) = missingText ++ number port " " ++ number n "\n"
+written (unwatched port) = unwatchedText ++ number port "\n"
 written (late port sequence payload) = lateText ++ bidText port sequence payload ++ (feed ∷ [])
 written (repeated port sequence payload) = repeatedText ++ bidText port sequence payload ++ (feed ∷ [])
-written (restricted port sequence key) = restrictedText ++ number port space ++ number sequence space ++ number key feed
-written (refusedFrame n) = refusedText ++ number n feed
-written (brokenFrame place) = refusedText ++ number 3 space ++ number place feed
+written (restricted port sequence key) = restrictedText ++ number port " " ++ number sequence " " ++ number key "\n"
+written (refusedFrame n) = refusedText ++ number n "\n"
+written (brokenFrame place) = refusedText ++ number 3 " " ++ number place "\n"
 written cleanBlock = cleanText ++ (feed ∷ [])
-written (repairedBlock n) = repairedText ++ number n feed
+written (repairedBlock n) = repairedText ++ number n "\n"
 written beyondRepair = beyondText ++ (feed ∷ [])
 written lockLost = lostText ++ (feed ∷ [])
-written (wrongAt offset) = wrongText ++ number offset feed
+written (wrongAt offset) = wrongText ++ number offset "\n"
 
 -- lines, one after the other
 unfoldable pub writtenAll : List Line → List ℕ

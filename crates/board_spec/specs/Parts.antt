@@ -2,6 +2,7 @@
 -- lead      before the text: the lines ahead of a packet's own, and its own up to the text; of one for subscribers all of it
 -- behind    the text and its line feed
 -- remark    the lines of an answer that is no packet
+-- ownLead   a packet's own line up to its text
 use Prim.Native.Nat.{ℕ}
 use mathlib.Core.Bool.{Bool}
 use mathlib.Core.List.{List, [], _∷_, _++_}

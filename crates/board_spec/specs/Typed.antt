@@ -9,6 +9,11 @@
 -- asBid, currentFrom  a packet's bid; the packets that are shown as bids: neither late nor repeated, and for everybody
 -- numbersOf, ByOne    a port's sequence numbers, and that they rise by one
 -- Among               packets of these ports alone
+-- isAccepted, accepting   the sender accepts it, and the accepted among lines
+-- NoZeros, Plain      no leading zero; a printable byte other than the backslash
+-- isBid               a line is a bid
+-- isCurrent, isShown  a packet is neither late nor repeated, and everybody may read it
+-- Member              a port is among others
 use Prim.Native.Nat.{ℕ, _+_, _%_}
 use mathlib.Core.Path.{_≡_}
 use mathlib.Core.Bool.{Bool, true, false}

@@ -1,6 +1,6 @@
 -- Whether a record's bytes are a packet that the sender would accept: the code takes them apart and asks the sender, with no room for its output.
--- ask-wrote, -none, -packet                  what the sender's answer says
--- told-short, -plain, -other, -cut, -keyed   what the bytes are told to be, by the ways through the code
+-- ask-wrote, ask-none, ask-packet                                what the sender's answer says
+-- told-short, told-plain, told-other, told-cut, told-keyed       what the bytes are told to be, by the ways through the code
 use mathlib.Core.Path.{_≡_, refl, sym, ap, _∙_}
 use mathlib.Core.Bool.{Bool, true, false}
 use mathlib.Core.List.{List, [], _∷_}
@@ -17,7 +17,8 @@ use Rattle.base.specs.declared.Written.the-variants as written
 use Rattle.base.proofs.Parts.{tail-is}
 use Rattle.base.proofs.Tests.{by-test, and-false}
 use Rattle.base.proofs.Writing.{write-short}
-use Rattle.packet_spec.specs.Contents.{Packet, packetOf, plainFormat, keyFormat, keySized, keyAt, keyLength, restLeast, payloadLimit, pairAt, contents, plainly, keyed, unpacked}
+use Rattle.packet_spec.specs.Contents.{Packet, packetOf, plainFormat, keyFormat, keySized, keyAt, keyLength}
+use Rattle.packet_spec.specs.Contents.{restLeast, payloadLimit, pairAt, contents, plainly, keyed, unpacked}
 use Rattle.packet_spec.specs.Escape.{flag, escape}
 use Rattle.packet_spec.specs.Frame.{Told, packet, refusal, judged, judgePacket, keyFits, judgeBody}
 use Rattle.packet_spec.specs.Port.{barred}
@@ -105,7 +106,8 @@ module _ (bs : List ℕ) where
     unfolding entry
     entry-is = ap (λ (t : Bool). pick t (refusal 62) (orNone (judgeBody bs))) (le-ltb _ _ six)
 
-    pub told-plain : {j : Judged} → getD bs 0 0 ≡ plainFormat → j ≡ judged (asked (unpacked (getD bs 0 0) 0 [] (take (length bs - 1) (drop 1 bs)))) → j ≡ judged (entry bs)
+    pub told-plain : {j : Judged} → getD bs 0 0 ≡ plainFormat → j ≡ judged (asked (unpacked (getD bs 0 0) 0 [] (take (length bs - 1) (drop 1 bs))))
+        → j ≡ judged (entry bs)
     told-plain g e =
         e ∙ (λ i. judged (asked (unpacked (g i) 0 [] (tail-is 1 bs i))))
         ∙ ap judged (asked-fit (plainly bs) (λ z. absurd (omega (arith, z, length-drop 4 (drop 1 bs), length-drop 1 bs))) refl
@@ -124,7 +126,8 @@ module _ (bs : List ℕ) where
           sym (ap judged (entry-is ∙ ap orNone (body-key bs g f)))
 
       pub told-keyed : {j : Judged} → keyAt + k + restLeast ≤ length bs
-          → j ≡ judged (asked (unpacked (getD bs 0 0) (getD bs 2 0) (take (keyAt + k - keyAt) (drop keyAt bs)) (take (length bs - (keyAt + k)) (drop (keyAt + k) bs))))
+          → j ≡ judged (asked (unpacked (getD bs 0 0) (getD bs 2 0) (take (keyAt + k - keyAt) (drop keyAt bs))
+          (take (length bs - (keyAt + k)) (drop (keyAt + k) bs))))
           → j ≡ judged (entry bs)
       told-keyed h e =
           let n : keyAt + k - keyAt ≡ keyLength bs = omega arith in

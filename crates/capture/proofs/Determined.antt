@@ -1,5 +1,6 @@
 -- Each public function's promise determines its result, and what the lent buffer then holds. `packed` returns a part of the buffer: what this
 -- holds is determined.
+-- packed-determined, begin-determined, enter-determined, fresh-determined, read-determined, finish-determined   of the function of that name
 use mathlib.Core.Path.{refl}
 use denote.Ref.{now}
 use Rattle.base.specs.Determined.{Determined, DeterminedAs}

@@ -1,8 +1,8 @@
 -- Laws of a capture written.
--- part-short, part-long             what is fetched behind a delivery
--- told-most                         a packet has few bytes
--- record-put                        one record, from what its calls leave
--- enter-short, -fits, -none, -broken   what the call answers and leaves
+-- part-short, part-long                                 what is fetched behind a delivery
+-- told-most                                             a packet has few bytes
+-- length-record, record-put                             one record, from what its calls leave
+-- enter-short, enter-fits, enter-none, enter-broken     what the call answers and leaves
 use mathlib.Core.Path.{_≡_, refl, sym, ap, ap₂, _∙_}
 use mathlib.Core.Bool.{Bool}
 use mathlib.Core.List.{List, [], _++_}
@@ -17,7 +17,7 @@ use Rattle.base.specs.Choice.{pick}
 use Rattle.base.specs.Written.{outcome, refused, write, copied}
 use Rattle.base.specs.declared.Written.the-variants as written
 use Rattle.base.proofs.Parts.{tail-is, tail-put}
-use Rattle.base.proofs.Writing.{write-fits, write-short, copied-fits}
+use Rattle.base.proofs.Writing.{copied-fits, wrote-fits, wrote-short}
 use Rattle.packet_spec.specs.Contents.{Packet, payloadAt}
 use Rattle.packet_spec.specs.Frame.{Told, packet, refusal, broken, judged}
 use Rattle.packet_spec.specs.declared.Delivery.{Delivery}
@@ -32,13 +32,15 @@ use Rattle.capture.specs.Private.{headOf}
 -- ---- what is fetched
 module _ (d : Delivery) (recv : List ℕ) {at : ℕ} (e : at ≡ payloadAt (d .key)) where
   pub part-short : length recv < at + d .length → [] ≡ packedPart d recv
-  part-short h = sym (ap (λ (t : Bool). pick t [] (take (payloadAt (d .key) + d .length) recv)) (lt-ltb (length recv) (0 + (payloadAt (d .key) + d .length)) (omega (arith, e, h))))
+  part-short h = sym (ap (λ (t : Bool). pick t [] (take (payloadAt (d .key) + d .length) recv))
+      (lt-ltb (length recv) (0 + (payloadAt (d .key) + d .length)) (omega (arith, e, h))))
 
   pub part-long : at + d .length ≤ length recv → take (at + d .length - 0) recv ≡ packedPart d recv
   part-long h =
       let n : at + d .length - 0 ≡ payloadAt (d .key) + d .length = omega (arith, e) in
       ap (λ (m : ℕ). take m recv) n
-      ∙ sym (ap (λ (t : Bool). pick t [] (take (payloadAt (d .key) + d .length) recv)) (le-ltb (length recv) (0 + (payloadAt (d .key) + d .length)) (omega (arith, e, h))))
+      ∙ sym (ap (λ (t : Bool). pick t [] (take (payloadAt (d .key) + d .length) recv))
+      (le-ltb (length recv) (0 + (payloadAt (d .key) + d .length)) (omega (arith, e, h))))
 
 -- ---- what the bytes are told to be, by the code's answer
 told-packet : (t : Told) {j : Judged} {d : Delivery} → j ≡ judged t → j ≡ Delivered d → {P : Type 0} → ((p : Packet) → t ≡ packet p → P) → P
@@ -77,14 +79,11 @@ module _ (i : ℕ) (bs out : List ℕ) {j : Judged} (e : j ≡ judged (entry bs)
     enter-one = told-packet (entry bs) e f (λ p g. ap (λ (t : Told). enteringBy t i bs out) g)
 
     pub enter-short : length out < length bs + 16 → refused 23 out ≡ entering i bs out
-    enter-short h = sym (enter-one ∙ write-short (recordOf i bs) out (omega (arith, length-record i bs)))
+    enter-short h = wrote-short (recordOf i bs) out (length bs + 16) (length-record i bs) h ∙ sym enter-one
 
     pub enter-fits : length bs + 16 ≤ length out → {z : List ℕ} → z ≡ recordOf i bs ++ drop (length bs + 16) out
         → outcome (written.Wrote (length bs + 16)) z ≡ entering i bs out
-    enter-fits h {z} q =
-        let l = length-record i bs in
-        ap₂ (λ (n : ℕ) (x : List ℕ). outcome (written.Wrote n) x) (sym l) (q ∙ ap (λ (n : ℕ). recordOf i bs ++ drop n out) (sym l))
-        ∙ sym (enter-one ∙ write-fits (recordOf i bs) out (omega (arith, l)) ∙ ap (outcome (written.Wrote (length (recordOf i bs)))) (copied-fits (recordOf i bs) out (omega (arith, l))))
+    enter-fits h q = wrote-fits (recordOf i bs) out (length bs + 16) (length-record i bs) h q ∙ sym enter-one
 
   pub enter-none : {n : ℕ} → j ≡ Refused n → refused n out ≡ entering i bs out
   enter-none {n} f = go (entry bs) (sym f ∙ e)

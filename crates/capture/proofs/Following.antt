@@ -52,7 +52,8 @@ unfolding read
 header-follows k b st l = go (eqb b (getD header k 0)) (eqb (k + 1) 24) refl
   where
     go : (t u : Bool) → eqb (k + 1) 24 ≡ u
-        → Follows (with (pick t (none, pick u (Head 0) (Header (k + 1))) (says (refusal 60))) st) (pick t (none, pick u (inHead []) (inHeader (k + 1))) (import.says (refusal 60)))
+        → Follows (with (pick t (none, pick u (Head 0) (Header (k + 1))) (says (refusal 60))) st)
+        (pick t (none, pick u (inHead []) (inHeader (k + 1))) (import.says (refusal 60)))
     go false u e = (refl, in-fault {f = 60} (omega arith) (omega arith))
     go true true e = (refl, in-head {k = 0} (omega arith) refl)
     go true false e = (refl, in-header {k = k + 1} (omega (arith, l, eqb-false (k + 1) 24 e)))
@@ -65,20 +66,27 @@ unfolding entry
 sized-follows m n st = go (eqb m n) (eqb m 0) refl
   where
     go : (t u : Bool) → eqb m 0 ≡ u
-        → Follows (with (pick t (pick u (says (refusal 62)) (none, Record m 0)) (says (refusal 61))) st) (pick t (import.recordBy u m []) (import.says (refusal 61)))
+        → Follows (with (pick t (pick u (says (refusal 62)) (none, Record m 0)) (says (refusal 61))) st)
+        (pick t (import.recordBy u m []) (import.says (refusal 61)))
     go false u e = (refl, in-fault {f = 61} (omega arith) (omega arith))
     go true true e = (refl, in-fault {f = 62} (omega arith) (omega arith))
     go true false e = (refl, in-record {n = m} {d = 0} (omega (arith, eqb-false m 0 e)) refl (λ l. refl))
 
 four-take : (st : List ℕ) (i : ℕ) → i + 3 < 16 → fourAt (take 16 st) i ≡ fourAt st i
 four-take st i h =
-    rw (getD-take 16 st i 0 (omega (arith, h)), getD-take 16 st (i + 1) 0 (omega (arith, h)), getD-take 16 st (i + 2) 0 (omega (arith, h)), getD-take 16 st (i + 3) 0 h) refl
+    rw (
+      getD-take 16 st i 0 (omega (arith, h)),
+      getD-take 16 st (i + 1) 0 (omega (arith, h)),
+      getD-take 16 st (i + 2) 0 (omega (arith, h)),
+      getD-take 16 st (i + 3) 0 h,
+    ) refl
 
 headed-follows : (st : List ℕ) → Follows (with (headedBy st) st) (headed (take 16 st))
 headed-follows st =
     let m = four-take st 8 (omega arith) in
     let n = four-take st 12 (omega arith) in
-    follow refl (λ i. pick (eqb (m i) (n i)) (import.recordBy (eqb (m i) 0) (m i) []) (import.says (refusal 61))) (sized-follows (fourAt st 8) (fourAt st 12) st)
+    follow refl (λ i. pick (eqb (m i) (n i)) (import.recordBy (eqb (m i) 0) (m i) []) (import.says (refusal 61)))
+    (sized-follows (fourAt st 8) (fourAt st 12) st)
 
 -- a byte more, stored
 more : (st : List ℕ) (k b : ℕ) {bs : List ℕ} → k < length st → bs ≡ take k st → bs ++ b ∷ [] ≡ take (k + 1) (set st k b)
@@ -86,7 +94,8 @@ more st k b l e = ap (λ (x : List ℕ). x ++ b ∷ []) e ∙ sym (ap (λ (n : �
 
 head-follows : (k b : ℕ) (st h : List ℕ) → k < 16 → entryLimit ≤ length st → h ≡ take k st → Follows (takeBy (Head k) st b) (read (inHead h) b)
 unfolding read
-head-follows k b st h l room s = follow refl (ap (λ (n : ℕ). pick (eqb (n + 1) 16) (headed (h ++ b ∷ [])) (none, inHead (h ++ b ∷ []))) long) (by-eq (k + 1) 16 last on)
+head-follows k b st h l room s = follow refl (ap (λ (n : ℕ). pick (eqb (n + 1) 16) (headed (h ++ b ∷ [])) (none, inHead (h ++ b ∷ []))) long)
+    (by-eq (k + 1) 16 last on)
   where
     long : length h ≡ k
     long = ap length s ∙ length-take-le k st (omega (arith, l, room))

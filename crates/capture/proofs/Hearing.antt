@@ -1,7 +1,9 @@
 -- What the code's ways through a call give.
--- fine-fresh, fine-take, fine-all       states and stores that pass 10 and 11: before the first byte, and behind each
--- going-first, -next, -end, -done       the loop over the bytes of a piece
--- call-unsound, call-cramped, call-on   refused with 10, with 11, or let on
+-- take-length                                        a byte leaves the store its length
+-- fine-fresh, fine-take, fine-all                    states and stores that pass 10 and 11: before the first byte, and behind each
+-- Going                                              what the loop over the bytes of a piece keeps (within, means, fine)
+-- going-first, going-next, going-end, going-done     .. its start, a turn, an answer, its end
+-- call-unsound, call-cramped, call-on                refused with 10, with 11, or let on
 use mathlib.Core.Path.{_≡_, refl, sym, ap, subst, _∙_}
 use mathlib.Core.Bool.{Bool, true, false, false≢true}
 use mathlib.Core.List.{List, [], _∷_}
@@ -123,14 +125,16 @@ module _ {h : Held} {piece : List ℕ} {i : ℕ} {c : CaptureReader} {st : List 
   going-next d =
       let e : got .1 ≡ held (r .capture) st′ = λ j. held (sym (s .0) j .capture) (sym (s .1) j) in record {
         within = omega (arith, l);
-        means = one ∙ untold (got .0) (got .1) _ (ap (λ (x : Step). x .done) (sym (s .0)) ∙ d) ∙ ap (λ (x : Held). after (i + 1) (readOn x (drop (i + 1) piece))) e;
+        means = one ∙ untold (got .0) (got .1) _ (ap (λ (x : Step). x .done) (sym (s .0)) ∙ d)
+            ∙ ap (λ (x : Held). after (i + 1) (readOn x (drop (i + 1) piece))) e;
         fine = subst Fine e (fine-take (held c st) (getD piece i 0) (g .fine));
       }
 
 pub going-done : {h : Held} {piece : List ℕ} {i : ℕ} {c : CaptureReader} {st : List ℕ} → Going h piece i (held c st) → length piece ≤ i
     → ReadIs (readOn h piece) (record { heard = More; taken = i; capture = c }) st
 going-done {h} {piece} {i} {c} {st} g l =
-    let e : readOn h piece ≡ (none, i, held c st) = g .means ∙ ap (λ (bs : List ℕ). after i (readOn (held c st) bs)) (over piece i l) ∙ (λ j. (none, add-zero i j, held c st)) in
+    let e : readOn h piece ≡ (none, i, held c st) = g .means ∙ ap (λ (bs : List ℕ). after i (readOn (held c st) bs)) (over piece i l)
+    ∙ (λ j. (none, add-zero i j, held c st)) in
     (ap readOf (sym e), ap (λ (x : Option Told × ℕ × Held). x .2 .store) (sym e))
 
 -- ---- the call

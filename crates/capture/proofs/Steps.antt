@@ -1,7 +1,11 @@
 -- One byte of a capture, as the code takes it.
--- sound-..         what the state's counts are
--- header-.., headed-.., whole-..   each phase, by the tests that led there
--- as-..            a phase is that of the state that was matched
+-- sound-low, sound-high, sound-header, sound-head, sound-record   what the state's counts are
+-- said-is                                            an answer
+-- header-wrong, header-last, header-more             a byte of the header, by the tests that led there
+-- headed-unequal, headed-none, headed-some           .. a whole head
+-- whole-long, whole-kept                             .. a whole record
+-- as-header, as-head, as-record, as-behind           a phase is that of the state that was matched
+-- room-set                                           a byte stored leaves the store its room
 use mathlib.Core.Path.{_≡_, refl, sym, ap, subst, _∙_}
 use mathlib.Core.Bool.{Bool, true, false, _&&_}
 use mathlib.Core.List.{List}
@@ -71,14 +75,16 @@ sized n = pick (eqb n 0) (says (refusal 62)) (none, Record n 0)
 
 module _ (st : List ℕ) {m n : ℕ} (a : m ≡ fourAt st 8) (b : n ≡ fourAt st 12) where
   pub headed-unequal : {r : Step} → (m ≡ n → ⊥) → r ≡ stepOf (says (refusal 61)) → r ≡ stepOf (headedBy st)
-  headed-unequal z e = e ∙ sym (ap (λ (t : Bool). stepOf (pick t (sized (fourAt st 8)) (says (refusal 61)))) (ne-eqb (fourAt st 8) (fourAt st 12) (λ q. z (a ∙ q ∙ sym b))))
+  headed-unequal z e = e
+      ∙ sym (ap (λ (t : Bool). stepOf (pick t (sized (fourAt st 8)) (says (refusal 61)))) (ne-eqb (fourAt st 8) (fourAt st 12) (λ q. z (a ∙ q ∙ sym b))))
 
   module _ (g : m ≡ n) where
     equal : stepOf (headedBy st) ≡ stepOf (sized (fourAt st 8))
     equal = ap (λ (t : Bool). stepOf (pick t (sized (fourAt st 8)) (says (refusal 61)))) (eq-eqb (fourAt st 8) (fourAt st 12) (sym a ∙ g ∙ b))
 
     pub headed-none : {r : Step} → m ≡ 0 → r ≡ stepOf (says (refusal 62)) → r ≡ stepOf (headedBy st)
-    headed-none z e = e ∙ sym (equal ∙ ap (λ (t : Bool). stepOf (pick t (says (refusal 62)) (none, Record (fourAt st 8) 0))) (eq-eqb (fourAt st 8) 0 (sym a ∙ z)))
+    headed-none z e = e ∙ sym
+        (equal ∙ ap (λ (t : Bool). stepOf (pick t (says (refusal 62)) (none, Record (fourAt st 8) 0))) (eq-eqb (fourAt st 8) 0 (sym a ∙ z)))
 
     pub headed-some : {r : Step} → (m ≡ 0 → ⊥) → r ≡ stepOf (none, Record m 0) → r ≡ stepOf (headedBy st)
     headed-some z e =
@@ -89,7 +95,8 @@ module _ (n : ℕ) (st : List ℕ) {r : Step} where
   pub whole-long : entryLimit < n → r ≡ stepOf (says (refusal 62)) → r ≡ stepOf (wholeBy n st)
   whole-long h e = e ∙ sym (ap (λ (t : Bool). stepOf (says (pick t (refusal 62) (entry (take n st))))) (lt-ltb entryLimit n h))
 
-  pub whole-kept : {j : Judged} → n ≤ entryLimit → j ≡ judged (entry (take (n - 0) st)) → r ≡ record { done = true; heard = Said j; capture = next j } → r ≡ stepOf (wholeBy n st)
+  pub whole-kept : {j : Judged} → n ≤ entryLimit → j ≡ judged (entry (take (n - 0) st)) → r ≡ record { done = true; heard = Said j; capture = next j }
+      → r ≡ stepOf (wholeBy n st)
   whole-kept h g e =
       said-is (entry (take n st)) (g ∙ ap (λ (m : ℕ). judged (entry (take m st))) (sub-zero n)) e
       ∙ sym (ap (λ (t : Bool). stepOf (says (pick t (refusal 62) (entry (take n st))))) (le-ltb entryLimit n h))

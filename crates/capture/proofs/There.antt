@@ -60,13 +60,19 @@ module _ (p : Packet) (a : Accepted p) (t : List ℕ) where
       (let q = plainPacket (p .port) (p .sequence) (p .payload) in part-at 3 (take 3 (packed q)) [] (drop 3 (packed q) ++ t) refl))
       (λ e low high. subst (λ (q : Packet). part keyAt (length (q .key)) (packed q ++ t) ≡ q .key) (sym e)
       (let r = two (p .port) ++ two (p .sequence) in
-      ap (part keyAt (length (p .key))) (λ i. keyFormat ∷ length (p .key) ∷ p .number ∷ (ap (λ (l : List ℕ). l ++ t) (append-assoc (p .key) r (p .payload)) ∙ append-assoc (p .key) (r ++ p .payload) t) i)
+      ap (part keyAt (length (p .key)))
+      (λ i. keyFormat ∷ length (p .key) ∷ p .number ∷ (ap (λ (l : List ℕ). l ++ t) (append-assoc (p .key) r (p .payload))
+      ∙ append-assoc (p .key) (r ++ p .payload) t) i)
       ∙ part-at 3 (keyFormat ∷ length (p .key) ∷ p .number ∷ []) (p .key) ((r ++ p .payload) ++ t) refl))
 
   pub packed-there : There (packet p) (packed p ++ t) × (packedPart (delivery p) (packed p ++ t) ≡ packed p)
   packed-there =
-      let n : payloadAt (length (p .key)) + length (p .payload) ≡ length (packed p) = sym (length-append (opening p) (p .payload) ∙ ap (λ (m : ℕ). m + length (p .payload)) opening-length) in (
-        (ap (part (payloadAt (length (p .key))) (length (p .payload))) whole ∙ part-at (payloadAt (length (p .key))) (opening p) (p .payload) t opening-length, key-there),
+      let n : payloadAt (length (p .key)) + length (p .payload) ≡ length (packed p) = sym
+      (length-append (opening p) (p .payload) ∙ ap (λ (m : ℕ). m + length (p .payload)) opening-length) in (
+        (
+          ap (part (payloadAt (length (p .key))) (length (p .payload))) whole ∙ part-at (payloadAt (length (p .key))) (opening p) (p .payload) t opening-length,
+          key-there,
+        ),
         ap (λ (m : ℕ). part 0 m (packed p ++ t)) n ∙ part-at 0 [] (packed p) t refl,
       )
 
@@ -131,7 +137,8 @@ told-there n st c =
 take-there : (c : CaptureReader) (st : List ℕ) (b : ℕ) → With Stands (takeBy c st b .0) (takeBy c st b .1)
 take-there (Header k) st b = go (eqb b (getD header k 0))
   where
-    go : (t : Bool) → With Stands (with (pick t (none, pick (eqb (k + 1) 24) (Head 0) (Header (k + 1))) (says (refusal 60))) st .0) (with (pick t (none, pick (eqb (k + 1) 24) (Head 0) (Header (k + 1))) (says (refusal 60))) st .1)
+    go : (t : Bool) → With Stands (with (pick t (none, pick (eqb (k + 1) 24) (Head 0) (Header (k + 1))) (says (refusal 60))) st .0)
+        (with (pick t (none, pick (eqb (k + 1) 24) (Head 0) (Header (k + 1))) (says (refusal 60))) st .1)
     go true = tt
     go false = tt
 take-there (Head k) st b = go (eqb (k + 1) 16) (eqb (fourAt l 8) (fourAt l 12)) (eqb (fourAt l 8) 0)

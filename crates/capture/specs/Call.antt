@@ -1,12 +1,14 @@
 -- A capture as it is read by calls (request W11): the state and the lent store go in and come back, and one call gives at most one answer.
--- Held               state and store
--- takeByte           one byte
--- readAll            what a byte string means: its answers, and state and store behind it
--- readCall, ReadIs   one call, and that the code's results are those
--- finishing, endedAs the end of the file, and its number
--- EveryCut           a file, cut in every way
--- Fine               states and stores that pass 10 and 11
--- Stands             that a delivered packet's bytes stand in the store
+-- Held, held                state (st) and store
+-- next, says, with          the state behind an answer; an answer; an answer and the store
+-- headerBy, headedBy, headBy, wholeBy, recordBy, takeBy, takeByte   one byte, by the state's phase
+-- readAll                   what a byte string means: its answers, and state and store behind it
+-- sound                     whether no count of a state is beyond its limit
+-- readOn, readBy, readCall, readOf, ReadIs   one call, behind refusals 10 and 11, and that the code's results are those
+-- ending, finishing, endedAs   the end of the file, and its number
+-- EveryCut                  a file, cut in every way
+-- Fine                      states and stores that pass 10 and 11 (counts, room)
+-- Stands                    that a delivered packet's bytes stand in the store
 use Prim.Native.Nat.{ℕ, _+_, _≤_}
 use mathlib.Core.Path.{_≡_}
 use mathlib.Core.Bool.{Bool, true, false, _&&_}

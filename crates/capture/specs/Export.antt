@@ -1,6 +1,6 @@
 -- A capture, written (request W11).
--- packedPart   what is fetched behind a delivery, to be written, and Fetched, that it is the packet's own bytes
--- entering     what the call for one record answers and leaves
+-- packedPart, Fetched    what is fetched behind a delivery, to be written, and that it is the packet's own bytes
+-- enteringBy, entering   what the call for one record answers and leaves
 use Prim.Native.Nat.{ℕ, _+_}
 use mathlib.Core.Path.{_≡_}
 use mathlib.Core.List.{List}

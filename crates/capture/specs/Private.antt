@@ -1,7 +1,7 @@
 -- What private functions alone are promised by.
--- headOf            a record's head
--- asked             what the sender says of a packet, asked with no room for its output
--- stepOf, StepIs    what a byte gives
+-- headOf                    a record's head
+-- asked                     what the sender says of a packet, asked with no room for its output
+-- isSome, stepOf, StepIs    what a byte gives
 use Prim.Native.Nat.{ℕ}
 use mathlib.Core.Path.{_≡_}
 use mathlib.Core.Bool.{Bool, true, false}

@@ -2,7 +2,7 @@
 ghost use mathlib.Core.Path.{_≡_};
 ghost use Prim.Native.Nat.{_≤_, _<_};
 ghost use lib.ListN.{length};
-ghost use Rattle.packet_spec.specs.Contents.{pair, payloadAt, unpacked};
+ghost use Rattle.packet_spec.specs.Contents.{unpacked};
 ghost use Rattle.packet_spec.specs.Frame.{judged};
 ghost use Rattle.capture_spec.specs.Meaning.{entry};
 ghost use Rattle.capture.specs.Export.{packedPart};
@@ -13,22 +13,11 @@ use packet::Delivery;
 use packet::Judged;
 use packet::Packet;
 
-// Where the payload of a packet with so many key bytes stands.
-fn payload_at(key: u8) -> usize
-    ensures { λ r. ⌜ r ≡ payloadAt key ⌝ }
-{
-    if key == 0 {
-        5
-    } else {
-        Packet::KEY_AT + key as usize + 4
-    }
-}
-
 /// Format byte to last payload byte of a delivered packet, where they stand in the receive buffer; an empty part where that is too short.
 pub fn packed(recv: &[u8], delivery: Delivery) -> &[u8]
     ensures { λ r. ⌜ now r ≡ packedPart delivery (now (recv .entry)) ⌝ }
 {
-    let at = payload_at(delivery.key);
+    let at = packet::payload_at(delivery.key);
     let length = delivery.length;
     if recv.len() < at {
         return &recv[..0];
@@ -38,13 +27,6 @@ pub fn packed(recv: &[u8], delivery: Delivery) -> &[u8]
     }
     let end = at + length;
     &recv[0..end]
-}
-
-// Two bytes as a number, low first.
-fn pair(low: u8, high: u8) -> u16
-    ensures { λ r. ⌜ r ≡ pair low high ⌝ }
-{
-    low as u16 + 256 * (high as u16)
 }
 
 // A byte as a length.
@@ -59,8 +41,8 @@ fn ask(format: u8, number: u8, key: &[u8], rest: &[u8]) -> Judged
     requires { ⌜ (length (now key) < 256) × (4 ≤ length (now rest)) ⌝ }
     ensures { λ r. ⌜ r ≡ judged (asked (unpacked format number (now (key .entry)) (now (rest .entry)))) ⌝ }
 {
-    let port = pair(rest[0], rest[1]);
-    let sequence = pair(rest[2], rest[3]);
+    let port = packet::pair(rest[0], rest[1]);
+    let sequence = packet::pair(rest[2], rest[3]);
     let mut nowhere = [0u8; 0];
     match packet::write_as(
         format,
@@ -104,7 +86,7 @@ pub(crate) fn told(bytes: &[u8]) -> Judged
         return Judged::Refused(Refusal::NO_PACKET);
     }
     let end = Packet::KEY_AT + wide(bytes[1]);
-    if n < end + 5 {
+    if n < end + Packet::REST_LEAST {
         return Judged::Refused(Refusal::NO_PACKET);
     }
     ask(format, bytes[2], &bytes[Packet::KEY_AT..end], &bytes[end..])

@@ -1,17 +1,12 @@
 //! Writes the delivered packets of the recording on standard input as a capture for the network viewer, on standard output. Bytes are read as
 //! they come, and a packet's record is out before the next are read. Where something fails, or the recording does not end as one, it says so on
 //! standard error; behind a wrong byte it reads no more.
-ghost use Prim.Native.Nat.{_≤_};
-use base::Refusal;
-use base::Written;
 use capture::CaptureReader;
-use channel::Answer;
 use channel::Receiver;
 use console::say;
 use libc::STDIN_FILENO;
-use libc::STDOUT_FILENO;
 use packet::Delivery;
-use packet::Judged;
+use recording::Found;
 use recording::RecordingReader;
 
 // What is heard so far, behind a call.
@@ -26,20 +21,13 @@ struct Turn {
     number: u32,
 }
 
-// What becomes of an answer.
-struct Passed {
-    again: bool,
-    go: bool,
-    number: u32,
-}
-
 fn main() {
     let mut out = [0u8; CaptureReader::ENTRY];
     let mut recv = [0u8; Receiver::RAW];
     let mut word = [0u8; Receiver::WORD];
     let mut piece = io::large_buffer();
     let begun = capture::begin(&mut out);
-    if !put(begun, &out) {
+    if !console::put(b"capture", begun, &out) {
         return;
     }
     let mut tape = RecordingReader::fresh();
@@ -48,7 +36,7 @@ fn main() {
     while reads > 0 {
         let got = libc::read(STDIN_FILENO, &mut piece);
         if got < 0 {
-            say(b"capture: cannot read standard input\n");
+            console::say_unread(b"capture");
             return;
         }
         if got == 0 {
@@ -90,7 +78,7 @@ fn hear(
     let mut calls = u64::MAX;
     while calls > 0 {
         turn = call(turn.tape, turn.number, recv, word, &piece[i..], out);
-        i = onward(i, turn.taken, piece.len());
+        i = console::onward(i, turn.taken, piece.len());
         if !turn.again {
             return turn;
         }
@@ -99,15 +87,7 @@ fn hear(
     turn
 }
 
-// The place n further on, or the end.
-fn onward(at: usize, n: usize, end: usize) -> usize
-    requires { ⌜ at ≤ end ⌝ }
-    ensures { λ r. ⌜ r ≤ end ⌝ }
-{
-    at + base::least(n, end - at)
-}
-
-// One call, and the record of its packet.
+// One call: a packet's record is written, and a refused call ends the work.
 fn call(
     start: RecordingReader,
     number: u32,
@@ -116,78 +96,57 @@ fn call(
     piece: &[u8],
     out: &mut [u8],
 ) -> Turn {
-    let heard = start.next(recv, word, piece);
-    let taken = heard.taken;
-    let tape = heard.tape;
-    let answer = heard.answer;
-    let passed = pass(answer, number, recv, out);
+    let next = start.next_packet(recv, word, piece);
+    let taken = next.taken;
+    let tape = next.tape;
+    let found = next.found;
+    let goes = pass(found, number, recv, out);
     Turn {
-        again: passed.again,
-        go: passed.go,
+        again: goes && !is_more(found),
+        go: goes,
         taken,
         tape,
-        number: passed.number,
+        number: behind(found, number),
     }
 }
 
-// An answer: a packet is written; of the others only a refused call ends the work.
-fn pass(answer: Answer, number: u32, recv: &[u8], out: &mut [u8]) -> Passed {
-    match answer {
-        Answer::More => Passed {
-            again: false,
-            go: true,
-            number,
-        },
-        Answer::Said(judged) => judge(judged, number, recv, out),
-        Answer::Block(_) => Passed {
-            again: true,
-            go: true,
-            number,
-        },
-        Answer::LockLost => Passed {
-            again: true,
-            go: true,
-            number,
-        },
+fn is_more(found: Found) -> bool {
+    match found {
+        Found::More => true,
+        Found::Packet(_) => false,
+        Found::Refused(_) => false,
     }
 }
 
-fn judge(judged: Judged, number: u32, recv: &[u8], out: &mut [u8]) -> Passed {
-    match judged {
-        Judged::Packet(delivery) => enter(delivery, number, recv, out),
-        Judged::Refused(n) => {
-            let go = n != Refusal::STATE;
-            if !go {
-                say(b"capture: the recording is too long\n");
-            }
-            Passed {
-                again: go,
-                go,
-                number,
-            }
+// Whether the recording is heard further: a packet went to standard output, and no call was refused.
+fn pass(found: Found, number: u32, recv: &[u8], out: &mut [u8]) -> bool {
+    match found {
+        Found::More => true,
+        Found::Packet(delivery) => enter(delivery, number, recv, out),
+        Found::Refused(_) => {
+            say(b"capture: the recording is too long\n");
+            false
         }
-        Judged::Broken(_) => Passed {
-            again: true,
-            go: true,
-            number,
-        },
     }
 }
 
-// A packet's record.
-fn enter(delivery: Delivery, number: u32, recv: &[u8], out: &mut [u8]) -> Passed {
+// A packet's record; whether it went to standard output.
+fn enter(delivery: Delivery, number: u32, recv: &[u8], out: &mut [u8]) -> bool {
     let packed = capture::packed(recv, delivery);
     let entered = capture::enter(number, packed, out);
-    let go = put(entered, out);
-    Passed {
-        again: go,
-        go,
-        number: behind(number),
+    console::put(b"capture", entered, out)
+}
+
+// The number of the next packet. A recording has fewer packets than stream bytes, so none comes to the last number.
+fn behind(found: Found, number: u32) -> u32 {
+    match found {
+        Found::More => number,
+        Found::Packet(_) => up(number),
+        Found::Refused(_) => number,
     }
 }
 
-// The number behind a packet's. A recording has fewer packets than stream bytes, so none comes to the last number.
-fn behind(number: u32) -> u32 {
+fn up(number: u32) -> u32 {
     if number < u32::MAX {
         number + 1
     } else {
@@ -197,31 +156,8 @@ fn behind(number: u32) -> u32 {
 
 // Whether the recording ends as one, and where it does not.
 fn finish(tape: RecordingReader) {
-    if tape.may_end() {
-        return;
-    }
     let at = tape.spot;
-    say(b"capture: no whole recording: X ");
-    console::say_number(at.offset);
-    say(b"\n");
-}
-
-// What was written, to standard output; whether all of it went there.
-fn put(written: Written, out: &[u8]) -> bool {
-    match written {
-        Written::Wrote(n) => print(&out[0..base::least(n, out.len())]),
-        Written::Refused(number) => {
-            say(b"capture: ");
-            console::say_refused(number);
-            false
-        }
+    if !tape.may_end() {
+        console::say_wrong(b"capture", at.offset);
     }
-}
-
-fn print(bytes: &[u8]) -> bool {
-    if io::write_all(STDOUT_FILENO, bytes) {
-        return true;
-    }
-    say(b"capture: cannot write standard output\n");
-    false
 }

@@ -1,9 +1,10 @@
 -- What a record's bytes are.
--- entry-ways     a packet, or 62
--- entry-packed   a packet that the sender accepts, format byte to last payload byte, is that packet
--- entry-only     .. and nothing else is a packet
--- none-exactly   62 exactly where they are no packet that the sender would accept
--- entry-most, entry-long   how many bytes a packet has, at most; more of them are none
+-- packet-not, same-packet   a packet is no refusal; the same packet is told
+-- entry-ways                a packet, or 62
+-- entry-packed              a packet that the sender accepts, format byte to last payload byte, is that packet
+-- entry-only                .. and nothing else is a packet
+-- none-exactly              62 exactly where they are no packet that the sender would accept
+-- entry-most, entry-long    how many bytes a packet has, at most; more of them are none
 use mathlib.Core.Path.{_≡_, refl, sym, ap, subst, _∙_}
 use mathlib.Core.Bool.{Bool, true, false}
 use mathlib.Core.Logic.{_↔_}
@@ -21,9 +22,8 @@ use Rattle.packet_spec.specs.Contents.{Packet, packed, plainly, keyed, keyAt, k
 use Rattle.packet_spec.specs.Escape.{escape}
 use Rattle.packet_spec.specs.Frame.{Told, packet, refusal, broken, judgeBody, judgeContents}
 use Rattle.packet_spec.specs.Sender.{Accepted}
-use Rattle.packet_spec.proofs.Escaping.{plain-short}
 use Rattle.packet_spec.proofs.Judging.{key-fits, body-ways}
-use Rattle.packet_spec.proofs.Round.{plain-undoes, packed-length, judge-contents}
+use Rattle.packet_spec.proofs.Round.{escape-least, packed-length, judge-contents}
 use Rattle.packet_spec.proofs.Only.{body-only}
 use Rattle.capture_spec.specs.Meaning.{orNone, entry, entryLimit}
 
@@ -81,9 +81,6 @@ none-exactly bs h = (
 )
 
 -- ---- how many bytes
-escape-least : (bs : List ℕ) → length bs ≤ length (escape bs)
-escape-least bs = omega (arith, plain-short (escape bs), ap length (plain-undoes bs))
-
 body-most : (bs : List ℕ) (p : Packet) → judgeBody bs ≡ packet p → length bs ≤ entryLimit
 body-most bs p =
     body-ways bs (λ (t : Told). t ≡ packet p → length bs ≤ entryLimit)

@@ -1,10 +1,13 @@
 -- An export, imported.
--- header-read                    the header
+-- say, reads-then                an answer before others; bytes read one behind the other
+-- past-8, past-12, headed-past, headed-as   a head behind its times
 -- head-part, head-read           a record's head, in part and whole
 -- part-read, bytes-read          a record's bytes, likewise
 -- record-read                    a whole record of any bytes, whatever its times are
+-- captured-is                    the exported capture is one of its packets
 -- import-any, export-import      every capture of some packets gives them back, the exported one among them
--- times-ignored                  a record's times do not matter, whatever stands behind them
+-- seen, times-ignored            a record's times do not matter, whatever stands behind them
+-- some-end                       a head cut short ends with 61
 use mathlib.Core.Path.{_≡_, refl, sym, ap, _∙_}
 use mathlib.Core.List.{List, [], _∷_, _++_, map, append-assoc, append-nil}
 use mathlib.Core.Option.{Option}
@@ -94,7 +97,8 @@ module _ (times : List ℕ) (eight : length times ≡ 8) where
   past-12 l = λ j. past l 4 j + 256 * (past l 5 j + 256 * (past l 6 j + 256 * past l 7 j))
 
   -- a head's times are not looked at
-  pub headed-past : (l : List ℕ) → headed (times ++ l) ≡ pick (eqb (fourAt l 0) (fourAt l 4)) (recordBy (eqb (fourAt l 0) 0) (fourAt l 0) []) (says (refusal 61))
+  pub headed-past : (l : List ℕ) → headed (times ++ l) ≡ pick (eqb (fourAt l 0) (fourAt l 4)) (recordBy (eqb (fourAt l 0) 0) (fourAt l 0) [])
+      (says (refusal 61))
   headed-past l = λ i. pick (eqb (past-8 l i) (past-12 l i)) (recordBy (eqb (past-8 l i) 0) (past-8 l i) []) (says (refusal 61))
 
   module _ (n : ℕ) (l : n < 4294967296) where
@@ -170,7 +174,8 @@ module _ (times others : List ℕ) (e : length times ≡ 8) (f : length others �
       by-le 8 (length rest)
       (λ h.
       let q = take 8 rest in
-      let w : (ts : List ℕ) → ts ++ rest ≡ (ts ++ q) ++ drop 8 rest = λ ts. ap (λ (l : List ℕ). ts ++ l) (sym (take-append-drop 8 rest)) ∙ sym (append-assoc ts q (drop 8 rest)) in
+      let w : (ts : List ℕ) → ts ++ rest ≡ (ts ++ q) ++ drop 8 rest = λ ts. ap (λ (l : List ℕ). ts ++ l) (sym (take-append-drop 8 rest))
+      ∙ sym (append-assoc ts q (drop 8 rest)) in
       ap (λ (r : List Told × Reading). (r .0, ends (r .1)))
       (ap (reads (inHead [])) (w times) ∙ head-times q (drop 8 rest) (length-take-le 8 rest h) ∙ ap (reads (inHead [])) (sym (w others))))
       (λ h. part-seen times rest e h ∙ sym (part-seen others rest f h))

@@ -1,7 +1,7 @@
 -- What the answers of an import say of the file.
--- quiet           behind a fault all bytes are taken and have no effect
--- first-fault     packets, and behind them at most one fault, which is the last answer
--- sixty-exactly   60 exactly where the first 24 bytes are not the header's
+-- quiet                  behind a fault all bytes are taken and have no effect
+-- faultOf, first-fault   packets, and behind them at most one fault, which is the last answer
+-- Begun, sixty-exactly   60 exactly where the first 24 bytes are not the header's
 use mathlib.Core.Path.{_≡_, refl, sym, ap, subst, _∙_}
 use mathlib.Core.Bool.{Bool, true, false}
 use mathlib.Core.Logic.{_↔_}
@@ -53,7 +53,8 @@ module _ (k b : ℕ) (bs : List ℕ) {h : ℕ} (at : getD header k 0 ≡ h) wher
 begun : (hs bs : List ℕ) (k : ℕ) → k + length hs ≡ 24 → (length hs ≡ 0 → ⊥) → drop k header ≡ hs → Begun k hs bs
 begun [] bs k n z d = absurd (z refl)
 begun (h ∷ hs) [] k n z d = short (λ e. nil≢cons e) k refl
-begun (h ∷ hs) (b ∷ bs) k n z d = by-eq b h (λ e. go hs n (tail-eq-of-cons-eq both) e (begun hs bs (k + 1))) (λ w. wrong (λ e. w (head-eq-of-cons-eq e)) (byte-wrong k b bs at w))
+begun (h ∷ hs) (b ∷ bs) k n z d = by-eq b h (λ e. go hs n (tail-eq-of-cons-eq both) e (begun hs bs (k + 1)))
+    (λ w. wrong (λ e. w (head-eq-of-cons-eq e)) (byte-wrong k b bs at w))
   where
     both : getD header k 0 ∷ drop (k + 1) header ≡ h ∷ hs
     both = sym (cons-at header k (omega (arith, n))) ∙ d
@@ -181,6 +182,9 @@ pub sixty-exactly : (bs : List ℕ) → (imported bs .1 ≡ 60) ↔ (take 24 bs 
 sixty-exactly bs = go (first bs)
   where
     go : Begun 0 header bs → (imported bs .1 ≡ 60) ↔ (take 24 bs ≡ header → ⊥)
-    go (right rest f e) = ((λ q. absurd (late-end (later rest (inHead []) tt) (ap (λ (x : List Told × Reading). ends (x .1)) (sym e) ∙ q))), (λ w. absurd (w (ap (take 24) f))))
+    go (right rest f e) = (
+      (λ q. absurd (late-end (later rest (inHead []) tt) (ap (λ (x : List Told × Reading). ends (x .1)) (sym e) ∙ q))),
+      (λ w. absurd (w (ap (take 24) f))),
+    )
     go (wrong w e) = ((λ q. w), (λ q. ap (λ (x : List Told × Reading). ends (x .1)) e))
     go (short w j e) = ((λ q. w), (λ q. ap (λ (x : List Told × Reading). ends (x .1)) e))

@@ -1,7 +1,8 @@
 -- A capture in file order.
--- next          every way a file may go on
--- ..-next       what is answered of each: 61 for a record cut short or lengths unequal, and of a whole record what its bytes are told to be
--- import-only   what is imported whole is a capture of those packets, times aside
+-- next                               every way a file may go on
+-- head-next, unequal-next, bytes-next, whole-next, long-next   what is answered of each: 61 for a record cut short or lengths unequal, and of a whole
+--                                    record what its bytes are told to be
+-- import-only                        what is imported whole is a capture of those packets, times aside
 use mathlib.Core.Path.{_≡_, refl, sym, ap, subst, _∙_}
 use mathlib.Core.List.{List, [], _∷_, _++_, map, append-assoc, cons≢nil, nil≢cons, head-eq-of-cons-eq, tail-eq-of-cons-eq}
 use Prim.Native.Nat.{ℕ, zero, suc, _+_, _*_, _/_, _%_, _≤_, _<_}
@@ -41,7 +42,8 @@ four-back a b c d ha hb hc hd =
 lengths-back : (q : List ℕ) → Bytes q → length q ≡ 8 → fourAt q 0 ≡ fourAt q 4 → (q ≡ four (fourAt q 0) ++ four (fourAt q 0)) × (fourAt q 0 < 4294967296)
 lengths-back (a ∷ b ∷ c ∷ d ∷ e ∷ f ∷ g ∷ h ∷ []) k l s =
     let m = k .1 .1 .1 .1 in (
-      sym (λ i. four-back a b c d (k .0) (k .1 .0) (k .1 .1 .0) (k .1 .1 .1 .0) i ++ (ap four s ∙ four-back e f g h (m .0) (m .1 .0) (m .1 .1 .0) (m .1 .1 .1 .0)) i),
+      sym (λ i. four-back a b c d (k .0) (k .1 .0) (k .1 .1 .0) (k .1 .1 .1 .0) i
+          ++ (ap four s ∙ four-back e f g h (m .0) (m .1 .0) (m .1 .1 .0) (m .1 .1 .1 .0)) i),
       omega (arith, k .0, k .1 .0, k .1 .1 .0, k .1 .1 .1 .0),
     )
 lengths-back [] k l s = absurd (omega (arith, l))
@@ -107,10 +109,12 @@ head-next h l m = (head-part h [] (omega arith), some-end h l)
 
 pub unequal-next : (h rest : List ℕ) → length h ≡ 16 → (fourAt h 8 ≡ fourAt h 12 → ⊥) → reads (inHead []) (h ++ rest) ≡ (refusal 61 ∷ [], behind 61)
 unequal-next h rest l z =
-    reads-then (inHead []) h rest (head-read h [] (omega arith) (λ q. absurd (omega (arith, q, l))) ∙ ap (λ t. say (pick t (recordBy (eqb (fourAt h 8) 0) (fourAt h 8) []) (says (refusal 61)))) (ne-eqb (fourAt h 8) (fourAt h 12) z))
+    reads-then (inHead []) h rest (head-read h [] (omega arith) (λ q. absurd (omega (arith, q, l)))
+    ∙ ap (λ t. say (pick t (recordBy (eqb (fourAt h 8) 0) (fourAt h 8) []) (says (refusal 61)))) (ne-eqb (fourAt h 8) (fourAt h 12) z))
     ∙ ap (λ (r : List Told × Reading). andThen (refusal 61 ∷ [], behind 61) (λ t. r)) (quiet 61 rest)
 
-pub bytes-next : (times : List ℕ) (n : ℕ) (bs : List ℕ) → length times ≡ 8 → n < 4294967296 → length bs < n → reads (inHead []) (headOf times n ++ bs) ≡ ([], inRecord n bs)
+pub bytes-next : (times : List ℕ) (n : ℕ) (bs : List ℕ) → length times ≡ 8 → n < 4294967296 → length bs < n
+    → reads (inHead []) (headOf times n ++ bs) ≡ ([], inRecord n bs)
 bytes-next times n bs e l m =
     let k = length-append times (four n ++ four n) in
     reads-then (inHead []) (headOf times n) bs
@@ -175,7 +179,8 @@ step (in-bytes times n bs e l m) k ps w rec = absurd (omega (arith, w .1, ap (λ
 step (whole times bs rest e l) k ps w rec =
     let b = each-append-right IsByte times (four (length bs) ++ (four (length bs) ++ bs)) (each-append-left IsByte (timed times bs) rest k) in
     whole-only times bs rest e l (b .1 .1 .1 .1 .1 .1 .1 .1) ps w
-    (rec rest (omega (arith, e, length-append (timed times bs) rest, length-append times (four (length bs) ++ (four (length bs) ++ bs)))) (each-append-right IsByte (timed times bs) rest k))
+    (rec rest (omega (arith, e, length-append (timed times bs) rest, length-append times (four (length bs) ++ (four (length bs) ++ bs))))
+    (each-append-right IsByte (timed times bs) rest k))
 
 records-only : (n : ℕ) (bs : List ℕ) → length bs ≤ n → Bytes bs → (ps : List Packet) → Whole ps (reads (inHead []) bs) → Only ps bs
 records-only zero bs l k ps w = step (next bs k) k ps w (λ rest m. absurd (omega (arith, l, m)))

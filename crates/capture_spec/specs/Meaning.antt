@@ -1,10 +1,11 @@
 -- What is imported of a capture (request W11), byte by byte, to a reader whose memory has no limit.
--- entry         what a record's bytes are: a packet that the sender would accept, or 62
--- entryLimit    how many bytes such a packet has, at most
--- Reading       the reader's state
--- read, reads   one byte, and a byte string
--- ends          what the end of the file says
--- imported      of a whole file
+-- orNone, entry               what a record's bytes are: a packet that the sender would accept, or 62
+-- entryLimit                  how many bytes such a packet has, at most
+-- Reading, fresh              the reader's state, and the one before the first byte
+-- fourAt, recordBy, headed    a number of four bytes; what a whole head gives
+-- read, reads                 one byte, and a byte string
+-- ends                        what the end of the file says
+-- imported                    of a whole file
 use Prim.Native.Nat.{ℕ, _+_, _*_}
 use mathlib.Core.Bool.{Bool, true, false}
 use mathlib.Core.List.{List, [], _∷_, _++_}

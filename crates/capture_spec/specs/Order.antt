@@ -1,5 +1,6 @@
 -- A capture in file order (request W11): how the bytes behind the header, or behind a record, may go on.
--- Next   the ways
+-- headOf   a record's head
+-- Next     the ways
 use Prim.Native.Nat.{ℕ, _<_}
 use mathlib.Core.Path.{_≡_}
 use mathlib.Core.List.{List, [], _++_}

@@ -6,9 +6,9 @@
 use board::Owed;
 use board::Readout;
 use board::Wants;
+use board_lines::Piece;
 use cases::Cut;
 use channel::Receiver;
-use lines::Piece;
 use listing_spec::Spot;
 use ports::Entry;
 use ports::Ports;
@@ -133,7 +133,7 @@ fn longer(fresh: Readout) -> Readout {
         ports,
         owed: Owed {
             piece: Piece {
-                bytes: [0u8; lines::Line::LONGEST],
+                bytes: [0u8; listing_lines::Line::LONGEST],
                 length: 129,
             },
             out: 0,

@@ -6,7 +6,7 @@ use channel::Answer;
 use channel::Condition;
 use channel::Hunting;
 use four_receivers::Receiver;
-use interleaver::Back;
+use four_receivers::Seat;
 use interleaver::Matrix;
 use stream::FrameReader;
 use subchannel::Counts;
@@ -15,11 +15,16 @@ use subchannel::Settings;
 use subchannel::Sub;
 use subchannel_spec::Configured;
 
-pub fn configure(number: u64, receiver: Receiver) -> Receiver {
+pub fn configure(
+    number: u64,
+    receiver: Receiver,
+    cells: &mut [[u8; Matrix::CELLS]; Receiver::MOST],
+) -> Receiver {
     let done = receiver.configure(
         cases::first(number),
         cases::second(number),
         cases::third(number),
+        cells,
     );
     let answer = done.answer;
     cases::print(configured(answer));
@@ -37,6 +42,7 @@ fn configured(answer: Configured) -> u64 {
 pub fn hear(
     number: u64,
     receiver: Receiver,
+    cells: &mut [[u8; Matrix::CELLS]; Receiver::MOST],
     recv: &mut [u8],
     word: &mut [u8],
     piece: &[u8],
@@ -50,13 +56,21 @@ pub fn hear(
     if recv.len() < to || word.len() < end {
         return receiver;
     }
-    hear_all(receiver, n, &mut recv[from..to], &mut word[at..end], piece)
+    hear_all(
+        receiver,
+        n,
+        cells,
+        &mut recv[from..to],
+        &mut word[at..end],
+        piece,
+    )
 }
 
 // A piece, until more is wanted or a call is refused.
 fn hear_all(
     receiver: Receiver,
     n: usize,
+    cells: &mut [[u8; Matrix::CELLS]; Receiver::MOST],
     recv: &mut [u8],
     word: &mut [u8],
     piece: &[u8],
@@ -68,7 +82,7 @@ fn hear_all(
         if piece.len() < at {
             return next;
         }
-        let h = next.hear(n, recv, word, &piece[at..]);
+        let h = next.hear(n, cells, recv, word, &piece[at..]);
         let answer = h.answer;
         next = h.receiver;
         at = std::num::wrapping_add_usize(at, h.taken);
@@ -108,7 +122,7 @@ fn goes_on(taken: usize, answer: Answer, recv: &[u8]) -> bool {
     }
 }
 
-fn get(r: Receiver, k: usize) -> Sub {
+fn get(r: Receiver, k: usize) -> Seat {
     if k == 0 {
         return r.a;
     }
@@ -121,28 +135,27 @@ fn get(r: Receiver, k: usize) -> Sub {
     r.d
 }
 
-fn put(r: Receiver, k: usize, sub: Sub) -> Receiver {
+fn put(r: Receiver, k: usize, seat: Seat) -> Receiver {
     let a = r.a;
     let b = r.b;
     let c = r.c;
     let d = r.d;
     match k {
-        0 => Receiver { a: sub, b, c, d },
-        1 => Receiver { a, b: sub, c, d },
-        2 => Receiver { a, b, c: sub, d },
-        _ => Receiver { a, b, c, d: sub },
+        0 => Receiver { a: seat, b, c, d },
+        1 => Receiver { a, b: seat, c, d },
+        2 => Receiver { a, b, c: seat, d },
+        _ => Receiver { a, b, c, d: seat },
     }
 }
 
 pub fn set(number: u64, receiver: Receiver, x: &[u8]) -> Receiver {
-    let k = cases::first(number);
-    let old = get(receiver, k);
     put(
         receiver,
-        k,
-        Sub {
+        cases::first(number),
+        Seat {
             lane: lane(x),
-            back: back(old.back, x),
+            again: is_set(x, 30),
+            place: cases::pair_at(x, 32),
         },
     )
 }
@@ -168,12 +181,7 @@ fn is_set(x: &[u8], at: usize) -> bool {
 
 fn hunting(x: &[u8]) -> Hunting {
     if x.len() < 14 {
-        return Hunting {
-            a: 0,
-            b: 0,
-            c: 0,
-            d: 0,
-        };
+        return Hunting::fresh();
     }
     Hunting {
         a: x[10],
@@ -201,36 +209,33 @@ fn frame(x: &[u8]) -> FrameReader {
     }
 }
 
-// The same cells, at another place.
-fn back(old: Back, x: &[u8]) -> Back {
-    let matrix = old.matrix;
-    let cells = matrix.cells;
-    Back {
-        again: is_set(x, 30),
-        matrix: Matrix {
-            place: cases::pair_at(x, 32),
-            cells,
-        },
-    }
-}
-
-pub fn view(number: u64, room: usize, receiver: Receiver, recv: &[u8], word: &[u8]) {
+pub fn view(
+    number: u64,
+    room: usize,
+    receiver: Receiver,
+    cells: &[[u8; Matrix::CELLS]; Receiver::MOST],
+    recv: &[u8],
+    word: &[u8],
+) {
     let k = base::least(cases::first(number), 3);
-    let sub = get(receiver, k);
-    let back = sub.back;
-    let matrix = back.matrix;
-    let lane = sub.lane;
+    let seat = get(receiver, k);
+    let lane = seat.lane;
     print_lane(lane);
-    cases::print(back.again as u64);
-    cases::print(matrix.place as u64);
+    cases::print(seat.again as u64);
+    cases::print(seat.place as u64);
     print_part(Sub::RAW * k, Sub::RAW, recv);
     print_part(Sub::WORD * k, Sub::WORD, word);
-    print_cells(matrix, room);
+    let own = cells_of(cells, k);
+    print_part(0, room, &own);
 }
 
-fn print_cells(matrix: Matrix, n: usize) {
-    let cells = matrix.cells;
-    print_part(0, n, &cells);
+fn cells_of(cells: &[[u8; Matrix::CELLS]; Receiver::MOST], k: usize) -> [u8; Matrix::CELLS] {
+    match k {
+        0 => cells[0],
+        1 => cells[1],
+        2 => cells[2],
+        _ => cells[3],
+    }
 }
 
 // So many bytes from a place on.

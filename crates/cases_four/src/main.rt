@@ -1,4 +1,4 @@
-//! Answers cases of fixed sub-channels, received. The receiver of four and its buffers are carried over from case to case.
+//! Answers cases of fixed sub-channels, received. The receiver of four, its cells and its buffers are carried over from case to case.
 //!
 //! crates/cases has the form of a case; its number holds three of 16 bits, the first one lowest. An answer: what is told.
 //! Asked for (hearing.rt): n all anew, buffers filled with 0xA5; c a sub-channel configured (its number, R, depth); h a piece handed in until
@@ -8,17 +8,19 @@ mod hearing;
 
 use cases::Case;
 use four_receivers::Receiver;
+use interleaver::Matrix;
 use subchannel::Sub;
 
 // The receive buffers and the word buffers of four sub-channels.
-const RAWS: usize = 4 * Sub::RAW;
+const RAWS: usize = Receiver::MOST * Sub::RAW;
 
-const WORDS: usize = 4 * Sub::WORD;
+const WORDS: usize = Receiver::MOST * Sub::WORD;
 
 fn main() {
     let mut bytes = io::large_buffer();
     let mut recv = [0xA5u8; RAWS];
     let mut word = [0xA5u8; WORDS];
+    let mut cells = [[0u8; Matrix::CELLS]; Receiver::MOST];
     let mut receiver = Receiver::fresh();
     let mut left = u64::MAX;
     while left > 0 {
@@ -26,7 +28,7 @@ fn main() {
         if !case.go {
             return;
         }
-        receiver = answer(case, receiver, &mut recv, &mut word, &bytes);
+        receiver = answer(case, receiver, &mut cells, &mut recv, &mut word, &bytes);
         left -= 1;
     }
 }
@@ -35,6 +37,7 @@ fn main() {
 fn answer(
     case: Case,
     receiver: Receiver,
+    cells: &mut [[u8; Matrix::CELLS]; Receiver::MOST],
     recv: &mut [u8],
     word: &mut [u8],
     bytes: &[u8],
@@ -46,13 +49,14 @@ fn answer(
         b'n' => {
             cases::fill(recv, 0xA5);
             cases::fill(word, 0xA5);
+            *cells = [[0u8; Matrix::CELLS]; Receiver::MOST];
             Receiver::fresh()
         }
-        b'c' => hearing::configure(number, receiver),
-        b'h' => hearing::hear(number, receiver, recv, word, given),
+        b'c' => hearing::configure(number, receiver, cells),
+        b'h' => hearing::hear(number, receiver, cells, recv, word, given),
         b'x' => hearing::set(number, receiver, given),
         b'v' => {
-            hearing::view(number, case.room, receiver, recv, word);
+            hearing::view(number, case.room, receiver, cells, recv, word);
             receiver
         }
         _ => receiver,

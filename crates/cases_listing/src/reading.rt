@@ -7,8 +7,8 @@ use base::Written;
 use cases::Cut;
 use channel::Receiver;
 use listing::Lister;
-use listing::Totals;
 use listing::Wants;
+use listing_lines::Totals;
 use listing_spec::Spot;
 use recording::RecordingReader;
 

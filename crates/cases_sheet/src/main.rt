@@ -5,7 +5,6 @@
 //! well. An answer: what becomes of the recording: 0 it counts, 1 it is wrong, 65,536 and the number of a refusal; how many rows the sheet then has;
 //! and for each of 16 places its row, and its line with its length before it, or 65,536 and the number of a refusal.
 use base::Written;
-use lines::Line;
 use ports_spec::Range;
 use sheet::Counted;
 use sheet::Draft;
@@ -134,7 +133,7 @@ fn tell_row(row: Row) {
 }
 
 fn tell_line(sheet: Sheet, i: usize) {
-    let mut text = [0u8; Line::ROW];
+    let mut text = [0u8; Sheet::LINE];
     match sheet.print(i, &mut text) {
         Written::Wrote(n) => cases::show(n, &text),
         Written::Refused(n) => cases::print(cases::refused(n)),

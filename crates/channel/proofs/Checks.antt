@@ -54,7 +54,7 @@ module _ (w : List ℕ) (h : length w ≡ wordBytes) (r : Checked) (e : r ≡ ch
   told-damaged f = false-by (clean parityBytes w) (sym is-check ∙ f)
 
   pub told-refused : (n : ℕ) → r ≡ check.Refused n → false ≡ clean parityBytes w
-  told-refused n f = absurd (never-refused w h n (clean parityBytes w) (sym is-check ∙ f))
+  told-refused n f = absurd (never-refused n (clean parityBytes w) (sym is-check ∙ f))
 
 -- what repair finds of the word w, and leaves of it
 module _ (w : List ℕ) (h : length w ≡ wordBytes) (b : Bytes w) {a x : Mended} {o : List ℕ} (p : Promised parityBytes w a o) where
@@ -68,8 +68,8 @@ module _ (k : List ℕ) (h : wordBytes ≤ length k) where
   pub settled-clean : true ≡ clean parityBytes (take wordBytes k) → (Clean ≡ condition (take wordBytes k)) × (k ≡ mendIn k)
   settled-clean e =
       let l : length (take wordBytes k) ≡ wordBytes = length-take-le wordBytes k h in (
-        sym (condition-clean (take wordBytes k) l (sym e)),
-        sym (take-append-drop wordBytes k) ∙ ap (λ x. x ++ drop wordBytes k) (sym (mend-clean (take wordBytes k) l (sym e))),
+        sym (condition-clean parityBytes (omega arith) (take wordBytes k) l (sym e)),
+        sym (take-append-drop wordBytes k) ∙ ap (λ x. x ++ drop wordBytes k) (sym (mend-clean parityBytes (omega arith) (take wordBytes k) l (sym e))),
       )
 
   -- .. or lent to repair

@@ -1,5 +1,6 @@
 -- What the paper demands of the channel's receiver, of the call: whatever the buffers hold, and however the byte string is cut. Each law says
 -- two things together (`EveryCut`): the calls come to their end, and what they yield.
+-- cut-so                                          what every way yields, in other words
 -- every-cut                                       the answers and the final state of the uncut string
 -- same-cut                                        .. from the same buffers, to the last byte of both
 -- remembered-told                                 the place remembered is the one that a closing flag would tell
@@ -23,7 +24,8 @@ use Rattle.stream.proofs.Remembered.{held-told}
 use Rattle.packet_spec.specs.Sender.{Accepted}
 use Rattle.stream.specs.Sender.{delivered, openedFrom}
 use Rattle.channel_spec.specs.Sender.{wordBytes, framed, sentWords, sent}
-use Rattle.channel_spec.specs.Meaning.{condition, Event, Chan, hunting, inWord, inMark, frames, blocks, losses, freshChannel, hears, answers, IsWord, carried, FirstMarker}
+use Rattle.channel_spec.specs.Meaning.{condition, Event, Chan, hunting, inWord, inMark, frames, blocks, losses, freshChannel, hears, answers, IsWord}
+use Rattle.channel_spec.specs.Meaning.{carried, FirstMarker}
 use Rattle.channel_spec.specs.declared.Condition.the-variants.{Clean as clean}
 use Rattle.channel.specs.Call.{Memory, memory, heldIn, freshReceiver, hearCall, hearAll, EveryCut, memoryOf, inUse}
 use Rattle.channel.proofs.Fine.{fine-fresh}

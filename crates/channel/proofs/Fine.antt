@@ -1,8 +1,8 @@
 -- States and buffers that pass refusals 10 and 11.
--- Fine                 what the two ask, as facts
--- fine-is, fine-of     they are passed exactly then
--- fine-fresh           a fresh receiver passes them, with buffers that are long enough
--- fine-hand, fine-eat  every move keeps it
+-- fine-is, fine-roomy, fine-of   they are passed exactly where `Fine` holds
+-- fine-fresh                     a fresh receiver passes them, with buffers that are long enough
+-- owed-one                       where a message byte is owed, one less is behind it
+-- fine-hand, fine-eat            every move keeps it
 use Prim.Native.Nat.{ℕ, suc, _≤_, _<_}
 use native.Mathlib.Omega.{arith}
 use mathlib.Core.Path.{_≡_, refl}

@@ -1,9 +1,11 @@
 -- What the code's ways through the phases of a call give.
--- shifts-next, shifts-done, hunt-next, hunt-stop, hunt-done    the two loops among the last four bytes
--- hand-none, hand-more, hand-said                              the rest of a stored word
+-- lock-as                                                      the lock of a phase's state, as it is counted
+-- shifts-next, shifts-done, hunt-next, hunt-stop, hunt-done, latest, latest-none   the two loops among the last four bytes
+-- sound-lock, lock-word, lock-marker, lock-handed, room-word   what 10 and 11 ask
+-- hand-none, taken-within, hand-more, hand-said                the rest of a stored word
 -- compare-more, compare-again, compare-lost                    marker bytes
--- hunt-found, hunt-more                                        hunting
--- fill-more, fill-whole                                        bytes of a word
+-- hunt-found, hunt-more, sought-none                           hunting, or nothing to seek
+-- fill-room, fill-within, fill-same, fill-more, fill-whole     bytes of a word
 -- handed-end, sought-end, filled-end                           phase behind phase
 -- call-unsound, call-cramped, call-on                          refused with 10, with 11, or let on
 use Prim.Native.Nat.{ℕ, suc, _+_, _-_, _≤_, _<_, min}
@@ -20,20 +22,18 @@ use lib.Dec.{eqb, leb}
 use borrow.Author.Tests.{le-leb, leb-true, eqb-true}
 use borrow.Rule.Slice.PartMut.{putMid}
 use Rattle.base.specs.Choice.{pick}
-use Rattle.base.specs.Calls.{after, unless, owesNone, handsNone}
+use Rattle.base.specs.Calls.{after}
 use Rattle.base.specs.Written.{copied}
-use Rattle.base.proofs.Calls.{after-none, none-owed, FitsBy, fits}
+use Rattle.base.proofs.Calls.{after-none}
 use Rattle.base.proofs.Writing.{copied-fits}
 use Rattle.base.proofs.Tests.{and-parts}
 use Rattle.packet_spec.specs.Contents.{rawLimit}
-use Rattle.packet_spec.specs.Frame.{Told, judged}
 use Rattle.packet_spec.specs.declared.Judged.{Judged}
 use Rattle.stream.specs.declared.frame.FrameReader.{FrameReader}
 use Rattle.stream.specs.declared.frame.Read.{Read}
 use Rattle.stream.specs.declared.frame.Heard.the-variants as heard
-use Rattle.stream.specs.Call.{Held, held, fresh, takeByte, readOn, readCall, ReadIs, sound as soundFrame, answered as frameAnswered}
+use Rattle.stream.specs.Call.{Held, held, fresh, readCall, ReadIs, sound as soundFrame, Fine as FineFrame}
 use Rattle.stream.proofs.Fine.{fine-of}
-use Rattle.stream.proofs.Cutting.{read-agrees}
 use Rattle.channel_spec.specs.declared.Hunting.{Hunting}
 use Rattle.channel.specs.declared.locked.Locked.{Locked}
 use Rattle.channel.specs.declared.receiver.Receiver.{Receiver}
@@ -42,12 +42,15 @@ use Rattle.channel_spec.specs.declared.Answer.the-variants.{More, Said, Block, 
 use Rattle.channel.specs.declared.answer.Hearing.{Hearing}
 use Rattle.channel.specs.declared.answer.Phase.{Phase}
 use Rattle.channel.specs.declared.hunting.Found.{Found}
-use Rattle.channel_spec.specs.Meaning.{condition, Event, block, shift, isMarker}
-use Rattle.channel.specs.Call.{Memory, memory, counts, lockedWith, owedBy, owes, asEvent, hearOn, soundLock, sound, roomy, hearBy, hearCall, mendIn, hearingOf, HearingIs}
+use Rattle.channel_spec.specs.Meaning.{condition, Event, said, block, shift, isMarker}
+use Rattle.channel.specs.Call.{Memory, memory, counts, lockedWith, eatByte, owedBy, owes, owed, handOn, hearOn, soundLock, sound, roomy, hearBy}
+use Rattle.channel.specs.Call.{hearCall, mendIn, hearingOf, HearingIs}
 use Rattle.channel.specs.Private.{shifts, later, hunted, ended, PhaseBy, HandedIs, SoughtIs, FilledIs}
 use Rattle.base.proofs.Parts.{lent, back}
 use Rattle.channel.proofs.Words.{mendIn-is}
-use Rattle.channel.proofs.Phases.{onward, hand-run, mark-part, comparedOn, behindFour, mark-four, huntedOn, hunt-run, word-part, word-whole}
+use Rattle.channel.proofs.Cutting.{hand-one}
+use Rattle.channel.proofs.Stored as stored
+use Rattle.channel.proofs.Phases.{mark-part, comparedOn, behindFour, mark-four, huntedOn, hunt-run, word-part, word-whole}
 use Rattle.channel_spec.specs.declared.Condition.{Condition}
 use Rattle.channel_spec.specs.Sender.{wordBytes, messageBytes}
 
@@ -122,7 +125,7 @@ module _ (k : Locked) (e : soundLock k ≡ true) where
 lock-sound : (w h m : ℕ) → w ≤ wordBytes → m ≤ 3 → h ≤ messageBytes → soundLock (counts w h m) ≡ true
 lock-sound w h m a b c = rw (le-leb w wordBytes a, le-leb m 3 b, le-leb h messageBytes c) refl
 
-pub room-recv : (l k : List ℕ) → roomy l k ≡ true → rawLimit ≤ length l
+room-recv : (l k : List ℕ) → roomy l k ≡ true → rawLimit ≤ length l
 room-recv l k e = leb-true _ _ (and-parts (leb rawLimit (length l)) _ e .0)
 
 pub room-word : (l k : List ℕ) → roomy l k ≡ true → wordBytes ≤ length k
@@ -133,22 +136,6 @@ owed-some : (l t : Bool) (h : ℕ) → (owedBy l t h ≡ 0 → ⊥) → (l ≡ t
 owed-some true true h e = (refl, refl, let n : messageBytes - h ≡ 0 → ⊥ = e in omega arith)
 owed-some true false h e = absurd (e refl)
 owed-some false t h e = absurd (e refl)
-
-fits-within : (o : Option Told) (n : ℕ) (g : Held) (bs : List ℕ) → FitsBy owesNone handsNone takeByte none-owed o n g bs → n ≤ length bs
-fits-within none n g bs f = omega (arith, f .0)
-fits-within (some a) n g bs f = f
-
-fits-none : (o : Option Told) (n : ℕ) (g : Held) (bs : List ℕ) → FitsBy owesNone handsNone takeByte none-owed o n g bs → frameAnswered o ≡ heard.More → n ≡ length bs
-fits-none none n g bs f e = f .0
-fits-none (some a) n g bs f e = absurd (let z : _≡_ {A = ℕ} 0 1 = cc in omega arith)
-
-is-none : (o : Option Told) → frameAnswered o ≡ heard.More → o ≡ none
-is-none none e = refl
-is-none (some a) e = absurd (let z : _≡_ {A = ℕ} 0 1 = cc in omega arith)
-
-said-is : (o : Option Told) (j : Judged) → frameAnswered o ≡ heard.Said j → (t : Told) × (o ≡ some t) × (j ≡ judged t)
-said-is none j e = absurd (let z : _≡_ {A = ℕ} 0 1 = cc in omega arith)
-said-is (some t) j e = (t, refl, cc)
 
 module _ (s : Receiver) (l k : List ℕ) (sd : sound s ≡ true) where
   pub hand-none : {t : Phase} {n : ℕ} → n ≡ owes s → n ≡ 0 → t ≡ record { done = false; answer = More; taken = 0; receiver = s } → HandedIs (memory s l k) t l
@@ -164,103 +151,61 @@ module _ (s : Receiver) (l k : List ℕ) (sd : sound s ≡ true) where
     some-owed : (s .locked ≡ true) × (eqb (s .lock .word) wordBytes ≡ true) × (s .lock .handed < messageBytes)
     some-owed = owed-some (s .locked) (eqb (s .lock .word) wordBytes) (s .lock .handed) (λ z. nz (en ∙ z))
 
-    pub hand-handed : s .lock .handed < messageBytes
+    hand-handed : s .lock .handed < messageBytes
     hand-handed = some-owed .2
 
-    whole-word : s .lock .word ≡ wordBytes
-    whole-word = eqb-true _ _ (some-owed .1)
+    -- with h message bytes handed on
+    abbrev at : ℕ → Held → Memory
+    at h g = lockedWith (s .hunting) (s .lock .word) h (s .lock .marker) g k
 
-    rest : List ℕ
-    rest = take (messageBytes - s .lock .handed) (drop (s .lock .handed) k)
+    owes-at : (h : ℕ) (g : Held) → owes (at h g .st) ≡ messageBytes - h
+    owes-at h g = ap (λ t. owedBy true t h) (some-owed .1)
 
-    got : Option Told × ℕ × Held
-    got = readOn (held (s .frame) l) rest
+    -- where it stands
+    begun : (bs : List ℕ) → hearOn (memory s l k) bs ≡ hearOn (at (s .lock .handed) (held (s .frame) l)) bs
+    begun bs i = hearOn (memory (record { locked = some-owed .0 i; hunting = s .hunting; lock = s .lock; frame = s .frame }) l k) bs
 
-    rest-length : length rest ≡ messageBytes - s .lock .handed
-    unfolding rest
-    rest-length =
-        length-take-le (messageBytes - s .lock .handed) (drop (s .lock .handed) k) (omega (arith, length-drop (s .lock .handed) k, room-word l k rm))
+    fine : FineFrame (held (s .frame) l)
+    fine = fine-of (s .frame) l (sound-frame s sd) (room-recv l k rm)
 
-    got-fits : FitsBy owesNone handsNone takeByte none-owed (got .0) (got .1) (got .2) rest
-    unfolding got
-    got-fits = fits owesNone handsNone takeByte none-owed (held (s .frame) l) rest
+    long : messageBytes ≤ length k
+    long = omega (arith, room-word l k rm)
 
     module _ {r : Read} {l′ : List ℕ} (e : ReadIs (readCall (held (s .frame) l) (take (messageBytes - s .lock .handed) (drop (s .lock .handed) k))) r l′) where
-      call-is : readCall (held (s .frame) l) (take (messageBytes - s .lock .handed) (drop (s .lock .handed) k)) ≡ got
-      unfolding got rest
-      call-is = read-agrees (held (s .frame) l) _ (fine-of (s .frame) l (sound-frame s sd) (room-recv l k rm))
-
-      heard-is : r .heard ≡ frameAnswered (got .0)
-      heard-is = ap (λ (x : Read). x .heard) (e .0) ∙ ap (λ x. frameAnswered (x .0)) call-is
-
-      taken-is : r .taken ≡ got .1
-      taken-is = ap (λ (x : Read). x .taken) (e .0) ∙ ap (λ x. x .1) call-is
-
-      frame-is : r .frame ≡ got .2 .st
-      frame-is = ap (λ (x : Read). x .frame) (e .0) ∙ ap (λ x. x .2 .st) call-is
-
-      recv-is : l′ ≡ got .2 .recv
-      recv-is = e .1 ∙ ap (λ x. x .2 .recv) call-is
-
       pub taken-within : s .lock .handed + r .taken ≤ messageBytes
-      taken-within = omega (arith, fits-within (got .0) (got .1) (got .2) rest got-fits, rest-length, taken-is, hand-handed)
+      taken-within =
+          stored.taken-within owed handOn eatByte hand-one messageBytes k at owes-at (λ h g. refl) (s .lock .handed) (held (s .frame) l) hand-handed long fine e
 
       abbrev next : Receiver
       next = record { locked = true; hunting = s .hunting; lock = counts (s .lock .word) (s .lock .handed + r .taken) (s .lock .marker); frame = r .frame }
 
-      next-is : memory next l′ k ≡ lockedWith (s .hunting) wordBytes (s .lock .handed + got .1) (s .lock .marker) (got .2) k
-      next-is = λ i.
-          memory (record {
-            locked = true;
-            hunting = s .hunting;
-            lock = counts (whole-word i) (s .lock .handed + taken-is i) (s .lock .marker);
-            frame = frame-is i;
-          }) (recv-is i) k
-
-      runs : (bs : List ℕ) → hearOn (memory s l k) bs ≡ onward (s .hunting) (s .lock .marker) k bs (s .lock .handed) got
-      unfolding got rest
-      runs bs =
-          (λ i. hearOn
-          (memory (record {
-            locked = some-owed .0 i;
-            hunting = s .hunting;
-            lock = counts (whole-word i) (s .lock .handed) (s .lock .marker);
-            frame = s .frame;
-          }) l k) bs)
-          ∙ hand-run (s .hunting) (s .lock .marker) k bs (messageBytes - s .lock .handed) (s .lock .handed) (held (s .frame) l)
-          (omega (arith, hand-handed)) (omega (arith, room-word l k rm))
-
       next-lock : soundLock (next .lock) ≡ true
-      next-lock = lock-sound (s .lock .word) (s .lock .handed + r .taken) (s .lock .marker) (lock-word (s .lock) (sound-lock s sd)) (lock-marker (s .lock) (sound-lock s sd)) taken-within
+      next-lock =
+          lock-sound (s .lock .word) (s .lock .handed + r .taken) (s .lock .marker) (lock-word (s .lock) (sound-lock s sd))
+          (lock-marker (s .lock) (sound-lock s sd)) taken-within
 
-      pub hand-more : {t : Phase} → r .heard ≡ heard.More → t ≡ record { done = false; answer = More; taken = 0; receiver = next } → HandedIs (memory s l k) t l′
+      pub hand-more : {t : Phase} → r .heard ≡ heard.More → t ≡ record { done = false; answer = More; taken = 0; receiver = next }
+          → HandedIs (memory s l k) t l′
       hand-more m p =
-          let o : got .0 ≡ none = is-none (got .0) (sym heard-is ∙ m) in
-          let w : got .1 ≡ length rest = fits-none (got .0) (got .1) (got .2) rest got-fits (sym heard-is ∙ m) in
-          let z : messageBytes - (s .lock .handed + r .taken) ≡ 0 = omega (arith, w, rest-length, taken-is, hand-handed) in
+          let x = stored.read-more owed handOn eatByte hand-one messageBytes k at owes-at (λ h g. refl) (s .lock .handed)
+          (held (s .frame) l) hand-handed long fine e m in
+          let z : messageBytes - (s .lock .handed + r .taken) ≡ 0 = omega (arith, x .0) in
           subst (λ t. HandedIs (memory s l k) t l′) (sym p) (record {
-            means = λ bs.
-                runs bs
-                ∙ ap (λ x. unless (asEvent x) 0 (lockedWith (s .hunting) wordBytes (s .lock .handed + got .1) (s .lock .marker) (got .2) k)
-                (hearOn (lockedWith (s .hunting) wordBytes (s .lock .handed + got .1) (s .lock .marker) (got .2) k) bs)) o
-                ∙ ap (λ c. hearOn c bs) (sym next-is)
-                ∙ after-none (hearOn (memory next l′ k) bs);
+            means = λ bs. begun bs ∙ x .1 bs ∙ after-none (hearOn (memory next l′ k) bs);
             taken = refl;
             lock = next-lock;
-            owed = λ d. (λ i. owedBy true (eqb (whole-word i) wordBytes) (s .lock .handed + r .taken)) ∙ z;
+            owed = λ d. owes-at (s .lock .handed + r .taken) (held (r .frame) l′) ∙ z;
           })
 
-      pub hand-said : (j : Judged) {t : Phase} → r .heard ≡ heard.Said j → t ≡ record { done = true; answer = Said j; taken = 0; receiver = next } → HandedIs (memory s l k) t l′
+      pub hand-said : (j : Judged) {t : Phase} → r .heard ≡ heard.Said j → t ≡ record { done = true; answer = Said j; taken = 0; receiver = next }
+          → HandedIs (memory s l k) t l′
       hand-said j m p =
-          let o = said-is (got .0) j (sym heard-is ∙ m) in
+          let x = stored.read-said owed handOn eatByte hand-one messageBytes k at owes-at (λ h g. refl) (s .lock .handed)
+          (held (s .frame) l) hand-handed long fine e j m in
           subst (λ t. HandedIs (memory s l k) t l′) (sym p) (record {
             means = λ bs.
-                let q : hearOn (memory s l k) bs ≡ (asEvent (some (o .0)), 0, memory next l′ k) =
-                runs bs
-                ∙ ap (λ x. unless (asEvent x) 0 (lockedWith (s .hunting) wordBytes (s .lock .handed + got .1) (s .lock .marker) (got .2) k)
-                (hearOn (lockedWith (s .hunting) wordBytes (s .lock .handed + got .1) (s .lock .marker) (got .2) k) bs)) (o .1)
-                ∙ (λ i. (asEvent (some (o .0)), 0, sym next-is i)) in (
-                  (λ i. record { answer = Said (o .2 i); taken = 0; receiver = next }) ∙ ap hearingOf (sym q),
+                let q : hearOn (memory s l k) bs ≡ (some (said (x .0)), 0, memory next l′ k) = begun bs ∙ x .2 bs in (
+                  (λ i. record { answer = Said (x .1 i); taken = 0; receiver = next }) ∙ ap hearingOf (sym q),
                   ap (λ x. x .2 .recv) (sym q),
                   ap (λ x. x .2 .word) (sym q),
                 );
@@ -292,7 +237,12 @@ module _ (s : Receiver) (bs : List ℕ) (o : s .locked ≡ true) (w : s .lock .w
       subst (SoughtIs s bs) (sym e) (record {
         means = λ l k.
             let q : hearOn (memory s l k) bs
-            ≡ (none, n, memory (record { locked = true; hunting = f; lock = counts (s .lock .word) (s .lock .handed) (s .lock .marker + n); frame = s .frame }) l k) =
+            ≡ (
+              none,
+              n,
+              memory (record { locked = true; hunting = f; lock = counts (s .lock .word) (s .lock .handed) (s .lock .marker + n); frame = s .frame })
+                  l k,
+            ) =
             ap (λ c. hearOn c bs) (memory-is l k)
             ∙ mark-part (s .lock .handed) (held (s .frame) l) k none-left bs (s .hunting) (s .lock .marker) (omega arith)
             ∙ (λ i. (
@@ -306,7 +256,8 @@ module _ (s : Receiver) (bs : List ℕ) (o : s .locked ≡ true) (w : s .lock .w
       })
 
   four : (l k : List ℕ) (t : Bool) → isMarker f ≡ t → 4 ≤ s .lock .marker + n
-      → hearOn (memory s l k) bs ≡ behindFour (s .lock .handed) (held (s .frame) l) k none-left (drop n bs) n (comparedOn (s .lock .handed) (held (s .frame) l) k none-left t f)
+      → hearOn (memory s l k) bs ≡ behindFour (s .lock .handed) (held (s .frame) l) k none-left (drop n bs) n
+      (comparedOn (s .lock .handed) (held (s .frame) l) k none-left t f)
   four l k t e h =
       ap (λ c. hearOn c bs) (memory-is l k)
       ∙ ap (hearOn (lockedWith (s .hunting) wordBytes (s .lock .handed) (s .lock .marker) (held (s .frame) l) k)) (sym (take-append-drop n bs))
@@ -379,7 +330,12 @@ module _ (s : Receiver) (bs : List ℕ) (o : s .locked ≡ false) {x : Found} (e
       })
 
   pub hunt-more : {t : Phase} → x .found ≡ false
-      → t ≡ record { done = true; answer = More; taken = x .taken; receiver = record { locked = false; hunting = x .hunting; lock = s .lock; frame = s .frame } }
+      → t ≡ record {
+        done = true;
+        answer = More;
+        taken = x .taken;
+        receiver = record { locked = false; hunting = x .hunting; lock = s .lock; frame = s .frame };
+      }
       → SoughtIs s bs t
   hunt-more e et =
       subst (SoughtIs s bs) (sym et) (record {
@@ -395,7 +351,8 @@ sought-none s bs o h e =
     subst (SoughtIs s bs) (sym e) (record { means = λ l k. after-none (hearOn (memory s l k) bs); within = omega arith; ready = λ d. (o, h) })
 
 -- ---- bytes of a word, from `at` on in a piece
-module _ (s : Receiver) (word piece : List ℕ) (at : ℕ) (o : s .locked ≡ true) (w : s .lock .word < wordBytes) (room : wordBytes ≤ length word) (in-piece : at ≤ length piece)
+module _ (s : Receiver) (word piece : List ℕ) (at : ℕ) (o : s .locked ≡ true) (w : s .lock .word < wordBytes) (room : wordBytes ≤ length word)
+    (in-piece : at ≤ length piece)
     {n : ℕ} (left : n ≡ min (wordBytes - s .lock .word) (length piece - at)) {y : List ℕ}
     (copy : y ≡ copied (take (at + n - at) (drop at piece)) (take (length word - s .lock .word) (drop (s .lock .word) word))) where
   abbrev bs : List ℕ
@@ -422,7 +379,7 @@ module _ (s : Receiver) (word piece : List ℕ) (at : ℕ) (o : s .locked ≡ tr
   parts : word ≡ before ++ behind
   parts = sym (take-append-drop (s .lock .word) word)
 
-  pub filled-is : putMid (s .lock .word) (length word - s .lock .word) word y ≡ (before ++ take n bs) ++ drop (length (take n bs)) behind
+  filled-is : putMid (s .lock .word) (length word - s .lock .word) word y ≡ (before ++ take n bs) ++ drop (length (take n bs)) behind
   filled-is =
       back before behind word (s .lock .word) parts before-length y
       ∙ ap (λ x. before ++ x)
@@ -430,8 +387,10 @@ module _ (s : Receiver) (word piece : List ℕ) (at : ℕ) (o : s .locked ≡ tr
       ∙ copied-fits (take n bs) behind (omega (arith, some-length, en, length-drop (s .lock .word) word)))
       ∙ sym (append-assoc before (take n bs) (drop (length (take n bs)) behind))
 
-  memory-at : (l : List ℕ) → memory s l word ≡ lockedWith (s .hunting) (length before) (s .lock .handed) (s .lock .marker) (held (s .frame) l) (before ++ behind)
-  memory-at l i = memory (record { locked = o i; hunting = s .hunting; lock = counts (sym before-length i) (s .lock .handed) (s .lock .marker); frame = s .frame }) l (parts i)
+  memory-at : (l : List ℕ) → memory s l word ≡ lockedWith (s .hunting) (length before) (s .lock .handed) (s .lock .marker) (held (s .frame) l)
+      (before ++ behind)
+  memory-at l i = memory
+      (record { locked = o i; hunting = s .hunting; lock = counts (sym before-length i) (s .lock .handed) (s .lock .marker); frame = s .frame }) l (parts i)
 
   fill-part : s .lock .word + n < wordBytes
       → FilledIs s word bs at (record {
@@ -471,7 +430,8 @@ module _ (s : Receiver) (word piece : List ℕ) (at : ℕ) (o : s .locked ≡ tr
   pub fill-within : at + n ≤ length piece
   fill-within = omega (arith, left)
 
-  pub fill-same : wordBytes ≤ s .lock .word + n → n ≡ wordBytes → take wordBytes bs ≡ take wordBytes (putMid (s .lock .word) (length word - s .lock .word) word y)
+  pub fill-same : wordBytes ≤ s .lock .word + n → n ≡ wordBytes
+      → take wordBytes bs ≡ take wordBytes (putMid (s .lock .word) (length word - s .lock .word) word y)
   fill-same h e =
       let z : s .lock .word ≡ 0 = omega (arith, en) in
       ap (λ i. take i bs) (sym e) ∙ ap (λ i. take i word ++ take n bs) (sym z) ∙ sym (whole-is h)

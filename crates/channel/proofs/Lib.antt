@@ -1,4 +1,5 @@
 pub mod Words
+pub mod Stored
 pub mod Fine
 pub mod Cutting
 pub mod Delivery

@@ -1,72 +1,40 @@
 -- A call phase by phase, many bytes at once.
--- hand-run                  the rest of a stored word is what the frame reader makes of it in one call
--- mark-part, mark-four      marker bytes, fewer than four and four
--- hunt-run                  hunting up to the marker
--- word-part, word-whole     bytes of a word, some and the last
-use Prim.Native.Nat.{ℕ, zero, suc, _+_, _-_, _≤_, _<_}
+-- mark-part, mark-four, comparedOn, behindFour   marker bytes, fewer than four and four; the call behind four
+-- hunt-run, huntingAt, huntedOn                  hunting up to the marker; the call behind what it finds
+-- word-part, word-whole                          bytes of a word, some and the last
+use Prim.Native.Nat.{ℕ, suc, _+_, _-_, _≤_, _<_}
 use native.Mathlib.Omega.{arith}
-use native.Mathlib.Numerals.{add-one}
 use native.Mathlib.Nat.{add-zero}
-use mathlib.Core.Path.{_≡_, refl, sym, _∙_, ap, subst}
+use mathlib.Core.Path.{_≡_, refl, sym, _∙_, ap}
 use mathlib.Core.Bool.{Bool, true, false}
 use mathlib.Core.List.{List, [], _∷_, _++_, append-nil}
 use mathlib.Core.Option.{Option, some, none}
-use lib.ListN.{length, take, drop, getD, length-append}
-use lib.Seq.{drop-cons, append-snoc, take-at, set-append-seam}
+use lib.ListN.{length, drop, length-append}
+use lib.Seq.{append-snoc, take-at, set-append-seam}
 use lib.Dec.{ltb}
 use borrow.Author.Tests.{lt-ltb, le-ltb, ne-eqb}
 use Rattle.base.specs.Choice.{pick}
-use Rattle.base.specs.Calls.{unless, oneMore, after, owesNone, handsNone}
-use Rattle.base.proofs.Calls.{after-one, one-after, none-owed, hear-hand, hear-eat, hear-end}
-use Rattle.base.proofs.Above.{Along, above}
-use Rattle.packet_spec.specs.Frame.{Told}
+use Rattle.base.specs.Calls.{unless, oneMore, after}
+use Rattle.base.proofs.Calls.{after-one, one-after, hear-eat, hear-end}
 use Rattle.stream.specs.declared.frame.FrameReader.{FrameReader}
-use Rattle.stream.specs.Call.{Held, held, takeByte, readOn}
+use Rattle.stream.specs.Call.{Held, held}
 use Rattle.channel_spec.specs.declared.Hunting.{Hunting}
 use Rattle.channel.specs.declared.locked.Locked.{Locked}
 use Rattle.channel.specs.declared.hunting.Found.{Found}
 use Rattle.channel_spec.specs.Meaning.{condition, mend, Event, block, lost, shift, isMarker}
-use Rattle.channel.specs.Call.{Memory, memory, huntingWith, lockedWith, huntOn, wordOn, compareOn, markOn, eatBy, eatByte, owed, asEvent, handOn, hearOn}
+use Rattle.channel.specs.Call.{Memory, memory, huntingWith, lockedWith, huntOn, wordOn, compareOn, markOn, eatBy, eatByte, owed, handOn, hearOn}
 use Rattle.channel.specs.Private.{shifts, later, hunted}
 use Rattle.channel.proofs.Words.{mendIn-is}
 use Rattle.channel.proofs.Cutting.{hand-one}
 use Rattle.channel_spec.specs.Sender.{wordBytes, messageBytes}
 
 -- one new byte, where nothing is owed
-eat-one : (c : Memory) (b : ℕ) (bs : List ℕ) → owed c ≡ 0 → hearOn c (b ∷ bs) ≡ unless (eatByte c b .0) 1 (eatByte c b .1) (oneMore (hearOn (eatByte c b .1) bs))
+eat-one : (c : Memory) (b : ℕ) (bs : List ℕ) → owed c ≡ 0 → hearOn c (b ∷ bs) ≡ unless (eatByte c b .0) 1 (eatByte c b .1)
+    (oneMore (hearOn (eatByte c b .1) bs))
 eat-one c b bs o = hear-eat owed handOn eatByte hand-one c b bs o
 
 no-more : (c : Memory) → owed c ≡ 0 → hearOn c [] ≡ (none, 0, c)
 no-more c o = hear-end owed handOn eatByte hand-one c o
-
--- ---- a stored word's rest
-module _ (f : Hunting) (m : ℕ) (k bs : List ℕ) where
-  -- the call with h message bytes handed on, unless the frame reader has answered
-  abbrev from : ℕ → Option Told → Held → Option Event × ℕ × Memory
-  from h o g = unless (asEvent o) 0 (lockedWith f wordBytes h m g k) (hearOn (lockedWith f wordBytes h m g k) bs)
-
-  -- the same behind what it made of the bytes from the h-th on
-  abbrev pub onward : ℕ → Option Told × ℕ × Held → Option Event × ℕ × Memory
-  onward h r = from (h + r .1) (r .0) (r .2)
-
-  -- this message byte of the word is b
-  abbrev Stored : ℕ → ℕ → Type 0
-  Stored h b = (h < messageBytes) × (getD k h 0 ≡ b)
-
-  stored : (n h : ℕ) → h + n ≡ messageBytes → messageBytes ≤ length k → Along (λ i b. suc i) Stored h (take n (drop h k))
-  stored zero h e l = tt
-  stored (suc n) h e l =
-      subst (λ v. Along (λ i b. suc i) Stored h (take (suc n) v)) (sym (drop-cons k h 0 (omega arith))) ((omega arith, refl), stored n (suc h) (omega arith) l)
-
-  pub hand-run : (n h : ℕ) (g : Held) → h + n ≡ messageBytes → messageBytes ≤ length k → hearOn (lockedWith f wordBytes h m g k) bs ≡ onward h (readOn g (take n (drop h k)))
-  hand-run n h g e l =
-      above owesNone handsNone takeByte none-owed (λ i b. suc i) Stored (λ i c xs. hearOn (lockedWith f wordBytes i m c k) bs) (λ i xs. onward i) (λ x. x)
-      (λ i xs c j. hearOn (lockedWith f wordBytes (add-zero i j) m c k) bs)
-      (λ i b xs r. let q : i + suc (r .1) ≡ suc i + r .1 = omega arith in ap (λ j. from j (r .0) (r .2)) q) (λ i c q xs z. absurd (omega (arith, z)))
-      (λ i c b xs z w.
-      hear-hand owed handOn eatByte hand-one (lockedWith f wordBytes i m c k) (messageBytes - suc i) bs (omega (arith, w .0))
-      ∙ (λ j. from (sym (add-one i) j) (takeByte c (w .1 j) .0) (takeByte c (w .1 j) .1)))
-      g (take n (drop h k)) h (stored n h e l)
 
 -- ---- marker bytes
 module _ (h : ℕ) (g : Held) (k : List ℕ) (none-left : messageBytes - h ≡ 0) where

@@ -1,14 +1,18 @@
 -- The receiver as it is called (paper 01, "Opportunistic channel" on buffers and on calls): its state and the two lent buffers go in
 -- and come back, and one call gives at most one answer.
--- Memory                 state, receive buffer and word buffer
--- handOn, eatByte        one stored message byte handed on, one new byte
--- hearAll                what a byte string means: its answers, and state and buffers behind it
--- hearCall, HearingIs    one call, and that the code's results are those
--- EveryCut               a byte string, cut in every way
--- Fine                   states and buffers that pass 10 and 11
--- ThereEvent             that a delivered payload stands in the receive buffer
--- inUse                  the final state that counts
--- memoryOf               the state of the receiver without a limit, in numbers and the buffers
+-- Memory, memory, heldIn           state, receive buffer and word buffer; the frame reader in it
+-- counts, huntingWith, freshReceiver, lockedWith   states, by their counts
+-- huntOn, mendIn, wordOn, compareOn, markOn, eatBy, eatByte   one new byte, by where it comes
+-- owedBy, owes, owed               message bytes of a stored word that are not handed on yet
+-- asEvent, handWith, handOn        one of them handed on
+-- hearAll                          what a byte string means: its answers, and state and buffers behind it
+-- soundLock, sound, roomy, Fine    what 10 and 11 ask; states and buffers that pass them
+-- hearOn, hearBy, hearCall         one call
+-- hearingOf, HearingIs             .. and that the code's results are those
+-- EveryCut                         a byte string, cut in every way
+-- ThereEvent                       that a delivered payload stands in the receive buffer
+-- inUse                            the final state that counts
+-- memoryOf                         the state of the receiver without a limit, in numbers and the buffers
 use Prim.Native.Nat.{ℕ, suc, _-_, _≤_}
 use mathlib.Core.Path.{_≡_}
 use mathlib.Core.Bool.{Bool, true, false, _&&_}

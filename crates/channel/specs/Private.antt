@@ -1,6 +1,6 @@
 -- What private functions alone are promised by: what the code does phase by phase, many bytes at once.
--- shifts, hunted                       bytes among the last four, up to the marker
--- PhaseBy                              a phase ends the call, or the call goes on behind it
+-- shifts, hunted, later                bytes among the last four, up to the marker
+-- ended, PhaseBy                       a phase ends the call, or the call goes on behind it
 -- HandedIs, SoughtIs, FilledIs         the phases
 use Prim.Native.Nat.{ℕ, suc, _≤_, _<_}
 use mathlib.Core.Path.{_≡_}

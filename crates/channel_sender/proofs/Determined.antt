@@ -1,4 +1,5 @@
 -- Each public function's promise determines its result, and what the output then holds.
+-- mark-determined, send-determined
 use mathlib.Core.Path.{refl}
 use Rattle.base.specs.Determined.{Determined}
 use Rattle.base.proofs.Determining.{same-answer, same-output, buffer, skip}

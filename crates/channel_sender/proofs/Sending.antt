@@ -1,12 +1,12 @@
 -- Laws of the sender.
 -- block-put                       one block, from what its calls leave
--- mark-short, mark-fits, mark-put, next-put   what the call for one block answers and leaves
+-- mark-short, mark-fits, next-put   what the call for one block answers and leaves
 -- firstBlocks, blocks-next        the blocks passed are written, and the rest is as it was: a turn of the loop
 -- blocks-room                     and the output's length stays
 -- send-short, send-fits           what the call for a whole stream answers and leaves
 -- marking-keeps, sending-keeps    a refused call leaves the output as it was
 use mathlib.Core.Path.{_≡_, refl, sym, ap, ap₂, _∙_}
-use mathlib.Core.List.{List, [], _∷_, _++_, map, append-assoc, append-nil}
+use mathlib.Core.List.{List, [], _∷_, _++_, map, append-assoc, append-nil, map-append}
 use Prim.Native.Nat.{ℕ, zero, suc, _+_, _-_, _*_, _/_, _≤_, _<_}
 use native.Mathlib.Nat.{le-of-suc-le-suc, sub-zero, suc-sub-suc}
 use native.Mathlib.Numerals.{add-one}
@@ -19,26 +19,17 @@ use borrow.Rule.Slice.PartMut.{putMid}
 use Rattle.base.specs.Written.{Outcome, outcome, refused, write, copied, Keeps}
 use Rattle.base.specs.declared.Written.{Written}
 use Rattle.base.specs.declared.Written.the-variants.{Wrote}
-use Rattle.base.proofs.Lists.{over}
+use Rattle.base.proofs.Lists.{over, drop-same}
 use Rattle.base.proofs.Parts.{tail-is, lent, back}
 use Rattle.base.proofs.Tests.{by-le}
-use Rattle.base.proofs.Writing.{write-fits, write-short, copied-fits, write-keeps, refused-keeps, pick-keeps}
+use Rattle.base.proofs.Writing.{copied-fits, copied-over, write-fits, wrote-fits, wrote-short, write-keeps, refused-keeps, pick-keeps}
 use Rattle.packet_spec.specs.Escape.{flag}
 use Rattle.word_spec.specs.Word.{remainder}
 use Rattle.parity.specs.Calls.{made}
 use Rattle.word_spec.proofs.Division.{length-remainder}
-use Rattle.channel_spec.specs.Sender.{marker, wordOf, framed, fillers, filled, cutUp, marked, marking, sending, blockBytes, wordBytes, messageBytes, parityBytes}
-
--- ---- bytes written, and no room for them
-module _ (bs out : List ℕ) (n : ℕ) (l : length bs ≡ n) where
-  wrote-short : length out < n → refused 23 out ≡ write bs out
-  wrote-short h = sym (write-short bs out (omega arith))
-
-  wrote-fits : {after : List ℕ} → n ≤ length out → after ≡ bs ++ drop n out → outcome (Wrote n) after ≡ write bs out
-  wrote-fits h e =
-      let k : length bs ≤ length out = omega arith in
-      ap₂ (λ (m : ℕ) (x : List ℕ). outcome (Wrote m) x) (sym l) (e ∙ ap (λ (m : ℕ). bs ++ drop m out) (sym l) ∙ sym (copied-fits bs out k))
-      ∙ sym (write-fits bs out k)
+use Rattle.channel_spec.proofs.Marking.{framed-append}
+use Rattle.channel_spec.specs.Sender.{marker, wordOf, framed, fillers, filled, cutUp, marked, marking, sending, blockBytes, wordBytes, messageBytes}
+use Rattle.channel_spec.specs.Sender.{parityBytes}
 
 -- ---- one block: the marker, the message and its parity, one behind the other
 block-length : (m : List ℕ) → length m ≡ messageBytes → length (marker ++ wordOf m) ≡ blockBytes
@@ -84,10 +75,12 @@ module _ (m out : List ℕ) (h : length m ≡ messageBytes) where
   pub mark-short : length out < blockBytes → refused 23 out ≡ marking m out
   mark-short k = simp (eq-eqb (length m) messageBytes h) (wrote-short (marker ++ wordOf m) out blockBytes (block-length m h) k)
 
-  pub mark-fits : {after : List ℕ} → blockBytes ≤ length out → after ≡ (marker ++ wordOf m) ++ drop blockBytes out → outcome (Wrote blockBytes) after ≡ marking m out
+  pub mark-fits : {after : List ℕ} → blockBytes ≤ length out → after ≡ (marker ++ wordOf m) ++ drop blockBytes out
+      → outcome (Wrote blockBytes) after ≡ marking m out
   mark-fits k e = simp (eq-eqb (length m) messageBytes h) (wrote-fits (marker ++ wordOf m) out blockBytes (block-length m h) k e)
 
-  pub mark-put : {w : Written} {after : List ℕ} → blockBytes ≤ length out → outcome w after ≡ marking m out → after ≡ (marker ++ wordOf m) ++ drop blockBytes out
+  mark-put : {w : Written} {after : List ℕ} → blockBytes ≤ length out → outcome w after ≡ marking m out
+      → after ≡ (marker ++ wordOf m) ++ drop blockBytes out
   mark-put k e = ap (λ (o : Outcome). o .output) (e ∙ sym (mark-fits k refl))
 
 -- ---- a message: the next 223 bytes, or those that are left and flags behind them
@@ -95,10 +88,6 @@ abbrev messageOf : List ℕ → List ℕ
 messageOf bs = copied bs (replicate messageBytes flag)
 
 -- copying that fills all there is
-copied-over : (bs dst : List ℕ) → length dst ≤ length bs → copied bs dst ≡ take (length dst) bs
-unfolding copied
-copied-over bs dst h = ap (λ (l : List ℕ). take (length dst) bs ++ l) (over dst (length bs) h) ∙ append-nil (take (length dst) bs)
-
 length-copied : (bs dst : List ℕ) → length (copied bs dst) ≡ length dst
 length-copied bs dst =
     by-le (length bs) (length dst)
@@ -113,11 +102,6 @@ pub next-put : (s out : List ℕ) {m : List ℕ} {w : Written} {after : List ℕ
     → outcome w after ≡ marking m out → after ≡ (marker ++ wordOf (copied s (replicate messageBytes flag))) ++ drop blockBytes out
 next-put s out e k f =
     mark-put (copied s (replicate messageBytes flag)) out (message-length s) k (f ∙ ap (λ (m : List ℕ). marking m out) e)
-
-drop-flags : (n k : ℕ) → n ≤ k → drop n (replicate k flag) ≡ replicate (k - n) flag
-drop-flags zero k h = simp sub-zero
-drop-flags (suc n) zero h = absurd (omega arith)
-drop-flags (suc n) (suc k) h = simp suc-sub-suc (drop-flags n k (le-of-suc-le-suc h))
 
 -- ---- block after block
 abbrev blockOf : List ℕ → List ℕ
@@ -134,13 +118,15 @@ length-blocks bs (suc i) =
     length-append (firstBlocks bs i) (blockOf l) ∙ omega (arith, length-blocks bs i, block-length (messageOf l) (message-length l))
 
 module _ (bs out₀ out : List ℕ) (i : ℕ) (e : out ≡ firstBlocks bs i ++ drop (blockBytes * i) out₀) {y : List ℕ}
-    (ey : y ≡ blockOf (take (length bs - messageBytes * i) (drop (messageBytes * i) bs)) ++ drop blockBytes (take (length out - blockBytes * i) (drop (blockBytes * i) out))) where
+    (ey : y ≡ blockOf (take (length bs - messageBytes * i) (drop (messageBytes * i) bs))
+    ++ drop blockBytes (take (length out - blockBytes * i) (drop (blockBytes * i) out))) where
   pub blocks-next : putMid (blockBytes * i) (length out - blockBytes * i) out y ≡ firstBlocks bs (i + 1) ++ drop (blockBytes * (i + 1)) out₀
   blocks-next =
       let n : blockBytes * i + blockBytes ≡ blockBytes * suc i = omega arith in
       back (firstBlocks bs i) (drop (blockBytes * i) out₀) out (blockBytes * i) e (length-blocks bs i) y
       ∙ ap (λ (t : List ℕ). firstBlocks bs i ++ t)
-      (ey ∙ ap₂ (λ (a b : List ℕ). blockOf a ++ drop blockBytes b) (tail-is (messageBytes * i) bs) (lent (firstBlocks bs i) (drop (blockBytes * i) out₀) out (blockBytes * i) e (length-blocks bs i)))
+      (ey ∙ ap₂ (λ (a b : List ℕ). blockOf a ++ drop blockBytes b) (tail-is (messageBytes * i) bs)
+      (lent (firstBlocks bs i) (drop (blockBytes * i) out₀) out (blockBytes * i) e (length-blocks bs i)))
       ∙ sym (append-assoc (firstBlocks bs i) (blockOf (drop (messageBytes * i) bs)) (drop blockBytes (drop (blockBytes * i) out₀)))
       ∙ ap (λ (t : List ℕ). firstBlocks bs (suc i) ++ t) (drop-drop blockBytes (blockBytes * i) out₀ ∙ ap (λ (m : ℕ). drop m out₀) n)
       ∙ ap (λ (j : ℕ). firstBlocks bs j ++ drop (blockBytes * j) out₀) (sym (add-one i))
@@ -154,7 +140,8 @@ module _ (bs out₀ out : List ℕ) (i : ℕ) (e : out ≡ firstBlocks bs i ++ d
 length-filled : (bs : List ℕ) → length (filled bs) ≡ length bs + fillers (length bs)
 length-filled bs = length-append bs (replicate (fillers (length bs)) flag) ∙ ap (λ (n : ℕ). length bs + n) (length-replicate (fillers (length bs)) flag)
 
-message-is : (bs : List ℕ) (i : ℕ) → messageBytes * suc i ≤ length (filled bs) → take messageBytes (drop (messageBytes * i) (filled bs)) ≡ messageOf (drop (messageBytes * i) bs)
+message-is : (bs : List ℕ) (i : ℕ) → messageBytes * suc i ≤ length (filled bs)
+    → take messageBytes (drop (messageBytes * i) (filled bs)) ≡ messageOf (drop (messageBytes * i) bs)
 message-is bs i h =
     let f : ℕ = fillers (length bs) in
     let l : List ℕ = drop (messageBytes * i) bs in
@@ -165,14 +152,16 @@ message-is bs i h =
     ∙ by-le messageBytes (length l)
     (λ g.
     take-append-le messageBytes l (replicate f flag) g
-    ∙ sym (copied-over l (replicate messageBytes flag) (omega (arith, length-replicate messageBytes flag)) ∙ ap (λ (n : ℕ). take n l) (length-replicate messageBytes flag)))
+    ∙ sym (copied-over l (replicate messageBytes flag) (omega (arith, length-replicate messageBytes flag))
+    ∙ ap (λ (n : ℕ). take n l) (length-replicate messageBytes flag)))
     (λ g.
     let e : f ≡ messageBytes - length l = omega arith in
     let a : length (l ++ replicate f flag) ≤ messageBytes = omega (arith, length-append l (replicate f flag), length-replicate f flag) in
     take-all messageBytes (l ++ replicate f flag) a
     ∙ ap (λ (n : ℕ). l ++ replicate n flag) e
     ∙ sym
-    (copied-fits l (replicate messageBytes flag) (omega (arith, length-replicate messageBytes flag)) ∙ ap (λ (t : List ℕ). l ++ t) (drop-flags (length l) messageBytes (omega arith))))
+    (copied-fits l (replicate messageBytes flag) (omega (arith, length-replicate messageBytes flag))
+    ∙ ap (λ (t : List ℕ). l ++ t) (drop-same flag (length l) messageBytes)))
 
 cut-last : (q : ℕ) (bs : List ℕ) → cutUp (suc q) bs ≡ cutUp q bs ++ take messageBytes (drop (messageBytes * q) bs) ∷ []
 cut-last zero bs = refl
@@ -180,13 +169,14 @@ cut-last (suc q) bs =
     let n : messageBytes + messageBytes * q ≡ messageBytes * suc q = omega arith in
     ap (λ (l : List (List ℕ)). take messageBytes bs ∷ l)
     (cut-last q (drop messageBytes bs)
-    ∙ ap (λ (x : List ℕ). cutUp q (drop messageBytes bs) ++ take messageBytes x ∷ []) (drop-drop (messageBytes * q) messageBytes bs ∙ ap (λ (m : ℕ). drop m bs) n))
+    ∙ ap (λ (x : List ℕ). cutUp q (drop messageBytes bs) ++ take messageBytes x ∷ [])
+    (drop-drop (messageBytes * q) messageBytes bs ∙ ap (λ (m : ℕ). drop m bs) n))
 
 framed-last : (us : List (List ℕ)) (m : List ℕ) → framed (map wordOf (us ++ m ∷ [])) ≡ framed (map wordOf us) ++ (marker ++ wordOf m)
-framed-last [] m = ap (λ (l : List ℕ). marker ++ l) (append-nil (wordOf m))
-framed-last (u ∷ us) m =
-    ap (λ (l : List ℕ). marker ++ (wordOf u ++ l)) (framed-last us m)
-    ∙ ap (λ (l : List ℕ). marker ++ l) (sym (append-assoc (wordOf u) (framed (map wordOf us)) (marker ++ wordOf m)))
+framed-last us m =
+    ap framed (map-append wordOf us (m ∷ []))
+    ∙ framed-append (map wordOf us) (wordOf m ∷ [])
+    ∙ ap (λ (l : List ℕ). framed (map wordOf us) ++ (marker ++ l)) (append-nil (wordOf m))
 
 blocks-marked : (bs : List ℕ) (i : ℕ) → messageBytes * i ≤ length (filled bs) → framed (map wordOf (cutUp i (filled bs))) ≡ firstBlocks bs i
 blocks-marked bs zero h = refl

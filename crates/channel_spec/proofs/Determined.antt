@@ -1,4 +1,5 @@
 -- Each public function's promise determines its result.
+-- fresh-determined, shift-determined, at-marker-determined
 use mathlib.Core.Path.{refl}
 use Rattle.base.specs.Determined.{Determined}
 use Rattle.base.proofs.Determining.{same}

@@ -1,5 +1,8 @@
 pub mod Tests
 pub mod Words
+pub mod Messages
+pub mod Given
+pub mod Marker
 pub mod Marking
 pub mod Streaming
 pub mod Order

@@ -1,34 +1,25 @@
 -- Laws of marked blocks.
--- marked-append      of whole messages and more: the blocks of the one, and those of the other
+-- framed-append      words one behind the other, each with its marker
 -- marked-length      259 bytes for each whole message
--- wholes-length, rest-short, wholes-rest   the whole messages among bytes, and the rest
+-- wholes-length, rest-short   the whole messages among bytes, and the rest
 -- marked-rest        whole messages may go out first
 use Prim.Native.Nat.{ℕ, zero, suc, _+_, _*_, _/_, _<_}
 use native.Mathlib.Omega.{arith}
-use native.Mathlib.Nat.{suc-add, zero-add}
 use mathlib.Core.Path.{_≡_, refl, sym, _∙_, ap}
-use mathlib.Core.List.{List, [], _∷_, _++_, map, append-nil, append-assoc}
+use mathlib.Core.List.{List, [], _∷_, _++_, map, append-nil, append-assoc, map-append}
 use lib.ListN.{length, take, drop, replicate, length-append, length-drop, take-append-drop}
-use lib.Seq.{take-append-le, drop-append-le, length-take-le}
+use lib.Seq.{length-take-le}
+use lib.Dec.{lit<}
 use Rattle.packet_spec.specs.Escape.{flag}
 use Rattle.word_spec.specs.Word.{remainder}
 use Rattle.word_spec.proofs.Division.{length-remainder}
-use Rattle.channel_spec.specs.Sender.{marker, wordOf, framed, fillers, filled, cutUp, marked, wholeBytes, wholes, restOf, blockBytes, messageBytes, parityBytes, wordBytes}
+use Rattle.channel_spec.specs.Sender.{wordOf, framed, fillers, filled, cutUp, marked, wholeBytes, wholes, restOf, blockBytes}
+use Rattle.channel_spec.specs.Sender.{messageBytes, parityBytes, wordBytes}
+use Rattle.channel_spec.proofs.Messages.{cut-append}
 
-framed-append : (us vs : List (List ℕ)) → framed (map wordOf (us ++ vs)) ≡ framed (map wordOf us) ++ framed (map wordOf vs)
+pub framed-append : (us vs : List (List ℕ)) → framed (us ++ vs) ≡ framed us ++ framed vs
 framed-append [] vs = refl
-framed-append (u ∷ us) vs =
-    ap (λ (l : List ℕ). marker ++ (wordOf u ++ l)) (framed-append us vs)
-    ∙ ap (λ (l : List ℕ). marker ++ l) (sym (append-assoc (wordOf u) (framed (map wordOf us)) (framed (map wordOf vs))))
-
-cut-append : (q r : ℕ) (a b : List ℕ) → length a ≡ messageBytes * q → cutUp (q + r) (a ++ b) ≡ cutUp q a ++ cutUp r b
-cut-append zero r [] b h = ap (λ (n : ℕ). cutUp n b) (zero-add r)
-cut-append zero r (x ∷ a) b h = absurd (omega arith)
-cut-append (suc q) r a b h =
-    let n : length (drop messageBytes a) ≡ messageBytes * q = length-drop messageBytes a ∙ omega arith in
-    ap (λ (m : ℕ). cutUp m (a ++ b)) (suc-add q r)
-    ∙ (λ i. take-append-le messageBytes a b (omega arith) i ∷ cutUp (q + r) (drop-append-le messageBytes a b (omega arith) i))
-    ∙ ap (λ (l : List (List ℕ)). take messageBytes a ∷ l) (cut-append q r (drop messageBytes a) b n)
+framed-append (u ∷ us) vs = simp (framed-append us vs, append-assoc)
 
 module _ (q : ℕ) (a : List ℕ) (h : length a ≡ messageBytes * q) where
   filled-append : (b : List ℕ) → filled (a ++ b) ≡ a ++ filled b
@@ -47,13 +38,15 @@ module _ (q : ℕ) (a : List ℕ) (h : length a ≡ messageBytes * q) where
       let e : length (filled a) / messageBytes ≡ q = ap (λ (l : List ℕ). length l / messageBytes) none-filled ∙ omega arith in
       λ i. framed (map wordOf (cutUp (e i) (none-filled i)))
 
-  pub marked-append : (b : List ℕ) → marked (a ++ b) ≡ marked a ++ marked b
+  marked-append : (b : List ℕ) → marked (a ++ b) ≡ marked a ++ marked b
   marked-append b =
       let n : length (a ++ filled b) ≡ messageBytes * q + length (filled b) = length-append a (filled b) ∙ ap (λ (n : ℕ). n + length (filled b)) h in
-      let e : length (filled (a ++ b)) / messageBytes ≡ q + length (filled b) / messageBytes = ap (λ (l : List ℕ). length l / messageBytes) (filled-append b) ∙ omega arith in
+      let e : length (filled (a ++ b)) / messageBytes ≡ q + length (filled b) / messageBytes =
+      ap (λ (l : List ℕ). length l / messageBytes) (filled-append b) ∙ omega arith in
       (λ i. framed (map wordOf (cutUp (e i) (filled-append b i))))
-      ∙ ap (λ (l : List (List ℕ)). framed (map wordOf l)) (cut-append q (length (filled b) / messageBytes) a (filled b) h)
-      ∙ framed-append (cutUp q a) (cutUp (length (filled b) / messageBytes) (filled b))
+      ∙ ap (λ (l : List (List ℕ)). framed (map wordOf l)) (cut-append messageBytes (lit< tt) q (length (filled b) / messageBytes) a (filled b) (omega arith))
+      ∙ ap framed (map-append wordOf (cutUp q a) (cutUp (length (filled b) / messageBytes) (filled b)))
+      ∙ framed-append (map wordOf (cutUp q a)) (map wordOf (cutUp (length (filled b) / messageBytes) (filled b)))
       ∙ ap (λ (l : List ℕ). l ++ marked b) (sym marked-whole)
 
 word-length : (m : List ℕ) → length m ≡ messageBytes → length (wordOf m) ≡ wordBytes
@@ -78,7 +71,7 @@ module _ (bs : List ℕ) where
   pub rest-short : length (restOf bs) < messageBytes
   rest-short = omega (arith, length-drop (wholeBytes (length bs)) bs)
 
-  pub wholes-rest : wholes bs ++ restOf bs ≡ bs
+  wholes-rest : wholes bs ++ restOf bs ≡ bs
   wholes-rest = take-append-drop (wholeBytes (length bs)) bs
 
   pub marked-rest : (x : List ℕ) → marked (wholes bs) ++ marked (restOf bs ++ x) ≡ marked (bs ++ x)

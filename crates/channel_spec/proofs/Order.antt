@@ -6,7 +6,7 @@
 -- lost-given   four that are not the marker give "lock lost"; then all is as a fresh receiver hears it that begins with these four
 use Prim.Native.Nat.{ℕ, suc, _+_, _<_}
 use native.Mathlib.Omega.{arith}
-use mathlib.Core.Path.{_≡_, refl, sym, _∙_, ap}
+use mathlib.Core.Path.{_≡_, refl, sym, _∙_, ap, subst}
 use mathlib.Core.Bool.{Bool, true, false, _&&_}
 use mathlib.Core.Logic.{_≢_}
 use mathlib.Core.List.{List, [], _∷_, _++_, map, append-nil}
@@ -18,9 +18,12 @@ use Rattle.base.specs.Calls.{andThen}
 use Rattle.stream.specs.Meaning.{Reading, waiting, reads}
 use Rattle.channel_spec.specs.declared.Hunting.{Hunting}
 use Rattle.channel_spec.specs.Sender.{marker, wordBytes, framed}
-use Rattle.channel_spec.specs.Meaning.{condition, mend, Event, said, block, lost, message, shift, isMarker, zeros, Chan, hunting, inWord, inMark, freshChannel, hunt, whole, grow, compared, hears, answers}
+use Rattle.channel_spec.specs.Meaning.{mend, Event, lost, shift, isMarker, zeros, Chan, hunting, inWord, inMark, freshChannel, hunt, whole}
+use Rattle.channel_spec.specs.Meaning.{grow, compared, step, hears, answers}
 use Rattle.channel_spec.specs.Meaning.{IsWord, wordsGive, FirstMarker}
-use Rattle.channel_spec.proofs.Streaming.{hears-append, bytesOf, theMarker, wholes, behindWords, is-marker, no-match, past-zeros, from-start, received}
+use Rattle.channel_spec.proofs.Given.{hears-append}
+use Rattle.channel_spec.proofs.Marker.{bytesOf, theMarker, is-marker, no-match, four-are, past-zeros}
+use Rattle.channel_spec.proofs.Streaming.{behindWords, from-start, received}
 
 -- ---- before the first marker, with f the last four: it hunts on
 hunts-on : (bs : List ℕ) (f : Hunting) → ((xs ys : List ℕ) → bytesOf f ++ bs ≡ xs ++ (marker ++ ys) → ⊥)
@@ -46,12 +49,9 @@ pub first-given : (stray bs : List ℕ) → FirstMarker stray (marker ++ bs) →
 first-given stray bs m h = ap (λ (x : List Event × Chan). x .0) (from-start stray bs m) ∙ part-word bs [] theMarker waiting (omega arith)
 
 -- ---- behind words
-wholes-give : (ws : List (List ℕ)) (r : Reading) → wholes ws r .0 ≡ wordsGive ws r
-wholes-give [] r = refl
-wholes-give (w ∷ ws) r = ap (λ l. block (condition w) ∷ (map said (reads r (message w) .0) ++ l)) (wholes-give ws (reads r (message w) .1))
-
 -- behind words a marker is read
-behind-mark : (ws : List (List ℕ)) (f : Hunting) (u : List ℕ) (r : Reading) → (g : Hunting) × (v : List ℕ) × (q : Reading) × (behindWords f u ws r ≡ inMark g v 0 q)
+behind-mark : (ws : List (List ℕ)) (f : Hunting) (u : List ℕ) (r : Reading)
+    → (g : Hunting) × (v : List ℕ) × (q : Reading) × (behindWords f u ws r ≡ inMark g v 0 q)
 behind-mark [] f u r = (f, u, r, refl)
 behind-mark (w ∷ ws) f u r = behind-mark ws theMarker (mend w) (whole w r .1)
 
@@ -68,39 +68,33 @@ no : (t : Bool) → t && false ≡ false
 no true = refl
 no false = refl
 
-module _ (a b c d : ℕ) (cs : List ℕ) where
-  last : Hunting
-  last = record { a = a; b = b; c = c; d = d }
-
+module _ (f : Hunting) (cs : List ℕ) where
   -- a fresh receiver has not found the marker behind three bytes ..
-  behind-four : isMarker last ≡ false → hears freshChannel (a ∷ b ∷ c ∷ d ∷ cs) ≡ hears (hunting last) cs
-  unfolding last
+  behind-four : isMarker f ≡ false → hears freshChannel (bytesOf f ++ cs) ≡ hears (hunting f) cs
   behind-four e =
+      let a : ℕ = f .a in
+      let b : ℕ = f .b in
+      let c : ℕ = f .c in
+      let d : ℕ = f .d in
       ap (λ t. hears (hunt t (shift zeros a)) (b ∷ c ∷ d ∷ cs)) (no (eqb a 0x42))
       ∙ ap (λ t. hears (hunt t (shift (shift zeros a) b)) (c ∷ d ∷ cs)) (ap (λ u. eqb b 0x42 && u) (no (eqb a 0xE2)) ∙ no (eqb b 0x42))
       ∙ ap (λ t. hears (hunt t (shift (shift (shift zeros a) b) c)) (d ∷ cs))
       (ap (λ u. eqb c 0x42 && u) (ap (λ u. eqb b 0xE2 && u) (no (eqb a 0x3A)) ∙ no (eqb b 0xE2)) ∙ no (eqb c 0x42))
-      ∙ ap (λ t. hears (hunt t last) cs) e
+      ∙ ap (λ t. hears (hunt t f) cs) e
 
   -- .. and one that is locked has lost lock with the fourth
-  four : (g : Hunting) (v : List ℕ) (q : Reading) → a ∷ b ∷ c ∷ d ∷ [] ≢ marker
-      → hears (inMark g v 0 q) (a ∷ b ∷ c ∷ d ∷ cs) ≡ (lost ∷ hears freshChannel (a ∷ b ∷ c ∷ d ∷ cs) .0, hears freshChannel (a ∷ b ∷ c ∷ d ∷ cs) .1)
-  unfolding last
-  four g v q n = go (isMarker last) refl
-    where
-      go : (t : Bool) → isMarker last ≡ t
-          → andThen (compared t last q) (λ u. hears u cs) ≡ (lost ∷ hears freshChannel (a ∷ b ∷ c ∷ d ∷ cs) .0, hears freshChannel (a ∷ b ∷ c ∷ d ∷ cs) .1)
-      go true e = absurd (n (is-marker last e))
-      go false e = λ i. (lost ∷ sym (behind-four e) i .0, sym (behind-four e) i .1)
+  four : (g : Hunting) (v : List ℕ) (q : Reading) → bytesOf f ≢ marker
+      → hears (inMark g v 0 q) (bytesOf f ++ cs) ≡ (lost ∷ hears freshChannel (bytesOf f ++ cs) .0, hears freshChannel (bytesOf f ++ cs) .1)
+  four g v q n =
+      let e : isMarker f ≡ false = no-match (isMarker f) f refl n in
+      ap (λ t. andThen (compared t f q) (λ u. hears u cs)) e ∙ (λ i. (lost ∷ sym (behind-four e) i .0, sym (behind-four e) i .1))
 
 lost-with : (g : Hunting) (v : List ℕ) (q : Reading) (bs cs : List ℕ) → length bs ≡ 4 → bs ≢ marker
     → hears (inMark g v 0 q) (bs ++ cs) ≡ (lost ∷ hears freshChannel (bs ++ cs) .0, hears freshChannel (bs ++ cs) .1)
-lost-with g v q [] cs h n = absurd (omega arith)
-lost-with g v q (a ∷ []) cs h n = absurd (omega arith)
-lost-with g v q (a ∷ b ∷ []) cs h n = absurd (omega arith)
-lost-with g v q (a ∷ b ∷ c ∷ []) cs h n = absurd (omega arith)
-lost-with g v q (a ∷ b ∷ c ∷ d ∷ []) cs h n = four a b c d cs g v q n
-lost-with g v q (a ∷ b ∷ c ∷ d ∷ x ∷ bs) cs h n = absurd (omega arith)
+lost-with g v q bs cs h n =
+    let f = four-are bs h in
+    subst (λ x. hears (inMark g v 0 q) (x ++ cs) ≡ (lost ∷ hears freshChannel (x ++ cs) .0, hears freshChannel (x ++ cs) .1)) (f .1)
+    (four (f .0) cs g v q (λ e. n (sym (f .1) ∙ e)))
 
 module _ (stray : List ℕ) (ws : List (List ℕ)) (some : ws ≢ []) (words : Each IsWord ws) (first : FirstMarker stray (framed ws)) where
   -- behind whole words bytes follow: they are heard where a marker is read
@@ -112,9 +106,9 @@ module _ (stray : List ℕ) (ws : List (List ℕ)) (some : ws ≢ []) (words : E
         m .1,
         m .2,
         λ bs.
-            hears-append freshChannel (stray ++ framed ws) bs
+            hears-append step freshChannel (stray ++ framed ws) bs
             ∙ ap (λ (x : List Event × Chan). andThen x (λ t. hears t bs)) (received stray ws some words first)
-            ∙ (λ i. (wholes-give ws waiting i ++ hears (m .3 i) bs .0, hears (m .3 i) bs .1)),
+            ∙ (λ i. (wordsGive ws waiting ++ hears (m .3 i) bs .0, hears (m .3 i) bs .1)),
       )
 
   pub few-given : (bs : List ℕ) → length bs < 4 → answers ((stray ++ framed ws) ++ bs) ≡ wordsGive ws waiting

@@ -1,8 +1,9 @@
--- Laws of a block's answer and of the word as repair leaves it.
--- mend-length                   no byte comes or goes
--- condition-clean, mend-clean   a clean word is clean, and stays
--- promised-by                   of a word with any number of parity bytes: what is answered for repair's answer meets repair's promise
--- block-promised, -determined   the answer and the word left meet the promise of repair, and nothing else does
+-- Laws of a word with r parity bytes: of its answer, and of the word as repair leaves it.
+-- mend-length                       no byte comes or goes
+-- condition-clean, mend-clean       a clean word is clean, and stays
+-- never-refused                     a word of 255 bytes is not refused
+-- word-promised, word-determined    the answer and the word left meet the promise of repair, and nothing else does
+-- block-promised, block-determined  .. of the opportunistic channel
 use Prim.Native.Nat.{ℕ, _≤_}
 use native.Mathlib.Omega.{arith}
 use mathlib.Core.Path.{_≡_, sym, _∙_, ap}
@@ -22,37 +23,44 @@ use Rattle.repair.proofs.Apart.{checked-is}
 use Rattle.repair.proofs.Promising.{left-length, clean-left, promised-is}
 use Rattle.repair.proofs.Meeting.{repaired-promised}
 use Rattle.channel_spec.specs.Sender.{parityBytes}
-use Rattle.channel_spec.specs.Meaning.{conditionBy, condition, mend, IsWord}
-use Rattle.channel_spec.specs.Meaning.{asMended}
-use Rattle.channel_spec.specs.declared.Condition.{Condition}
-use Rattle.channel_spec.specs.declared.Condition.the-variants.{Beyond as beyond, Clean as cleanBlock, Repaired as repairedBlock}
+use Rattle.channel_spec.specs.Word.{conditionBy, asMended, condition, mend, IsWord}
+use Rattle.channel_spec.specs.Meaning as channel
+use Rattle.channel_spec.specs.declared.Condition.the-variants.{Clean as cleanBlock}
 
-pub mend-length : (w : List ℕ) → length (mend w) ≡ length w
-mend-length w = left-length parityBytes w
+pub mend-length : (r : ℕ) (w : List ℕ) → length (mend r w) ≡ length w
+mend-length r w = left-length r w
 
-module _ (w : List ℕ) (h : IsWord w) (c : clean parityBytes w ≡ true) where
-  pub condition-clean : condition w ≡ cleanBlock
-  condition-clean = ap (λ x. conditionBy (x .0)) (clean-left parityBytes w (omega arith) h c)
+pub never-refused : (n : ℕ) (t : Bool) → pick t check.Clean check.Damaged ≡ check.Refused n → ⊥
+never-refused n true e = let z : _≡_ {A = ℕ} 0 1 = cc in omega arith
+never-refused n false e = let z : _≡_ {A = ℕ} 0 1 = cc in omega arith
 
-  pub mend-clean : mend w ≡ w
-  mend-clean = ap (λ x. x .1) (clean-left parityBytes w (omega arith) h c)
+module _ (r : ℕ) (hr : r ≤ rootLimit) (w : List ℕ) (h : IsWord w) where
+  module _ (c : clean r w ≡ true) where
+    pub condition-clean : condition r w ≡ cleanBlock
+    condition-clean = ap (λ x. conditionBy (x .0)) (clean-left r w hr h c)
 
-module _ (w : List ℕ) (h : IsWord w) where
-  pub never-refused : (n : ℕ) (t : Bool) → pick t check.Clean check.Damaged ≡ check.Refused n → ⊥
-  never-refused n true e = let z : _≡_ {A = ℕ} 0 1 = cc in omega arith
-  never-refused n false e = let z : _≡_ {A = ℕ} 0 1 = cc in omega arith
+    pub mend-clean : mend r w ≡ w
+    mend-clean = ap (λ x. x .1) (clean-left r w hr h c)
 
-  -- with r parity bytes: a word of 255 bytes is not refused
-  pub promised-by : (r : ℕ) → r ≤ rootLimit → (a : Mended) (o : List ℕ) → Promised r w a o → Promised r w (asMended (conditionBy a)) o
-  promised-by r hr Clean o p = p
-  promised-by r hr (Repaired n) o p = p
-  promised-by r hr Beyond o p = p
-  promised-by r hr (Refused n) o p = absurd (never-refused n (clean r w) (sym (checked-is r w hr h) ∙ p .0))
+  -- what is answered for repair's answer
+  promised-by : (a : Mended) (o : List ℕ) → Promised r w a o → Promised r w (asMended (conditionBy a)) o
+  promised-by Clean o p = p
+  promised-by (Repaired n) o p = p
+  promised-by Beyond o p = p
+  promised-by (Refused n) o p = absurd (never-refused n (clean r w) (sym (checked-is r w hr h) ∙ p .0))
 
   -- .. and the word left: they meet the promise of repair ..
-  pub block-promised : Bytes w → Promised parityBytes w (asMended (condition w)) (mend w)
-  block-promised b = promised-by parityBytes (omega arith) (repaired parityBytes w .0) (mend w) (repaired-promised parityBytes w b)
+  pub word-promised : Bytes w → Promised r w (asMended (condition r w)) (mend r w)
+  word-promised b = promised-by (repaired r w .0) (mend r w) (repaired-promised r w b)
 
   -- .. and what meets it is they
-  pub block-determined : Bytes w → (a : Mended) (o : List ℕ) → Promised parityBytes w a o → (conditionBy a ≡ condition w) × (o ≡ mend w)
-  block-determined b a o p = let s = promised-is parityBytes w b a o p in (ap conditionBy (s .0), s .1)
+  pub word-determined : Bytes w → (a : Mended) (o : List ℕ) → Promised r w a o → (conditionBy a ≡ condition r w) × (o ≡ mend r w)
+  word-determined b a o p = let s = promised-is r w b a o p in (ap conditionBy (s .0), s .1)
+
+-- with 32 parity bytes
+module _ (w : List ℕ) (h : IsWord w) where
+  pub block-promised : Bytes w → Promised parityBytes w (asMended (channel.condition w)) (channel.mend w)
+  block-promised = word-promised parityBytes (omega arith) w h
+
+  pub block-determined : Bytes w → (a : Mended) (o : List ℕ) → Promised parityBytes w a o → (conditionBy a ≡ channel.condition w) × (o ≡ channel.mend w)
+  block-determined = word-determined parityBytes (omega arith) w h

@@ -1,78 +1,39 @@
 -- What a received byte string means on the opportunistic channel (paper 01, "Opportunistic channel"), byte by byte, to a receiver
 -- whose memory has no limit: markers, words, repaired where they are damaged, and the frames in their messages.
--- condition, mend                 a block's answer, that of a word, and the word as it is left: what repair promises (proofs/Words)
--- Event, frames, blocks, losses   an answer, and the answers of each kind
--- Chan, step, hears, answers      the state, one byte, a byte string, all answers of a fresh receiver
--- wordsGive                       the answers of whole words, in their order
+-- condition, mend, message        a block's answer, that of a word, the word as it is left, its message: what repair promises (proofs/Words)
+-- shift, isMarker, zeros          the last four bytes, and those of a fresh receiver
+-- Chan, freshChannel              the state, fresh
+-- whole                           a whole word
+-- hunt, grow, compared, behindWord, step   one byte, by where it comes
+-- hears, answers                  a byte string, all answers of a fresh receiver
+-- carried, wordsGive              the bytes that words hand on, the answers of whole words, in their order
 -- FirstMarker                     where the marker first appears
 use Prim.Native.Nat.{ℕ, suc, _≤_}
 use mathlib.Core.Path.{_≡_}
 use mathlib.Core.Bool.{Bool, true, false, _&&_}
-use mathlib.Core.List.{List, [], _∷_, _++_, map}
-use lib.ListN.{length, take}
+use mathlib.Core.List.{List, [], _∷_, _++_}
+use lib.ListN.{length}
 use lib.Dec.{eqb, ltb}
-use Rattle.base.specs.Calls.{andThen, joined}
-use Rattle.packet_spec.specs.Frame.{Told}
-use Rattle.repair.specs.declared.Mended.{Mended}
-use Rattle.repair.specs.declared.Mended.the-variants as repair
-use Rattle.repair.specs.Way.{repaired as repairedWord}
-use Rattle.stream.specs.Meaning.{Reading, waiting, reads}
-use Rattle.channel_spec.specs.Sender.{marker, messageBytes, parityBytes, wordBytes}
+use Rattle.stream.specs.Meaning.{Reading, waiting}
+use Rattle.channel_spec.specs.Sender.{marker, parityBytes, wordBytes}
+use Rattle.channel_spec.specs.Word as over
+use Rattle.channel_spec.specs.Given as given
+pub use Rattle.channel_spec.specs.Word.{conditionBy, asMended, IsWord}
+pub use Rattle.channel_spec.specs.Given.{Event, said, block, lost, frames, blocks, losses}
 use Rattle.channel_spec.specs.declared.Hunting.{Hunting}
 use Rattle.channel_spec.specs.declared.Condition.{Condition}
-use Rattle.channel_spec.specs.declared.Condition.the-variants.{Clean, Repaired, Beyond}
-
--- a block's answer by what repair finds: a word of 255 bytes is not refused
-abbrev pub conditionBy : Mended → Condition
-conditionBy repair.Clean = Clean
-conditionBy (repair.Repaired n) = Repaired n
-conditionBy repair.Beyond = Beyond
-conditionBy (repair.Refused n) = Beyond
-
--- .. and the other way round
-abbrev pub asMended : Condition → Mended
-asMended Clean = repair.Clean
-asMended (Repaired n) = repair.Repaired n
-asMended Beyond = repair.Beyond
 
 -- the answer to a word: what repair finds of it, with 32 parity bytes ..
 abbrev pub condition : List ℕ → Condition
-condition w = conditionBy (repairedWord parityBytes w .0)
+condition = over.condition parityBytes
 
 -- .. and the word as repair leaves it: repaired, or beyond repair as it came
 abbrev pub mend : List ℕ → List ℕ
-mend w = repairedWord parityBytes w .1
-
--- an answer: a frame's or a refused call's; a block's; lock lost
-pub data Event : Type 0 where
-  said : Told → Event
-  block : Condition → Event
-  lost : Event
-
--- the frame answers among them ..
-abbrev pub frames : List Event → List Told
-frames [] = []
-frames (said a ∷ es) = a ∷ frames es
-frames (block c ∷ es) = frames es
-frames (lost ∷ es) = frames es
-
--- .. the block answers ..
-abbrev pub blocks : List Event → List Condition
-blocks [] = []
-blocks (said a ∷ es) = blocks es
-blocks (block c ∷ es) = c ∷ blocks es
-blocks (lost ∷ es) = blocks es
-
--- .. and how often lock is lost
-abbrev pub losses : List Event → ℕ
-losses [] = 0
-losses (said a ∷ es) = losses es
-losses (block c ∷ es) = losses es
-losses (lost ∷ es) = suc (losses es)
+mend = over.mend parityBytes
 
 -- the message of a word, as repair leaves it
 abbrev pub message : List ℕ → List ℕ
-message w = take messageBytes (mend w)
+message = over.message parityBytes
 
 -- one byte more among the last four
 abbrev pub shift : Hunting → ℕ → Hunting
@@ -98,7 +59,7 @@ freshChannel = hunting zeros
 
 -- a whole word: the block's answer, and then those of its message bytes
 abbrev pub whole : List ℕ → Reading → List Event × Reading
-whole w r = (block (condition w) ∷ map said (reads r (message w) .0), reads r (message w) .1)
+whole = given.whole parityBytes
 
 -- hunting, by: are the last four the marker
 abbrev pub hunt : Bool → Hunting → Chan
@@ -128,25 +89,19 @@ step (inMark f w n r) b = behindWord (ltb (suc n) 4) (shift f b) w (suc n) r
 
 -- a byte string: its answers, and the state behind it
 abbrev pub hears : Chan → List ℕ → List Event × Chan
-hears s [] = ([], s)
-hears s (b ∷ bs) = andThen (step s b) (λ t. hears t bs)
+hears = given.eachByte step
 
 -- all answers of a fresh receiver
 abbrev pub answers : List ℕ → List Event
 answers bs = hears freshChannel bs .0
 
--- 255 bytes, whatever they are
-abbrev pub IsWord : List ℕ → Type 0
-IsWord w = length w ≡ wordBytes
-
 -- the bytes that words hand on to the frame reader
 abbrev pub carried : List (List ℕ) → List ℕ
-carried ws = joined (map message ws)
+carried = over.carried parityBytes
 
 -- what words give, one after the other: "first a block answer, .. then the answers of its 223 message bytes"
 abbrev pub wordsGive : List (List ℕ) → Reading → List Event
-wordsGive [] r = []
-wordsGive (w ∷ ws) r = block (condition w) ∷ (map said (reads r (message w) .0) ++ wordsGive ws (reads r (message w) .1))
+wordsGive ws r = given.wordsGive parityBytes ws r .0
 
 -- the marker first appears in `stray ++ bs` where bs begins: wherever it stands, that is no earlier
 abbrev pub FirstMarker : List ℕ → List ℕ → Type 0

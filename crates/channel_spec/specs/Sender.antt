@@ -1,21 +1,23 @@
 -- The opportunistic channel's sender (paper 01, "Opportunistic channel"): the stream filled with flags to a multiple of 223 bytes,
 -- each 223 bytes a word with 32 parity bytes, the marker before each word.
--- marker, wordOf, framed    the marker, a word, words each with the marker before it
--- filled, messagesOf        the stream filled with flags, and cut into messages
--- marked                    a stream as it is sent
--- wholes, restOf            the whole messages among stream bytes, and the bytes behind them
--- marking, sending          what the two calls answer and leave
-use Prim.Native.Nat.{ℕ, zero, suc, _+_, _-_, _*_, _/_, _%_}
+-- marker, wordBytes, parityBytes, messageBytes, blockBytes   the marker, and how many bytes there are of each
+-- wordOf, framed                  a word, and words, each with the marker before it
+-- fillers, filled                 the stream filled with flags
+-- cutUp, messagesOf               .. and cut into messages
+-- marked                          a stream as it is sent
+-- wholeBytes, wholes, restOf      the whole messages among stream bytes, and the bytes behind them
+-- marking, sending                what the two calls answer and leave
+-- sentWords, sent                 the words of some packets' stream, and that stream as it is sent
+use Prim.Native.Nat.{ℕ, _+_, _*_, _/_}
 use mathlib.Core.List.{List, [], _∷_, _++_, map}
 use lib.Dec.{eqb}
-use lib.ListN.{length, take, drop, replicate}
+use lib.ListN.{length, take, drop}
 use Rattle.base.specs.Choice.{pick}
 use Rattle.base.specs.Written.{Outcome, refused, write}
-use Rattle.packet_spec.specs.Escape.{flag}
-use Rattle.word_spec.specs.Word.{remainder}
 use Rattle.parity.specs.Calls as parity
 use Rattle.stream.specs.Sender.{stream}
 use Rattle.packet_spec.specs.Contents.{Packet}
+use Rattle.channel_spec.specs.Word as over
 
 -- the marker that stands before each word
 abbrev pub marker : List ℕ
@@ -31,7 +33,7 @@ parityBytes = 32
 
 -- its message bytes
 abbrev pub messageBytes : ℕ
-messageBytes = wordBytes - parityBytes
+messageBytes = over.messageBytes parityBytes
 
 -- bytes of a block: the marker, and a word behind it
 abbrev pub blockBytes : ℕ
@@ -39,7 +41,7 @@ blockBytes = 4 + wordBytes
 
 -- a message with its parity behind it
 abbrev pub wordOf : List ℕ → List ℕ
-wordOf m = m ++ remainder parityBytes m
+wordOf = over.wordOf parityBytes
 
 -- words, each with the marker before it
 abbrev pub framed : List (List ℕ) → List ℕ
@@ -48,20 +50,19 @@ framed (w ∷ ws) = marker ++ (w ++ framed ws)
 
 -- flags to a multiple of 223 bytes, none if it already is one
 abbrev pub fillers : ℕ → ℕ
-fillers n = (messageBytes - n % messageBytes) % messageBytes
+fillers = over.missing messageBytes
 
 -- the stream filled with flags
 abbrev pub filled : List ℕ → List ℕ
-filled bs = bs ++ replicate (fillers (length bs)) flag
+filled = over.filled parityBytes
 
 -- cut into so many messages of 223 bytes
 abbrev pub cutUp : ℕ → List ℕ → List (List ℕ)
-cutUp zero bs = []
-cutUp (suc q) bs = take messageBytes bs ∷ cutUp q (drop messageBytes bs)
+cutUp = over.cutUp messageBytes
 
 -- the messages of a stream ..
 abbrev pub messagesOf : List ℕ → List (List ℕ)
-messagesOf bs = cutUp (length (filled bs) / messageBytes) (filled bs)
+messagesOf = over.messagesOf parityBytes
 
 -- .. and the stream as it is sent
 abbrev pub marked : List ℕ → List ℕ

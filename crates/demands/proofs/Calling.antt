@@ -7,8 +7,9 @@
 -- fixed-..   on a fixed sub-channel (request W7); that its calls end
 -- read-..    on the plain stream
 -- next-..    on a recording's bytes
+-- packet-..  .. for its next packet
 -- take-wanting, show-wanting   where a recording is listed, where a board is written
--- desk-..    on the office's input
+-- desk-.., AllWritten   on the office's input; that all that is due is written
 -- import-..  on a capture (request W11); behind a fault all bytes are taken
 use Prim.Native.Nat.{ℕ, zero, suc, _+_, _-_, _≤_}
 use native.Mathlib.Omega.{arith}
@@ -36,14 +37,19 @@ use Rattle.subchannel.proofs.Fine as fixed-fine
 use Rattle.subchannel.proofs.Cutting as fixed-cut
 use Rattle.base.proofs.Stopping.{stops, blind, owed-first, wanting}
 use Rattle.recording.specs.Deck.{Deck, deckOwes, deckHand, deckEat, deckAll, deckHear}
-use Rattle.recording.specs.Call.{far, tapeCall}
+use Rattle.recording.specs.declared.reader.Hearing.{Hearing}
+use Rattle.recording.specs.declared.reader.NextPacket.{NextPacket}
+use Rattle.recording.specs.Call.{far, tapeCall, NextIs}
+use Rattle.recording.specs.Packets.{Item, packetHand, packetEat, packetAll, packetHear, packetCall, PacketIs}
 use Rattle.recording.proofs.Ears.{deck-hand-one}
-use Rattle.recording.proofs.Kept.{hear-kept}
+use Rattle.recording.proofs.Kept.{hear-kept, packet-kept}
 use Rattle.recording.proofs.Next.{tape-agrees}
+use Rattle.recording.proofs.Packets.{safe-on}
+use Rattle.recording.proofs.Within as lent
 use Rattle.channel_spec.specs.declared.Answer.{Answer}
 use Rattle.listing_spec.specs.Lines.{line, given, longest}
-use Rattle.lines.proofs.Short.{line-some}
-use Rattle.listing.specs.declared.lister.Totals.{Totals}
+use Rattle.listing_lines.proofs.Short.{line-some}
+use Rattle.listing_lines.specs.declared.totals.Totals.{Totals}
 use Rattle.listing.specs.declared.lister.Wants.the-variants.{More, Room}
 use Rattle.listing.specs.Call as listing
 use Rattle.listing.specs.Call.{Printed, printed, further, onAnswer, counted, print, near}
@@ -156,7 +162,8 @@ fixed-owed c bs = go (fixed.sound (c .st)) (roomy (c .recv) (c .word)) refl refl
         ∙ ap (unless (fixed.hearOn c [] .0) 0 (fixed.hearOn c [] .2))
         (sym
         (fixed-cut.hear-agrees (fixed.hearOn c [] .2) bs
-        (inv-hear fixed.owed fixed.handOn fixed.eatByte fixed-cut.hand-one fixed.Fine fixed-fine.fine-hand fixed-fine.fine-eat c [] (fixed-fine.fine-of c e f))))
+        (inv-hear fixed.owed fixed.handOn fixed.eatByte fixed-cut.hand-one fixed.Fine fixed-fine.fine-hand fixed-fine.fine-eat c []
+        (fixed-fine.fine-of c e f))))
 
 pub fixed-wanting : (c : fixed.Memory) → fixed.Fine c → (bs : List ℕ)
     → (fixed.hearCall c bs .0 ≡ none)
@@ -213,6 +220,43 @@ module _ (m : Deck) (f : Fine (m .ear .memory)) (bs : List ℕ) (o : m .spot .of
 
   pub next-wanting : (tapeCall m bs .0 ≡ none) ↔ ((tapeCall m bs .1 ≡ length bs) × (deckOwes (tapeCall m bs .2) ≡ 0) × (deckAll m bs .0 ≡ []))
   next-wanting = rw (tape-agrees m bs f o) (wanting deckOwes deckHand deckEat deck-hand-one m bs)
+
+-- "with the number of bytes taken": whatever state and buffers are, no more than are lent
+pub next-within : (m : Deck) (bs : List ℕ) {r : Hearing} {l k : List ℕ} → NextIs (tapeCall m bs) r l k → r .taken ≤ length bs
+next-within m bs h = lent.next-within m bs h
+
+-- ---- .. for its next packet: the answers are its packets, the others passed over
+packet-agrees : (m : Deck) (bs : List ℕ) → Fine (m .ear .memory) → m .spot .offset + length bs ≤ far → packetCall m bs ≡ packetHear m bs
+packet-agrees m bs f o = safe-on m bs 0 (record { fine = f; offset = omega (arith, o) })
+
+module _ (m : Deck) (f : Fine (m .ear .memory)) (bs : List ℕ) (o : m .spot .offset + length bs ≤ far) where
+  pub packet-first : (e : Item) (n : ℕ) (d : Deck) → packetCall m bs ≡ (some e, n, d)
+      → (packetAll m bs .0 ≡ e ∷ packetAll d (drop n bs) .0) × (packetAll m bs .1 ≡ packetAll d (drop n bs) .1)
+  packet-first e n d h =
+      both (law deckOwes packetHand packetEat deck-hand-one m bs ∙ ap (λ r. told deckOwes packetHand packetEat r bs) (sym (packet-agrees m bs f o) ∙ h))
+
+  pub packet-stops : (e : Item) (n : ℕ) (d : Deck) → packetCall m bs ≡ (some e, suc n, d) → packetAll m (take n bs) .0 ≡ []
+  packet-stops e n d h = stops deckOwes packetHand packetEat deck-hand-one m bs e n d (sym (packet-agrees m bs f o) ∙ h)
+
+  pub packet-blind : (e : Item) (n : ℕ) (d : Deck) → packetCall m bs ≡ (some e, n, d)
+      → (cs : List ℕ) → m .spot .offset + length (take n bs ++ cs) ≤ far → packetCall m (take n bs ++ cs) ≡ (some e, n, d)
+  packet-blind e n d h cs p =
+      packet-agrees m (take n bs ++ cs) f p ∙ blind deckOwes packetHand packetEat deck-hand-one cs m bs e n d (sym (packet-agrees m bs f o) ∙ h)
+
+  pub packet-owed : packetCall m bs ≡ unless (packetCall m [] .0) 0 (packetCall m [] .2) (packetCall (packetCall m [] .2) bs)
+  packet-owed =
+      let k = packet-kept m [] f in
+      let none-yet = packet-agrees m [] f (omega arith) in
+      packet-agrees m bs f o ∙ owed-first deckOwes packetHand packetEat deck-hand-one m bs
+      ∙ ap (unless (packetHear m [] .0) 0 (packetHear m [] .2)) (sym (packet-agrees (packetHear m [] .2) bs (k .fine) (omega (arith, k .within, k .near))))
+      ∙ ap (λ (x : Option Item × ℕ × Deck). unless (x .0) 0 (x .2) (packetCall (x .2) bs)) (sym none-yet)
+
+  pub packet-wanting : (packetCall m bs .0 ≡ none)
+      ↔ ((packetCall m bs .1 ≡ length bs) × (deckOwes (packetCall m bs .2) ≡ 0) × (packetAll m bs .0 ≡ []))
+  packet-wanting = rw (packet-agrees m bs f o) (wanting deckOwes packetHand packetEat deck-hand-one m bs)
+
+pub packet-within : (m : Deck) (bs : List ℕ) {r : NextPacket} {l k : List ℕ} → PacketIs (packetCall m bs) r l k → r .taken ≤ length bs
+packet-within m bs h = lent.packet-within m bs h
 
 -- ---- where a recording is listed, by a call that is not refused: "more" exactly when all bytes are taken, a stored word is handed on whole, and any
 -- line would still have room (an answer is asked for only where it has)

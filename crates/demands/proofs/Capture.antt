@@ -3,9 +3,12 @@
 -- entered, ..-entered, file-by-calls             .. record by record, by calls
 -- times-aside                                    "Import ignores the records' times"
 -- same-packets, stands                           ".. and gives the same packets back"
+-- export-import                                  .. by calls, however the capture is cut
 -- nothing-else                                   .. and of nothing but a capture of them
--- begin-refusals, enter-refusals, ..             the calls' own refusals, row by row, and what a refused call leaves
--- sixty, sixty-one-.., sixty-two, in-order       60 to 62
+-- import-ends, every-file                        any bytes, however cut, are imported to their end, and as defined
+-- ..-refusals, ..-keeps                          the calls' own refusals, row by row, and what a refused call leaves
+-- sixty, sixty-one-.., sixty-two.., in-order     60 to 62
+-- whole-record, goes-on                          a record that is whole, and the ways in which bytes go on behind one
 use Prim.Native.Nat.{ℕ, suc, _+_, _≤_, _<_}
 use native.Mathlib.Omega.{arith}
 use mathlib.Core.Path.{_≡_, refl, ap, subst, _∙_}
@@ -46,7 +49,8 @@ use Rattle.capture.proofs.Cutting.{read-yields, every-cut}
 use Rattle.capture.proofs.There.{Own, export-there, read-there}
 use Rattle.demands_laws.specs.Table.{Exact}
 use Rattle.demands_laws.specs.Refusals.{ByCall, ByRead}
-use Rattle.demands_laws.specs.Captures.{CaptureBeyond, NoPacket, HeaderMissed, RecordCut, FaultBefore, ByEnd, FetchedHeld, FetchedMemory, FetchedSub, FetchedDeck}
+use Rattle.demands_laws.specs.Captures.{CaptureBeyond, NoPacket, HeaderMissed, RecordCut, FaultBefore}
+use Rattle.demands_laws.specs.Captures.{ByEnd, FetchedHeld, FetchedMemory, FetchedSub, FetchedDeck}
 use Rattle.demands_laws.specs.Captures.{put, entriesBy}
 use Rattle.demands_laws.proofs.Fetching.{packet-there, plain-fetched, memory-fetched, sub-fetched, deck-fetched}
 use Rattle.demands_laws.proofs.Fetching.{OwnHeld, OwnMemory, OwnSub, OwnDeck, plain-own, memory-own, sub-own, deck-own}
@@ -148,8 +152,11 @@ pub same-packets : (ps : List Packet) → Each Accepted ps → (bs : List ℕ) �
     → EveryCut bs λ ts g. (ts ≡ map packet ps) × (endedAs (finishing (g .st)) ≡ 0)
 same-packets ps a bs c st room pieces cut =
     let r = import-any ps a bs c in
-    yields-so (every-cut bs st room pieces cut) λ ts g e.
-    (ap (λ (x : List Told × ℕ). x .0) e ∙ ap (λ (x : List Told × Reading). x .0) r, ap (λ (x : List Told × ℕ). x .1) e ∙ ap (λ (x : List Told × Reading). ends (x .1)) r)
+    yields-so (every-cut bs st room pieces cut) λ ts g e. (
+      ap (λ (x : List Told × ℕ). x .0) e ∙ ap (λ (x : List Told × Reading). x .0) r,
+      ap (λ (x : List Told × ℕ). x .1) e
+          ∙ ap (λ (x : List Told × Reading). ends (x .1)) r,
+    )
 
 -- .. so the export of packets, imported, gives them back ..
 pub export-import : (ps : List Packet) → Each Accepted ps → EveryCut (captured ps) λ ts g. (ts ≡ map packet ps) × (endedAs (finishing (g .st)) ≡ 0)

@@ -3,25 +3,27 @@
 --   caller. A refused call changes no lent memory; a refused frame leaves what that paper says."
 -- Each function promises the definition that stands here (`writing`, `readCall`, `hearCall` ..): Promises has it, function by function.
 -- ..-ends       a byte string, however cut, is read to its end
+-- ..-numbers    the numbers that a receiving call gives: those of frames, and those of calls
 -- ..-refusals   the paper's table, row by row: each number exactly when its row applies and none above it
--- ..-keeps      what a refused call leaves
+-- ..-keeps, ..-keeps-out, ..-keeps-hold, ..-keeps-recv, ..-keeps-all   what a refused call leaves: output, held bytes, receive buffer, all
 -- frame-..      what a refused frame leaves
-use Prim.Native.Nat.{ℕ, suc, _-_, _≤_, _<_}
+use Prim.Native.Nat.{ℕ, suc, _-_, _≤_, _<_, min}
 use mathlib.Core.Path.{_≡_, refl}
 use mathlib.Core.Bool.{Bool, true, false}
 use mathlib.Core.Logic.{_⊎_, _≢_}
 use mathlib.Core.List.{List, [], _∷_, _++_}
 use mathlib.Core.Option.{some}
 use lib.Dec.{eqb, ltb}
-use lib.ListN.{length, take, drop}
+use lib.ListN.{length, take, drop, length-take}
 use borrow.Author.Tests.{eqb-true, eqb-false, ltb-true}
 use Rattle.base.specs.Calls.{joined, run, Yields}
 use Rattle.base.specs.Written.{refused, write, Keeps}
 use Rattle.base.proofs.Writing.{write-keeps}
-use Rattle.word_spec.specs.Word.{clean, remainder}
-use Rattle.parity.specs.Calls.{checked, made}
+use Rattle.word_spec.specs.Word.{clean, valuesFrom, remainder}
+use Rattle.parity.specs.Calls.{atRoots, checked, made}
 use Rattle.word_spec.proofs.Division.{length-remainder}
-use Rattle.parity.proofs.Refusing.{made-keeps}
+use Rattle.word_spec.proofs.Roots.{length-values}
+use Rattle.parity.proofs.Refusing.{roots-keep, made-keeps}
 use Rattle.repair.specs.declared.Mended.{Mended}
 use Rattle.repair.specs.declared.Mended.the-variants.{Refused as RepairRefused}
 use Rattle.repair.specs.Promise.{Promised}
@@ -47,10 +49,11 @@ use Rattle.channel.proofs.Cutting.{hear-yields}
 use Rattle.channel_sender.proofs.Sending.{marking-keeps, sending-keeps}
 use Rattle.recording.specs.Deck.{Deck}
 use Rattle.recording.specs.Call.{tapeCall}
+use Rattle.recording.specs.Packets.{packetCall, refused as unheard}
 use Rattle.board.specs.declared.readout.Wants.the-variants.{Refused as ShowRefused}
 use Rattle.board.specs.Source.{memoryIn}
 use Rattle.board.specs.Call.{Screen, readoutOf, recvOn, part, takes as shows}
-use Rattle.listing.specs.declared.lister.Totals.{Totals}
+use Rattle.listing_lines.specs.declared.totals.Totals.{Totals}
 use Rattle.listing.specs.declared.lister.Lister.{Lister}
 use Rattle.listing.specs.declared.lister.Wants.the-variants.{Refused}
 use Rattle.listing.specs.Call.{printed, takes, lastOf, finishing}
@@ -63,14 +66,17 @@ use Rattle.office.specs.Meaning.{Desk, endingOf, refusal as line-refusal}
 use Rattle.office.specs.Call.{holdLimit, outLimit, starting, denied, hearCall as desk-hear, closeCall, spokenOut, answeredOut, finishing as desk-finish}
 use Rattle.demands_laws.specs.Table.{Exact}
 use Rattle.demands_laws.specs.Desks.{DeskBeyond, DeskShort, lineRows, ByDesk, ByStart, ByLine, BySpoken}
-use Rattle.demands_laws.specs.Refusals.{PlaceBeyond, Unusable, UnfitHead, frameRows, FrameBeyond, Beyond, NextBeyond, TapeBeyond, BoardBeyond, Short, OfFrame, OfCall, ByFrame, ByCall, ByState, ByCheck, ByRepair, ByRead, ByHear, ByNext, ByTake, ByShow}
+use Rattle.demands_laws.specs.Refusals.{PlaceBeyond, Unusable, UnfitHead, frameRows, FrameBeyond, Beyond, NextBeyond, TapeBeyond, BoardBeyond, Short}
+use Rattle.demands_laws.specs.Refusals.{OfFrame, OfCall, ByFrame, ByCall, ByState, ByCheck, ByRepair, ByRead, ByHear, ByNext, ByPacket, ByTake, ByShow}
 use Rattle.demands_laws.proofs.Rows.{row, row-not, not-less, not-same, refuses, wrote, refuses-word, found, repair-as-check, calling-exact, calling-same}
 use Rattle.demands_laws.proofs.Frames.{barred-is, free-is, unfit-is, fit-is, closed-exact, judging-exact, judging-same, judge-exact, undone}
 use Rattle.demands_laws.proofs.Called.{read-given, hear-given, read-exact, read-same, hear-exact, hear-same}
 use Rattle.demands_laws.proofs.Showing.{show-exact, show-same}
-use Rattle.demands_laws.proofs.Taken.{next-exact, next-same, next-given, take-exact, take-same}
-use Rattle.demands_laws.proofs.Desk.{line-exact, office-line-same, office-start-exact, office-start-same, office-hear-exact, office-hear-same, office-close-exact, office-close-same, office-finish-exact, office-finish-same}
-use Rattle.demands_laws.proofs.Desk.{lines-print-exact, lines-print-same, lines-print-end-exact, lines-print-end-same, lines-print-wrong-exact, lines-print-wrong-same}
+use Rattle.demands_laws.proofs.Taken.{next-exact, next-same, next-given, packet-exact, packet-same, take-exact, take-same}
+use Rattle.demands_laws.proofs.Desk.{line-exact, office-line-same, office-start-exact, office-start-same, office-hear-exact}
+use Rattle.demands_laws.proofs.Desk.{office-hear-same, office-close-exact, office-close-same, office-finish-exact, office-finish-same}
+use Rattle.demands_laws.proofs.Desk.{listing-lines-print-exact, listing-lines-print-same, listing-lines-print-end-exact}
+use Rattle.demands_laws.proofs.Desk.{listing-lines-print-end-same, listing-lines-print-wrong-exact, listing-lines-print-wrong-same}
 
 -- ---- "Sender and receiver accept every input and come to an end": of each call that is the first half of its law in Promises. Reading comes to
 -- an end too: the pieces of every byte string, each handed in until "more wanted", from every state and buffers that pass 10 and 11, with a
@@ -132,6 +138,11 @@ pub next-refusals : (m : Deck) (bs : List ℕ) → Exact ByNext (tapeCall m bs)
     [])
 next-refusals = next-exact
 
+-- .. and one for its next packet
+pub packet-refusals : (m : Deck) (bs : List ℕ) → Exact ByPacket (packetCall m bs)
+    ((10, NextBeyond (m .ear .memory .st) (m .spot) (length bs)) ∷ (11, Short (m .ear .memory .recv) (m .ear .memory .word)) ∷ [])
+packet-refusals = packet-exact
+
 -- a call on a recording that is listed, and the call that ends it
 pub take-refusals : (m : Deck) (t : Totals) (room : ℕ) (bs : List ℕ) → Exact ByTake (takes m t room bs)
     ((10, TapeBeyond (m .ear .memory .st) (m .spot) t (length bs) room) ∷  -- a count of the state is beyond its limit
@@ -173,7 +184,14 @@ pub append-refusals : (at : ℕ) (p : Packet) (out : List ℕ) → Exact ByCall 
     ∷ (23, length (drop at out) < length (frameOf p)) ∷ [])
 append-refusals at p out = record { says = write-refusals p (drop at out) .says }
 
--- parity made, and a word checked
+-- the values at a word's roots; parity made, and a word checked
+pub at-roots-refusals : (r : ℕ) (word out : List ℕ) → Exact ByCall (atRoots r word out)
+    ((30, 64 < r) ∷  -- R above 64
+    (23, length out < r) ∷  -- output shorter than the result
+    [])
+at-roots-refusals r word out =
+    row ByCall (ltb 64 r) (refuses 30 out) (ltb-true _ _) (not-less _ _) (wrote (valuesFrom word 1 r) out r (length-values word 1 r))
+
 pub make-refusals : (r : ℕ) (message out : List ℕ) → Exact ByCall (made r message out)
     ((30, 64 < r) ∷  -- R above 64
     (31, length message ≢ 255 - r) ∷  -- message not 255 - R bytes
@@ -235,14 +253,18 @@ send-refusals bs out = wrote (marked bs) out _ refl
 
 -- a line printed: an answer's, and the last
 pub print-refusals : (a : Answer) (out : List ℕ) → Exact ByCall (write (line a) out) ((23, length out < length (line a)) ∷ [])
-print-refusals = lines-print-exact
+print-refusals = listing-lines-print-exact
 
 pub print-end-refusals : (bytes packets rejected damaged lost : ℕ) (out : List ℕ)
     → Exact ByCall (write (endLine bytes packets rejected damaged lost) out) ((23, length out < length (endLine bytes packets rejected damaged lost)) ∷ [])
-print-end-refusals = lines-print-end-exact
+print-end-refusals = listing-lines-print-end-exact
 
 pub print-wrong-refusals : (offset : ℕ) (out : List ℕ) → Exact ByCall (write (wrongLine offset) out) ((23, length out < length (wrongLine offset)) ∷ [])
-print-wrong-refusals = lines-print-wrong-exact
+print-wrong-refusals = listing-lines-print-wrong-exact
+
+-- a text's first bytes, handed out
+pub deliver-refusals : (n : ℕ) (text out : List ℕ) → Exact ByCall (write (take n text) out) ((23, length out < min n (length text)) ∷ [])
+deliver-refusals n text out = wrote (take n text) out _ (length-take n text)
 
 -- the office: its start, bytes of its input, the end of the input, the last block; and a line, of which a number is told only where it is a bid
 pub start-refusals : (hold : List ℕ) → Exact ByStart (starting hold) ((11, length hold < holdLimit) ∷ [])
@@ -276,6 +298,9 @@ begin-keeps-out out = write-keeps (flag ∷ []) out
 pub append-keeps-out : (at : ℕ) (p : Packet) (out : List ℕ) → Keeps out (appending at p out)
 append-keeps-out = appending-keeps
 
+pub at-roots-keeps-out : (r : ℕ) (word out : List ℕ) → Keeps out (atRoots r word out)
+at-roots-keeps-out = roots-keep
+
 pub make-keeps-out : (r : ℕ) (message out : List ℕ) → Keeps out (made r message out)
 make-keeps-out = made-keeps
 
@@ -289,13 +314,16 @@ pub finish-keeps-out : (r : Lister) (out : List ℕ) → Keeps out (finishing r 
 finish-keeps-out r out = write-keeps (lastOf r) out
 
 pub print-keeps-out : (a : Answer) (out : List ℕ) → Keeps out (write (line a) out)
-print-keeps-out = lines-print-same
+print-keeps-out = listing-lines-print-same
 
 pub print-end-keeps-out : (bytes packets rejected damaged lost : ℕ) (out : List ℕ) → Keeps out (write (endLine bytes packets rejected damaged lost) out)
-print-end-keeps-out = lines-print-end-same
+print-end-keeps-out = listing-lines-print-end-same
 
 pub print-wrong-keeps-out : (offset : ℕ) (out : List ℕ) → Keeps out (write (wrongLine offset) out)
-print-wrong-keeps-out = lines-print-wrong-same
+print-wrong-keeps-out = listing-lines-print-wrong-same
+
+pub deliver-keeps-out : (n : ℕ) (text out : List ℕ) → Keeps out (write (take n text) out)
+deliver-keeps-out n text out = write-keeps (take n text) out
 
 pub last-keeps-out : (s : Office) (hold out : List ℕ) → Keeps out (desk-finish s hold out)
 last-keeps-out = office-finish-same
@@ -340,6 +368,9 @@ hear-keeps-all = hear-same
 
 pub next-keeps-all : (m : Deck) (bs : List ℕ) (n : ℕ) → ByNext (tapeCall m bs) n → tapeCall m bs ≡ (some (said (refusal n)), 0, m)
 next-keeps-all = next-same
+
+pub packet-keeps-all : (m : Deck) (bs : List ℕ) (n : ℕ) → ByPacket (packetCall m bs) n → packetCall m bs ≡ (some (unheard n), 0, m)
+packet-keeps-all = packet-same
 
 -- .. and so does a call on a recording that is listed: no byte is taken, and no line printed
 pub take-keeps-all : (m : Deck) (t : Totals) (room : ℕ) (bs : List ℕ) (n : ℕ) → ByTake (takes m t room bs) n → takes m t room bs ≡ printed (Refused n) m t

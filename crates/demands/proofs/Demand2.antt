@@ -6,7 +6,8 @@
 --   check values    `fcs` (crates/fcs/specs/Fcs.antt)
 --   escapes         `escape`, `plain`, `scan` (crates/packet_spec/specs/Escape.antt), and `reads` (crates/stream/specs/Meaning.antt)
 --   parity words    `generator`, `remainder`, `clean` (crates/word_spec/specs/Word.antt), over the field of crates/field/specs/Field.antt
---   interleaving    `cell` (crates/interleaver_spec/specs/Places.antt), `push`, `pull`, `pushing`, `closing`, `pulling` (crates/interleaver_spec/specs/Running.antt)
+--   interleaving    `cell` (crates/interleaver_spec/specs/Places.antt), `push`, `pull`, `pushing`, `closing`, `pulling`
+--                   (crates/interleaver_spec/specs/Running.antt)
 --   markers         `marked` (crates/channel_spec/specs/Sender.antt), and `answers` (crates/channel_spec/specs/Meaning.antt)
 --   block answers   `condition`, `mend` (crates/channel_spec/specs/Meaning.antt), by repair's promise: `Promised` (crates/repair/specs/Promise.antt)
 --   the listing     `listing` (crates/listing_spec/specs/Meaning.antt), of recordings taken apart: `apart` (crates/listing_spec/specs/Apart.antt)
@@ -24,10 +25,11 @@
 -- cut-short, wrong-first, wrong-mark, wrong-second, limit-passed   what others print
 -- x-offset, x-rest, shown-rest, decimal-value           the offset that `X` prints, what comes behind it, and numbers as they are printed
 -- recorded-by-calls, next-payload                       a recording's answers by calls, where it ends, and where a payload stands
--- listed-by-calls, listed-at-last, finished-at-last     the listing by calls
+-- listed-from, listed-by-calls, listed-at-last, finished-at-last   the listing by calls
 -- line-number, close-number                             the number of a line that the office tells of
 -- bytes-behind, mark-is, make-is                        what a call that writes leaves in the output; a block's, and parity's
 use Prim.Native.Nat.{ℕ, suc, _+_, _-_, _*_, _%_, _≤_, _<_}
+use Prim.Native.Char.{code}
 use native.Mathlib.Omega.{arith}
 use mathlib.Core.Path.{_≡_, refl, sym, _∙_, ap}
 use mathlib.Core.Bool.{Bool, true, false}
@@ -66,7 +68,8 @@ use Rattle.channel_spec.proofs.Words.{block-promised, block-determined}
 use Rattle.listing_spec.specs.Apart.{most, freshSpot, apart, well, isWrong, onChannel, recordOf, records}
 use Rattle.listing_spec.specs.Described.{firstByte, Described}
 use Rattle.bid.specs.Line.{digits, value}
-use Rattle.listing_spec.specs.Lines.{decimal, letter, lines, isPacket, isRefusal, isDamaged, isLost, count, packetsIn, refusalsIn, damagedIn, wrongLine, longest}
+use Rattle.listing_spec.specs.Lines.{letter, lines, isPacket, isRefusal, isDamaged, isLost, count, packetsIn, refusalsIn, damagedIn, wrongLine, longest}
+use Rattle.text.specs.Text.{decimal}
 use Rattle.listing_spec.specs.Meaning.{heard, totalLine, listing}
 use Rattle.listing_spec.specs.declared.Place.the-variants.{Wrong}
 use Rattle.listing_spec.proofs.Described as recordings
@@ -83,7 +86,7 @@ use Rattle.recording.specs.Deck.{Deck, fresh}
 use Rattle.recording.specs.Call.{far, deckOf, tapeCall, EveryCut, ThereDeck}
 use Rattle.recording.proofs.Demands.{taken-apart}
 use Rattle.recording.proofs.Delivery.{payload-next}
-use Rattle.listing.specs.declared.lister.Totals.{Totals}
+use Rattle.listing_lines.specs.declared.totals.Totals.{Totals}
 use Rattle.listing.specs.declared.lister.Lister.{Lister}
 use Rattle.listing.specs.Call.{noTotals, lastOf, recorded, finishing, freshRecording}
 use Rattle.listing.specs.Runs.{ListsAll, Run, Fair}
@@ -176,10 +179,11 @@ words-carry = streaming.words-carry
 
 -- ---- "Port classes": S system, A applications, M, D, F future, by the letter that a listing prints; "7D00-7EFF may not be used"
 pub class-letters : (p : ℕ)
-    → (p ≤ 0x0400 → letter (class p) ≡ 83) × (0x0401 ≤ p → p ≤ 0x50FF → letter (class p) ≡ 65) × (p ≡ 0x5100 → letter (class p) ≡ 77)
-    × (0x5101 ≤ p → p ≤ 0x5200 → letter (class p) ≡ 83) × (0x5201 ≤ p → p ≤ 0x5207 → letter (class p) ≡ 68) × (0x5208 ≤ p → p ≤ 0x52FF → letter (class p) ≡ 83)
-    × (0x5300 ≤ p → p ≤ 0x7CFF → letter (class p) ≡ 70) × (0x7D00 ≤ p → p ≤ 0x7EFF → class p ≡ Barred)
-    × (0x7F00 ≤ p → p ≤ 0xFEFF → letter (class p) ≡ 70) × (0xFF00 ≤ p → letter (class p) ≡ 83)
+    → (p ≤ 0x0400 → letter (class p) ≡ code "S") × (0x0401 ≤ p → p ≤ 0x50FF → letter (class p) ≡ code "A") × (p ≡ 0x5100 → letter (class p) ≡ code "M")
+    × (0x5101 ≤ p → p ≤ 0x5200 → letter (class p) ≡ code "S") × (0x5201 ≤ p → p ≤ 0x5207 → letter (class p) ≡ code "D")
+    × (0x5208 ≤ p → p ≤ 0x52FF → letter (class p) ≡ code "S") × (0x5300 ≤ p → p ≤ 0x7CFF → letter (class p) ≡ code "F")
+    × (0x7D00 ≤ p → p ≤ 0x7EFF → class p ≡ Barred)
+    × (0x7F00 ≤ p → p ≤ 0xFEFF → letter (class p) ≡ code "F") × (0xFF00 ≤ p → letter (class p) ≡ code "S")
 class-letters p = (
   λ h. ap letter (from-0000 p h),
   λ l h. ap letter (from-0401 p l h),

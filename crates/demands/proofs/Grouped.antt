@@ -28,7 +28,8 @@ use Rattle.interleaver_spec.specs.declared.Matrix.{Matrix}
 use Rattle.subchannel_spec.specs.Sender.{sent}
 use Rattle.subchannel_sender.specs.Sending.{groupStream, groupNext, groupSending, groupWritten, groupCount, counting, groupsBy}
 use Rattle.subchannel_sender.specs.declared.Counted.the-variants.{Groups, Refused as CountRefused}
-use Rattle.subchannel_sender.proofs.Running.{group-state, group-roots, group-depth, group-short, group-long, group-goes, group-placed, groups-sent, sent-long, count-rest, group-first}
+use Rattle.subchannel_sender.proofs.Running.{group-state, group-roots, group-depth, group-short, group-long, group-goes}
+use Rattle.subchannel_sender.proofs.Running.{group-placed, groups-sent, sent-long, count-rest, group-first}
 use Rattle.subchannel_sender.proofs.Running.{count-are}
 use Rattle.subchannel.proofs.Fine.{zero-placed}
 use Rattle.demands_laws.specs.Table.{Exact}
@@ -55,7 +56,8 @@ module _ (r d : ℕ) (m : Matrix) (bs out : List ℕ) where
       (λ h.
       subst
       (λ (t : Bool).
-      Exact {A = Outcome × ℕ × Matrix} ByGroup (pick t (refused 30 out, 0, m) (pick (ltb 64 d) (refused 32 out, 0, m) (groupWritten r m bs (groupNext r d m bs) out)))
+      Exact {A = Outcome × ℕ × Matrix} ByGroup
+      (pick t (refused 30 out, 0, m) (pick (ltb 64 d) (refused 32 out, 0, m) (groupWritten r m bs (groupNext r d m bs) out)))
       ((30, 64 < r) ∷ (32, 64 < d) ∷ (23, length out < 1024) ∷ []))
       (sym (lt-ltb 64 r h)) (applies ByGroup ((32, 64 < d) ∷ (23, length out < 1024) ∷ []) (refuses 30 out) h)))
 

@@ -28,13 +28,15 @@ use Rattle.stream.specs.Sender.{stream, delivered}
 use Rattle.packet_spec.specs.Contents.{Packet}
 use Rattle.stream.proofs.Streaming.{stream-read}
 use Rattle.channel_spec.specs.Sender.{parityBytes, framed, fillers, messagesOf, sentWords, sent}
-use Rattle.channel_spec.specs.Meaning.{zeros, frames, blocks, losses, freshChannel, hears, IsWord, FirstMarker}
+use Rattle.channel_spec.specs.Meaning.{zeros, frames, blocks, losses, freshChannel, hears, wordsGive, IsWord, FirstMarker}
 use Rattle.channel.specs.Call.{EveryCut, memoryOf, inUse}
-use Rattle.channel_spec.proofs.Streaming.{wholes, behindWords, frames-wholes, blocks-wholes, losses-wholes, first-markers, sent-messages, sent-each, sent-bytes, sent-some}
+use Rattle.channel_spec.proofs.Given.{frames-given, blocks-given, losses-given}
+use Rattle.channel_spec.proofs.Streaming.{behindWords, first-markers, sent-messages, sent-each, sent-bytes, sent-some}
 use Rattle.channel_spec.proofs.Streaming.{received as heard-words}
 use Rattle.channel.proofs.Demands.{cut-so, every-cut}
 use Rattle.demands_laws.specs.Guarantee.{altered, Repairable, Received, received}
-use Rattle.demands_laws.proofs.Altered.{altered-is, repairable-half, half-repairable, sent-clean-words, carried-received, answers-received, behind-received, words-received, some-received}
+use Rattle.demands_laws.proofs.Altered.{altered-is, repairable-half, half-repairable, sent-clean-words, carried-received}
+use Rattle.demands_laws.proofs.Altered.{answers-received, behind-received, words-received, some-received}
 
 -- ---- "a clean word with 1 to R bytes altered is never clean": the check finds it damaged
 pub never-clean : (r : ℕ) (v : List ℕ) → CleanWord r v → (w : List ℕ) → IsWord w → Bytes w → 0 < altered v w → altered v w ≤ r
@@ -70,8 +72,9 @@ module _ (stray : List ℕ) (ps : List Packet) (accepted : Each Accepted ps) (fi
   some : vs ≢ []
   some = some-received parityBytes (sentWords ps) vs came (sent-some ps accepted)
 
-  heard : hears freshChannel (stray ++ framed vs) ≡ (wholes vs waiting .0, behindWords zeros [] vs waiting)
-  heard = heard-words stray vs some (words-received parityBytes (sentWords ps) vs came) (first-markers stray (sentWords ps) vs (sent-some ps accepted) some first)
+  heard : hears freshChannel (stray ++ framed vs) ≡ (wordsGive vs waiting, behindWords zeros [] vs waiting)
+  heard = heard-words stray vs some (words-received parityBytes (sentWords ps) vs came)
+      (first-markers stray (sentWords ps) vs (sent-some ps accepted) some first)
 
   -- the frame answers are the sent packets, once each, in order, and nothing else; each block is clean, or repaired in exactly the places
   -- altered; no lock is lost
@@ -79,11 +82,11 @@ module _ (stray : List ℕ) (ps : List Packet) (accepted : Each Accepted ps) (fi
       λ es d. (frames es ≡ map delivered ps) × (blocks es ≡ received (sentWords ps) vs) × (losses es ≡ 0)
   delivered-as-sent = cut-so (every-cut (stray ++ framed vs)) λ es d cut.
       let e = cut .0 ∙ ap (λ x. x .0) heard in (
-        ap frames e ∙ frames-wholes vs waiting
+        ap frames e ∙ frames-given parityBytes vs waiting
             ∙ ap (λ l. reads waiting l .0) (carried-received parityBytes (sentWords ps) vs words came ∙ sent-bytes ps accepted)
             ∙ ap (λ x. x .0) (stream-read ps accepted (fillers (length (stream ps)))),
-        ap blocks e ∙ blocks-wholes vs waiting ∙ answers-received parityBytes (sentWords ps) vs words came,
-        ap losses e ∙ losses-wholes vs waiting,
+        ap blocks e ∙ blocks-given parityBytes vs waiting ∙ answers-received parityBytes (sentWords ps) vs words came,
+        ap losses e ∙ losses-given parityBytes vs waiting,
       )
 
   -- the final state is that of the stream as sent, in all that counts: the state's numbers, the hunted bytes, the bytes in use

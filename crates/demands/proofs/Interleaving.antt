@@ -76,8 +76,11 @@ delay = delayed
 
 -- "After its last byte the sender pushes N - 1 zeros through": then all have come back
 pub closing-zeros : (d : ℕ) → (2 ≤ d → zeros d ≡ replicate (255 * d - 1) 0) × (d < 2 → zeros d ≡ [])
-closing-zeros d =
-    (λ h. ap (λ (t : Bool). replicate {A = ℕ} (pick t 0 (255 * d - 1)) 0) (le-ltb d 2 h), λ h. ap (λ (t : Bool). replicate {A = ℕ} (pick t 0 (255 * d - 1)) 0) (lt-ltb d 2 h))
+closing-zeros d = (
+  λ h. ap (λ (t : Bool). replicate {A = ℕ} (pick t 0 (255 * d - 1)) 0) (le-ltb d 2 h),
+  λ h. ap (λ (t : Bool). replicate {A = ℕ} (pick t 0 (255 * d - 1)) 0)
+      (lt-ltb d 2 h),
+)
 
 pub there-and-back : (d : ℕ) → d ≤ 64 → (bs : List ℕ) → run (pull d) freshBack (run (push d) fresh (bs ++ zeros d) .0) .0 ≡ bs
 there-and-back d h bs = round d h bs (zeros d) (length-replicate {A = ℕ} (closingBytes d) 0)
@@ -118,7 +121,8 @@ pub push-is : (d : ℕ) (m : Matrix) (bs out : List ℕ) (n : ℕ) → pushing d
 push-is d m bs out n = calling-is d (m .place) m (run (push d) m bs) out n
 
 -- .. its closing push ..
-pub closing-is : (d : ℕ) (m : Matrix) (out : List ℕ) (n : ℕ) → closing d m out .0 .answer ≡ Wrote n → closing d m out .0 ≡ write (run (push d) m (zeros d) .0) out
+pub closing-is : (d : ℕ) (m : Matrix) (out : List ℕ) (n : ℕ) → closing d m out .0 .answer ≡ Wrote n
+    → closing d m out .0 ≡ write (run (push d) m (zeros d) .0) out
 closing-is d m out n = push-is d m (zeros d) out n
 
 -- .. and the receiving side's

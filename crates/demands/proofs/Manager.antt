@@ -1,7 +1,8 @@
 -- What the office typed is what the manager reads. For every input of the office, however it is cut (`Sends`); whatever stray bytes come before
 -- what goes out, the marker first appearing where that begins; whichever bytes of its words are altered, up to 16 in each (`Airs`):
+-- went-out         what goes out is the stream of the accepted lines
 -- bids-delivered   the packets delivered are those of the lines that the sender accepted, once each, in order, and nothing else; no lock is lost
--- Of a board that is told no range, or the range of all ports:
+-- Of a board that is told no range, or the range of all ports (`whole-regarded`: no answer is left out):
 -- bids-not-old     the bids among the lines shown are those of the accepted lines' packets that are neither late nor repeated, in order, and no
 -- others; of a port that finds no place in the table neither can be told, and each is a bid ..
 -- .. and where each port's sequence numbers rise by one:

@@ -14,10 +14,11 @@ use Rattle.packet_spec.specs.Port.{class}
 use Rattle.capture_spec.specs.File.{records}
 use Rattle.capture_spec.specs.Meaning.{entry, read}
 use Rattle.listing_spec.specs.Apart.{nextAt, inStream, apart}
-use Rattle.listing_spec.specs.Lines.{decimal, decimalBy, told, lines, count, endLine, wrongLine}
+use Rattle.listing_spec.specs.Lines.{told, lines, count, endLine, wrongLine}
+use Rattle.text.specs.Text.{decimal, decimalBy}
 use Rattle.listing_spec.specs.Meaning.{heard, lastLine, listed, listing}
-use Rattle.lines.specs.Noted.{notedLine}
-use Rattle.lines.specs.Row.{rowLine}
+use Rattle.missed_spec.specs.Line.{notedLine}
+use Rattle.sheet_spec.specs.Line.{rowLine}
 use Rattle.ports_spec.specs.Ports.{placeOf, freePlace, twice, noting, forgetting}
 use Rattle.unit_spec.specs.Bits.{digits, bits, number, pack}
 use Rattle.unit_spec.specs.Tables.{sequence, announced, heads, start, step, payload, lent, unfit}
@@ -31,13 +32,19 @@ use Rattle.demands.specs.Printed.{printed}
 use Rattle.demands.specs.Requested.{requested}
 
 pub numbers : wrong table ≡ []
-unfolding fcs register entered contents withCheck judge closed closedBy judgeContents judgeBody scan last wrongFrom right plain escape escapeByte mul shiftAdd double add pow remainder divide generator timesRoot onto scale
+unfolding fcs register entered contents withCheck judge closed closedBy judgeContents judgeBody scan last wrongFrom right plain escape escapeByte mul shiftAdd
+    double add pow remainder divide generator timesRoot onto scale
 numbers = refl
 
 pub as-printed : wrong printed ≡ []
-unfolding fcs register entered contents withCheck escape escapeByte judge closed closedBy judgeContents judgeBody scan last wrongFrom right plain class told lines count endLine wrongLine decimal decimalBy heard lastLine listed listing apart inStream nextAt notedLine noting forgetting placeOf freePlace twice mul shiftAdd double add pow horner eval clean remainder divide generator timesRoot onto scale
+unfolding fcs register entered contents withCheck escape escapeByte judge closed closedBy judgeContents judgeBody scan last wrongFrom right plain class told
+    lines count endLine wrongLine decimal decimalBy heard lastLine listed listing apart inStream nextAt notedLine noting forgetting placeOf freePlace twice mul
+    shiftAdd double add pow horner eval clean remainder divide generator timesRoot onto scale
 as-printed = refl
 
 pub as-requested : wrong requested ≡ []
-unfolding digits number isHeader named heads start step unfit records read entry judgeBody plain rowLine decimal decimalBy marks fcs register entered withCheck judgeContents escape escapeByte mul shiftAdd double add pow remainder divide generator timesRoot onto scale bits pack sequence announced payload lent weave begins opened laidOut unitBits unit hidden written heads-heard unwoven headerOf payloadOf readParts readUnit toldFrom told-numbers sum numbersOf numbers-of added addedAll anyWide
+unfolding digits number isHeader named heads start step unfit records read entry judgeBody plain rowLine decimal decimalBy marks fcs register entered withCheck
+    judgeContents escape escapeByte mul shiftAdd double add pow remainder divide generator timesRoot onto scale bits pack sequence announced payload lent weave
+    begins opened laidOut unitBits unit hidden written heads-heard unwoven headerOf payloadOf readParts readUnit toldFrom told-numbers sum numbersOf numbers-of
+    added addedAll anyWide
 as-requested = refl

@@ -51,7 +51,8 @@ use Rattle.demands_laws.specs.Table.{Exact}
 use Rattle.demands_laws.specs.Refusals.{FrameBeyond, Beyond as BeyondState, Short, OfFrame, OfCall, ByFrame}
 use Rattle.demands.specs.Rack.{ByWord, ByCalled, OfReading, OfHearing, heldBy, memoryBy}
 use Rattle.demands_laws.proofs.Rows.{first-each}
-use Rattle.demands.proofs.Demand1.{make-refusals, make-keeps-out, check-refusals, repair-refusals, repair-keeps, read-refusals, read-keeps-all, hear-refusals, hear-keeps-all}
+use Rattle.demands.proofs.Demand1.{make-refusals, make-keeps-out, check-refusals, repair-refusals, repair-keeps}
+use Rattle.demands.proofs.Demand1.{read-refusals, read-keeps-all, hear-refusals, hear-keeps-all}
 use Rattle.demands.proofs.Demand1.{read-numbers, hear-numbers}
 
 -- a number that is neither 10 nor 11
@@ -84,7 +85,8 @@ rack-make-refusals r message out =
       says = λ n. (
         λ b. t .says n .0 (by-written (made r message out .answer) n b),
         λ f.
-            let w = first-each OfWord ((30, 64 < r) ∷ (31, length message ≢ 255 - r) ∷ (23, length out < r) ∷ []) ((omega arith, omega arith), ((omega arith, omega arith), ((omega arith, omega arith), tt))) n f in
+            let w = first-each OfWord ((30, 64 < r) ∷ (31, length message ≢ 255 - r) ∷ (23, length out < r) ∷ [])
+            ((omega arith, omega arith), ((omega arith, omega arith), ((omega arith, omega arith), tt))) n f in
             (ap writtenNumber (t .says n .1 f), w .0, w .1),
       );
     }

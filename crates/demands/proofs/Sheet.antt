@@ -6,7 +6,7 @@
 -- sheet-by-calls, sheet-begins, sheet-goes-on, sheet-of-many, sheet-rows, line-printed     by calls, for every cutting of each recording
 -- range-brings, range-sheet, range-lines, every-port     a range of ports
 -- close-refusals, month-refusals, close-keeps, sheet-stays, month-stays, x-is-wrong, x-rest, counted-whole      what does not count
--- print-refusals, print-row-refusals, ..-keeps-out     a line written
+-- print-refusals, print-keeps-out     a line written
 use Prim.Native.Nat.{ℕ, _+_, _≤_, _<_}
 use native.Mathlib.Omega.{arith}
 use mathlib.Core.Path.{_≡_, refl, sym, ap, subst, _∙_}
@@ -22,8 +22,8 @@ use Rattle.base.specs.Choice.{pick}
 use Rattle.base.specs.Written.{write, refused, Keeps}
 use Rattle.base.proofs.Calls.{yields-so}
 use Rattle.base.proofs.Writing.{write-keeps}
-use Rattle.lines.specs.Row.{rowLine, rowLongest}
-use Rattle.lines.proofs.Rows.{row-short}
+use Rattle.sheet_spec.specs.Line.{rowLine, rowLongest}
+use Rattle.sheet_spec.proofs.Line.{row-short}
 use Rattle.listing_spec.specs.Apart.{freshSpot, apart, well, isWrong, onChannel}
 use Rattle.listing_spec.specs.Meaning.{heard}
 use Rattle.listing_spec.proofs.Wrong.{wrong-rest}
@@ -34,7 +34,8 @@ use Rattle.ports_spec.specs.Range.{everyPort, inside}
 use Rattle.sheet_spec.specs.declared.Row.{Row}
 use Rattle.ports_spec.specs.declared.Noted.the-variants.{First, InOrder, Repeated, Missing, Late}
 use Rattle.sheet_spec.specs.Tally.{told, tallied, nothing, plus, one, sum, tally, timelyIn}
-use Rattle.sheet_spec.specs.Meaning.{Mark, Month, within, numbersOf, numbers, timelyOf, addedAll, portsOf, line, lines, anyWide, portLimit, counts, wrong, ruling, with, counting, monthOf}
+use Rattle.sheet_spec.specs.Meaning.{Mark, Month, within, numbersOf, numbers, timelyOf, addedAll, portsOf, line}
+use Rattle.sheet_spec.specs.Meaning.{lines, anyWide, portLimit, counts, wrong, ruling, with, counting, monthOf}
 use Rattle.sheet_spec.specs.Rows.{blank}
 use Rattle.sheet_spec.specs.Recording.{marks, brings}
 use Rattle.sheet_spec.proofs.Tallies as tallies
@@ -93,7 +94,8 @@ pub loss : (month : Month) (port : ℕ) → numbers port month .total ≡ number
 loss = tallies.month-loss
 
 -- a line has them in this order, and at most 147 bytes
-pub line-is : (r : Row) → (lineOf r ≡ rowLine (r .port) (r .tally .delivered) (r .tally .repeated) (r .tally .late) (r .tally .missing) (r .tally .total)) × (length (lineOf r) ≤ rowLongest)
+pub line-is : (r : Row) → (lineOf r ≡ rowLine (r .port) (r .tally .delivered) (r .tally .repeated) (r .tally .late) (r .tally .missing) (r .tally .total))
+    × (length (lineOf r) ≤ rowLongest)
 line-is r = (refl, row-short (r .port) (r .tally .delivered) (r .tally .repeated) (r .tally .late) (r .tally .missing) (r .tally .total))
 
 -- "Each number is defined from the delivered packets.": however a recording is cut, whatever the lent buffers held, the calls come to their end, and
@@ -177,7 +179,8 @@ refuses-closed m s n = (λ e. let k : m ≡ n = cc in sym k, λ e i. Refused (sy
 
 not-refused : (a : Counted) (s : Sheet) → (a ≡ Counts) ⊎ (a ≡ Wrong) → Exact ByClosed (closed a s) []
 not-refused a s h =
-    passed ByClosed λ n e. ⊎-elim (λ (k : a ≡ Counts). let z : _≡_ {A = ℕ} 0 1 = cc in omega arith) (λ (k : a ≡ Wrong). let z : _≡_ {A = ℕ} 0 1 = cc in omega arith) h
+    passed ByClosed λ n e. ⊎-elim (λ (k : a ≡ Counts). let z : _≡_ {A = ℕ} 0 1 = cc in omega arith)
+    (λ (k : a ≡ Wrong). let z : _≡_ {A = ℕ} 0 1 = cc in omega arith) h
 
 -- by the three tests
 by-ruling : (w f v : Bool) {F G : Type 0} (s : Sheet) → (f ≡ true → F) → (F → f ≡ true) → (v ≡ true → G) → (G → v ≡ true)
@@ -206,7 +209,8 @@ beyond-not a b c d e x = go (ltb a b) refl (ltb c d) refl e
 pub close-refusals : (d : Draft) (well : Bool) → Exact ByClosed (closing d well) (closeRows d well)
 unfolding closing
 close-refusals d well =
-    row ByClosed (beyond d) (refuses-closed 10 (d .before)) (beyond-is 16 (d .before .ports) 16 (d .after .ports)) (beyond-not 16 (d .before .ports) 16 (d .after .ports))
+    row ByClosed (beyond d) (refuses-closed 10 (d .before)) (beyond-is 16 (d .before .ports) 16 (d .after .ports))
+    (beyond-not 16 (d .before .ports) 16 (d .after .ports))
     (by-ruling well (d .full) (d .wide) _ (λ e. e) (λ e. e) (λ e. e) (λ e. e))
 
 pub month-refusals : (range : Range) (month : Month) (ms : List Mark) (well : Bool) → Fit month
@@ -257,8 +261,10 @@ print-refusals s i out = row ByCall (ltb portLimit (s .ports)) (refuses-call 10 
         → Exact ByCall (pick b (write (lineOf (getD (rowsOf s) i (blank 0))) out) (write [] out))
         ((23, (i < s .ports) × (length out < length (lineOf (getD (rowsOf s) i (blank 0))))) ∷ [])
     go true e = record {
-      says = λ n. let w = wrote (lineOf (getD (rowsOf s) i (blank 0))) out _ refl .says n in
-          (λ x. ⊎-elim (λ y. inl (y .0, (ltb-true i (s .ports) e, y .1))) (λ y. absurd (y .1)) (w .0 x), λ x. w .1 (⊎-elim (λ y. inl (y .0, y .1 .1)) (λ y. absurd (y .1)) x));
+      says = λ n. let w = wrote (lineOf (getD (rowsOf s) i (blank 0))) out _ refl .says n in (
+        λ x. ⊎-elim (λ y. inl (y .0, (ltb-true i (s .ports) e, y .1))) (λ y. absurd (y .1)) (w .0 x),
+        λ x. w .1 (⊎-elim (λ y. inl (y .0, y .1 .1)) (λ y. absurd (y .1)) x),
+      );
     }
     go false e =
         over ByCall (λ x. not-less i (s .ports) e (x .0))
@@ -272,12 +278,3 @@ print-keeps-out s i out = go (ltb portLimit (s .ports)) (ltb i (s .ports))
     go true b = λ n e. refl
     go false true = write-keeps (lineOf (getD (rowsOf s) i (blank 0))) out
     go false false = write-keeps [] out
-
--- .. and a line by its numbers
-pub print-row-refusals : (port delivered repeated late missing total : ℕ) (out : List ℕ)
-    → Exact ByCall (write (rowLine port delivered repeated late missing total) out) ((23, length out < length (rowLine port delivered repeated late missing total)) ∷ [])
-print-row-refusals port delivered repeated late missing total out = wrote (rowLine port delivered repeated late missing total) out _ refl
-
-pub print-row-keeps-out : (port delivered repeated late missing total : ℕ) (out : List ℕ)
-    → Keeps out (write (rowLine port delivered repeated late missing total) out)
-print-row-keeps-out port delivered repeated late missing total out = write-keeps (rowLine port delivered repeated late missing total) out

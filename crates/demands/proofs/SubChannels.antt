@@ -21,9 +21,11 @@
 -- four-delivers                                        .. among the four, in every schedule
 -- earlier-blocks, behind-flag, other-blocks            .. and its recovery
 -- sub-block-answer, sub-block-only                     request W5, of a fixed sub-channel: a word's answer, at every R
--- repaired-as-sent, -there, -where, -flat              request W12, of a fixed sub-channel: h bytes of each word altered
+-- repaired-..                                          request W12, of a fixed sub-channel: h bytes of each word altered
 -- ..-refusals, ..-keeps-..                             the refusals, row by row, and what a refused call leaves
+-- ..-keeps-cells, ..-puts-together                     the cells lent to the receiver of four: refused, and from call to call
 -- ..-hear-numbers                                      the numbers that are given: 9 is not among them
+-- sub-told-keeps, sub-told-is                          what telling a sub-channel leaves
 -- sub-send-is                                          what a call that sends writes
 use Prim.Native.Nat.{ℕ, suc, _+_, _-_, _*_, _/_, _%_, _≤_, _<_}
 use native.Mathlib.Omega.{arith}
@@ -43,6 +45,7 @@ use Rattle.base.specs.Written.{refused, write, Keeps}
 use Rattle.packet_spec.specs.Contents.{Packet, rawLimit}
 use Rattle.packet_spec.specs.Escape.{flag}
 use Rattle.packet_spec.specs.Frame.{Told as FrameTold, refusal}
+use Rattle.packet_spec.specs.declared.Judged.the-variants as judge
 use Rattle.packet_spec.specs.Sender.{Accepted}
 use Rattle.stream.specs.Meaning.{waiting, reads}
 use Rattle.stream.specs.Sender.{stream, delivered, openedFrom}
@@ -57,12 +60,15 @@ use Rattle.channel_spec.specs.Sender.{marker, wordBytes}
 use Rattle.channel_spec.specs.Meaning.{Event, said, lost, frames, blocks, losses, IsWord, FirstMarker, conditionBy, asMended}
 use Rattle.channel_spec.specs.declared.Condition.the-variants.{Clean as clean}
 use Rattle.channel_spec.specs.declared.Hunting.{Hunting}
-use Rattle.channel_spec.proofs.Streaming.{theMarker, stream-bytes}
+use Rattle.channel_spec.specs.declared.Answer.the-variants.{Said}
+use Rattle.channel_spec.proofs.Words.{word-promised, word-determined}
+use Rattle.channel_spec.proofs.Messages.{stream-bytes}
+use Rattle.channel_spec.proofs.Given.{frames-given, blocks-given, losses-given}
+use Rattle.channel_spec.proofs.Marker.{theMarker}
 use Rattle.subchannel_spec.specs.Sender.{wordOf, messagesOf, flagWord, closingWords, pushed, wordsOf, wordsBack, grouped, marked, sent}
 use Rattle.subchannel_spec.specs.Word.{condition, mend, carried, cameBack}
 use Rattle.subchannel_spec.specs.Meaning.{inGroup, silent, hears, start, answers, wordsGive}
-use Rattle.subchannel_spec.proofs.Words.{word-promised, word-determined}
-use Rattle.subchannel_spec.proofs.Streaming.{messages, messages-each, carries, frames-given, blocks-given, losses-given}
+use Rattle.subchannel_spec.proofs.Streaming.{messages, messages-each, carries}
 use Rattle.subchannel_spec.proofs.Received.{joined-length}
 use Rattle.subchannel_spec.proofs.Sent as laid
 use Rattle.subchannel_spec.proofs.Flags.{flag-word}
@@ -70,11 +76,14 @@ use Rattle.subchannel_spec.proofs.Lost as losing
 use Rattle.subchannel_spec.proofs.Order.{few-given}
 use Rattle.subchannel_spec.proofs.Numbers.{begins}
 use Rattle.subchannel_spec.proofs.Returned.{back-is, returned, unaltered as came-unaltered, flat-back, word-place}
-use Rattle.subchannel.specs.Call.{Memory, memory, toldSub, hearCall, EveryCut, ThereEvent, memoryOf, inUse}
+use Rattle.subchannel.specs.Call.{Memory, memory, untold, toldSub, telling, hearCall, EveryCut, ThereEvent, memoryOf, inUse}
 use Rattle.subchannel.proofs.Demands as one
 use Rattle.subchannel.proofs.Delivery.{payload-there}
 use Rattle.subchannel_spec.specs.declared.Configured.the-variants.{Done, Refused}
-use Rattle.four_receivers.specs.declared.Receiver.{Receiver}
+use Rattle.four_receivers.specs.declared.Receiver as code
+use Rattle.four_receivers.specs.declared.Configuring.{Configuring}
+use Rattle.four_receivers.specs.declared.Hearing.{Hearing}
+use Rattle.four_receivers.specs.Call.{Receiver, whole, ConfiguringIs, FourIs}
 use Rattle.four_receivers.specs.Call.{freshReceiver, Memories, memoryAt, exchanged, callOn, Scheduled, ofOne, get, configuring, hearFour}
 use Rattle.four_receivers.proofs.Calling as made
 use Rattle.four_receivers.proofs.Ending as ending
@@ -449,6 +458,13 @@ pub configure-refusals : (s : Receiver) (n r d : ℕ) → Exact ByConfigure (con
     [])
 configure-refusals = rows.receiver-configure-exact
 
+-- .. one sub-channel's ..
+pub sub-told-refusals : (r d : ℕ) → Exact ByConfigure (telling r d)
+    ((30, 64 < r) ∷  -- R above 64
+    (32, 64 < d) ∷  -- depth above 64
+    [])
+sub-told-refusals = rows.told-exact
+
 -- .. and the sender's
 pub sender-configure-refusals : (s : Sender) (n r d : ℕ) → Exact ByConfigure (senders.configuring s n r d)
     ((10, SenderBeyond s) ∷ (42, 3 < n) ∷ (30, 64 < r) ∷ (32, 64 < d) ∷ [])
@@ -470,6 +486,40 @@ number-send-keeps-out = apart.send-keeps
 
 pub configure-keeps-all : (s : Receiver) (n r d m : ℕ) → ByConfigure (configuring s n r d) m → configuring s n r d ≡ (Refused m, s)
 configure-keeps-all = rows.receiver-configure-same
+
+-- .. of the receiver of four a part is handed on by value and the cells are lent, `whole s cs` being both together; `ConfiguringIs` and `FourIs` are
+-- what the code promises (proofs/Promises). Refused, it hands back the state that it was given, and leaves the cells and both buffers
+module _ (s : code.Receiver) (cs : List (List ℕ)) where
+  pub configure-keeps-cells : (n r d m : ℕ) → ByConfigure (configuring (whole s cs) n r d) m → {x : Configuring} {left : List (List ℕ)}
+      → ConfiguringIs cs (configuring (whole s cs) n r d) x left → (x ≡ record { answer = Refused m; receiver = s }) × (left ≡ cs)
+  configure-keeps-cells n r d m e {x} {left} h =
+      let q = subst (λ y. ConfiguringIs cs y x left) (configure-keeps-all (whole s cs) n r d m e) h in
+      (q .0, q .1 ∙ sym (made.laid-same s cs))
+
+  pub number-hear-keeps-cells : (n : ℕ) (recv word bs : List ℕ) (m : ℕ) → ByNumbered (hearFour (whole s cs) n recv word bs) m
+      → {x : Hearing} {left : List (List ℕ)} {l k : List ℕ} → FourIs cs (hearFour (whole s cs) n recv word bs) x left l k
+      → (x ≡ record { answer = Said (judge.Refused m); taken = 0; receiver = s }) × (left ≡ cs) × (l ≡ recv) × (k ≡ word)
+  number-hear-keeps-cells n recv word bs m e {x} {left} {l} {k} h =
+      let q = subst (λ y. FourIs cs y x left l k) (number-hear-keeps-all (whole s cs) n recv word bs m e) h in
+      (q .0, q .1 ∙ sym (made.laid-same s cs), q .2, q .3)
+
+  -- .. and with four cells lent, what comes back of a call, refused or not, put together is the state behind it, with which the next call starts
+  pub configure-puts-together : length cs ≡ 4 → (n r d : ℕ) {x : Configuring} {left : List (List ℕ)}
+      → ConfiguringIs cs (configuring (whole s cs) n r d) x left → whole (x .receiver) left ≡ configuring (whole s cs) n r d .1
+  configure-puts-together four n r d h = (λ i. whole (h .0 i .receiver) (h .1 i)) ∙ made.carried (configuring (whole s cs) n r d .1) cs four
+
+  pub number-hear-puts-together : length cs ≡ 4 → (n : ℕ) (recv word bs : List ℕ) {x : Hearing} {left : List (List ℕ)} {l k : List ℕ}
+      → FourIs cs (hearFour (whole s cs) n recv word bs) x left l k → whole (x .receiver) left ≡ hearFour (whole s cs) n recv word bs .2
+  number-hear-puts-together four n recv word bs h =
+      (λ i. whole (h .0 i .receiver) (h .1 i)) ∙ made.carried (hearFour (whole s cs) n recv word bs .2) cs four
+
+-- .. one that was refused is not told
+pub sub-told-keeps : (r d m : ℕ) → ByConfigure (telling r d) m → telling r d ≡ (Refused m, untold)
+sub-told-keeps = rows.told-same
+
+-- .. where none of these applies, it is as one just told
+pub sub-told-is : (r d : ℕ) → r ≤ 64 → d ≤ 64 → telling r d ≡ (Done, toldSub r d)
+sub-told-is r d hr hd = rw (le-ltb 64 r hr, le-ltb 64 d hd) refl
 
 pub sender-configure-keeps-all : (s : Sender) (n r d m : ℕ) → ByConfigure (senders.configuring s n r d) m → senders.configuring s n r d ≡ (Refused m, s)
 sender-configure-keeps-all = rows.sender-configure-same

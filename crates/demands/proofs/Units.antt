@@ -51,7 +51,8 @@ abbrev Long : ℕ → Type 0
 Long l = (l % 8 ≡ 0 → 144 ≤ l) × (l % 8 ≡ 7 → 303 ≤ l) × (Other l → 289 ≤ l)
 
 long-least : (l : ℕ) → least (heads l) ≤ l ↔ Long l
-long-least l = by-row (λ h _ _. least h ≤ l ↔ Long l) l (λ _ e. zero e) (λ _ e. seven e) (λ _ e f. rest e f) (λ _ e. zero e) (λ _ e. seven e) (λ _ e f. rest e f)
+long-least l = by-row (λ h _ _. least h ≤ l ↔ Long l) l (λ _ e. zero e) (λ _ e. seven e) (λ _ e f. rest e f) (λ _ e. zero e) (λ _ e. seven e)
+    (λ _ e f. rest e f)
   where
     zero : l % 8 ≡ 0 → 144 ≤ l ↔ Long l
     zero e = (λ h. (λ _. h, λ f. absurd (omega (arith, e, f)), λ o. absurd (o .0 e)), λ h. h .0 e)
@@ -74,8 +75,8 @@ lengths l = (
 pub high-bit-first : (bs : List ℕ) (t : ℕ) → t / 8 < length bs → getD (bits bs) t 0 ≡ getD bs (t / 8) 0 / 2 ^ (7 - t % 8) % 2
 high-bit-first bs t h = sym (digit-at 8 (getD bs (t / 8) 0) (t % 8) (omega arith) ∙ bits-at bs t h)
 
--- ---- "the header sequences of table 5-3": audio, fixed and opportunistic data, of lengths. "Content is present when its length is above zero." Zero stands for
--- a mix that has none
+-- ---- "the header sequences of table 5-3": audio, fixed and opportunistic data, of lengths. "Content is present when its length is above zero." Zero
+-- stands for a mix that has none
 pub sequences : (a f o : ℕ)
     → (sequence (suc a) 0 0 ≡ 0x38D8D3)
     × (sequence (suc a) 0 (suc o) ≡ 0xCE3634)
@@ -127,8 +128,8 @@ pub around : (l cw : ℕ) (p : List ℕ) → 0 < step l → length p ≡ payload
     → unwoven (start l) (step l - 1) (heads l) (bits (unit l cw p)) ≡ bits p ++ replicate (lent l * 8 - heads l - length p * 8) 0
 around = unwoven-unit
 
--- ---- "a payload of audio (opaque), opportunistic part and fixed part in that order. [..] Zero bytes fill the gap behind the audio; opportunistic data follows the
--- delimiter and ends where fixed data begins."
+-- ---- "a payload of audio (opaque), opportunistic part and fixed part in that order. [..] Zero bytes fill the gap behind the audio; opportunistic data
+-- follows the delimiter and ends where fixed data begins."
 pub laid-with : (n : ℕ) (d audio : List ℕ) (x : ℕ) (opp fixed : List ℕ)
     → laidOut n d audio (x ∷ opp) fixed
     ≡ audio ++ replicate (n - (length audio + length (d ++ x ∷ opp) + length fixed)) 0 ++ (d ++ x ∷ opp) ++ fixed
@@ -145,7 +146,8 @@ pub written-is : (l : ℕ) (d audio opp fixed out : List ℕ) (m : ℕ) → writ
     → written l d audio opp fixed out ≡ write (unit l (sequence (length audio) (length fixed) (length opp)) (laidOut (payload l) d audio opp fixed)) out
 written-is = unit-written
 
--- ---- "The reader is told the audio and fixed lengths": they are the first a and the last f bytes of the payload, and between them is sought what is announced ..
+-- ---- "The reader is told the audio and fixed lengths": they are the first a and the last f bytes of the payload, and between them is sought what is
+-- announced ..
 pub read-is : (l : ℕ) (d : List ℕ) (a f : ℕ) (u out : List ℕ) (m : ℕ) → readUnit l d a f u out .answer ≡ Wrote m
     → readUnit l d a f u out
     ≡ write
@@ -182,9 +184,10 @@ pub round-trip : (l : ℕ) (d audio opp fixed : List ℕ) → length d ≡ 5 →
     → readUnit l d (length audio) (length fixed) (take m (written l d audio opp fixed out .output)) out′ ≡ write (audio ++ opp ++ fixed) out′
 round-trip = round.round-trip
 
--- ---- "Refusals, in order: 50 length above the limit, a header spacing below zero or, on reading, too few bytes lent; 51 on writing, a mix of content that has no
--- sequence; 52 on reading, bits that match no sequence or a reserved one; 53 parts that do not fit or, on reading, told lengths that disagree with the sequence;
--- 54 on writing, the delimiter would be found earlier than written, and on reading, it is announced and not found ahead of at least one opportunistic byte; then 23."
+-- ---- "Refusals, in order: 50 length above the limit, a header spacing below zero or, on reading, too few bytes lent; 51 on writing, a mix of content
+-- that has no sequence; 52 on reading, bits that match no sequence or a reserved one; 53 parts that do not fit or, on reading, told lengths that
+-- disagree with the sequence; 54 on writing, the delimiter would be found earlier than written, and on reading, it is announced and not found ahead of
+-- at least one opportunistic byte; then 23."
 pub write-refusals : (l : ℕ) (d audio opp fixed out : List ℕ) → Exact ByCall (written l d audio opp fixed out) (writeRows l d audio opp fixed (length out))
 write-refusals = unit-write-exact
 

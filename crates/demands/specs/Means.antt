@@ -2,6 +2,7 @@
 --         is exactly this statement of its arguments, its result and what each lent buffer then holds. A law of this form is refused when
 --         the promise in src/ says more, less or other, whether or not the body keeps it
 -- MeansByHand   the same of a function that is proved by hand
+-- Named, Given  how a statement names the parameters
 use Prim.Native.Nat.{ℕ}
 use mathlib.Core.Logic.{_↔_}
 use mathlib.Core.List.{List, [], _∷_}

@@ -1,7 +1,8 @@
 -- The numbers that the paper holds the definitions to, (a) to (m), as a single table: beside each letter what the definitions give and what
 -- the paper says.
--- table     the rows
--- wrong     the letters of the rows that do not agree
+-- table, Line        the rows
+-- inNumbers, heard   answers in numbers
+-- wrong              the letters of the rows that do not agree
 use Prim.Native.Nat.{ℕ}
 use mathlib.Core.Path.{_≡_, refl}
 use mathlib.Core.Bool.{Bool, true, false, _&&_}

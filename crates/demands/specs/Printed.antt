@@ -4,6 +4,7 @@
 -- printed    the rows
 use mathlib.Core.List.{List, [], _∷_, _++_, map}
 use lib.ListN.{length, replicate}
+use Rattle.text.specs.Text.{ascii}
 use Rattle.base.specs.Calls.{joined}
 use Rattle.fcs.specs.Fcs as check
 use Rattle.field.specs.Field as field
@@ -25,12 +26,13 @@ use Rattle.recording.specs.Call.{far}
 use Rattle.listing_spec.specs.Lines.{longest, line, wrongLine}
 use Rattle.listing_spec.specs.Meaning.{totalLine, listing}
 use Rattle.listing.specs.Call.{lastOf}
-use Rattle.lines.specs.Noted.{notedLine}
+use Rattle.missed_spec.specs.Line.{notedLine}
 use Rattle.ports_spec.specs.Distance.{around, half, ruled, lastBehind}
 use Rattle.ports_spec.specs.Ports.{placeLimit as mostPorts, freed, entry, noting, forgetting}
 use Rattle.ports_spec.specs.declared.Noted.the-variants.{First, InOrder, Repeated, Missing, Late, Refused as NotNoted}
 use Rattle.demands.specs.Numbers.{Line, inNumbers, heard}
-use Rattle.demands.specs.Telling.{answersOf, endsWith, behindStream, letterOf, unusable, refusalOf, paying, portOf, headed, keyRefusal, judgedBy, unreadBy}
+use Rattle.demands.specs.Telling.{answersOf, endsWith, behindStream, letterOf, unusable, refusalOf}
+use Rattle.demands.specs.Telling.{paying, portOf, headed, keyRefusal, judgedBy, unreadBy}
 use Rattle.demands.specs.Telling.{placeOf, places, refusalAt, unmadeBy, uncheckedBy, unheardBy, toldOf, unforgottenOf, tableOf}
 
 -- the number of a row, what the definitions give, what the paper prints
@@ -60,39 +62,38 @@ printed =
     (
       11,
       line (Said (Delivered (record { format = 0x26; number = 7; key = 2; port = 0x5100; sequence = 0x0102; length = 3 }))),
-      80 ∷ 32 ∷ 50 ∷ 48 ∷ 55 ∷ 51 ∷ 54 ∷ 32 ∷ 50 ∷ 53 ∷ 56 ∷ 32 ∷ 51 ∷ 32 ∷ 77 ∷ 10 ∷ [],
+      ascii "P 20736 258 3 M\n",
     ) ∷
     -- `R n`: R 4
-    (12, line (Said (Denied 4)), 82 ∷ 32 ∷ 52 ∷ 10 ∷ []) ∷
+    (12, line (Said (Denied 4)), ascii "R 4\n") ∷
     -- `B 0` clean
-    (13, line (Block Clean), 66 ∷ 32 ∷ 48 ∷ 10 ∷ []) ∷
+    (13, line (Block Clean), ascii "B 0\n") ∷
     -- `B count` repaired: B 16
-    (14, line (Block (Repaired 16)), 66 ∷ 32 ∷ 49 ∷ 54 ∷ 10 ∷ []) ∷
+    (14, line (Block (Repaired 16)), ascii "B 16\n") ∷
     -- `B X` beyond repair
-    (15, line (Block Beyond), 66 ∷ 32 ∷ 88 ∷ 10 ∷ []) ∷
+    (15, line (Block Beyond), ascii "B X\n") ∷
     -- `L` lock lost
-    (16, line LockLost, 76 ∷ 10 ∷ []) ∷
+    (16, line LockLost, ascii "L\n") ∷
     -- `E` with stream bytes, packets, frame refusals, damaged blocks, lost locks: 50 bytes, 1, 2, 3 and 4 of them
-    (17, totalLine 50 (answersOf 1 2 3 4), 69 ∷ 32 ∷ 53 ∷ 48 ∷ 32 ∷ 49 ∷ 32 ∷ 50 ∷ 32 ∷ 51 ∷ 32 ∷ 52 ∷ 10 ∷ []) ∷
+    (17, totalLine 50 (answersOf 1 2 3 4), ascii "E 50 1 2 3 4\n") ∷
     -- .. and as the finishing call prints it
-    (18, lastOf (endsWith 50 1 2 3 4), 69 ∷ 32 ∷ 53 ∷ 48 ∷ 32 ∷ 49 ∷ 32 ∷ 50 ∷ 32 ∷ 51 ∷ 32 ∷ 52 ∷ 10 ∷ []) ∷
+    (18, lastOf (endsWith 50 1 2 3 4), ascii "E 50 1 2 3 4\n") ∷
     -- `X offset`: X 7
-    (19, wrongLine 7, 88 ∷ 32 ∷ 55 ∷ 10 ∷ []) ∷
+    (19, wrongLine 7, ascii "X 7\n") ∷
     -- empty input gives `X 0`
-    (20, listing [], 88 ∷ 32 ∷ 48 ∷ 10 ∷ []) ∷
+    (20, listing [], ascii "X 0\n") ∷
     -- the paper's case: P 20736 0 1 M and E 10 1 0 0 0
     (
       21,
       listing (0x50 ∷ 0xF5 ∷ 0x5F ∷ 0x05 ∷ 0x00 ∷ 0x7E ∷ 0x21 ∷ 0x00 ∷ 0x51 ∷ 0x00 ∷ 0xF5 ∷ 0x5F ∷ 0x05 ∷ 0x00 ∷ 0x00 ∷ 0x41 ∷ 0xE4 ∷ 0xEC ∷ 0x7E ∷ []),
-      80 ∷ 32 ∷ 50 ∷ 48 ∷ 55 ∷ 51 ∷ 54 ∷ 32 ∷ 48 ∷ 32 ∷ 49 ∷ 32 ∷ 77 ∷ 10 ∷
-          69 ∷ 32 ∷ 49 ∷ 48 ∷ 32 ∷ 49 ∷ 32 ∷ 48 ∷ 32 ∷ 48 ∷ 32 ∷ 48 ∷ 10 ∷ [],
+      ascii "P 20736 0 1 M\nE 10 1 0 0 0\n",
     ) ∷
     -- S 0000 0400 5101 5200 5208 52FF FF00 FFFF
-    (22, map letterOf (0x0000 ∷ 0x0400 ∷ 0x5101 ∷ 0x5200 ∷ 0x5208 ∷ 0x52FF ∷ 0xFF00 ∷ 0xFFFF ∷ []), 83 ∷ 83 ∷ 83 ∷ 83 ∷ 83 ∷ 83 ∷ 83 ∷ 83 ∷ []) ∷
+    (22, map letterOf (0x0000 ∷ 0x0400 ∷ 0x5101 ∷ 0x5200 ∷ 0x5208 ∷ 0x52FF ∷ 0xFF00 ∷ 0xFFFF ∷ []), ascii "SSSSSSSS") ∷
     -- A 0401 50FF, M 5100, D 5201 5207
-    (23, map letterOf (0x0401 ∷ 0x50FF ∷ 0x5100 ∷ 0x5201 ∷ 0x5207 ∷ []), 65 ∷ 65 ∷ 77 ∷ 68 ∷ 68 ∷ []) ∷
+    (23, map letterOf (0x0401 ∷ 0x50FF ∷ 0x5100 ∷ 0x5201 ∷ 0x5207 ∷ []), ascii "AAMDD") ∷
     -- F 5300 7CFF 7F00 FEFF
-    (24, map letterOf (0x5300 ∷ 0x7CFF ∷ 0x7F00 ∷ 0xFEFF ∷ []), 70 ∷ 70 ∷ 70 ∷ 70 ∷ []) ∷
+    (24, map letterOf (0x5300 ∷ 0x7CFF ∷ 0x7F00 ∷ 0xFEFF ∷ []), ascii "FFFF") ∷
     -- 7D00-7EFF may not be used, and the ports beside them may
     (25, map unusable (0x7CFF ∷ 0x7D00 ∷ 0x7EFF ∷ 0x7F00 ∷ []), 0 ∷ 1 ∷ 1 ∷ 0 ∷ []) ∷
     -- our own limits, as docs/REFUSALS.md and docs/DECISIONS.md print them
@@ -108,7 +109,7 @@ printed =
     -- 10 where the remembered place is above 8,271
     (31, placeLimit ∷ [], 8271 ∷ []) ∷
     -- `R 3 n`: R 3 105
-    (32, line (Said (Broken 105)), 82 ∷ 32 ∷ 51 ∷ 32 ∷ 49 ∷ 48 ∷ 53 ∷ 10 ∷ []) ∷
+    (32, line (Said (Broken 105)), ascii "R 3 105\n") ∷
     -- "Between format and port stand a key length byte, a key number and 2 to 32 key bytes.", the check over everything from the format byte on
     (
       33,
@@ -174,21 +175,18 @@ printed =
       43 ∷ 43 ∷ 41 ∷ [],
     ) ∷
     -- `PORT SEQUENCE first`: 20736 411 first
-    (46, notedLine 20736 411 First, 50 ∷ 48 ∷ 55 ∷ 51 ∷ 54 ∷ 32 ∷ 52 ∷ 49 ∷ 49 ∷ 32 ∷ 102 ∷ 105 ∷ 114 ∷ 115 ∷ 116 ∷ 10 ∷ []) ∷
+    (46, notedLine 20736 411 First, ascii "20736 411 first\n") ∷
     -- `in order`, `repeated`, `late`
     (
       47,
       joined (map (notedLine 1 2) (InOrder ∷ Repeated ∷ Late ∷ [])),
-      49 ∷ 32 ∷ 50 ∷ 32 ∷ 105 ∷ 110 ∷ 32 ∷ 111 ∷ 114 ∷ 100 ∷ 101 ∷ 114 ∷ 10 ∷
-          49 ∷ 32 ∷ 50 ∷ 32 ∷ 114 ∷ 101 ∷ 112 ∷ 101 ∷ 97 ∷ 116 ∷ 101 ∷ 100 ∷ 10 ∷
-          49 ∷ 32 ∷ 50 ∷ 32 ∷ 108 ∷ 97 ∷ 116 ∷ 101 ∷ 10 ∷ [],
+      ascii "1 2 in order\n1 2 repeated\n1 2 late\n",
     ) ∷
     -- `missing N`, `refused 40`
     (
       48,
       joined (map (notedLine 1 2) (Missing 32766 ∷ NotNoted 40 ∷ [])),
-      49 ∷ 32 ∷ 50 ∷ 32 ∷ 109 ∷ 105 ∷ 115 ∷ 115 ∷ 105 ∷ 110 ∷ 103 ∷ 32 ∷ 51 ∷ 50 ∷ 55 ∷ 54 ∷ 54 ∷ 10 ∷
-          49 ∷ 32 ∷ 50 ∷ 32 ∷ 114 ∷ 101 ∷ 102 ∷ 117 ∷ 115 ∷ 101 ∷ 100 ∷ 32 ∷ 52 ∷ 48 ∷ 10 ∷ [],
+      ascii "1 2 missing 32766\n1 2 refused 40\n",
     ) ∷
     -- 5: check differs, in either byte; behind 4, before 6
     (
@@ -238,14 +236,14 @@ printed =
     (
       57,
       listing (0x4F ∷ 0xF5 ∷ 0x5F ∷ 0x0A ∷ 0x00 ∷ 0x7E ∷ 0x21 ∷ 0x00 ∷ 0x51 ∷ 0x00 ∷ 0x00 ∷ 0x41 ∷ 0xE4 ∷ 0xEC ∷ 0x7E ∷ []) ++ listing (0x51 ∷ []),
-      69 ∷ 32 ∷ 49 ∷ 48 ∷ 32 ∷ 48 ∷ 32 ∷ 48 ∷ 32 ∷ 48 ∷ 32 ∷ 48 ∷ 10 ∷ 88 ∷ 32 ∷ 48 ∷ 10 ∷ [],
+      ascii "E 10 0 0 0 0\nX 0\n",
     ) ∷
     -- no F5 where a mark should stand, no 5F behind it, a record cut short behind a frame: X 1, X 2, R 4 and X 8
     (
       58,
       joined (map listing (
           (0x50 ∷ 0xF4 ∷ 0x5F ∷ []) ∷ (0x50 ∷ 0xF5 ∷ 0x5E ∷ []) ∷ (0x50 ∷ 0xF5 ∷ 0x5F ∷ 0x09 ∷ 0x00 ∷ 0x7E ∷ 0x00 ∷ 0x7E ∷ []) ∷ [])),
-      88 ∷ 32 ∷ 49 ∷ 10 ∷ 88 ∷ 32 ∷ 50 ∷ 10 ∷ 82 ∷ 32 ∷ 52 ∷ 10 ∷ 88 ∷ 32 ∷ 56 ∷ 10 ∷ [],
+      ascii "X 1\nX 2\nR 4\nX 8\n",
     ) ∷
     -- the byte with which the stream would pass 4,294,967,295 bytes: at 7, at 8, and none, where the record breaks off at 9
     (

@@ -3,8 +3,9 @@
 -- ByCalled   that a receiving call does
 -- OfReading, OfHearing   the numbers that the two receiving calls give
 -- StandsBy   that a packet's payload and key stand where the numbers say
--- readCalled, toldAs, heldBy   calls on the plain stream one behind the other, by numbers
--- heardCalled, eventAs, memoryBy  .. on the channel
+-- saying, saidBy, calledBy     an answer by its numbers, and a call
+-- readCalled, toldAs, heldBy   calls on the plain stream one behind the other
+-- channelBy, heardCalled, eventAs, memoryBy   .. on the channel
 use Prim.Native.Nat.{ℕ, _≤_, _<_}
 use mathlib.Core.Path.{_≡_}
 use mathlib.Core.Logic.{_⊎_}

@@ -7,6 +7,7 @@ use mathlib.Core.Bool.{true, false}
 use mathlib.Core.List.{List, [], _∷_, _++_, map}
 use mathlib.Core.Option.{Option, some, none}
 use lib.ListN.{length, replicate}
+use Rattle.text.specs.Text.{ascii}
 use Rattle.base.specs.Calls.{joined, run}
 use Rattle.base.specs.Choice.{pick}
 use Rattle.base.specs.declared.Written.{Written}
@@ -26,7 +27,7 @@ use Rattle.subchannel.specs.Call as sub
 use Rattle.subchannel_spec.specs.Settings.{settings}
 use Rattle.subchannel_spec.specs.declared.Configured.{Configured}
 use Rattle.subchannel_spec.specs.declared.Configured.the-variants.{Done, Refused}
-use Rattle.four_receivers.specs.declared.Receiver.{Receiver}
+use Rattle.four_receivers.specs.Call.{Receiver}
 use Rattle.four_receivers.specs.Call as receiver
 use Rattle.four_senders.specs.Call as sender
 use Rattle.unit_spec.specs.Bits.{digits, number}
@@ -35,7 +36,7 @@ use Rattle.unit_spec.specs.Unit.{written}
 use Rattle.unit_spec.specs.Reading.{named, readUnit}
 use Rattle.capture_spec.specs.File.{header, records}
 use Rattle.capture_spec.specs.Meaning.{entryLimit, imported}
-use Rattle.lines.specs.Row.{rowLine, rowLongest}
+use Rattle.sheet_spec.specs.Line.{rowLine, rowLongest}
 use Rattle.sheet_spec.specs.Tally.{far, wide}
 use Rattle.sheet_spec.specs.Recording.{marks}
 use Rattle.sheet_spec.specs.Meaning.{Mark, portLimit, Counting, counts, wrong, refuses, ruling, rulingOf}
@@ -152,7 +153,7 @@ recorded i b = i ∷ 0 ∷ 0 ∷ 0 ∷ 0 ∷ 0 ∷ 0 ∷ 0 ∷ 6 ∷ 0 ∷ 0 ∷
 -- what becomes of a recording on the monthly sheet: 0 where it counts, `X`, or the number of a refusal
 abbrev becomes : Counting → List ℕ
 becomes counts = 0 ∷ []
-becomes wrong = 88 ∷ []
+becomes wrong = ascii "X"
 becomes (refuses n) = n ∷ []
 
 -- two packets, and every other kind of answer between them
@@ -226,12 +227,12 @@ requested =
     -- W13: 16 ports, so 40 for "the sheet's seventeenth port"; 64 bits; and our own limit of a line
     (17, portLimit ∷ far ∷ rowLongest ∷ [], 16 ∷ 18446744073709551615 ∷ 147 ∷ []) ∷
     -- `PORT DELIVERED REPEATED LATE MISSING MISSING TOTAL`: 20736 7 1 2 4 4 8
-    (18, rowLine 20736 7 1 2 4 8, 50 ∷ 48 ∷ 55 ∷ 51 ∷ 54 ∷ 32 ∷ 55 ∷ 32 ∷ 49 ∷ 32 ∷ 50 ∷ 32 ∷ 52 ∷ 32 ∷ 52 ∷ 32 ∷ 56 ∷ 10 ∷ []) ∷
+    (18, rowLine 20736 7 1 2 4 8, ascii "20736 7 1 2 4 4 8\n") ∷
     -- "40 .., then 44"; `X` before them
     (
       19,
       joined (map becomes (ruling false true true ∷ ruling true true true ∷ ruling true true false ∷ ruling true false true ∷ ruling true false false ∷ [])),
-      88 ∷ 40 ∷ 40 ∷ 44 ∷ 0 ∷ [],
+      ascii "X" ++ (40 ∷ 40 ∷ 44 ∷ 0 ∷ []),
     ) ∷
     -- "Each number is defined from the delivered packets": port and sequence number of each, in order, and of no other answer
     (20, joined (map (λ m. m .0 ∷ m .1 ∷ []) (marks answers)), 5121 ∷ 88 ∷ 5122 ∷ 7 ∷ []) ∷

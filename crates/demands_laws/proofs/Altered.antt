@@ -1,8 +1,8 @@
 -- Words of which no more bytes are altered than repair puts right, one after the other, with r parity bytes; on the opportunistic channel r is 32.
--- altered-is                        the places counted one by one are repair's distance
+-- altered-is, repairable-half, half-repairable   the places counted one by one are repair's distance
 -- mend-received, answer-received    such a word comes back, and the count told is exactly that of its altered bytes
--- sent-clean-words, unaltered       the words that are sent are clean; none of them may be altered
--- carried-received, answers-received, behind-received   the bytes, the block answers and the state behind them
+-- sent-clean-word, sent-clean-words, unaltered   the words that are sent are clean; none of them may be altered
+-- ..-received                       the words, the bytes, the block answers and the state behind them
 use Prim.Native.Nat.{ℕ, zero, suc, _+_, _≤_}
 use native.Mathlib.Omega.{arith}
 use mathlib.Core.Path.{_≡_, refl, sym, _∙_, ap, ap₂, subst}
@@ -31,10 +31,11 @@ use Rattle.stream.specs.Meaning.{Reading, reads}
 use Rattle.channel_spec.specs.declared.Hunting.{Hunting}
 use Rattle.channel_spec.specs.Sender.{parityBytes, wordBytes}
 use Rattle.channel_spec.specs.Meaning.{conditionBy, whole, IsWord}
-use Rattle.channel_spec.proofs.Streaming.{theMarker, behindWords}
+use Rattle.channel_spec.proofs.Marker.{theMarker}
+use Rattle.channel_spec.proofs.Messages.{IsMessage, sent-word}
+use Rattle.channel_spec.proofs.Streaming.{behindWords}
 use Rattle.subchannel_spec.specs.Sender.{messageBytes, wordOf}
 use Rattle.subchannel_spec.specs.Word.{condition, mend, carried}
-use Rattle.subchannel_spec.proofs.Streaming.{IsMessage, sent-word}
 use Rattle.demands_laws.specs.Guarantee.{alteredFrom, altered, Repairable, ReceivedFor, Received, answerFor, received}
 
 -- ---- places
@@ -100,13 +101,13 @@ module _ (r : ℕ) (w v : List ℕ) (c : CleanWord r w) (h : ReceivedFor r w v) 
 
 -- ---- the words that are sent
 module _ (r : ℕ) (hr : r ≤ rootLimit) where
-  pub sent-clean-word : (m : List ℕ) → IsMessage r hr m → CleanWord r (wordOf r m)
+  pub sent-clean-word : (m : List ℕ) → IsMessage r m → CleanWord r (wordOf r m)
   sent-clean-word m h = (
     each-append IsByte m (remainder r m) (h .1) (bytes-remainder r m (h .1)),
     checked-is r (wordOf r m) hr (sent-word r hr m h) ∙ ap (λ (t : Bool). pick t check.Clean check.Damaged) (parity-clean r m (h .1)),
   )
 
-  pub sent-clean-words : (ms : List (List ℕ)) → Each (IsMessage r hr) ms → Each (CleanWord r) (map (wordOf r) ms)
+  pub sent-clean-words : (ms : List (List ℕ)) → Each (IsMessage r) ms → Each (CleanWord r) (map (wordOf r) ms)
   sent-clean-words [] h = tt
   sent-clean-words (m ∷ ms) h = (sent-clean-word m (h .0), sent-clean-words ms (h .1))
 

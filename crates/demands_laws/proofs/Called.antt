@@ -1,9 +1,9 @@
 -- The refusals of a receiving call, 10 and 11: of the plain stream and of the channel.
--- beyond, within, short, long   10 and 11 as facts
+-- beyond, within, short, long, not-most, frame-beyond, frame-within   10 and 11 as facts
 -- read-exact, hear-exact   row by row
 -- read-same, hear-same     with no byte taken, and state and buffers as they were
 -- SmallEvent, small-..     a frame's numbers are none of these
--- Given, read-given, hear-given   the numbers that are given
+-- Given, event-only, is-hear, ..-given   the numbers that are given
 use Prim.Native.Nat.{ℕ, suc, _≤_, _<_, min}
 use native.Mathlib.Omega.{arith}
 use mathlib.Core.Path.{_≡_, refl, sym, ap, subst, _∙_}
@@ -12,8 +12,8 @@ use mathlib.Core.Logic.{_⊎_, _↔_, ⊎-elim}
 use mathlib.Core.Logic._⊎_.{inl, inr}
 use mathlib.Core.List.{List, [], _∷_}
 use mathlib.Core.Option.{Option, some, none}
-use lib.Dec.{eqb, ltb, leb}
-use lib.ListN.{length, getD, set}
+use lib.Dec.{eqb, leb}
+use lib.ListN.{length, getD}
 use borrow.Author.Tests.{eqb-true, eqb-false, leb-true, leb-false}
 use Rattle.base.specs.Calls.{With, owesNone, handsNone}
 use Rattle.base.proofs.Calls.{none-owed, with-hear}
@@ -23,13 +23,12 @@ use Rattle.packet_spec.specs.Escape.{flag}
 use Rattle.packet_spec.specs.Frame.{Told, packet, refusal, broken}
 use Rattle.stream.specs.Call.{Held, placeLimit, shut, takeBy, takeByte, readOn, readBy, readCall, sound as soundFrame}
 use Rattle.stream.specs.declared.frame.FrameReader.{FrameReader}
-use Rattle.channel_spec.specs.Meaning.{Event, said, block, lost, isMarker, shift}
-use Rattle.channel.specs.Call.{Memory, heldIn, wordOn, compareOn, markOn, eatBy, eatByte, owed, asEvent, handOn, soundLock, sound, roomy, hearOn, hearBy, hearCall}
+use Rattle.channel_spec.specs.Meaning.{Event, said, block, lost}
+use Rattle.channel.specs.Call.{Memory, heldIn, asEvent, handOn, soundLock, sound, roomy, hearOn, hearBy, hearCall}
 use Rattle.channel_spec.specs.Sender.{messageBytes, wordBytes}
-use Rattle.channel_spec.specs.declared.Hunting.{Hunting}
 use Rattle.channel.specs.declared.locked.Locked.{Locked}
 use Rattle.channel.specs.declared.receiver.Receiver.{Receiver}
-use Rattle.channel.proofs.Cutting.{hand-one}
+use Rattle.channel.proofs.Delivery.{heard-with}
 use Rattle.demands_laws.specs.Table.{Exact}
 use Rattle.demands_laws.specs.Refusals.{FrameBeyond, Beyond, Short, OfFrame, OfCall, ByFrame, ByRead, ByHear}
 use Rattle.demands_laws.proofs.Rows.{applies, over, passed, not-both}
@@ -135,23 +134,6 @@ pub small-as : {S : Type 0} (o : Option Told) (h : Held) (s : S) → With SmallH
 small-as none h s w = tt
 small-as (some t) h s w = w
 
-small-word : (t : Bool) (c : Memory) (k : List ℕ) → With SmallEvent (wordOn t c k .0) (wordOn t c k .1)
-small-word true c k = tt
-small-word false c k = tt
-
-small-compare : (t : Bool) (f : Hunting) (c : Memory) → With SmallEvent (compareOn t f c .0) (compareOn t f c .1)
-small-compare true f c = tt
-small-compare false f c = tt
-
-small-mark : (t : Bool) (f : Hunting) (c : Memory) → With SmallEvent (markOn t f c .0) (markOn t f c .1)
-small-mark true f c = tt
-small-mark false f c = small-compare (isMarker f) f c
-
-pub small-eat : (l t : Bool) (c : Memory) (b : ℕ) → With SmallEvent (eatBy l t c b .0) (eatBy l t c b .1)
-small-eat false t c b = tt
-small-eat true true c b = small-word (ltb (suc (c .st .lock .word)) wordBytes) c (set (c .word) (c .st .lock .word) b)
-small-eat true false c b = small-mark (ltb (suc (c .st .lock .marker)) 4) (shift (c .st .hunting) b) c
-
 pub small-hand : (c : Memory) → With SmallEvent (handOn c .0) (handOn c .1)
 small-hand c =
     let b : ℕ = getD (c .word) (c .st .lock .handed) 0 in
@@ -159,9 +141,7 @@ small-hand c =
     small-as (r .0) (r .1) (handOn c .1) (small-byte (heldIn c) b)
 
 small-hear : (c : Memory) (bs : List ℕ) → With SmallEvent (hearOn c bs .0) (hearOn c bs .2)
-small-hear c bs =
-    with-hear owed handOn eatByte hand-one SmallEvent small-hand
-    (λ d b. small-eat (d .st .locked) (ltb (d .st .lock .word) wordBytes) d b) c bs
+small-hear = heard-with SmallEvent (λ x d. tt) (λ d. tt) small-hand
 
 pub event-only : {S : Type 0} (o : Option Event) (s : S) (n : ℕ) → With SmallEvent o s → OfCall n → o ≡ some (said (refusal n)) → ⊥
 event-only o s n w k e = frame-or-call n (subst (λ (o : Option Event). With SmallEvent o s) e w) k
@@ -206,7 +186,8 @@ read-refused h bs n = go (soundFrame (h .st)) (leb rawLimit (length (h .recv)))
     go false r e = let z : 10 ≡ n = cc in inr (inl (sym z))
     go true false e = let z : 11 ≡ n = cc in inr (inr (sym z))
     go true true e =
-        inl (subst (λ (o : Option Told). With SmallHeld o (readOn h bs .2)) e (with-hear owesNone handsNone takeByte none-owed SmallHeld (λ g. tt) small-byte h bs))
+        inl (subst (λ (o : Option Told). With SmallHeld o (readOn h bs .2)) e
+        (with-hear owesNone handsNone takeByte none-owed SmallHeld (λ g. tt) small-byte h bs))
 
 pub read-given : (h : Held) (bs : List ℕ) (t : Told) (n : ℕ) → readCall h bs .0 ≡ some t → ByFrame t n → Given n
 read-given h bs t n e k = number-given t n k (λ m z. read-refused h bs m (e ∙ ap (λ (t : Told). some t) z))

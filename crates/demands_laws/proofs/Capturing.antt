@@ -156,6 +156,7 @@ ending-exact (Behind f) s =
 pub end-exact : (c : CaptureReader) → Exact ByEnd (finishing c) ((10, CaptureBeyond c) ∷ (60, HeaderMissed c) ∷ (61, RecordCut c) ∷ (62, FaultBefore c) ∷ [])
 end-exact c = go (sound c) refl
   where
-    go : (t : Bool) → sound c ≡ t → Exact ByEnd (pick t (ending c) (Refused 10)) ((10, CaptureBeyond c) ∷ (60, HeaderMissed c) ∷ (61, RecordCut c) ∷ (62, FaultBefore c) ∷ [])
+    go : (t : Bool) → sound c ≡ t → Exact ByEnd (pick t (ending c) (Refused 10))
+        ((10, CaptureBeyond c) ∷ (60, HeaderMissed c) ∷ (61, RecordCut c) ∷ (62, FaultBefore c) ∷ [])
     go false e = applies ByEnd _ (is-end 10) (beyond c e)
     go true e = over ByEnd (within c e) (ending-exact c e)

@@ -1,8 +1,8 @@
 -- The refusals of the office's calls and of the calls that print lines.
--- office-..-exact, lines-..-exact   row by row
--- office-..-same, lines-..-same     what a refused call leaves: everything as it was, with no byte taken
+-- office-..-exact, listing-lines-..-exact   row by row
+-- office-..-same, listing-lines-..-same     what a refused call leaves: everything as it was, with no byte taken
 -- line-exact, office-line-..        a line's own refusals, 20 to 22, and what they leave
--- office-line-number, office-close-number   the number of a line that is told
+-- Counted, office-..-number         the number of a line that is told
 use Prim.Native.Nat.{ℕ, _≤_, _<_}
 use native.Mathlib.Omega.{arith}
 use mathlib.Core.Path.{_≡_, refl, sym, subst}
@@ -32,7 +32,8 @@ use Rattle.office.specs.declared.Started.{Started}
 use Rattle.office.specs.declared.Started.the-variants.{Ready, Refused as StartRefused}
 use Rattle.office.specs.declared.Answer.the-variants.{Refused}
 use Rattle.office.specs.Meaning.{Spoken, blocks, unread, refusal, Said, endingBy, Desk, soFar, kept, endingOf, ended, eat}
-use Rattle.office.specs.Call.{heldLimit, holdLimit, outLimit, freshOffice, starting, sound, roomy, hearOn, denied, hearBy, hearCall, endBytes, closeCall, spoken, answered, spokenOut, answeredOut, finishBy, finishing}
+use Rattle.office.specs.Call.{heldLimit, holdLimit, outLimit, freshOffice, starting, sound, roomy, hearOn, denied, hearBy}
+use Rattle.office.specs.Call.{hearCall, endBytes, closeCall, spoken, answered, spokenOut, answeredOut, finishBy, finishing}
 use Rattle.demands_laws.specs.Table.{Exact}
 use Rattle.demands_laws.specs.Refusals.{ByCall}
 use Rattle.demands_laws.specs.Desks.{DeskBeyond, DeskShort, Bids, lineRows, OfDesk, ByDesk, ByStart, ByLine, BySpoken}
@@ -263,21 +264,24 @@ office-start-same hold n = go (ltb (length hold) holdLimit)
     go false b = let z : _≡_ {A = ℕ} 0 1 = cc in absurd (omega arith)
 
 -- ---- lines printed
-pub lines-print-exact : (a : Answer) (out : List ℕ) → Exact ByCall (write (line a) out) ((23, length out < length (line a)) ∷ [])
-lines-print-exact a out = wrote (line a) out _ refl
+pub listing-lines-print-exact : (a : Answer) (out : List ℕ) → Exact ByCall (write (line a) out) ((23, length out < length (line a)) ∷ [])
+listing-lines-print-exact a out = wrote (line a) out _ refl
 
-pub lines-print-same : (a : Answer) (out : List ℕ) → Keeps out (write (line a) out)
-lines-print-same a out = write-keeps (line a) out
+pub listing-lines-print-same : (a : Answer) (out : List ℕ) → Keeps out (write (line a) out)
+listing-lines-print-same a out = write-keeps (line a) out
 
-pub lines-print-end-exact : (bytes packets rejected damaged lost : ℕ) (out : List ℕ) → Exact ByCall (write (endLine bytes packets rejected damaged lost) out)
+pub listing-lines-print-end-exact : (bytes packets rejected damaged lost : ℕ) (out : List ℕ)
+    → Exact ByCall (write (endLine bytes packets rejected damaged lost) out)
     ((23, length out < length (endLine bytes packets rejected damaged lost)) ∷ [])
-lines-print-end-exact bytes packets rejected damaged lost out = wrote (endLine bytes packets rejected damaged lost) out _ refl
+listing-lines-print-end-exact bytes packets rejected damaged lost out = wrote (endLine bytes packets rejected damaged lost) out _ refl
 
-pub lines-print-end-same : (bytes packets rejected damaged lost : ℕ) (out : List ℕ) → Keeps out (write (endLine bytes packets rejected damaged lost) out)
-lines-print-end-same bytes packets rejected damaged lost out = write-keeps (endLine bytes packets rejected damaged lost) out
+pub listing-lines-print-end-same : (bytes packets rejected damaged lost : ℕ) (out : List ℕ)
+    → Keeps out (write (endLine bytes packets rejected damaged lost) out)
+listing-lines-print-end-same bytes packets rejected damaged lost out = write-keeps (endLine bytes packets rejected damaged lost) out
 
-pub lines-print-wrong-exact : (offset : ℕ) (out : List ℕ) → Exact ByCall (write (wrongLine offset) out) ((23, length out < length (wrongLine offset)) ∷ [])
-lines-print-wrong-exact offset out = wrote (wrongLine offset) out _ refl
+pub listing-lines-print-wrong-exact : (offset : ℕ) (out : List ℕ)
+    → Exact ByCall (write (wrongLine offset) out) ((23, length out < length (wrongLine offset)) ∷ [])
+listing-lines-print-wrong-exact offset out = wrote (wrongLine offset) out _ refl
 
-pub lines-print-wrong-same : (offset : ℕ) (out : List ℕ) → Keeps out (write (wrongLine offset) out)
-lines-print-wrong-same offset out = write-keeps (wrongLine offset) out
+pub listing-lines-print-wrong-same : (offset : ℕ) (out : List ℕ) → Keeps out (write (wrongLine offset) out)
+listing-lines-print-wrong-same offset out = write-keeps (wrongLine offset) out

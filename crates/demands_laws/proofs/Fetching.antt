@@ -1,16 +1,17 @@
 -- What is fetched behind a delivery is the packet's own bytes, and the sender accepts it, whichever receiver delivers it.
 -- packet-there                   behind a frame of bytes in the receive buffer
+-- OwnHeld, OwnMemory, OwnSub, OwnDeck   that what stands there is the packet's own
 -- plain-own, memory-own          behind a call that leaves bytes there: of the plain stream, of the channel ..
 -- sub-own, deck-own              .. of a fixed sub-channel, of a recording
 -- plain-fetched, memory-fetched, sub-fetched, deck-fetched  what is fetched alone
-use Prim.Native.Nat.{ℕ, suc, _≤_}
+use Prim.Native.Nat.{ℕ, _≤_}
 use native.Mathlib.Omega.{arith}
 use mathlib.Core.Path.{_≡_, refl, sym, ap, _∙_, subst}
 use mathlib.Core.Bool.{Bool, true, false}
 use mathlib.Core.List.{List, _++_, append-assoc}
 use mathlib.Core.Option.{Option, some, none}
 use lib.Dec.{eqb, ltb, leb}
-use lib.ListN.{length, take, drop, getD, set, length-take}
+use lib.ListN.{length, take, drop, getD, length-take}
 use lib.Seq.{take-all}
 use borrow.Author.Tests.{ltb-false}
 use Rattle.base.specs.Bytes.{IsByte, Bytes}
@@ -27,17 +28,11 @@ use Rattle.packet_spec.specs.declared.Escapes.the-variants.{Right, Unfinished, 
 use Rattle.packet_spec.proofs.Judging.{closed-as}
 use Rattle.packet_spec.proofs.Only.{judge-only}
 use Rattle.stream.specs.Call.{Held, shut, takeBy, takeByte, sound as soundFrame, readBy, readCall}
-use Rattle.channel_spec.specs.declared.Hunting.{Hunting}
-use Rattle.channel_spec.specs.Sender.{wordBytes}
-use Rattle.channel_spec.specs.Meaning.{Event, said, block, lost, isMarker, shift}
-use Rattle.channel.specs.Call.{Memory, heldIn, wordOn, compareOn, markOn, eatBy, eatByte, owed, asEvent, handOn, sound, roomy, hearBy, hearCall}
-use Rattle.channel.proofs.Cutting.{hand-one}
-use Rattle.interleaver_spec.specs.Running.{pull}
-use Rattle.interleaver_spec.specs.declared.Back.{Back}
-use Rattle.subchannel_spec.specs.Sender.{groupBytes}
-use Rattle.subchannel.specs.declared.lane.Lane.{Lane}
+use Rattle.channel_spec.specs.Meaning.{Event, said, block, lost}
+use Rattle.channel.specs.Call.{Memory, heldIn, eatByte, asEvent, handOn, sound, roomy, hearBy, hearCall}
+use Rattle.channel.proofs.Delivery.{quiet-with, eat-quiet, heard-with}
 use Rattle.subchannel.specs.Call as fixed
-use Rattle.subchannel.proofs.Cutting as cutting
+use Rattle.subchannel.proofs.Delivery as sub
 use Rattle.listing_spec.specs.Apart.{inStream}
 use Rattle.recording.specs.Deck.{withHeld, eatBy as eatEar, earHand, earEat, Deck, deckOwes, deckHand, byteBy, deckEat}
 use Rattle.recording.specs.Call.{nearSpot, tapeBy, tapeCall}
@@ -118,25 +113,8 @@ plain-own h bs = go (soundFrame (h .st)) (leb rawLimit (length (h .recv)))
     go true true = with-hear owesNone handsNone takeByte none-owed OwnHeld (λ g. tt) byte-own h bs
 
 -- ---- the channel: the frame reader's answers are passed on with the buffer
-word-own : (t : Bool) (c : Memory) (k : List ℕ) → With OwnMemory (wordOn t c k .0) (wordOn t c k .1)
-word-own true c k = tt
-word-own false c k = tt
-
-compare-own : (t : Bool) (f : Hunting) (c : Memory) → With OwnMemory (compareOn t f c .0) (compareOn t f c .1)
-compare-own true f c = tt
-compare-own false f c = tt
-
-mark-own : (t : Bool) (f : Hunting) (c : Memory) → With OwnMemory (markOn t f c .0) (markOn t f c .1)
-mark-own true f c = tt
-mark-own false f c = compare-own (isMarker f) f c
-
-eat-by : (l t : Bool) (c : Memory) (b : ℕ) → With OwnMemory (eatBy l t c b .0) (eatBy l t c b .1)
-eat-by false t c b = tt
-eat-by true true c b = word-own (ltb (suc (c .st .lock .word)) wordBytes) c (set (c .word) (c .st .lock .word) b)
-eat-by true false c b = mark-own (ltb (suc (c .st .lock .marker)) 4) (shift (c .st .hunting) b) c
-
 eat-own : (c : Memory) (b : ℕ) → With OwnMemory (eatByte c b .0) (eatByte c b .1)
-eat-own c b = eat-by (c .st .locked) (ltb (c .st .lock .word) wordBytes) c b
+eat-own c b = quiet-with OwnMemory (λ x d. tt) (λ d. tt) (eatByte c b .0) (eatByte c b .1) (eat-quiet c b)
 
 passed-on : (o : Option Told) (h : Held) (d : Memory) → With OwnHeld o h → d .recv ≡ h .recv → With OwnMemory (asEvent o) d
 passed-on none h d w e = tt
@@ -153,32 +131,9 @@ memory-own c bs = go (sound (c .st)) (roomy (c .recv) (c .word))
     go : (s r : Bool) → With OwnMemory (hearBy s r c bs .0) (hearBy s r c bs .2)
     go false r = λ b. tt
     go true false = λ b. tt
-    go true true = with-hear owed handOn eatByte hand-one OwnMemory hand-own eat-own c bs
+    go true true = heard-with OwnMemory (λ x d. tt) (λ d. tt) hand-own c bs
 
--- ---- a fixed sub-channel: a new byte delivers nothing, and the frame reader's answers are passed on
-module _ (c : fixed.Memory) where
-  sub-word : (t : Bool) (s : Lane) (w : ℕ) (l : List ℕ) → With OwnSub (fixed.wordOn t s w l .0) c
-  sub-word true s w l = tt
-  sub-word false s w l = tt
-
-  sub-group : (o : Option ℕ) (s : Lane) (l : List ℕ) → With OwnSub (fixed.groupOn o s l .0) c
-  sub-group none s l = tt
-  sub-group (some y) s l = let w : ℕ = fixed.wordAt (s .counts .word) in sub-word (ltb (suc w) wordBytes) s w (set l w y)
-
-  sub-compare : (t : Bool) (f : Hunting) (s : Lane) → With OwnSub (fixed.compareOn t f s .0) c
-  sub-compare true f s = tt
-  sub-compare false f s = tt
-
-  sub-mark : (t : Bool) (f : Hunting) (s : Lane) → With OwnSub (fixed.markOn t f s .0) c
-  sub-mark true f s = tt
-  sub-mark false f s = sub-compare (isMarker f) f s
-
-  sub-eat : (o l t : Bool) (s : Lane) (k : Back) (w : List ℕ) (b : ℕ) → With OwnSub (fixed.eatBy o l t s k w b .0) c
-  sub-eat true l t s k w b = tt
-  sub-eat false false t s k w b = tt
-  sub-eat false true true s k w b = sub-group (pull (s .settings .depth) k b .0) s w
-  sub-eat false true false s k w b = sub-mark (ltb (suc (s .counts .marker)) 4) (shift (s .hunting) b) s
-
+-- ---- a fixed sub-channel: the frame reader's answers are passed on
 sub-passed : (o : Option Told) (h : Held) (d : fixed.Memory) → With OwnHeld o h → d .recv ≡ h .recv → With OwnSub (asEvent o) d
 sub-passed none h d w e = tt
 sub-passed (some a) h d w e = subst (λ (l : List ℕ). Bytes l → Own a l) (sym e) w
@@ -189,18 +144,13 @@ sub-hand c =
     let b : ℕ = getD (c .word) (c .st .lane .counts .handed) 0 in
     sub-passed (takeByte h b .0) (takeByte h b .1) (fixed.handOn c .1) (byte-own h b) refl
 
-sub-byte : (c : fixed.Memory) (b : ℕ) → With OwnSub (fixed.eatByte c b .0) (fixed.eatByte c b .1)
-sub-byte c b =
-    let s : Lane = c .st .lane in
-    sub-eat (fixed.eatByte c b .1) (s .lost) (s .locked) (ltb (s .counts .group) groupBytes) s (c .st .back) (c .word) b
-
 pub sub-own : (c : fixed.Memory) (bs : List ℕ) → With OwnSub (fixed.hearCall c bs .0) (fixed.hearCall c bs .2)
 sub-own c bs = go (fixed.sound (c .st)) (roomy (c .recv) (c .word))
   where
     go : (s r : Bool) → With OwnSub (fixed.hearBy s r c bs .0) (fixed.hearBy s r c bs .2)
     go false r = λ b. tt
     go true false = λ b. tt
-    go true true = with-hear fixed.owed fixed.handOn fixed.eatByte cutting.hand-one OwnSub sub-hand sub-byte c bs
+    go true true = sub.heard-with OwnSub (λ x d. tt) (λ d. tt) sub-hand c bs
 
 -- ---- a recording: the plain stream or the channel
 in-deck : (o : Option Event) (c : Memory) (m : Deck) → m .ear .memory ≡ c → With OwnMemory o c → With OwnDeck o m
@@ -215,7 +165,8 @@ byte-by false m b =
 
 deck-byte : (t : Bool) (m : Deck) (b : ℕ) → With OwnDeck (byteBy t m b .0) (byteBy t m b .1)
 unfolding earEat
-deck-byte true m b = in-deck (eatEar (m .ear .channel) (m .ear .memory) b .0) (eatEar (m .ear .channel) (m .ear .memory) b .1 .memory) (byteBy true m b .1) refl (byte-by (m .ear .channel) m b)
+deck-byte true m b = in-deck (eatEar (m .ear .channel) (m .ear .memory) b .0) (eatEar (m .ear .channel) (m .ear .memory) b .1 .memory)
+    (byteBy true m b .1) refl (byte-by (m .ear .channel) m b)
 deck-byte false m b = tt
 
 deck-hand : (m : Deck) → With OwnDeck (deckHand m .0) (deckHand m .1)

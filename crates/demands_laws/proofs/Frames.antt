@@ -1,8 +1,9 @@
 -- The refusals of a frame, row by row.
 -- closed-exact, judging-exact, judge-exact   of the raw bytes in a receive buffer, by the call that judges them, and of raw bytes alone
 -- judging-same                a call that is refused leaves the receive buffer
--- small, frame-or-call        the number is one of frames, and none of those is one of calls
+-- Small, small, frame-or-call   the number is one of frames, and none of those is one of calls
 -- unfit-is, fit-is            24 as a fact
+-- barred-is, free-is          7 and 22 as facts
 -- undone                      but for 1, 2 and 3, escapes are undone in the buffer
 use Prim.Native.Nat.{ℕ, suc, _+_, _-_, _≤_, _<_}
 use native.Mathlib.Nat.{add-zero}
@@ -22,9 +23,11 @@ use Rattle.base.proofs.Lists.{drop-take}
 use Rattle.base.proofs.Tests.{by-le, and-parts}
 use Rattle.fcs.specs.Fcs.{fcs}
 use Rattle.packet_spec.specs.Port.{barred}
-use Rattle.packet_spec.specs.Contents.{Packet, plainFormat, keyFormat, keyLeast, keyMost, keySized, keyAt, restLeast, keyLength, payloadLimit, rawLimit, pair, pairAt, unpacked, plainly, keyed, body}
+use Rattle.packet_spec.specs.Contents.{Packet, plainFormat, keyFormat, keyLeast, keyMost, keySized, keyAt, restLeast}
+use Rattle.packet_spec.specs.Contents.{keyLength, payloadLimit, rawLimit, pair, pairAt, unpacked, plainly, keyed, body}
 use Rattle.packet_spec.specs.Escape.{escape, plain, scan}
-use Rattle.packet_spec.specs.Frame.{Told, packet, refusal, broken, number, kept, judgePacket, keyFits, judgeBody, judgeContents, closedBy, closed, judging, judge}
+use Rattle.packet_spec.specs.Frame.{Told, packet, refusal, broken, number, kept, judgePacket, keyFits}
+use Rattle.packet_spec.specs.Frame.{judgeBody, judgeContents, closedBy, closed, judging, judge}
 use Rattle.packet_spec.specs.declared.Escapes.{Escapes}
 use Rattle.packet_spec.specs.declared.Escapes.the-variants.{Right, Unfinished, Wrong}
 use Rattle.packet_spec.specs.Sender.{headFits}
@@ -32,7 +35,8 @@ use Rattle.packet_spec.proofs.Judging.{key-fits}
 use Rattle.packet_spec.proofs.Round.{by-format}
 use Rattle.packet_spec.proofs.Faults.{Scanned, scan-says, broken-followed}
 use Rattle.demands_laws.specs.Table.{Row, Exact}
-use Rattle.demands_laws.specs.Refusals.{Unusable, KeyBeyond, KeyWrong, portAt, payloadOf, bodyRows, contentsRows, frameRows, UnfitHead, OfFrame, OfCall, ByFrame}
+use Rattle.demands_laws.specs.Refusals.{Unusable, KeyBeyond, KeyWrong, portAt, payloadOf, bodyRows}
+use Rattle.demands_laws.specs.Refusals.{contentsRows, frameRows, UnfitHead, OfFrame, OfCall, ByFrame}
 use Rattle.demands_laws.proofs.Rows.{applies, over, row, row-not, passed, not-both, not-less, not-same, first-each}
 
 pub barred-is : (port : ℕ) → barred port ≡ true → Unusable port
@@ -99,9 +103,11 @@ module _ (cs : List ℕ) (long : 8 ≤ length cs) where
 
   -- a packet taken apart at the port's place
   packet-exact : (format number : ℕ) (key : List ℕ) (at : ℕ) → portAt cs ≡ at → at + 2 ≤ length cs - 2
-      → Exact ByFrame (judgePacket (unpacked format number key (drop at (body cs)))) ((7, Unusable (pairAt cs (portAt cs))) ∷ (8, payloadLimit < length (escape (payloadOf cs))) ∷ [])
+      → Exact ByFrame (judgePacket (unpacked format number key (drop at (body cs))))
+      ((7, Unusable (pairAt cs (portAt cs))) ∷ (8, payloadLimit < length (escape (payloadOf cs))) ∷ [])
   packet-exact format number key at e h =
-      let a : getD (drop at (body cs)) 0 0 ≡ getD cs at 0 = getD-drop at (body cs) 0 0 ∙ ap (λ (i : ℕ). getD (body cs) i 0) (add-zero at) ∙ body-at at (omega arith) in
+      let a : getD (drop at (body cs)) 0 0 ≡ getD cs at 0 = getD-drop at (body cs) 0 0 ∙ ap (λ (i : ℕ). getD (body cs) i 0) (add-zero at)
+      ∙ body-at at (omega arith) in
       let b : getD (drop at (body cs)) 1 0 ≡ getD cs (at + 1) 0 = getD-drop at (body cs) 1 0 ∙ body-at (at + 1) (omega arith) in
       let w : pairAt (drop at (body cs)) 0 ≡ pairAt cs (portAt cs) = (λ i. pair (a i) (b i)) ∙ ap (pairAt cs) (sym e) in
       let p : drop 4 (drop at (body cs)) ≡ payloadOf cs =
@@ -226,14 +232,24 @@ small recv m =
       inl (omega arith, omega arith),
       (
         inl (omega arith, omega arith),
-        (inl (omega arith, omega arith), (inl (omega arith, omega arith), (inl (omega arith, omega arith), (inl (omega arith, omega arith), (inr refl, (inl (omega arith, omega arith), (inl (omega arith, omega arith), tt))))))),
+        (
+          inl (omega arith, omega arith),
+          (
+            inl (omega arith, omega arith),
+            (
+              inl (omega arith, omega arith),
+              (inl (omega arith, omega arith), (inr refl, (inl (omega arith, omega arith), (inl (omega arith, omega arith), tt)))),
+            ),
+          ),
+        ),
       ),
     ) n
     (closed-exact recv m .says n .0 (ap number e))
 
 -- no number is both a frame's and a call's
 pub frame-or-call : (n : ℕ) → OfFrame n → OfCall n → ⊥
-frame-or-call n f c = ⊎-elim (λ a. ⊎-elim (λ b. omega (arith, a .1, b)) (λ b. omega (arith, a .1, b)) c) (λ a. ⊎-elim (λ b. omega (arith, a, b)) (λ b. omega (arith, a, b)) c) f
+frame-or-call n f c = ⊎-elim (λ a. ⊎-elim (λ b. omega (arith, a .1, b)) (λ b. omega (arith, a .1, b)) c)
+    (λ a. ⊎-elim (λ b. omega (arith, a, b)) (λ b. omega (arith, a, b)) c) f
 
 -- ---- a refused call leaves the buffer
 pub judging-same : (recv : List ℕ) (m n : ℕ) → judging recv m .told ≡ refusal n → OfCall n → judging recv m .recv ≡ recv

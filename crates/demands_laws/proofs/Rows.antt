@@ -2,6 +2,8 @@
 -- applies, over   the first row applies, or it does not
 -- row, row-not    a test chooses the refusal, or the rest
 -- passed          what is no refusal
+-- not-less, not-same, refuses, refuses-word, found   tests and answers as facts
+-- repair-as-check, place-beyond, place-within   repair refuses as a check does; 10 of a place of the interleaver
 -- wrote           a call that writes: 23 is its only row
 -- not-both        two tests in one
 -- calling-exact, calling-same, calling-is   a call of the interleaver: its rows; refused, it leaves output and state; not refused, what it writes

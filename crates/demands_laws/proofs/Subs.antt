@@ -2,8 +2,9 @@
 -- Fails, fails-and, fails-most   a test that fails exactly where a row applies
 -- sub-fails, receiver-fails, sender-fails   10
 -- sub-exact, sub-same, sub-given   one sub-channel's call, and the numbers that it gives
--- configure-exact, -same         configuring, of the receiver and of the sender alike
--- number-exact, -same, four-given   a receiving call by number
+-- configure-.., receiver-configure-.., sender-configure-..   configuring
+-- told-exact, told-same          .. of one sub-channel
+-- number-exact, number-same, four-given   a receiving call by number
 -- send-exact                     a sending call by number
 use Prim.Native.Nat.{ℕ, zero, suc, _<_}
 use native.Mathlib.Omega.{arith}
@@ -14,43 +15,42 @@ use mathlib.Core.Logic._⊎_.{inl, inr}
 use mathlib.Core.List.{List, [], _∷_}
 use mathlib.Core.Option.{Option, some, none}
 use lib.Dec.{ltb, leb}
-use lib.ListN.{length, getD, set}
+use lib.ListN.{length, getD}
 use borrow.Author.Tests.{ltb-true, leb-false, not-true, not-false}
 use Rattle.base.specs.Calls.{With}
 use Rattle.base.specs.Choice.{pick}
-use Rattle.base.proofs.Calls.{with-hear}
 use Rattle.base.proofs.Tests.{and-parts}
 use Rattle.packet_spec.specs.Frame.{Told, refusal}
 use Rattle.stream.specs.Call.{takeByte, sound as soundFrame}
 use Rattle.parity.specs.Calls.{rootLimit}
-use Rattle.interleaver_spec.specs.Running.{depthLimit, pull, beyond}
-use Rattle.interleaver_spec.specs.declared.Back.{Back}
-use Rattle.channel_spec.specs.declared.Hunting.{Hunting}
+use Rattle.interleaver_spec.specs.Running.{depthLimit, beyond}
 use Rattle.channel_spec.specs.Sender.{wordBytes}
-use Rattle.channel_spec.specs.Meaning.{Event, said, isMarker, shift}
+use Rattle.channel_spec.specs.Meaning.{Event, said}
 use Rattle.channel.specs.Call.{roomy}
 use Rattle.subchannel_spec.specs.Sender.{messageBytes, groupBytes, sent}
 use Rattle.subchannel_spec.specs.declared.Settings.{Settings}
 use Rattle.subchannel.specs.declared.counts.Counts.{Counts}
 use Rattle.subchannel.specs.declared.lane.Lane.{Lane}
 use Rattle.subchannel.specs.declared.sub.Sub.{Sub}
-use Rattle.subchannel.specs.Call.{Memory, memory, heldIn, wordAt, wordOn, groupOn, compareOn, markOn, eatBy, eatByte, owed, handOn}
-use Rattle.subchannel.specs.Call.{soundCounts, soundLane, sound, hearOn, hearBy, hearCall}
+use Rattle.subchannel.specs.Call.{Memory, memory, heldIn, handOn}
+use Rattle.subchannel.specs.Call.{untold, toldSub, telling, soundCounts, soundLane, sound, hearOn, hearBy, hearCall}
 use Rattle.subchannel_spec.specs.Settings.{within}
-use Rattle.subchannel.proofs.Cutting.{hand-one}
+use Rattle.subchannel.proofs.Delivery.{heard-with}
 use Rattle.subchannel_spec.specs.declared.Configured.{Configured}
 use Rattle.subchannel_spec.specs.declared.Configured.the-variants as configured
-use Rattle.four_receivers.specs.declared.Receiver.{Receiver}
+use Rattle.four_receivers.specs.Call.{Receiver}
 use Rattle.four_receivers.specs.Call as receiver
 use Rattle.four_receivers.proofs.Apart.{sound-at}
 use Rattle.four_senders.specs.declared.Sender.{Sender}
 use Rattle.four_senders.specs.Call as sender
 use Rattle.demands_laws.specs.Table.{Exact}
 use Rattle.demands_laws.specs.Refusals.{PlaceBeyond, Short, OfFrame, OfCall, ByFrame, ByCall, ByHear}
-use Rattle.demands_laws.specs.SubChannels.{SettingsBeyond, CountsBeyond, SubBeyond, ReceiverBeyond, SenderBeyond, Unknown, OfNumbered, ByConfigure, ByNumbered}
+use Rattle.demands_laws.specs.SubChannels.{SettingsBeyond, CountsBeyond, SubBeyond, ReceiverBeyond}
+use Rattle.demands_laws.specs.SubChannels.{SenderBeyond, Unknown, OfNumbered, ByConfigure, ByNumbered}
 use Rattle.demands_laws.proofs.Rows.{applies, over, row, row-not, passed, not-both, not-less, refuses, wrote, place-beyond, place-within}
 use Rattle.demands_laws.proofs.Frames.{frame-or-call}
-use Rattle.demands_laws.proofs.Called.{not-most, frame-beyond, frame-within, short, long, small-byte, SmallEvent, small-as, event-only, is-hear, Given, number-given}
+use Rattle.demands_laws.proofs.Called.{not-most, frame-beyond, frame-within, short, long, small-byte}
+use Rattle.demands_laws.proofs.Called.{SmallEvent, small-as, event-only, is-hear, Given, number-given}
 
 -- ---- a test that fails exactly where a row applies
 abbrev Fails : Bool → Type 0 → Type 0
@@ -94,7 +94,8 @@ sub-fails s =
 
 receiver-fails : (s : Receiver) → Fails (receiver.soundFour s) (ReceiverBeyond s)
 receiver-fails s =
-    fails-and (sound (s .a)) _ (sub-fails (s .a)) (fails-and (sound (s .b)) _ (sub-fails (s .b)) (fails-and (sound (s .c)) _ (sub-fails (s .c)) (sub-fails (s .d))))
+    fails-and (sound (s .a)) _ (sub-fails (s .a))
+    (fails-and (sound (s .b)) _ (sub-fails (s .b)) (fails-and (sound (s .c)) _ (sub-fails (s .c)) (sub-fails (s .d))))
 
 sender-fails : (s : Sender) → Fails (sender.soundFour s) (SenderBeyond s)
 sender-fails s =
@@ -102,30 +103,6 @@ sender-fails s =
     (fails-and (within (s .b)) _ (settings-fails (s .b)) (fails-and (within (s .c)) _ (settings-fails (s .c)) (settings-fails (s .d))))
 
 -- ---- a frame's numbers are none of a call
-module _ {B : Type 0} (c : B) where
-  small-word : (t : Bool) (s : Lane) (w : ℕ) (l : List ℕ) → With SmallEvent (wordOn t s w l .0) c
-  small-word true s w l = tt
-  small-word false s w l = tt
-
-  small-group : (o : Option ℕ) (s : Lane) (l : List ℕ) → With SmallEvent (groupOn o s l .0) c
-  small-group none s l = tt
-  small-group (some y) s l =
-      small-word (ltb (suc (wordAt (s .counts .word))) wordBytes) s (wordAt (s .counts .word)) (set l (wordAt (s .counts .word)) y)
-
-  small-compare : (t : Bool) (f : Hunting) (s : Lane) → With SmallEvent (compareOn t f s .0) c
-  small-compare true f s = tt
-  small-compare false f s = tt
-
-  small-mark : (t : Bool) (f : Hunting) (s : Lane) → With SmallEvent (markOn t f s .0) c
-  small-mark true f s = tt
-  small-mark false f s = small-compare (isMarker f) f s
-
-  small-eat : (o l t : Bool) (s : Lane) (k : Back) (w : List ℕ) (b : ℕ) → With SmallEvent (eatBy o l t s k w b .0) c
-  small-eat true l t s k w b = tt
-  small-eat false false t s k w b = tt
-  small-eat false true true s k w b = small-group (pull (s .settings .depth) k b .0) s w
-  small-eat false true false s k w b = small-mark (ltb (suc (s .counts .marker)) 4) (shift (s .hunting) b) s
-
 small-hand : (c : Memory) → With SmallEvent (handOn c .0) (handOn c .1)
 small-hand c =
     let b : ℕ = getD (c .word) (c .st .lane .counts .handed) 0 in
@@ -133,9 +110,7 @@ small-hand c =
     small-as (x .0) (x .1) (handOn c .1) (small-byte (heldIn c) b)
 
 small-hear : (c : Memory) (bs : List ℕ) → With SmallEvent (hearOn c bs .0) (hearOn c bs .2)
-small-hear c bs =
-    with-hear owed handOn eatByte hand-one SmallEvent small-hand
-    (λ x b. let s : Lane = x .st .lane in small-eat (eatByte x b .1) (s .lost) (s .locked) (ltb (s .counts .group) groupBytes) s (x .st .back) (x .word) b) c bs
+small-hear = heard-with SmallEvent (λ x d. tt) (λ d. tt) small-hand
 
 -- ---- one sub-channel's call
 pub sub-exact : (c : Memory) (bs : List ℕ) → Exact ByHear (hearCall c bs) ((10, SubBeyond (c .st)) ∷ (11, Short (c .recv) (c .word)) ∷ [])
@@ -171,12 +146,14 @@ sub-given c bs t n e k = number-given t n k (λ m z. sub-refused c bs m (e ∙ a
 -- ---- configuring: s as it was, and t told
 module _ {S : Type 0} (s t : S) (passes : Bool) {C : Type 0} (f : Fails passes C) (n r d : ℕ) where
   abbrev result : Bool → Bool → Bool → Bool → Configured × S
-  result a b c e = pick a (pick b (configured.Refused 42, s) (pick c (configured.Refused 30, s) (pick e (configured.Refused 32, s) (configured.Done, t)))) (configured.Refused 10, s)
+  result a b c e = pick a (pick b (configured.Refused 42, s) (pick c (configured.Refused 30, s) (pick e (configured.Refused 32, s) (configured.Done, t))))
+      (configured.Refused 10, s)
 
   refuses-configure : (m k : ℕ) → ByConfigure {S = S} (configured.Refused m, s) k ↔ k ≡ m
   refuses-configure m k = (λ e. let z : m ≡ k = cc in sym z, λ e i. configured.Refused (sym e i))
 
-  pub configure-exact : Exact ByConfigure (result passes (ltb 3 n) (ltb rootLimit r) (ltb depthLimit d)) ((10, C) ∷ (42, 3 < n) ∷ (30, 64 < r) ∷ (32, 64 < d) ∷ [])
+  pub configure-exact : Exact ByConfigure (result passes (ltb 3 n) (ltb rootLimit r) (ltb depthLimit d))
+      ((10, C) ∷ (42, 3 < n) ∷ (30, 64 < r) ∷ (32, 64 < d) ∷ [])
   configure-exact =
       row-not ByConfigure passes (refuses-configure 10) (f .0) (f .1)
       (row ByConfigure (ltb 3 n) (refuses-configure 42) (ltb-true _ _) (not-less _ _)
@@ -199,7 +176,8 @@ pub receiver-configure-exact : (s : Receiver) (n r d : ℕ)
     → Exact ByConfigure (receiver.configuring s n r d) ((10, ReceiverBeyond s) ∷ (42, 3 < n) ∷ (30, 64 < r) ∷ (32, 64 < d) ∷ [])
 receiver-configure-exact s n r d = configure-exact s _ (receiver.soundFour s) (receiver-fails s) n r d
 
-pub receiver-configure-same : (s : Receiver) (n r d m : ℕ) → ByConfigure (receiver.configuring s n r d) m → receiver.configuring s n r d ≡ (configured.Refused m, s)
+pub receiver-configure-same : (s : Receiver) (n r d m : ℕ) → ByConfigure (receiver.configuring s n r d) m
+    → receiver.configuring s n r d ≡ (configured.Refused m, s)
 receiver-configure-same s n r d = configure-same s _ (receiver.soundFour s) (receiver-fails s) n r d
 
 pub sender-configure-exact : (s : Sender) (n r d : ℕ)
@@ -208,6 +186,27 @@ sender-configure-exact s n r d = configure-exact s _ (sender.soundFour s) (sende
 
 pub sender-configure-same : (s : Sender) (n r d m : ℕ) → ByConfigure (sender.configuring s n r d) m → sender.configuring s n r d ≡ (configured.Refused m, s)
 sender-configure-same s n r d = configure-same s _ (sender.soundFour s) (sender-fails s) n r d
+
+-- ---- one sub-channel is told its settings
+pub told-exact : (r d : ℕ) → Exact ByConfigure (telling r d) ((30, 64 < r) ∷ (32, 64 < d) ∷ [])
+told-exact r d =
+    row ByConfigure (ltb rootLimit r) (told-refuses 30) (ltb-true _ _) (not-less _ _)
+    (row ByConfigure (ltb depthLimit d) (told-refuses 32) (ltb-true _ _) (not-less _ _)
+    (passed ByConfigure λ k e. let z : _≡_ {A = ℕ} 0 1 = cc in omega arith))
+  where
+    told-refuses : (m k : ℕ) → ByConfigure (configured.Refused m, untold) k ↔ k ≡ m
+    told-refuses m k = (λ e. let z : m ≡ k = cc in sym z, λ e i. configured.Refused (sym e i))
+
+pub told-same : (r d m : ℕ) → ByConfigure (telling r d) m → telling r d ≡ (configured.Refused m, untold)
+told-same r d m = go (ltb rootLimit r) (ltb depthLimit d)
+  where
+    result : Bool → Bool → Configured × Sub
+    result a b = pick a (configured.Refused 30, untold) (pick b (configured.Refused 32, untold) (configured.Done, toldSub r d))
+
+    go : (a b : Bool) → ByConfigure (result a b) m → result a b ≡ (configured.Refused m, untold)
+    go true b q = λ i. (q i, untold)
+    go false true q = λ i. (q i, untold)
+    go false false q = let z : _≡_ {A = ℕ} 0 1 = cc in absurd (omega arith)
 
 -- ---- a receiving call by number
 known-fails : (n : ℕ) (x : Settings) → Fails (leb n 3 && (x .told)) (Unknown n x)
@@ -283,7 +282,8 @@ module _ (s : Receiver) (n : ℕ) (recv word bs : List ℕ) where
   four-given t m = go (receiver.soundFour s) (receiver.known s n)
     where
       told : (k : ℕ) → some (said (refusal k)) ≡ some (said t) → ByFrame t m → k ≡ m
-      told k e b = let q : some (said (refusal k)) ≡ some (said t) = e in let z : refusal k ≡ t = cc in let w : ByFrame (refusal k) m = subst (λ (u : Told). ByFrame u m) (sym z) b in cc
+      told k e b = let q : some (said (refusal k)) ≡ some (said t) = e in let z : refusal k ≡ t = cc in
+          let w : ByFrame (refusal k) m = subst (λ (u : Told). ByFrame u m) (sym z) b in cc
 
       go : (a b : Bool) → receiver.heardBy a b s n recv word bs .0 ≡ some (said t) → ByFrame t m → OfFrame m ⊎ OfNumbered m
       go false b e k = inr (inl (inl (sym (told 10 e k))))

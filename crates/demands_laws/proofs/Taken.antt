@@ -1,7 +1,7 @@
--- The refusals of a call on a recording, 10 and 11: on its bytes, and where it is listed.
--- next-exact, take-exact   row by row
--- next-same, take-same     with nothing taken or printed, and state and buffers as they were
--- next-given               the numbers that are given
+-- The refusals of a call on a recording, 10 and 11: on its bytes, for its next packet, and where it is listed.
+-- next-exact, packet-exact, take-exact   row by row
+-- next-same, packet-same, take-same      with nothing taken or printed, and state and buffers as they were
+-- next-given                             the numbers that are given
 use Prim.Native.Nat.{ℕ, _-_, _≤_, _<_}
 use native.Mathlib.Omega.{arith}
 use mathlib.Core.Path.{_≡_, refl, sym, ap, subst, _∙_}
@@ -10,30 +10,33 @@ use mathlib.Core.Logic.{_⊎_, _↔_, ⊎-elim}
 use mathlib.Core.Logic._⊎_.{inl, inr}
 use mathlib.Core.List.{List, [], _∷_}
 use mathlib.Core.Option.{Option, some, none}
-use lib.Dec.{ltb, leb}
+use lib.Dec.{leb}
 use lib.ListN.{length}
 use borrow.Author.Tests.{leb-false}
 use Rattle.base.specs.Calls.{With}
 use Rattle.base.proofs.Calls.{with-hear}
 use Rattle.base.proofs.Tests.{and-parts}
-use Rattle.packet_spec.specs.Frame.{Told, refusal}
+use Rattle.packet_spec.specs.Frame.{Told, packet, refusal, broken}
 use Rattle.stream.specs.Call.{takeByte}
 use Rattle.channel_spec.specs.Meaning.{Event, said, block, lost}
+use Rattle.channel.proofs.Delivery.{quiet-with, eat-quiet}
 use Rattle.channel.specs.Call.{Memory, heldIn, handOn, eatByte, sound, roomy}
-use Rattle.channel_spec.specs.Sender.{wordBytes}
 use Rattle.listing_spec.specs.declared.Spot.{Spot}
 use Rattle.listing_spec.specs.Apart.{inStream}
 use Rattle.recording.specs.Deck.{eatBy, earHand, earEat, Deck, deckOwes, deckHand, byteBy, deckEat, deckHear}
 use Rattle.recording.specs.Call.{far, nearSpot, tapeBy, tapeCall}
+use Rattle.recording.specs.Sift.{sifted}
+use Rattle.recording.specs.Packets.{Item, delivered, refused, packetIn, packetHand, packetEat, packetHear, packetBy, packetCall}
 use Rattle.recording.proofs.Ears.{deck-hand-one}
-use Rattle.listing.specs.declared.lister.Totals.{Totals}
+use Rattle.listing_lines.specs.declared.totals.Totals.{Totals}
 use Rattle.listing.specs.declared.lister.Wants.the-variants.{Refused}
 use Rattle.listing.specs.Call.{printed, nearTotals, near, takesBy, takes}
 use Rattle.listing.proofs.Ends.{print-not}
 use Rattle.demands_laws.specs.Table.{Exact}
-use Rattle.demands_laws.specs.Refusals.{NextBeyond, TapeBeyond, Short, OfCall, ByFrame, ByNext, ByTake}
+use Rattle.demands_laws.specs.Refusals.{NextBeyond, TapeBeyond, Short, OfCall, ByFrame, ByNext, ByPacket, ByTake}
 use Rattle.demands_laws.proofs.Rows.{applies, over, passed, not-both}
-use Rattle.demands_laws.proofs.Called.{not-most, beyond, within, short, long, SmallEvent, small-byte, small-as, small-eat, small-hand, event-only, Given, number-given}
+use Rattle.demands_laws.proofs.Called.{not-most, beyond, within, short, long, SmallEvent, small-byte}
+use Rattle.demands_laws.proofs.Called.{small-as, small-hand, event-only, Given, number-given}
 
 -- ---- numbers near their width
 module _ (t : Totals) (room : ℕ) where
@@ -75,7 +78,7 @@ small-in (some (block x)) s t w = tt
 small-in (some lost) s t w = tt
 
 small-stream : (t : Bool) (c : Memory) (b : ℕ) → With SmallEvent (eatBy t c b .0) (eatBy t c b .1)
-small-stream true c b = small-in (eatByte c b .0) (eatByte c b .1) (eatBy true c b .1) (small-eat (c .st .locked) (ltb (c .st .lock .word) wordBytes) c b)
+small-stream true c b = quiet-with SmallEvent (λ x s. tt) (λ s. tt) (eatByte c b .0) (eatBy true c b .1) (eat-quiet c b)
 small-stream false c b = let r = takeByte (heldIn c) b in small-as (r .0) (r .1) (eatBy false c b .1) (small-byte (heldIn c) b)
 
 small-deck : (m : Deck) → With SmallEvent (deckHand m .0) (deckHand m .1)
@@ -91,6 +94,30 @@ small-record false m b = tt
 small-heard : (m : Deck) (bs : List ℕ) → With SmallEvent (deckHear m bs .0) (deckHear m bs .2)
 small-heard m bs =
     with-hear deckOwes deckHand deckEat deck-hand-one SmallEvent small-deck (λ k b. small-record (inStream (k .spot .place) (k .spot .count)) k b) m bs
+
+-- .. and what is looked for among the answers is a packet
+abbrev Delivered : Item → Deck → Type 0
+Delivered (delivered p) m = Unit {0}
+Delivered (refused n) m = ⊥
+
+only-delivered : (o : Option Event) (m : Deck) → With Delivered (sifted packetIn o) m
+only-delivered none m = tt
+only-delivered (some (said (packet p))) m = tt
+only-delivered (some (said (refusal n))) m = tt
+only-delivered (some (said (broken n))) m = tt
+only-delivered (some (block c)) m = tt
+only-delivered (some lost) m = tt
+
+packets-heard : (m : Deck) (bs : List ℕ) → With Delivered (packetHear m bs .0) (packetHear m bs .2)
+packets-heard =
+    with-hear deckOwes packetHand packetEat deck-hand-one Delivered (λ k. only-delivered (deckHand k .0) (deckHand k .1))
+    (λ k b. only-delivered (deckEat k b .0) (deckEat k b .1))
+
+none-refused : (o : Option Item) (m : Deck) (n : ℕ) → With Delivered o m → o ≡ some (refused n) → ⊥
+none-refused o m n w e = subst (λ (o : Option Item). With Delivered o m) e w
+
+is-packet : (m : Deck) (k n : ℕ) → ByPacket (some (refused k), 0, m) n ↔ n ≡ k
+is-packet m k n = (λ e. let z : k ≡ n = cc in sym z, λ e i. some (refused (sym e i)))
 
 is-next : (m : Deck) (k n : ℕ) → OfCall k → ByNext (some (said (refusal k)), 0, m) n ↔ n ≡ k
 is-next m k n h = (λ e. let z : k ≡ n = cc in sym z, λ e. (subst OfCall (sym e) h, λ i. some (said (refusal (sym e i)))))
@@ -142,6 +169,32 @@ module _ (m : Deck) (bs : List ℕ) where
 
   pub next-given : (t : Told) (n : ℕ) → tapeCall m bs .0 ≡ some (said t) → ByFrame t n → Given n
   next-given t n e k = number-given t n k (λ i z. next-refused i (e ∙ ap (λ (t : Told). some (said t)) z))
+
+  pub packet-exact : Exact ByPacket (packetCall m bs)
+      ((10, NextBeyond (m .ear .memory .st) (m .spot) (length bs)) ∷ (11, Short (m .ear .memory .recv) (m .ear .memory .word)) ∷ [])
+  packet-exact = go soundly nearly roomily refl refl refl
+    where
+      go : (s n r : Bool) → soundly ≡ s → nearly ≡ n → roomily ≡ r
+          → Exact ByPacket (packetBy s n r m bs)
+          ((10, NextBeyond (m .ear .memory .st) (m .spot) (length bs)) ∷ (11, Short (m .ear .memory .recv) (m .ear .memory .word)) ∷ [])
+      go false n r e f g = applies ByPacket _ (is-packet m 10) (inl (beyond (m .ear .memory .st) e))
+      go true false r e f g = applies ByPacket _ (is-packet m 10) (inr (leb-false _ _ f))
+      go true true false e f g =
+          over ByPacket (⊎-elim (within (m .ear .memory .st) e) (not-most _ _ f))
+          (applies ByPacket _ (is-packet m 11) (short (m .ear .memory .recv) (m .ear .memory .word) g))
+      go true true true e f g =
+          over ByPacket (⊎-elim (within (m .ear .memory .st) e) (not-most _ _ f))
+          (over ByPacket (long (m .ear .memory .recv) (m .ear .memory .word) g)
+          (passed ByPacket λ n b. none-refused (packetHear m bs .0) (packetHear m bs .2) n (packets-heard m bs) b))
+
+  pub packet-same : (n : ℕ) → ByPacket (packetCall m bs) n → packetCall m bs ≡ (some (refused n), 0, m)
+  packet-same n = go soundly nearly roomily
+    where
+      go : (s k r : Bool) → ByPacket (packetBy s k r m bs) n → packetBy s k r m bs ≡ (some (refused n), 0, m)
+      go false k r b = λ i. (b i, 0, m)
+      go true false r b = λ i. (b i, 0, m)
+      go true true false b = λ i. (b i, 0, m)
+      go true true true b = absurd (none-refused (packetHear m bs .0) (packetHear m bs .2) n (packets-heard m bs) b)
 
 -- ---- the call where it is listed
 is-take : (m : Deck) (t : Totals) (k n : ℕ) → ByTake (printed (Refused k) m t) n ↔ n ≡ k

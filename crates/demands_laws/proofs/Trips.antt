@@ -52,7 +52,8 @@ module _ (p : Packet) (number-fits : p .number < 256) (key-bytes : Bytes (p .key
   packet-back =
       let w = wrote-is p out n wrote in
       let bs : List ℕ = rawOf p ++ flag ∷ [] in
-      ap (reads (inside [])) (ap (take n) (w .holds) ∙ take-at bs (drop (length bs) out) n (sym (w .long)) ∙ sym (append-nil bs)) ∙ behind-read (p ∷ []) (accepted, tt) 0
+      ap (reads (inside [])) (ap (take n) (w .holds) ∙ take-at bs (drop (length bs) out) n (sym (w .long)) ∙ sym (append-nil bs))
+      ∙ behind-read (p ∷ []) (accepted, tt) 0
 
 module _ (p : Packet) (a : Accepted p) (recv : List ℕ) (there : take (length (rawOf p)) recv ≡ rawOf p) where
   told-back : closed recv (length (rawOf p)) .told ≡ delivered p

@@ -4,7 +4,7 @@
 -- HeaderMissed, RecordCut, FaultBefore   60 to 62 at the end of a file
 -- ByEnd                            that an end refuses by a number
 -- Fetched..                        that what is fetched behind an answer is the packet's own bytes
--- put, entriesBy                   what calls write, one behind the other
+-- put, putBy, entriesBy            what calls write, one behind the other
 use Prim.Native.Nat.{ℕ, suc, _≤_, _<_}
 use mathlib.Core.Path.{_≡_}
 use mathlib.Core.Logic.{_⊎_}

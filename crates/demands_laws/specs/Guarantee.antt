@@ -1,7 +1,7 @@
 -- What a dealer may ask of parity: bytes altered on the way, counted place by place.
--- altered              in how many of its 255 places a word differs from another
+-- altered, alteredFrom   in how many of its 255 places a word differs from another
 -- Repairable           that many can be put right: no more than h = INT(R/2)
--- Received, received   words as they come in, of which no more are altered each, and their block answers
+-- Received, ReceivedFor, received, answerFor   words as they come in, of which no more are altered each, and their block answers
 use Prim.Native.Nat.{ℕ, zero, suc, _+_, _*_, _≤_}
 use mathlib.Core.List.{List, [], _∷_}
 use lib.Dec.{eqb}

@@ -1,9 +1,10 @@
 -- Rows of the paper's tables ("Numbered refusals") that several calls share, or that take more than a line.
--- frameRows             2 to 6, 12, 7 and 8, of the raw bytes of a frame
+-- frameRows, contentsRows, bodyRows   2 to 6, 12, 7 and 8, of the raw bytes of a frame
+-- Unusable, KeyBeyond, KeyWrong, portAt, payloadOf   what their rows ask of the contents
 -- UnfitHead             24: a head that is not to be sent
 -- PlaceBeyond           10: a place of the interleaver
 -- FrameBeyond, Beyond   10: a count of the state is beyond its limit
--- NextBeyond            .. of a call on a recording's bytes
+-- NextBeyond            .. of a call on a recording's bytes, for an answer or for a packet
 -- TapeBeyond            .. of a listing
 -- BoardBeyond           .. and of a board
 -- Short                 11: a lent buffer is too short
@@ -41,8 +42,9 @@ use Rattle.listing_spec.specs.Lines.{longest}
 use Rattle.ports_spec.specs.Refusing.{Unfit as UnfitTable}
 use Rattle.recording.specs.Deck.{Deck}
 use Rattle.recording.specs.Call.{far}
+use Rattle.recording.specs.Packets.{Item, refused}
 use Rattle.listing.specs.Call.{Printed}
-use Rattle.listing.specs.declared.lister.Totals.{Totals}
+use Rattle.listing_lines.specs.declared.totals.Totals.{Totals}
 use Rattle.listing.specs.declared.lister.Wants.the-variants.{Refused as TakeRefused}
 use Rattle.board.specs.Call.{Part}
 use Rattle.board.specs.declared.readout.Readout.{Readout}
@@ -169,6 +171,10 @@ ByHear r n = OfCall n × (r .0 ≡ some (said (refusal n)))
 -- a call on a recording's bytes is
 abbrev pub ByNext : Option Event × ℕ × Deck → ℕ → Type 0
 ByNext r n = OfCall n × (r .0 ≡ some (said (refusal n)))
+
+-- a call for a recording's next packet is: a frame that is refused is no packet
+abbrev pub ByPacket : Option Item × ℕ × Deck → ℕ → Type 0
+ByPacket r n = r .0 ≡ some (refused n)
 
 -- a call on a recording that is listed is
 abbrev pub ByTake : Printed → ℕ → Type 0

@@ -23,7 +23,7 @@ use Rattle.subchannel.specs.declared.counts.Counts.{Counts}
 use Rattle.subchannel.specs.declared.sub.Sub.{Sub}
 use Rattle.subchannel_spec.specs.declared.Configured.{Configured}
 use Rattle.subchannel_spec.specs.declared.Configured.the-variants.{Refused}
-use Rattle.four_receivers.specs.declared.Receiver.{Receiver}
+use Rattle.four_receivers.specs.Call.{Receiver}
 use Rattle.subchannel_sender.specs.Sending.{groupSending}
 use Rattle.four_senders.specs.declared.Sender.{Sender}
 use Rattle.demands_laws.specs.Captures.{put}

@@ -1,5 +1,5 @@
 -- Rows of the refusals of request W10, on Layer 2 units.
--- writeRows, readRows   when, first that applies
+-- writeRows, readRows, partRows   when, first that applies
 use Prim.Native.Nat.{ℕ, _+_, _-_, _<_}
 use mathlib.Core.Logic.{_⊎_}
 use mathlib.Core.List.{List, [], _∷_}

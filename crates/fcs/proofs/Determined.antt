@@ -1,4 +1,5 @@
 -- Each public function's promise determines its result.
+-- fcs-determined, fresh-determined, feed-determined, check-determined   of the function of that name
 use mathlib.Core.Path.{refl}
 use Rattle.base.specs.Determined.{Determined}
 use Rattle.base.proofs.Determining.{same}

@@ -1,5 +1,8 @@
 -- Eight bytes enter the register at once as their bits do one by one.
--- fallen, fall-is              what the code makes of the 64 bits that fall out: both sides go with sums, so there are 64 computed cases
+-- left, left-sum, right-sum    numbers shifted, which go with sums
+-- entered-zeros                what falls out of the register goes with sums
+-- first, second, third, fourth, low   the steps by which the code makes them fall out
+-- fall-is                      what it makes of the 64 bits that fall out: both sides go with sums, so there are 64 computed cases
 -- eight-enters                 the whole step: the bits are added to the register, and fall out of it
 -- register-little              bytes enter as one number of all their bits does
 -- little-none, little-fits, little-more   the loop that makes eight bytes a number
@@ -7,17 +10,17 @@
 use mathlib.Core.Path.{_≡_, refl, sym, ap, ap₂, _∙_, subst}
 use Prim.Native.Nat.{ℕ, zero, suc, _+_, _-_, _*_, _/_, _%_, _^_, _<_, _≤_}
 use mathlib.Core.List.{List, [], _∷_}
-use native.Mathlib.Nat.{mod-lt, zero-mul, one-mul, mul-one, zero-add, suc-add, add-zero, pow-suc, pow-succ', one-le-pow, div-lt-iff-lt-mul, div-eq-of-lt}
+use native.Mathlib.Nat.{mul-one, zero-add, suc-add, add-zero, pow-suc, one-le-pow, div-lt-iff-lt-mul, div-eq-of-lt}
 use native.Mathlib.Omega.{arith}
 use lib.Arith.{lt-one, digits-lt}
-use lib.Bits.{bitXor, differ, xor-comm, xor-zero-r, xor-self, xor-shr, xor-mod, xor-block, block-half, block-odd}
+use lib.Bits.{bitXor, differ, xor-comm, xor-zero-r, xor-shr, xor-mod, xor-block, block-half, block-odd}
 use lib.Dec.{eqb, eqb→eq}
 use lib.ListN.{length, take, drop, getD, length-drop, take-append-drop}
 use lib.Pow.{pow-pos}
 use lib.Seq.{length-take-le, getD-take, getD-drop, drop-drop}
 use Rattle.base.specs.Bytes.{IsByte, Bytes}
 use Rattle.base.specs.Choice.{pick}
-use Rattle.base.proofs.Bits.{bit, bit-ind, xor-half, xor-odd, xor-assoc, xor-swap, xor-parts}
+use Rattle.base.proofs.Bits.{bit, bit-ind, xor-half, xor-odd, xor-assoc, xor-swap, xor-four, Additive, agree}
 use Rattle.base.proofs.Bytes.{each-take, each-drop}
 use Rattle.base.proofs.Lists.{next, over}
 use Rattle.base.proofs.Tests.{all-at}
@@ -27,36 +30,16 @@ use Rattle.fcs.proofs.Entering.{entered-sum}
 use Rattle.fcs.proofs.Laws.{register-append}
 
 -- ---- functions that go with sums
-abbrev pub Additive : (ℕ → ℕ) → Type 0
-Additive f = (a b : ℕ) → f (bitXor a b) ≡ bitXor (f a) (f b)
-
-pub xor-four : (a b c d : ℕ) → bitXor (bitXor a b) (bitXor c d) ≡ bitXor (bitXor a c) (bitXor b d)
-xor-four a b c d = sym (xor-assoc (bitXor a b) c d) ∙ ap (λ (x : ℕ). bitXor x d) (xor-swap a b c) ∙ xor-assoc (bitXor a c) b d
-
 sum : (f g : ℕ → ℕ) → Additive f → Additive g → Additive (λ w. bitXor (f w) (g w))
 sum f g hf hg a b = ap₂ bitXor (hf a b) (hg a b) ∙ xor-four (f a) (f b) (g a) (g b)
-
-at-zero : (f : ℕ → ℕ) → Additive f → f 0 ≡ 0
-at-zero f hf = hf 0 0 ∙ xor-self (f 0)
-
--- two of them are equal below 2^k where they are at 1, 2, 4, .. 2^(k-1)
-pub agree : (f g : ℕ → ℕ) → Additive f → Additive g → (k : ℕ) → ((i : ℕ) → i < k → f (2 ^ i) ≡ g (2 ^ i)) → (n : ℕ) → n < 2 ^ k → f n ≡ g n
-agree f g hf hg zero h n l = rw (lt-one l) (at-zero f hf ∙ sym (at-zero g hg))
-agree f g hf hg (suc k) h n l =
-    ap f (xor-parts n k) ∙ hf _ _ ∙ ap₂ bitXor top (agree f g hf hg k (λ i j. h i (omega arith)) (n % 2 ^ k) (mod-lt n (pow-pos k)))
-    ∙ sym (ap g (xor-parts n k) ∙ hg _ _)
-  where
-    top : f (n / 2 ^ k * 2 ^ k) ≡ g (n / 2 ^ k * 2 ^ k)
-    top =
-        bit-ind (λ (x : ℕ). f (x * 2 ^ k) ≡ g (x * 2 ^ k)) (simp zero-mul (at-zero f hf ∙ sym (at-zero g hg))) (simp one-mul (h k (omega arith))) (n / 2 ^ k)
-        (div-lt-iff-lt-mul (pow-pos k) .1 (rw pow-succ' at l))
 
 -- n bits that are zero enter
 shifted-sum : Additive (λ r. shifted r 0)
 shifted-sum a b =
     ap₂ (λ (h p : ℕ). pick (eqb p 0) h (bitXor h polynomial)) (xor-half a b) (xor-odd a b)
     ∙ bit-ind (λ (p : ℕ). Same p (b % 2)) (bit-ind (λ (d : ℕ). Same 0 d) refl (xor-assoc h k polynomial) (b % 2) (bit b))
-    (bit-ind (λ (d : ℕ). Same 1 d) (xor-swap h k polynomial) (sym (xor-four h polynomial k polynomial ∙ xor-zero-r (bitXor h k))) (b % 2) (bit b)) (a % 2) (bit a)
+    (bit-ind (λ (d : ℕ). Same 1 d) (xor-swap h k polynomial) (sym (xor-four h polynomial k polynomial ∙ xor-zero-r (bitXor h k))) (b % 2) (bit b)) (a % 2)
+    (bit a)
   where
     h : ℕ
     h = a / 2
@@ -66,7 +49,8 @@ shifted-sum a b =
 
     Same : ℕ → ℕ → Type 0
     Same p d =
-        pick (eqb (differ p d) 0) (bitXor h k) (bitXor (bitXor h k) polynomial) ≡ bitXor (pick (eqb p 0) h (bitXor h polynomial)) (pick (eqb d 0) k (bitXor k polynomial))
+        pick (eqb (differ p d) 0) (bitXor h k) (bitXor (bitXor h k) polynomial) ≡ bitXor (pick (eqb p 0) h (bitXor h polynomial))
+        (pick (eqb d 0) k (bitXor k polynomial))
 
 pub entered-zeros : (n : ℕ) → Additive (λ r. entered n r 0)
 unfolding entered
@@ -98,7 +82,7 @@ fourth c = bitXor c (left 32 c)
 unfoldable pub low : ℕ → ℕ
 low y = bitXor (bitXor (y / 2 ^ 60) (y / 2 ^ 53)) (y / 2 ^ 48) % 2 ^ 16
 
-abbrev pub fallen : ℕ → ℕ
+abbrev fallen : ℕ → ℕ
 fallen w = low (fourth (third (second (first w))))
 
 same-sum : Additive (λ w. w)
@@ -134,7 +118,8 @@ right-sum k a b = xor-shr a b k
 
 low-sum : Additive low
 unfolding low
-low-sum a b = ap (λ (x : ℕ). x % 2 ^ 16) (sum high (λ y. y / 2 ^ 48) (sum (λ y. y / 2 ^ 60) (λ y. y / 2 ^ 53) (right-sum 60) (right-sum 53)) (right-sum 48) a b) ∙ xor-mod (whole a) (whole b) 16
+low-sum a b = ap (λ (x : ℕ). x % 2 ^ 16)
+    (sum high (λ y. y / 2 ^ 48) (sum (λ y. y / 2 ^ 60) (λ y. y / 2 ^ 53) (right-sum 60) (right-sum 53)) (right-sum 48) a b) ∙ xor-mod (whole a) (whole b) 16
   where
     high : ℕ → ℕ
     high y = bitXor (y / 2 ^ 60) (y / 2 ^ 53)
@@ -175,18 +160,14 @@ unfolding register little entered
 register-little r [] h = refl
 register-little r (b ∷ bs) h =
     let e : 8 + length bs * 8 ≡ suc (length bs) * 8 = omega arith in
-    register-little (entered 8 r b) bs (h .1) ∙ sym (entered-join 8 (length bs * 8) r b (little bs) (h .0)) ∙ ap (λ (n : ℕ). entered n r (little bs * 256 + b)) e
+    register-little (entered 8 r b) bs (h .1) ∙ sym (entered-join 8 (length bs * 8) r b (little bs) (h .0))
+    ∙ ap (λ (n : ℕ). entered n r (little bs * 256 + b)) e
 
 little-lt : (n : ℕ) (bs : List ℕ) → Bytes bs → length bs ≤ n → little bs < 256 ^ n
 unfolding little
 little-lt n [] h k = one-le-pow n 256 (omega arith)
 little-lt zero (b ∷ bs) h k = absurd (omega arith)
 little-lt (suc n) (b ∷ bs) h k = rw (pow-suc 256 n) (digits-lt (little-lt n bs (h .1) (omega arith)) (h .0))
-
--- the members of a slice of bytes are bytes
-pub bytes-of : (l : List ℕ) → ((i : ℕ) → getD l i 0 < 256) → Bytes l
-bytes-of [] h = tt
-bytes-of (x ∷ l) h = (h 0, bytes-of l (λ i. h (suc i)))
 
 -- ---- the loop that makes eight bytes a number, from the last on
 module _ (l : List ℕ) (at : ℕ) (room : at + 8 ≤ length l) where
@@ -203,20 +184,24 @@ module _ (l : List ℕ) (at : ℕ) (room : at + 8 ≤ length l) where
   pub little-fits : (i : ℕ) {n : ℕ} → Bytes l → 0 < i → n ≡ little (drop i lent) → n < 0x100000000000000
   little-fits i bytes h e =
       subst (λ (n : ℕ). n < 256 ^ 7) (sym e)
-      (little-lt 7 (drop i lent) (each-drop IsByte i lent (each-take IsByte 8 (drop at l) (each-drop IsByte at l bytes))) (omega (arith, length-drop i lent, lent-length)))
+      (little-lt 7 (drop i lent) (each-drop IsByte i lent (each-take IsByte 8 (drop at l) (each-drop IsByte at l bytes)))
+      (omega (arith, length-drop i lent, lent-length)))
 
   pub little-more : (i : ℕ) {n b : ℕ} → 0 < i → i ≤ 8 → n ≡ little (drop i lent) → b ≡ getD l (at + (i - 1)) 0 → n * 256 + b ≡ little (drop (i - 1) lent)
   unfolding little
   little-more i h k e f =
       let j : i - 1 + 1 ≡ i = omega arith in
-      ap₂ (λ (n b : ℕ). n * 256 + b) (e ∙ ap (λ (m : ℕ). little (drop m lent)) (sym j)) (f ∙ sym (getD-take 8 (drop at l) (i - 1) 0 (omega arith) ∙ getD-drop at l (i - 1) 0))
+      ap₂ (λ (n b : ℕ). n * 256 + b) (e ∙ ap (λ (m : ℕ). little (drop m lent)) (sym j))
+      (f ∙ sym (getD-take 8 (drop at l) (i - 1) 0 (omega arith) ∙ getD-drop at l (i - 1) 0))
       ∙ sym (ap little (next lent (i - 1) (omega (arith, lent-length))))
 
 -- ---- a turn of the loop over eights
-pub eight-next : (i r : ℕ) (l : List ℕ) {n s t : ℕ} → Bytes l → n ≡ little (take 8 (drop i l)) → s ≡ entered 64 r n → register r (drop i l) ≡ t → i + 8 ≤ length l
+pub eight-next : (i r : ℕ) (l : List ℕ) {n s t : ℕ} → Bytes l → n ≡ little (take 8 (drop i l)) → s ≡ entered 64 r n → register r (drop i l) ≡ t
+    → i + 8 ≤ length l
     → register s (drop (i + 8) l) ≡ t
 eight-next i r l bytes en es inv room =
-    ap₂ register (es ∙ ap (entered 64 r) en ∙ sym (register-little r lent′ (each-take IsByte 8 (drop i l) (each-drop IsByte i l bytes)) ∙ ap (λ (k : ℕ). entered (k * 8) r (little lent′)) (lent-length l i room)))
+    ap₂ register (es ∙ ap (entered 64 r) en ∙ sym (register-little r lent′ (each-take IsByte 8 (drop i l) (each-drop IsByte i l bytes))
+    ∙ ap (λ (k : ℕ). entered (k * 8) r (little lent′)) (lent-length l i room)))
     (sym (drop-drop 8 i l))
     ∙ sym (register-append r lent′ (drop 8 (drop i l)))
     ∙ ap (register r) (take-append-drop 8 (drop i l))

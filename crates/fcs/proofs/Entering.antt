@@ -1,6 +1,7 @@
 -- A byte enters the register at once as its eight bits do one by one.
--- folded, spread   the code's step for the register's low byte: 256 computed cases
--- byte-enters      the whole step: the byte is added, the low byte is spread, the high byte moves down and is added
+-- entered-sum                 what is added to the register before falls out with it
+-- folded, folded-lt, spread   the code's step for the register's low byte: 256 computed cases
+-- byte-enters                 the whole step: the byte is added, the low byte is spread, the high byte moves down and is added
 use mathlib.Core.Path.{_≡_, refl, sym, ap, ap₂, _∙_}
 use Prim.Native.Nat.{ℕ, zero, suc, _*_, _/_, _%_, _^_, _<_}
 use native.Mathlib.Nat.{mod-lt, div-one, div-div-eq-div-mul, mul-div-cancel, pow-succ'}

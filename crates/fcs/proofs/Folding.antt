@@ -1,6 +1,8 @@
 -- Four eights wait: the first of them, instead of falling out, is added to those behind it.
+-- Fit                      the four are numbers of 64 bits
 -- waiting                  the register once the four have fallen out
--- added-is                 the first one's part in that: both sides go with sums, so there are 64 computed cases
+-- low, high                the first one's two parts
+--                          .. and what they have in that: both sides go with sums, so there are 64 computed cases
 -- fit-more, folded-next    a turn of the loop: a fifth comes
 -- folded-first             the first four
 -- eights-over              where the loops end
@@ -13,11 +15,11 @@ use lib.Bits.{bitXor, xor-lt}
 use lib.Dec.{eqb, eqb→eq}
 use lib.ListN.{length, take, drop}
 use Rattle.base.specs.Bytes.{Bytes}
-use Rattle.base.proofs.Bits.{xor-assoc}
+use Rattle.base.proofs.Bits.{xor-assoc, xor-four, Additive, agree}
 use Rattle.base.proofs.Tests.{all-at}
 use Rattle.fcs.specs.Fcs.{entered, register}
 use Rattle.fcs.specs.Private.{little}
-use Rattle.fcs.proofs.Eights.{Additive, xor-four, agree, entered-zeros, left, left-sum, right-sum, eight-enters, eight-next}
+use Rattle.fcs.proofs.Eights.{entered-zeros, left, left-sum, right-sum, eight-enters, eight-next}
 
 -- 64 bits fall out, alone and added to a register
 abbrev fell : ℕ → ℕ

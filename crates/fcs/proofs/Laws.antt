@@ -27,7 +27,8 @@ check-parts a b e₀ e₁ e₂ e =
     e ∙ ap (λ (r : Register). complement (r .bits)) (e₂ ∙ ap (λ (r : Register). fed r b) (e₁ ∙ ap (λ (r : Register). fed r a) e₀))
     ∙ ap complement (sym (register-append ones a b))
 
-pub byte-next : (i r : ℕ) (bs : List ℕ) {s t : ℕ} → i < length bs → s ≡ entered 8 r (getD bs i 0) → register r (drop i bs) ≡ t → register s (drop (i + 1) bs) ≡ t
+pub byte-next : (i r : ℕ) (bs : List ℕ) {s t : ℕ} → i < length bs → s ≡ entered 8 r (getD bs i 0) → register r (drop i bs) ≡ t
+    → register s (drop (i + 1) bs) ≡ t
 unfolding register
 byte-next i r bs h e p = rw e (rw (next bs i h) at p)
 

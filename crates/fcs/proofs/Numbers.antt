@@ -1,4 +1,4 @@
--- Numbers (a), (b) and (c) of paper 01: the check of no bytes, of 00 and of FF.
+-- numbers   (a), (b) and (c) of paper 01: the check of no bytes, of 00 and of FF
 use mathlib.Core.Path.{_≡_, refl}
 use mathlib.Core.List.{List, [], _∷_}
 use Prim.Native.Nat.{ℕ}

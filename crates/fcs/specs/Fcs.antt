@@ -1,8 +1,10 @@
 -- The check of a frame (paper 01, "Packet and frame"): RFC 1662's 16-bit FCS. The register starts at 0xFFFF, low bit first,
 -- reversed polynomial 0x8408, complemented at the end.
--- register     the register after bytes
--- fcs          the check of bytes
--- fresh, fed   the same of the code's `Register`
+-- polynomial, ones, complement   the paper's numbers: the polynomial, the register's start; a complement
+-- shifted, entered   a bit falls out of the register; the bits of a number enter it, and as many fall out
+-- register           the register after bytes
+-- fcs                the check of bytes
+-- fresh, fed         the same of the code's `Register`
 use Prim.Native.Nat.{ℕ, zero, suc, _-_, _/_, _%_}
 use mathlib.Core.List.{List, [], _∷_}
 use lib.Bits.{bitXor}

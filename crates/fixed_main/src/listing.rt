@@ -1,19 +1,16 @@
 //! The receiver: received bytes in, a line of each answer out, and the totals.
 use base::Refusal;
 use channel::Answer;
-use channel::Condition;
 use libc::STDIN_FILENO;
-use lines::Line;
+use listing_lines::Line;
+use listing_lines::Totals;
 use packet::Judged;
 use subchannel::Sub;
 
 // What is counted of received bytes and of their answers.
-struct Totals {
+struct Counts {
     bytes: u64,
-    packets: u64,
-    refused: u64,
-    damaged: u64,
-    lost: u64,
+    totals: Totals,
 }
 
 // The receiver behind a call.
@@ -24,7 +21,7 @@ struct Turn {
     go: bool,
     taken: usize,
     sub: Sub,
-    totals: Totals,
+    counts: Counts,
 }
 
 // The receiver: pieces as they come, and the totals behind the last.
@@ -32,13 +29,17 @@ pub fn list_all(parity: usize, depth: usize) {
     let mut recv = [0u8; Sub::RAW];
     let mut word = [0u8; Sub::WORD];
     let mut piece = io::large_buffer();
-    let mut sub = Sub::told(parity, depth);
-    let mut totals = none();
+    let told = Sub::told(parity, depth);
+    let mut sub = told.sub;
+    let mut counts = Counts {
+        bytes: 0,
+        totals: Totals::none(),
+    };
     let mut reads = u64::MAX;
     while reads > 0 {
-        let turn = list_next(sub, totals, &mut recv, &mut word, &mut piece);
+        let turn = list_next(sub, counts, &mut recv, &mut word, &mut piece);
         sub = turn.sub;
-        totals = turn.totals;
+        counts = turn.counts;
         if !turn.go {
             return;
         }
@@ -47,44 +48,44 @@ pub fn list_all(parity: usize, depth: usize) {
 }
 
 // The next piece, read and listed.
-fn list_next(sub: Sub, totals: Totals, recv: &mut [u8], word: &mut [u8], piece: &mut [u8]) -> Turn {
+fn list_next(sub: Sub, counts: Counts, recv: &mut [u8], word: &mut [u8], piece: &mut [u8]) -> Turn {
     let got = libc::read(STDIN_FILENO, piece);
     if got < 0 {
-        console::say(b"fixed: cannot read standard input\n");
-        return stopped(sub, totals);
+        crate::say_unread();
+        return stopped(sub, counts);
     }
     if got == 0 {
-        print_totals(totals);
-        return stopped(sub, totals);
+        print_totals(counts);
+        return stopped(sub, counts);
     }
     let n = io::count(got, piece);
-    list(sub, totals, recv, word, &piece[0..n])
+    list(sub, counts, recv, word, &piece[0..n])
 }
 
-fn stopped(sub: Sub, totals: Totals) -> Turn {
+fn stopped(sub: Sub, counts: Counts) -> Turn {
     Turn {
         again: false,
         go: false,
         taken: 0,
         sub,
-        totals,
+        counts,
     }
 }
 
 // A piece, until more is wanted.
-fn list(start: Sub, before: Totals, recv: &mut [u8], word: &mut [u8], piece: &[u8]) -> Turn {
+fn list(start: Sub, before: Counts, recv: &mut [u8], word: &mut [u8], piece: &[u8]) -> Turn {
     let mut turn = Turn {
         again: true,
         go: false,
         taken: 0,
         sub: start,
-        totals: received(before, piece.len()),
+        counts: received(before, piece.len()),
     };
     let mut i: usize = 0;
     let mut calls = u64::MAX;
     while calls > 0 {
-        turn = call(turn.sub, turn.totals, recv, word, &piece[i..]);
-        i = crate::onward(i, turn.taken, piece.len());
+        turn = call(turn.sub, turn.counts, recv, word, &piece[i..]);
+        i = console::onward(i, turn.taken, piece.len());
         if !turn.again {
             return turn;
         }
@@ -94,7 +95,7 @@ fn list(start: Sub, before: Totals, recv: &mut [u8], word: &mut [u8], piece: &[u
 }
 
 // One call, and its line.
-fn call(start: Sub, before: Totals, recv: &mut [u8], word: &mut [u8], piece: &[u8]) -> Turn {
+fn call(start: Sub, before: Counts, recv: &mut [u8], word: &mut [u8], piece: &[u8]) -> Turn {
     let heard = start.hear(recv, word, piece);
     let answer = heard.answer;
     let sub = heard.sub;
@@ -104,7 +105,7 @@ fn call(start: Sub, before: Totals, recv: &mut [u8], word: &mut [u8], piece: &[u
         go,
         taken: heard.taken,
         sub,
-        totals: counted(before, answer),
+        counts: counted(before, answer),
     }
 }
 
@@ -124,8 +125,8 @@ fn tell(answer: Answer) -> bool {
         return false;
     }
     let mut text = [0u8; Line::LONGEST];
-    let written = lines::print(answer, &mut text);
-    crate::print_written(written, &text)
+    let written = listing_lines::print(answer, &mut text);
+    crate::put(written, &text)
 }
 
 // Whether a call was refused: no state of this program comes to that.
@@ -146,16 +147,6 @@ fn is_call(judged: Judged) -> bool {
     }
 }
 
-fn none() -> Totals {
-    Totals {
-        bytes: 0,
-        packets: 0,
-        refused: 0,
-        damaged: 0,
-        lost: 0,
-    }
-}
-
 // So many more; no input of less than 2^64 bytes comes to the end of the numbers.
 fn more(total: u64, n: u64) -> u64 {
     if u64::MAX - total < n {
@@ -164,72 +155,33 @@ fn more(total: u64, n: u64) -> u64 {
     total + n
 }
 
-fn received(t: Totals, n: usize) -> Totals {
-    Totals {
-        bytes: more(t.bytes, n as u64),
-        packets: t.packets,
-        refused: t.refused,
-        damaged: t.damaged,
-        lost: t.lost,
+fn received(c: Counts, n: usize) -> Counts {
+    let totals = c.totals;
+    Counts {
+        bytes: more(c.bytes, n as u64),
+        totals,
     }
 }
 
-fn counted(t: Totals, answer: Answer) -> Totals {
-    match answer {
-        Answer::More => t,
-        Answer::Said(judged) => counted_frame(t, judged),
-        Answer::Block(condition) => counted_block(t, condition),
-        Answer::LockLost => Totals {
-            bytes: t.bytes,
-            packets: t.packets,
-            refused: t.refused,
-            damaged: t.damaged,
-            lost: more(t.lost, 1),
-        },
-    }
-}
-
-fn counted_frame(t: Totals, judged: Judged) -> Totals {
-    match judged {
-        Judged::Packet(_) => Totals {
-            bytes: t.bytes,
-            packets: more(t.packets, 1),
-            refused: t.refused,
-            damaged: t.damaged,
-            lost: t.lost,
-        },
-        Judged::Refused(_) => counted_refusal(t),
-        Judged::Broken(_) => counted_refusal(t),
-    }
-}
-
-fn counted_refusal(t: Totals) -> Totals {
-    Totals {
-        bytes: t.bytes,
-        packets: t.packets,
-        refused: more(t.refused, 1),
-        damaged: t.damaged,
-        lost: t.lost,
-    }
-}
-
-fn counted_block(t: Totals, condition: Condition) -> Totals {
-    match condition {
-        Condition::Clean => t,
-        Condition::Repaired(_) => t,
-        Condition::Beyond => Totals {
-            bytes: t.bytes,
-            packets: t.packets,
-            refused: t.refused,
-            damaged: more(t.damaged, 1),
-            lost: t.lost,
-        },
+fn counted(c: Counts, answer: Answer) -> Counts {
+    let totals = c.totals;
+    Counts {
+        bytes: c.bytes,
+        totals: totals.count(answer),
     }
 }
 
 // The last line.
-fn print_totals(t: Totals) {
+fn print_totals(c: Counts) {
+    let t = c.totals;
     let mut text = [0u8; Line::LONGEST];
-    let written = lines::print_end(t.bytes, t.packets, t.refused, t.damaged, t.lost, &mut text);
-    crate::print_written(written, &text);
+    let written = listing_lines::print_end(
+        c.bytes,
+        t.packets,
+        t.refused,
+        t.damaged,
+        t.lost,
+        &mut text,
+    );
+    crate::put(written, &text);
 }

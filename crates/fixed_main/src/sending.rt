@@ -3,6 +3,7 @@ ghost use Prim.Native.Nat.{_≤_};
 ghost use lib.ListN.{length};
 use interleaver::Matrix;
 use libc::STDIN_FILENO;
+use subchannel::Settings;
 use subchannel_sender::Counted;
 use subchannel_sender::Group;
 use subchannel_sender::Sent;
@@ -30,7 +31,7 @@ struct Held {
 
 // Bytes of a stream that fill a group.
 fn four_messages(parity: usize) -> usize {
-    Group::WORDS * (Group::WORD - base::least(parity, Group::PARITY))
+    Group::WORDS * (Group::WORD - base::least(parity, Settings::PARITY))
 }
 
 // Reads behind the bytes that are held, until so many are.
@@ -49,7 +50,7 @@ fn read_on(hold: &mut [u8], have: usize, want: usize) -> Held
     Held {
         failed: false,
         ended: false,
-        have: crate::onward(have, io::count(got, hold), want),
+        have: console::onward(have, io::count(got, hold), want),
     }
 }
 
@@ -94,7 +95,7 @@ pub fn send_all(parity: usize, depth: usize) {
         let held = read_on(&mut hold, have, want);
         have = held.have;
         if held.failed {
-            console::say(b"fixed: cannot read standard input\n");
+            crate::say_unread();
             return;
         }
         hint(reads, &hold[0..have]);
@@ -146,7 +147,7 @@ fn send_last(
     while i < groups {
         let behind = send(parity, depth, matrix, &rest[at..], out);
         matrix = behind.matrix;
-        at = crate::onward(at, behind.taken, rest.len());
+        at = console::onward(at, behind.taken, rest.len());
         if !behind.go {
             return;
         }
@@ -164,7 +165,7 @@ fn put(sent: Sent, out: &[u8]) -> Behind {
     let written = sent.written;
     let matrix = sent.matrix;
     Behind {
-        go: crate::print_written(written, out),
+        go: crate::put(written, out),
         taken: sent.taken,
         matrix,
     }

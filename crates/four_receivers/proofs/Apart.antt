@@ -1,8 +1,10 @@
 -- Bytes of one sub-channel never affect another's answers.
 -- got-put, got-other       a sub-channel exchanged, and the others then
+-- memory-own, memory-other   the same with the buffers
 -- kept-hear, kept-call     a call keeps the settings told, and what passes 10
 -- sound-at                 10 of the four is 10 of each
 -- call-other, call-own     a call on another sub-channel, and on this one
+-- Live, live-own, reads-own, reads-other   configured, in a state that passes 10; a piece for this one, and for another
 -- hear-others              a call on one leaves the others, whatever it answers
 -- configure-others         configuring one leaves the others
 -- configure-own, told-means   .. and that one is as just told, also told again, and what it then hears means that
@@ -24,7 +26,7 @@ use Rattle.base.specs.Calls.Reads.{more, answer}
 use Rattle.base.specs.Calls.ReadsAll.{done, piece}
 use Rattle.base.specs.Choice.{pick}
 use Rattle.base.proofs.Calls.{inv-hear}
-use Rattle.base.proofs.Tests.{and-parts, by-eq}
+use Rattle.base.proofs.Tests.{and-parts, and-true as both, by-eq}
 use Rattle.packet_spec.specs.Contents.{rawLimit}
 use Rattle.parity.specs.Calls.{rootLimit}
 use Rattle.interleaver_spec.specs.Running.{depthLimit, pull}
@@ -43,11 +45,10 @@ use Rattle.subchannel.specs.Call.{toldSub, sound, hearBy, hearOn, hearCall, Fin
 use Rattle.subchannel.proofs.Fine.{fine-of, fine-is, fine-hand, fine-eat, zero-placed}
 use Rattle.subchannel.proofs.Cutting.{hand-one}
 use Rattle.subchannel.proofs.Demands.{every-cut}
-use Rattle.four_receivers.specs.declared.Receiver.{Receiver}
 use Rattle.subchannel_spec.specs.declared.Configured.{Configured}
 use Rattle.subchannel_spec.specs.declared.Configured.the-variants.{Done, Refused}
 use Rattle.four_receivers.specs.Call.{get, put, soundFour, known, configuring, Memories, memoryAt, exchanged, callBy, callOn, Scheduled, ofOne}
-use Rattle.four_receivers.specs.Call.{freshReceiver, heardBy, hearFour}
+use Rattle.four_receivers.specs.Call.{Receiver, freshReceiver, heardBy, hearFour}
 use Rattle.four_receivers.specs.Call.Scheduled.{done as first, next}
 
 pub got-put : (s : Receiver) (n : ℕ) (x : Sub) → get (put s n x) n ≡ x
@@ -82,9 +83,6 @@ pub memory-other : (s : Memories) (n k : ℕ) (c : Memory) → n ≤ 3 → k ≤
 memory-other s n k c h i e =
     let t : eqb k n ≡ false = ne-eqb k n (λ q. e (sym q)) in
     λ j. memory (got-other (s .st) n k (c .st) h i e j) (pick (t j) (c .recv) (s .recv k)) (pick (t j) (c .word) (s .word k))
-
-both : {a b : Bool} → a ≡ true → b ≡ true → a && b ≡ true
-both p q = rw (p, q) refl
 
 -- ---- what a call keeps
 settings-word : (t : Bool) (s : Lane) (w : ℕ) (l : List ℕ) → wordOn t s w l .1 .settings ≡ s .settings
@@ -150,7 +148,8 @@ sound-put s (suc (suc (suc n))) x e h = both (sound-at s 0 e) (both (sound-at s 
 
 told-sound : (r d : ℕ) → r ≤ rootLimit → d ≤ depthLimit → sound (toldSub r d) ≡ true
 told-sound r d hr hd =
-    both (both refl (both (both (le-leb r rootLimit hr) (le-leb d depthLimit hd)) (both refl (both refl (both refl (le-leb 0 (messageBytes r) (omega arith)))))))
+    both (both refl (both (both (le-leb r rootLimit hr) (le-leb d depthLimit hd))
+    (both refl (both refl (both refl (le-leb 0 (messageBytes r) (omega arith)))))))
     (ap not (zero-placed d))
 
 -- ---- sub-channel k, configured, among the four

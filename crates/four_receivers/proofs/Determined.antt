@@ -1,4 +1,5 @@
 -- Each public function's promise determines its result.
+-- fresh-determined, sound-determined, configure-determined, hear-determined
 use mathlib.Core.Path.{refl}
 use Rattle.base.specs.Determined.{Determined}
 use Rattle.base.proofs.Determining.{same, buffer, skip}
@@ -18,7 +19,10 @@ pub sound-determined : Determined sound-kinds.ps sound-kinds.r sound-reads.Asked
 sound-determined κs a z z′ ws ws′ pre p q = (same p q, refl)
 
 pub configure-determined : Determined configure-kinds.ps configure-kinds.r configure-reads.Asked configure-reads.Learnt
-configure-determined κs a z z′ ws ws′ pre p q = (same p q, refl)
+configure-determined κs a z z′ ws ws′ pre p q = (same (p .0) (q .0), skip (skip (skip (skip (buffer (same (p .1) (q .1)) refl)))))
 
 pub hear-determined : Determined hear-kinds.ps hear-kinds.r hear-reads.Asked hear-reads.Learnt
-hear-determined κs a z z′ ws ws′ pre p q = (same (p .0) (q .0), skip (skip (buffer (same (p .1) (q .1)) (buffer (same (p .2) (q .2)) refl))))
+hear-determined κs a z z′ ws ws′ pre p q = (
+  same (p .0) (q .0),
+  skip (skip (buffer (same (p .1) (q .1)) (buffer (same (p .2) (q .2)) (buffer (same (p .3) (q .3)) refl)))),
+)

@@ -1,8 +1,13 @@
 -- One to four sub-channels (request W7): the receiver's calls, by number.
+-- Receiver                  the receiver whole: each sub-channel with its cells
+-- seated, seat              a sub-channel of its state by value and its cells, and back: the state by value
+-- whole, seats, laid        .. of all four; the lent cells behind a call
 -- get, put                  a sub-channel of the receiver, by its number
+-- freshReceiver             none is configured
 -- soundFour, known          what 10 and 42 ask
--- configuring, hearFour     what the two calls answer and leave
--- Memories, callOn          the receiver with each sub-channel's two buffers, and a call on one of them
+-- configuring, heardBy, hearFour   what the two calls answer and leave; ConfiguringIs, FourIs: that the code's results are those
+-- Memories, callBy, callOn  the receiver with each sub-channel's two buffers, and a call on one of them
+-- memoryAt, exchanged       a sub-channel with its buffers, and exchanged for another
 -- Scheduled                 pieces, each with its sub-channel's number, handed in until "more wanted"
 -- ofOne                     those of one sub-channel
 use Prim.Native.Nat.{ℕ, zero, suc}
@@ -11,22 +16,54 @@ use mathlib.Core.Bool.{Bool, true, false, _&&_}
 use mathlib.Core.List.{List, [], _∷_, _++_, map}
 use mathlib.Core.Option.{Option, some}
 use lib.Dec.{eqb, ltb, leb}
+use lib.ListN.{getD, set}
 use Rattle.base.specs.Calls.{Reads}
 use Rattle.base.specs.Choice.{pick}
 use Rattle.packet_spec.specs.Frame.{refusal}
 use Rattle.parity.specs.Calls.{rootLimit}
-use Rattle.interleaver_spec.specs.Running.{depthLimit, freshBack}
-use Rattle.stream.specs.Call.{fresh}
-use Rattle.channel_spec.specs.Meaning.{Event, said, zeros}
+use Rattle.interleaver_spec.specs.Running.{depthLimit, matrix, back}
+use Rattle.channel_spec.specs.Meaning.{Event, said}
 use Rattle.channel_spec.specs.Answer.{answered}
 use Rattle.subchannel.specs.declared.sub.Sub.{Sub}
-use Rattle.subchannel.specs.Call.{Memory, memory, sub, lane, counts, toldSub, sound, hearCall}
-use Rattle.subchannel_spec.specs.Settings.{settings}
-use Rattle.four_receivers.specs.declared.Receiver.{Receiver}
+use Rattle.subchannel.specs.Call.{Memory, memory, sub, toldSub, untold, sound, hearCall}
+use Rattle.four_receivers.specs.declared.Seat.{Seat}
+use Rattle.four_receivers.specs.declared.Receiver as code
 use Rattle.subchannel_spec.specs.declared.Configured.{Configured}
 use Rattle.four_receivers.specs.declared.Configuring.{Configuring}
 use Rattle.four_receivers.specs.declared.Hearing.{Hearing}
 use Rattle.subchannel_spec.specs.declared.Configured.the-variants.{Done, Refused}
+
+-- the receiver whole
+pub record Receiver : Type 0 where
+  pub a : Sub
+  pub b : Sub
+  pub c : Sub
+  pub d : Sub
+
+-- a sub-channel: what is handed on by value, with its cells
+abbrev pub seated : Seat → List ℕ → Sub
+seated x cs = sub (x .lane) (back (x .again) (matrix (x .place) cs))
+
+-- .. without them
+abbrev pub seat : Sub → Seat
+seat x = record { lane = x .lane; again = x .back .again; place = x .back .matrix .place }
+
+-- all four, with the cells that are lent
+abbrev pub whole : code.Receiver → List (List ℕ) → Receiver
+whole s cs = record {
+  a = seated (s .a) (getD cs 0 []);
+  b = seated (s .b) (getD cs 1 []);
+  c = seated (s .c) (getD cs 2 []);
+  d = seated (s .d) (getD cs 3 []);
+}
+
+-- .. without them
+abbrev pub seats : Receiver → code.Receiver
+seats s = record { a = seat (s .a); b = seat (s .b); c = seat (s .c); d = seat (s .d) }
+
+-- the lent cells, with those of the four in their places
+abbrev pub laid : List (List ℕ) → Receiver → List (List ℕ)
+laid cs s = set (set (set (set cs 0 (s .a .back .matrix .cells)) 1 (s .b .back .matrix .cells)) 2 (s .c .back .matrix .cells)) 3 (s .d .back .matrix .cells)
 
 -- sub-channel n; 3 stands for every number above 2
 abbrev pub get : Receiver → ℕ → Sub
@@ -42,10 +79,7 @@ put s (suc zero) x = record { a = s .a; b = x; c = s .c; d = s .d }
 put s (suc (suc zero)) x = record { a = s .a; b = s .b; c = x; d = s .d }
 put s (suc (suc (suc n))) x = record { a = s .a; b = s .b; c = s .c; d = x }
 
--- not configured
-abbrev pub untold : Sub
-untold = sub (lane (settings false 0 0) false false zeros (counts 0 0 0 0) fresh) freshBack
-
+-- none is configured
 abbrev pub freshReceiver : Receiver
 freshReceiver = record { a = untold; b = untold; c = untold; d = untold }
 
@@ -103,9 +137,9 @@ abbrev pub ofOne : {A : Type 0} → ℕ → List (ℕ × A) → List A
 ofOne k [] = []
 ofOne k (x ∷ xs) = pick (eqb (x .0) k) (x .1 ∷ ofOne k xs) (ofOne k xs)
 
--- the code's result of configuring
-abbrev pub configuringOf : Configured × Receiver → Configuring
-configuringOf x = record { answer = x .0; receiver = x .1 }
+-- the code's result of configuring, the cells cs being lent, and the cells then
+abbrev pub ConfiguringIs : List (List ℕ) → Configured × Receiver → Configuring → List (List ℕ) → Type 0
+ConfiguringIs cs x r cs′ = (r ≡ record { answer = x .0; receiver = seats (x .1) }) × (cs′ ≡ laid cs (x .1))
 
 -- by: does it pass 10, does it pass 42. Then 11, as for one sub-channel: answer, bytes taken, state, receive buffer and word buffer
 abbrev pub heardBy : Bool → Bool → Receiver → ℕ → List ℕ → List ℕ → List ℕ → Option Event × ℕ × Receiver × List ℕ × List ℕ
@@ -118,6 +152,7 @@ heardBy true true s n recv word bs =
 abbrev pub hearFour : Receiver → ℕ → List ℕ → List ℕ → List ℕ → Option Event × ℕ × Receiver × List ℕ × List ℕ
 hearFour s n recv word bs = heardBy (soundFour s) (known s n) s n recv word bs
 
--- the code's result, and the two buffers then
-abbrev pub FourIs : Option Event × ℕ × Receiver × List ℕ × List ℕ → Hearing → List ℕ → List ℕ → Type 0
-FourIs x r l k = (r ≡ record { answer = answered (x .0); taken = x .1; receiver = x .2 }) × (l ≡ x .3) × (k ≡ x .4)
+-- the code's result, the cells cs being lent, and the cells and the two buffers then
+abbrev pub FourIs : List (List ℕ) → Option Event × ℕ × Receiver × List ℕ × List ℕ → Hearing → List (List ℕ) → List ℕ → List ℕ → Type 0
+FourIs cs x r cs′ l k =
+    (r ≡ record { answer = answered (x .0); taken = x .1; receiver = seats (x .2) }) × (cs′ ≡ laid cs (x .2)) × (l ≡ x .3) × (k ≡ x .4)

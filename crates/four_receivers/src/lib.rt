@@ -1,23 +1,33 @@
-//! One to four fixed sub-channels: the receiver.
+//! One to four fixed sub-channels: the receiver. What is small of its state goes by value, the interleavers' cells are lent: they are 64 KiB.
 ghost use mathlib.Core.Path.{_≡_};
-ghost use Rattle.four_receivers.specs.Call.{untold, freshReceiver, get, put, soundFour, known, configuring, configuringOf, hearFour, FourIs};
+ghost use mathlib.Core.List.{[]};
+ghost use Rattle.four_receivers.specs.Call.{seated, seat, whole, seats, freshReceiver, get, put, soundFour, known};
+ghost use Rattle.four_receivers.specs.Call.{configuring, ConfiguringIs, hearFour, FourIs};
+ghost use Rattle.subchannel.specs.Call.{sound, untold};
 use base::Refusal;
 use channel::Answer;
-use channel::Hunting;
+use interleaver::Back;
+use interleaver::Matrix;
 use packet::Judged;
-use stream::FrameReader;
-use subchannel::Counts;
+use subchannel::Configured;
 use subchannel::Lane;
-use subchannel::Settings;
 use subchannel::Sub;
-use subchannel_spec::Configured;
 
-/// The receiver's state.
+/// A sub-channel's state but for its cells.
+pub struct Seat {
+    pub lane: Lane,
+    /// Whether the interleaver's first pass is over.
+    pub again: bool,
+    /// Its place among the cells.
+    pub place: usize,
+}
+
+/// The receiver's state but for the cells.
 pub struct Receiver {
-    pub a: Sub,
-    pub b: Sub,
-    pub c: Sub,
-    pub d: Sub,
+    pub a: Seat,
+    pub b: Seat,
+    pub c: Seat,
+    pub d: Seat,
 }
 
 /// The result of configuring.
@@ -34,54 +44,67 @@ pub struct Hearing {
     pub receiver: Receiver,
 }
 
-// A sub-channel that is not configured.
-fn untold() -> Sub
-    ensures { λ r. ⌜ r ≡ untold ⌝ }
-{
-    Sub {
-        lane: Lane {
-            settings: Settings {
-                told: false,
-                parity: 0,
-                depth: 0,
+impl Seat {
+    // A sub-channel without its cells.
+    fn of(sub: Sub) -> Self
+        ensures { λ r. ⌜ r ≡ seat sub ⌝ }
+    {
+        let lane = sub.lane;
+        let back = sub.back;
+        let matrix = back.matrix;
+        Seat {
+            lane,
+            again: back.again,
+            place: matrix.place,
+        }
+    }
+
+    // With its cells.
+    fn with(self, cells: [u8; Matrix::CELLS]) -> Sub
+        ensures { λ r. ⌜ r ≡ seated self cells ⌝ }
+    {
+        let lane = self.lane;
+        Sub {
+            lane,
+            back: Back {
+                again: self.again,
+                matrix: Matrix {
+                    place: self.place,
+                    cells,
+                },
             },
-            locked: false,
-            lost: false,
-            hunting: Hunting {
-                a: 0,
-                b: 0,
-                c: 0,
-                d: 0,
-            },
-            counts: Counts {
-                group: 0,
-                marker: 0,
-                word: 0,
-                handed: 0,
-            },
-            frame: FrameReader::fresh(),
-        },
-        back: interleaver::fresh_back(),
+        }
+    }
+
+    // Whether no count is beyond its limit, nor a setting, nor the place among the cells, whatever these hold.
+    fn sound(self) -> bool
+        ensures { λ r. ⌜ r ≡ sound (seated self []) ⌝ }
+    {
+        let sub = self.with([0; Matrix::CELLS]);
+        sub.sound()
     }
 }
 
 impl Receiver {
-    /// No sub-channel is configured.
+    /// The sub-channels.
+    pub const MOST: usize = 4;
+
+    /// No sub-channel is configured. The cells may then hold any bytes: configuring a sub-channel makes its own zero.
     pub fn fresh() -> Self
-        ensures { λ r. ⌜ r ≡ freshReceiver ⌝ }
+        ensures { λ r. ⌜ r ≡ seats freshReceiver ⌝ }
     {
-        let sub = untold();
+        let seat = Seat::of(Sub::untold());
         Receiver {
-            a: sub,
-            b: sub,
-            c: sub,
-            d: sub,
+            a: seat,
+            b: seat,
+            c: seat,
+            d: seat,
         }
     }
 
     /// Whether no count of the four is beyond its limit.
     pub fn sound(self) -> bool
-        ensures { λ r. ⌜ r ≡ soundFour self ⌝ }
+        ensures { λ r. ⌜ r ≡ soundFour (whole self []) ⌝ }
     {
         let a = self.a;
         let b = self.b;
@@ -100,23 +123,23 @@ impl Receiver {
     }
 
     // One of the four exchanged.
-    fn put(self, number: usize, sub: Sub) -> Self
-        ensures { λ r. ⌜ r ≡ put self number sub ⌝ }
+    fn put(self, number: usize, seat: Seat) -> Self
+        ensures { λ r. ⌜ r ≡ seats (put (whole self []) number (seated seat [])) ⌝ }
     {
         let a = self.a;
         let b = self.b;
         let c = self.c;
         let d = self.d;
         if number == 0 {
-            return Receiver { a: sub, b, c, d };
+            return Receiver { a: seat, b, c, d };
         }
         if number == 1 {
-            return Receiver { a, b: sub, c, d };
+            return Receiver { a, b: seat, c, d };
         }
         if number == 2 {
-            return Receiver { a, b, c: sub, d };
+            return Receiver { a, b, c: seat, d };
         }
-        Receiver { a, b, c, d: sub }
+        Receiver { a, b, c, d: seat }
     }
 
     // A refused configuring: the state as it was.
@@ -130,8 +153,15 @@ impl Receiver {
     }
 
     /// Tells a sub-channel its settings, also again: it begins anew.
-    pub fn configure(self, number: usize, parity: usize, depth: usize) -> Configuring
-        ensures { λ r. ⌜ r ≡ configuringOf (configuring self number parity depth) ⌝ }
+    pub fn configure(
+        self,
+        number: usize,
+        parity: usize,
+        depth: usize,
+        cells: &mut [[u8; Matrix::CELLS]; Receiver::MOST],
+    ) -> Configuring
+        ensures { λ r. ⌜ ConfiguringIs (now (cells .entry)) (configuring (whole self (now (cells .entry))) number parity depth)
+            r (now (cells .exit)) ⌝ }
     {
         if !self.sound() {
             return self.unconfigured(Refusal::STATE);
@@ -139,21 +169,27 @@ impl Receiver {
         if 3 < number {
             return self.unconfigured(Refusal::SUB_CHANNEL);
         }
-        if Sub::PARITY < parity {
-            return self.unconfigured(Refusal::ROOTS);
-        }
-        if Sub::DEPTH < depth {
-            return self.unconfigured(Refusal::DEPTH);
-        }
-        Configuring {
-            answer: Configured::Done,
-            receiver: self.put(number, Sub::told(parity, depth)),
+        let told = Sub::told(parity, depth);
+        let answer = told.answer;
+        match answer {
+            Configured::Refused(n) => self.unconfigured(n),
+            Configured::Done => {
+                let sub = told.sub;
+                let back = sub.back;
+                let matrix = back.matrix;
+                let zeros = matrix.cells;
+                cells[number] = zeros;
+                Configuring {
+                    answer: Configured::Done,
+                    receiver: self.put(number, Seat::of(sub)),
+                }
+            }
         }
     }
 
     // One of the four; 3 stands for every number above 2.
-    fn get(self, number: usize) -> Sub
-        ensures { λ r. ⌜ r ≡ get self number ⌝ }
+    fn get(self, number: usize) -> Seat
+        ensures { λ r. ⌜ r ≡ seat (get (whole self []) number) ⌝ }
     {
         let a = self.a;
         let b = self.b;
@@ -184,20 +220,29 @@ impl Receiver {
 
     // Whether a sub-channel is configured.
     fn known(self, number: usize) -> bool
-        ensures { λ r. ⌜ r ≡ known self number ⌝ }
+        ensures { λ r. ⌜ r ≡ known (whole self []) number ⌝ }
     {
         if 3 < number {
             return false;
         }
-        let sub = self.get(number);
-        let lane = sub.lane;
+        let seat = self.get(number);
+        let lane = seat.lane;
         let settings = lane.settings;
         settings.told
     }
 
-    /// One call on a sub-channel, with its two buffers.
-    pub fn hear(self, number: usize, recv: &mut [u8], word: &mut [u8], piece: &[u8]) -> Hearing
-        ensures { λ r. ⌜ FourIs (hearFour self number (now (recv .entry)) (now (word .entry)) (now (piece .entry))) r (now (recv .exit)) (now (word .exit)) ⌝ }
+    /// One call on a sub-channel, with the cells of all and its own two buffers.
+    pub fn hear(
+        self,
+        number: usize,
+        cells: &mut [[u8; Matrix::CELLS]; Receiver::MOST],
+        recv: &mut [u8],
+        word: &mut [u8],
+        piece: &[u8],
+    ) -> Hearing
+        ensures { λ r. ⌜ FourIs (now (cells .entry))
+            (hearFour (whole self (now (cells .entry))) number (now (recv .entry)) (now (word .entry)) (now (piece .entry)))
+            r (now (cells .exit)) (now (recv .exit)) (now (word .exit)) ⌝ }
     {
         if !self.sound() {
             return self.unheard(Refusal::STATE);
@@ -205,14 +250,20 @@ impl Receiver {
         if !self.known(number) {
             return self.unheard(Refusal::SUB_CHANNEL);
         }
-        let sub = self.get(number);
+        let seat = self.get(number);
+        let own = cells[number];
+        let sub = seat.with(own);
         let heard = sub.hear(recv, word, piece);
         let answer = heard.answer;
         let next = heard.sub;
+        let back = next.back;
+        let matrix = back.matrix;
+        let behind = matrix.cells;
+        cells[number] = behind;
         Hearing {
             answer,
             taken: heard.taken,
-            receiver: self.put(number, next),
+            receiver: self.put(number, Seat::of(next)),
         }
     }
 }

@@ -13,7 +13,7 @@ use lib.Dec.{ltb, leb}
 use borrow.Author.Tests.{ltb-false, le-leb, lt-leb}
 use Rattle.base.specs.Choice.{pick}
 use Rattle.base.specs.Written.{Outcome, Keeps, refused, write}
-use Rattle.base.proofs.Tests.{by-le}
+use Rattle.base.proofs.Tests.{and-true as both, by-le}
 use Rattle.base.proofs.Writing.{write-keeps, refused-keeps, pick-keeps}
 use Rattle.parity.specs.Calls.{rootLimit}
 use Rattle.interleaver_spec.specs.Running.{depthLimit}
@@ -49,9 +49,6 @@ got-other s (suc (suc (suc n))) zero x h i e = refl
 got-other s (suc (suc (suc n))) (suc zero) x h i e = refl
 got-other s (suc (suc (suc n))) (suc (suc zero)) x h i e = refl
 got-other s (suc (suc (suc n))) (suc (suc (suc k))) x h i e = absurd (e (omega arith))
-
-both : {a b : Bool} → a ≡ true → b ≡ true → a && b ≡ true
-both p q = rw (p, q) refl
 
 sound-put : (s : Sender) (n : ℕ) (x : Settings) → soundFour s ≡ true → within x ≡ true → soundFour (put s n x) ≡ true
 sound-put s zero x e h = both h (both (sound-at s 1 e) (both (sound-at s 2 e) (sound-at s 3 e)))

@@ -1,7 +1,8 @@
 -- One to four sub-channels (request W7): the sender's calls, by number.
 -- get, put                a sub-channel's settings, by its number
 -- soundFour, known        what 10 and 42 ask
--- configuring, sendFour   what the two calls answer and leave
+-- freshSender             none is configured
+-- configuring, sendFour   what the two calls answer and leave; configuringOf: the code's result
 use Prim.Native.Nat.{ℕ, zero, suc}
 use mathlib.Core.Bool.{Bool, true, false, _&&_}
 use mathlib.Core.List.{List}

@@ -1,14 +1,12 @@
 //! The interleaver as a program, `interleave push|pull DEPTH`: bytes from standard input, through the cells, to standard output; `push` is the
 //! sender and ends with the closing push, `pull` the receiving side. Each piece goes on as it comes. Where something fails it says so on
 //! standard error and stops.
-use base::Written;
 use console::say;
 use interleaver::Back;
 use interleaver::Matrix;
 use interleaver::Pulled;
 use interleaver::Pushed;
 use libc::STDIN_FILENO;
-use libc::STDOUT_FILENO;
 
 // The sender behind a piece, and whether it goes on.
 struct Sent {
@@ -23,20 +21,16 @@ struct Taken {
 }
 
 fn main() {
-    let mut side = io::buffer();
-    let mut number = io::buffer();
-    let n = os::arg(1, &mut side);
-    let k = os::arg(2, &mut number);
-    let depth = depth_of(&number[..k]);
+    let depth = console::number(2, 2);
     if os::arg_count() != 3 || depth > 64 {
         usage();
         return;
     }
-    if check::same(&side[..n], b"push") {
+    if console::is_argument(1, b"push") {
         push_all(depth);
         return;
     }
-    if check::same(&side[..n], b"pull") {
+    if console::is_argument(1, b"pull") {
         pull_all(depth);
         return;
     }
@@ -45,34 +39,6 @@ fn main() {
 
 fn usage() {
     say(b"usage: interleave push|pull DEPTH <IN >OUT; a depth is a number from 0 to 64\n");
-}
-
-// A number of one or two digits; else one that is no depth.
-fn depth_of(text: &[u8]) -> usize {
-    if text.len() == 1 {
-        return digit(text[0]);
-    }
-    if text.len() == 2 {
-        return tens(digit(text[0]), digit(text[1]));
-    }
-    100
-}
-
-fn digit(b: u8) -> usize {
-    if b < b'0' || b > b'9' {
-        return 100;
-    }
-    (b - b'0') as usize
-}
-
-fn tens(high: usize, low: usize) -> usize {
-    if high > 9 {
-        return 100;
-    }
-    if low > 9 {
-        return 100;
-    }
-    10 * high + low
 }
 
 // The sender: pieces as they come, and the closing push behind the last.
@@ -84,7 +50,7 @@ fn push_all(depth: usize) {
     while reads > 0 {
         let got = libc::read(STDIN_FILENO, &mut piece);
         if got < 0 {
-            say(b"interleave: cannot read standard input\n");
+            console::say_unread(b"interleave");
             return;
         }
         if got == 0 {
@@ -113,7 +79,7 @@ fn pull_all(depth: usize) {
     while reads > 0 {
         let got = libc::read(STDIN_FILENO, &mut piece);
         if got < 0 {
-            say(b"interleave: cannot read standard input\n");
+            console::say_unread(b"interleave");
             return;
         }
         if got == 0 {
@@ -134,7 +100,7 @@ fn pushed(answer: Pushed, out: &[u8]) -> Sent {
     let written = answer.written;
     let matrix = answer.matrix;
     Sent {
-        go: put(written, out),
+        go: console::put(b"interleave", written, out),
         matrix,
     }
 }
@@ -144,27 +110,7 @@ fn pulled(answer: Pulled, out: &[u8]) -> Taken {
     let written = answer.written;
     let back = answer.back;
     Taken {
-        go: put(written, out),
+        go: console::put(b"interleave", written, out),
         back,
     }
-}
-
-// Whether bytes were written, and went to standard output.
-fn put(written: Written, out: &[u8]) -> bool {
-    match written {
-        Written::Wrote(n) => print(&out[0..base::least(n, out.len())]),
-        Written::Refused(number) => {
-            say(b"interleave: ");
-            console::say_refused(number);
-            false
-        }
-    }
-}
-
-fn print(bytes: &[u8]) -> bool {
-    if io::write_all(STDOUT_FILENO, bytes) {
-        return true;
-    }
-    say(b"interleave: cannot write standard output\n");
-    false
 }

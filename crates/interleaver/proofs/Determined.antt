@@ -1,4 +1,6 @@
 -- Each public function's promise determines its result, and what the output then holds.
+-- fresh-determined, push-determined, close-determined, back-determined, pull-determined   the five calls
+-- is-beyond-determined, step-determined   a place
 use mathlib.Core.Path.{refl}
 use Rattle.base.specs.Determined.{Determined}
 use Rattle.base.proofs.Determining.{same, buffer, skip}
@@ -12,6 +14,10 @@ use Rattle.interleaver.proofs.fresh_back.Kinds as back-kinds
 use Rattle.interleaver.proofs.fresh_back.Reads as back-reads
 use Rattle.interleaver.proofs.pull.Kinds as pull-kinds
 use Rattle.interleaver.proofs.pull.Reads as pull-reads
+use Rattle.interleaver.proofs.is_beyond.Kinds as is-beyond-kinds
+use Rattle.interleaver.proofs.is_beyond.Reads as is-beyond-reads
+use Rattle.interleaver.proofs.step.Kinds as step-kinds
+use Rattle.interleaver.proofs.step.Reads as step-reads
 
 pub fresh-determined : Determined fresh-kinds.ps fresh-kinds.r fresh-reads.Asked fresh-reads.Learnt
 fresh-determined κs a z z′ ws ws′ pre p q = (same p q, refl)
@@ -33,3 +39,9 @@ pub pull-determined : Determined pull-kinds.ps pull-kinds.r pull-reads.Asked pul
 pull-determined κs a z z′ ws ws′ pre p q =
     let e = same p q in
     (λ i. record { written = e i .0 .answer; back = e i .1 }, skip (skip (skip (buffer (λ i. e i .0 .output) refl))))
+
+pub is-beyond-determined : Determined is-beyond-kinds.ps is-beyond-kinds.r is-beyond-reads.Asked is-beyond-reads.Learnt
+is-beyond-determined κs a z z′ ws ws′ pre p q = (same p q, refl)
+
+pub step-determined : Determined step-kinds.ps step-kinds.r step-reads.Asked step-reads.Learnt
+step-determined κs a z z′ ws ws′ pre p q = (same p q, refl)

@@ -38,23 +38,24 @@ pulled-length d k bs n b e =
     ap (λ (x : List ℕ × Back). length (x .0)) (passes d (gave d) h k bs) ∙ (let y : length bs ≡ length bs - n = omega arith in y))
 
 -- at depth 2 or more
-module _ (d : ℕ) (deep : 2 ≤ d) (k : Back) (bs out : List ℕ) (n : ℕ) (h : k .matrix .place < size d) (e : n ≡ held d (k .again) (k .matrix .place) (length bs)) where
-  held-is : n ≡ pick (k .again) 0 (min (size d - 1 - k .matrix .place) (length bs))
-  held-is = e ∙ held-deep d (length bs) deep (k .again) (k .matrix .place)
+module _ (d : ℕ) (deep : 2 ≤ d) (k : Back) (bs out : List ℕ) (n : ℕ) (h : k .matrix .place < size d) (e : n ≡ held d (k .again) (k .matrix .place) (length bs))
+  where
+    held-is : n ≡ pick (k .again) 0 (min (size d - 1 - k .matrix .place) (length bs))
+    held-is = e ∙ held-deep d (length bs) deep (k .again) (k .matrix .place)
 
-  pub kept-all : {f : Matrix} → length bs ≤ n → f ≡ run (taken d) (k .matrix) (take n bs) .1 → (out, back (k .again) f) ≡ given d k bs out
-  kept-all {f} l g =
-      let e : f ≡ run (taken d) (k .matrix) bs .1 = g ∙ ap (λ (x : List ℕ). run (taken d) (k .matrix) x .1) (take-all n bs l) in
-      (λ i. (sym (copied-fits [] out (omega arith)) i, back (k .again) (e i)))
-      ∙ ap (λ (x : List ℕ × Back). (copied (x .0) out, x .1)) (sym (all-held d bs n (k .again) (k .matrix) h held-is l))
+    pub kept-all : {f : Matrix} → length bs ≤ n → f ≡ run (taken d) (k .matrix) (take n bs) .1 → (out, back (k .again) f) ≡ given d k bs out
+    kept-all {f} l g =
+        let e : f ≡ run (taken d) (k .matrix) bs .1 = g ∙ ap (λ (x : List ℕ). run (taken d) (k .matrix) x .1) (take-all n bs l) in
+        (λ i. (sym (copied-fits [] out (omega arith)) i, back (k .again) (e i)))
+        ∙ ap (λ (x : List ℕ × Back). (copied (x .0) out, x .1)) (sym (all-held d bs n (k .again) (k .matrix) h held-is l))
 
-  pub kept-some : {f g : Matrix} {o : List ℕ} → n < length bs → length bs ≤ length out + n → f ≡ run (taken d) (k .matrix) (take n bs) .1
-      → (o, g) ≡ left (taken d) (take (length bs - n) (drop n bs)) 0 f out → (o, back true g) ≡ given d k bs out
-  kept-some {f} {g} {o} l room p q =
-      let m : Matrix = run (taken d) (k .matrix) (take n bs) .1 in
-      let y : length (run (taken d) m (drop n bs) .0) ≡ length (drop n bs) = taken-length d m (drop n bs) in
-      let z : length (drop n bs) ≡ length bs - n = length-drop n bs in
-      let s : _≡_ {A = List ℕ × Matrix} (o, g) (copied (run (taken d) m (drop n bs) .0) out, run (taken d) m (drop n bs) .1) =
-      q ∙ (λ i. left (taken d) (take-all (length bs - n) (drop n bs) (omega arith) i) 0 (p i) out) ∙ left-out (taken d) (drop n bs) m out (omega arith) in
-      ap (λ (x : List ℕ × Matrix). (x .0, back true (x .1))) s
-      ∙ ap (λ (x : List ℕ × Back). (copied (x .0) out, x .1)) (sym (some-given d bs n (k .again) (k .matrix) h held-is l))
+    pub kept-some : {f g : Matrix} {o : List ℕ} → n < length bs → length bs ≤ length out + n → f ≡ run (taken d) (k .matrix) (take n bs) .1
+        → (o, g) ≡ left (taken d) (take (length bs - n) (drop n bs)) 0 f out → (o, back true g) ≡ given d k bs out
+    kept-some {f} {g} {o} l room p q =
+        let m : Matrix = run (taken d) (k .matrix) (take n bs) .1 in
+        let y : length (run (taken d) m (drop n bs) .0) ≡ length (drop n bs) = taken-length d m (drop n bs) in
+        let z : length (drop n bs) ≡ length bs - n = length-drop n bs in
+        let s : _≡_ {A = List ℕ × Matrix} (o, g) (copied (run (taken d) m (drop n bs) .0) out, run (taken d) m (drop n bs) .1) =
+        q ∙ (λ i. left (taken d) (take-all (length bs - n) (drop n bs) (omega arith) i) 0 (p i) out) ∙ left-out (taken d) (drop n bs) m out (omega arith) in
+        ap (λ (x : List ℕ × Matrix). (x .0, back true (x .1))) s
+        ∙ ap (λ (x : List ℕ × Back). (copied (x .0) out, x .1)) (sym (some-given d bs n (k .again) (k .matrix) h held-is l))

@@ -8,12 +8,13 @@ ghost use Rattle.base.specs.Written.{outcome};
 ghost use Rattle.base.specs.declared.Written.the-variants.{Refused};
 ghost use Rattle.interleaver_spec.specs.Places.{width, cell};
 ghost use Rattle.interleaver_spec.specs.Running.{depthLimit, size, next, matrix, fresh, freshBack, sent, taken};
-ghost use Rattle.interleaver_spec.specs.Running.{beyond, pushing, closingBytes, closing, pulling};
+ghost use Rattle.interleaver_spec.specs.Running.{beyond, stepAt, pushing, closingBytes, closing, pulling};
 ghost use Rattle.interleaver.specs.Private.{left, held, Ready, given};
 use base::Refusal;
 use base::Written;
 pub use interleaver_spec::Back;
 pub use interleaver_spec::Matrix;
+pub use interleaver_spec::Step;
 
 /// What a push answers.
 pub struct Pushed {
@@ -45,7 +46,7 @@ pub fn push(matrix: Matrix, depth: usize, bytes: &[u8], out: &mut [u8]) -> Pushe
     ensures { λ r. ⌜ (outcome (r .written) (now (out .exit)), r .matrix) ≡ pushing depth matrix (now (bytes .entry)) (now (out .entry)) ⌝ }
 {
     let place = matrix.place;
-    if beyond(depth, place) {
+    if is_beyond(depth, place) {
         return unpushed(matrix, Refusal::STATE);
     }
     if Matrix::DEEPEST < depth {
@@ -102,7 +103,7 @@ pub fn pull(back: Back, depth: usize, bytes: &[u8], out: &mut [u8]) -> Pulled
 {
     let matrix = back.matrix;
     let place = matrix.place;
-    if beyond(depth, place) {
+    if is_beyond(depth, place) {
         return unpulled(back, Refusal::STATE);
     }
     if Matrix::DEEPEST < depth {
@@ -155,14 +156,33 @@ fn take(back: Back, depth: usize, bytes: &[u8], kept: usize, out: &mut [u8]) -> 
     }
 }
 
-// Whether a place is none of the N cells.
-fn beyond(depth: usize, place: usize) -> bool
+/// Whether a place is none of the N cells.
+pub fn is_beyond(depth: usize, place: usize) -> bool
     ensures { λ r. ⌜ r ≡ beyond depth place ⌝ }
 {
     if depth < 2 {
         return false;
     }
     depth <= place / Matrix::ROW
+}
+
+/// The cell that the output of a place is read from, and the place behind it: for who goes through cells of his own byte by byte.
+pub fn step(depth: usize, place: usize) -> Step
+    ensures { λ r. ⌜ r ≡ stepAt depth place ⌝ }
+{
+    if depth < 2 {
+        return Step { cell: 0, next: 0 };
+    }
+    if Matrix::DEEPEST < depth {
+        return Step { cell: 0, next: 0 };
+    }
+    if is_beyond(depth, place) {
+        return Step { cell: 0, next: 0 };
+    }
+    Step {
+        cell: cell(depth, place),
+        next: next(depth, place),
+    }
 }
 
 // The cell that the output of a place is read from.

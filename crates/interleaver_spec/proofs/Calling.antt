@@ -1,14 +1,16 @@
 -- What the ways through a call leave, on either side, by the tests that led there.
 -- passes, deeper             bytes at depth 0 and 1, and deeper
 -- row-beyond, below          a place of N or more, by its row; a place that passes 10
--- state-refused, .., wrote   10, 32, 23, and what is written
+-- no-step-.., step-is        where a place has no step; its step. step-inside: .. which stays among the cells
+-- state-refused, depth-refused, output-refused, wrote   10, 32, 23, and what is written
 -- short, flat, deep          the same where n bytes are the result: 23; depth 0 and 1; deeper
 -- closes                     the closing push, of zeros enough for any
-use mathlib.Core.Path.{_≡_, refl, sym, ap, _∙_}
+use mathlib.Core.Path.{_≡_, refl, sym, ap, subst, _∙_}
 use mathlib.Core.Bool.{Bool, true, false, _&&_}
 use mathlib.Core.List.{List, [], _∷_}
 use mathlib.Core.Option.{Option, some}
-use Prim.Native.Nat.{ℕ, zero, suc, _*_, _/_, _≤_, _<_}
+use Prim.Native.Nat.{ℕ, zero, suc, _+_, _*_, _/_, _≤_, _<_}
+use native.Mathlib.Nat.{mod-lt}
 use native.Mathlib.Omega.{arith}
 use lib.Dec.{ltb, leb}
 use lib.ListN.{length, take, replicate}
@@ -19,9 +21,12 @@ use Rattle.base.specs.Written.{Outcome, outcome, refused, write, copied}
 use Rattle.base.specs.declared.Written.the-variants.{Wrote}
 use Rattle.base.proofs.Tests.{by-le, by-test}
 use Rattle.base.proofs.Writing.{write-fits, write-short}
-use Rattle.interleaver_spec.specs.Places.{width}
-use Rattle.interleaver_spec.specs.Running.{depthLimit, size, passing, push, beyond, calling, pushing, closingBytes, zeros, closing}
+use Rattle.interleaver_spec.specs.Places.{width, cell}
+use Rattle.interleaver_spec.specs.Running.{depthLimit, size, next, passing, push, beyond, calling, pushing, closingBytes, zeros, closing}
+use Rattle.interleaver_spec.specs.Running.{step, stepAt}
 use Rattle.interleaver_spec.specs.declared.Matrix.{Matrix}
+use Rattle.interleaver_spec.specs.declared.Step.{Step}
+use Rattle.interleaver_spec.proofs.Places.{row-below}
 
 module _ {S : Type 0} (d : ℕ) (e : S → ℕ → Option ℕ × S) where
   pub passes : d < 2 → (s : S) (bs : List ℕ) → run (passing d e) s bs ≡ (bs, s)
@@ -39,6 +44,30 @@ row-beyond d p =
 
 pub below : (d p : ℕ) → 2 ≤ d → beyond d p ≡ false → p < size d
 below d p h e = leb-false _ _ (sym (ap (λ (t : Bool). t && leb (size d) p) (le-leb 2 d h)) ∙ e)
+
+-- ---- the step of a place
+module _ (d p : ℕ) where
+  pub no-step-flat : d < 2 → step 0 0 ≡ stepAt d p
+  no-step-flat h = rw (lt-ltb d 2 h) refl
+
+  module _ (h : 2 ≤ d) where
+    pub no-step-deep : depthLimit < d → step 0 0 ≡ stepAt d p
+    no-step-deep i = rw (le-ltb d 2 h, lt-ltb depthLimit d i) refl
+
+    module _ (i : d ≤ depthLimit) where
+      pub no-step-beyond : beyond d p ≡ true → step 0 0 ≡ stepAt d p
+      no-step-beyond e = rw (le-ltb d 2 h, le-ltb depthLimit d i, e) refl
+
+      pub step-is : beyond d p ≡ false → step (cell d p) (next d p) ≡ stepAt d p
+      step-is e = rw (le-ltb d 2 h, le-ltb depthLimit d i, e) refl
+
+      pub step-inside : beyond d p ≡ false → {t : Step} → t ≡ stepAt d p
+          → (t .cell ≡ cell d p) × (t .cell < depthLimit * width) × (t .next ≡ next d p) × (t .next < size d)
+      step-inside e {t} q =
+          let z : t ≡ step (cell d p) (next d p) = q ∙ sym (step-is e) in
+          let k : t .cell ≡ cell d p = ap (λ (x : Step). x .cell) z in
+          let n : t .next ≡ next d p = ap (λ (x : Step). x .next) z in
+          (k, omega (arith, k, row-below d p (omega arith)), n, subst (λ (x : ℕ). x < size d) (sym n) (mod-lt (p + 1) (omega arith)))
 
 module _ {S : Type 0} (d p : ℕ) (s : S) (r : List ℕ × S) (out : List ℕ) where
   pub state-refused : beyond d p ≡ true → _≡_ {A = Outcome × S} (refused 10 out, s) (calling d p s r out)
@@ -66,10 +95,12 @@ module _ {S : Type 0} (d p : ℕ) (e : S → ℕ → Option ℕ × S) (s : S) (b
   fits : {o : List ℕ} {t : S} (r : List ℕ × S) → n ≤ length out → run (passing d e) s bs ≡ r → _≡_ {A = List ℕ × S} (o, t) (copied (r .0) out, r .1)
       → _≡_ {A = Outcome × S} (outcome (Wrote n) o, t) (calling d p s (run (passing d e) s bs) out)
   fits {o} {t} r h q f =
-      (λ i. (outcome (Wrote (sym size i)) (f i .0), f i .1)) ∙ (λ i. (outcome (Wrote (length (run (passing d e) s bs .0))) (copied (sym q i .0) out), sym q i .1))
+      (λ i. (outcome (Wrote (sym size i)) (f i .0), f i .1))
+      ∙ (λ i. (outcome (Wrote (length (run (passing d e) s bs .0))) (copied (sym q i .0) out), sym q i .1))
       ∙ wrote d p s (run (passing d e) s bs) out b l (omega arith)
 
-  pub flat : {o : List ℕ} → n ≤ length out → d < 2 → o ≡ copied bs out → _≡_ {A = Outcome × S} (outcome (Wrote n) o, s) (calling d p s (run (passing d e) s bs) out)
+  pub flat : {o : List ℕ} → n ≤ length out → d < 2 → o ≡ copied bs out
+      → _≡_ {A = Outcome × S} (outcome (Wrote n) o, s) (calling d p s (run (passing d e) s bs) out)
   flat h k f = fits (bs, s) h (passes d e k s bs) (λ i. (f i, s))
 
   pub deep : {o : List ℕ} {t : S} → n ≤ length out → 2 ≤ d → _≡_ {A = List ℕ × S} (o, t) (copied (run e s bs .0) out, run e s bs .1)

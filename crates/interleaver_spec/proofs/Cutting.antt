@@ -3,6 +3,7 @@
 -- push-goes, pull-goes   from every state that passes 10, with room for each piece, there are such calls
 -- returned-late          what has come back of pieces pushed
 -- returned-all           .. and behind the closing push
+-- goes-run, goes-on      both, of either side alike
 use mathlib.Core.Path.{_≡_, refl, sym, ap, _∙_, subst}
 use mathlib.Core.Bool.{Bool, false, _&&_}
 use mathlib.Core.List.{List, [], _∷_, _++_}
@@ -20,7 +21,8 @@ use Rattle.base.specs.declared.Written.the-variants.{Wrote, Refused}
 use Rattle.base.proofs.Calls.{run-append}
 use Rattle.base.proofs.Tests.{by-le, by-test, and-false}
 use Rattle.base.proofs.Writing.{copied-fits}
-use Rattle.interleaver_spec.specs.Running.{depthLimit, size, fresh, passing, sent, push, freshBack, gave, pull, beyond, calling, pushing, closingBytes, zeros, closing, pulling}
+use Rattle.interleaver_spec.specs.Running.{depthLimit, size, fresh, passing, sent, push, freshBack, gave, pull}
+use Rattle.interleaver_spec.specs.Running.{beyond, calling, pushing, closingBytes, zeros, closing, pulling}
 use Rattle.interleaver_spec.specs.Pieces.{Goes}
 use Rattle.interleaver_spec.specs.Pieces.Goes.{done, piece}
 use Rattle.interleaver_spec.specs.declared.Matrix.{Matrix}
@@ -68,7 +70,8 @@ module _ {S : Type 0} (d : ℕ) (e : S → ℕ → Option ℕ × S) (at : S → 
           let z : _≡_ {A = ℕ} 0 1 = cc in
           omega arith
 
-      same : length (r .0) ≤ length out → _≡_ {A = Outcome × S} (outcome (Wrote (length (r .0))) (copied (r .0) out), r .1) (outcome (Wrote n) after, t) → (take n after, t) ≡ r
+      same : length (r .0) ≤ length out → _≡_ {A = Outcome × S} (outcome (Wrote (length (r .0))) (copied (r .0) out), r .1) (outcome (Wrote n) after, t)
+          → (take n after, t) ≡ r
       same k q =
           let a : Wrote (length (r .0)) ≡ Wrote n = ap (λ (x : Outcome × S). x .0 .answer) q in
           let m : length (r .0) ≡ n = cc in
@@ -131,7 +134,8 @@ module _ (d : ℕ) where
   module _ (most : d ≤ depthLimit) (ps rs : List (List ℕ)) {xs ys : List ℕ} {m : Matrix} {k : Back} (there : Goes (pushing d) fresh ps xs m) where
     pub returned-late : 2 ≤ d → joined rs ≡ xs → Goes (pulling d) freshBack rs ys k → ys ≡ take (length (joined ps) - (size d - 1)) (joined ps)
     returned-late h e g =
-        ap (λ (x : List ℕ × Back). x .0) (pull-cut g) ∙ ap (λ (x : List ℕ). run (pull d) freshBack x .0) (e ∙ ap (λ (x : List ℕ × Matrix). x .0) (push-cut there))
+        ap (λ (x : List ℕ × Back). x .0) (pull-cut g) ∙ ap (λ (x : List ℕ). run (pull d) freshBack x .0)
+        (e ∙ ap (λ (x : List ℕ × Matrix). x .0) (push-cut there))
         ∙ delayed d h most (joined ps)
 
     pub returned-all : (n : ℕ) (out after : List ℕ) (l : Matrix) → closing d m out ≡ (outcome (Wrote n) after, l) → joined rs ≡ xs ++ take n after

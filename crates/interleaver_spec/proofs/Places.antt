@@ -1,5 +1,5 @@
 -- The place map, apart from the order in which cells are written and read.
--- row-below, cell-below, ..  places stay within the matrix
+-- row-below, cell-below, origin-below   places stay within the matrix
 -- cell-origin, origin-cell   outputs and cells are one-to-one: each map undoes the other
 -- cell-one                   so no two outputs have one cell
 -- cell-again, cell-mod       their period: the equations of t and of t mod N name one cell
@@ -7,7 +7,8 @@
 -- read-at                    the output that byte t goes out with: not before it, and fewer than N behind it
 use mathlib.Core.Path.{_≡_, refl, sym, ap, ap₂, _∙_}
 use Prim.Native.Nat.{ℕ, zero, suc, _+_, _*_, _-_, _/_, _%_, _≤_, _<_}
-use native.Mathlib.Nat.{mod-lt, mod-eq-of-lt, mod-add-mod, add-mod-mod, add-mod-right, mod-add-div', add-mul-mod-self-right, mul-add, mul-assoc, mul-comm, mul-one, zero-mul, suc-mul}
+use native.Mathlib.Nat.{mod-lt, mod-eq-of-lt, mod-add-mod, add-mod-mod, add-mod-right, mod-add-div'}
+use native.Mathlib.Nat.{add-mul-mod-self-right, mul-add, mul-assoc, mul-comm, mul-one, zero-mul, suc-mul}
 use native.Mathlib.Omega.{arith}
 use Rattle.interleaver_spec.specs.Places.{width, row, column, cell, within, origin}
 use Rattle.interleaver_spec.specs.Running.{size}
@@ -19,7 +20,8 @@ both-ways = refl
 mul-mod : (a b m : ℕ) → a * (b % m) % m ≡ a * b % m
 mul-mod a b m =
     sym
-    (ap (λ (x : ℕ). a * x % m) (sym (mod-add-div' b m)) ∙ ap (λ (x : ℕ). x % m) (mul-add a (b % m) (b / m * m) ∙ ap (λ (x : ℕ). a * (b % m) + x) (sym (mul-assoc a (b / m) m)))
+    (ap (λ (x : ℕ). a * x % m) (sym (mod-add-div' b m)) ∙ ap (λ (x : ℕ). x % m)
+    (mul-add a (b % m) (b / m * m) ∙ ap (λ (x : ℕ). a * (b % m) + x) (sym (mul-assoc a (b / m) m)))
     ∙ add-mul-mod-self-right (a * (b % m)) (a * (b / m)) m)
 
 undo : (a b c m : ℕ) → a * b % m ≡ 1 → c < m → a * (b * c % m) % m ≡ c
@@ -55,7 +57,8 @@ turn-back d q r h =
     let l : r % d < d = mod-lt r (omega arith) in
     let e : q + r + (d - r % d) ≡ q + (d - r % d) + r = omega arith in
     let f : q + (d - r % d) + r % d ≡ q + d = omega arith in
-    mod-add-mod (q + r) d (d - r % d) ∙ ap (λ (n : ℕ). n % d) e ∙ sym (add-mod-mod (q + (d - r % d)) r d) ∙ ap (λ (n : ℕ). n % d) f ∙ add-mod-right q d ∙ mod-eq-of-lt h
+    mod-add-mod (q + r) d (d - r % d) ∙ ap (λ (n : ℕ). n % d) e ∙ sym (add-mod-mod (q + (d - r % d)) r d) ∙ ap (λ (n : ℕ). n % d) f ∙ add-mod-right q d
+    ∙ mod-eq-of-lt h
 
 -- i - 254 INT(i/255) is INT(i/255) + i mod 255
 row-sum : (i : ℕ) → i - 254 * (i / width) ≡ i / width + i % width

@@ -2,6 +2,7 @@
 -- taken-length          as many are stored
 -- all-held, some-given  what comes back, and the state
 -- given-length          how many come back
+-- rest                  the state behind the first n, and what the others give
 use mathlib.Core.Path.{_≡_, refl, sym, ap, _∙_}
 use mathlib.Core.Bool.{Bool, true, false}
 use mathlib.Core.List.{List, [], _∷_}

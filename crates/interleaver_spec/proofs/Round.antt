@@ -1,6 +1,7 @@
 -- There and back, with a delay of N - 1 bytes, at every depth.
 -- output-is, output-zero, output-told   what output t is: the last byte that went to its cell, or zero
--- returned-is, -told, -length           what comes back of whatever is received: byte t, where it stood, and how many
+-- returned-is, returned-told, returned-length   what comes back of whatever is received: byte t, where it stood, and how many
+-- sent-is, sent-first                   .. of one pass of any cells, and of the first; gave-is, gave-length: of the receiving side
 -- delayed                               all but the last N - 1 bytes pushed have come back
 -- there-and-back                        with N - 1 bytes behind them, all have
 use mathlib.Core.Path.{_≡_, refl, sym, ap, _∙_}
@@ -47,7 +48,8 @@ module _ (d : ℕ) (deep : 2 ≤ d) (cs : List ℕ) (room : size d ≤ length cs
   read bs t h =
       each-read (size d) (λ p. p) at (matrix 0 cs) bs t h
       ∙ ap (λ (p : ℕ). getD (run (sent d) (matrix 0 cs) (take (suc t) bs) .1 .cells) (cell d p) 0)
-      (each-place (size d) (λ p. p) at (matrix 0 cs) (take t bs) (omega arith) ∙ ap (λ (x : ℕ). x % size d) (let l = length-take-le t bs (omega arith) in omega arith))
+      (each-place (size d) (λ p. p) at (matrix 0 cs) (take t bs) (omega arith)
+      ∙ ap (λ (x : ℕ). x % size d) (let l = length-take-le t bs (omega arith) in omega arith))
       ∙ ap (λ (c : ℕ). getD (run (sent d) (matrix 0 cs) (take (suc t) bs) .1 .cells) c 0) (sym (cell-mod d t))
 
   pub sent-is : (bs : List ℕ) (u t : ℕ) → u ≤ t → t < u + size d → u % size d ≡ cell d t → t < length bs
@@ -61,7 +63,8 @@ module _ (d : ℕ) (deep : 2 ≤ d) (cs : List ℕ) (room : size d ≤ length cs
       let b : cell d t < size d = cell-in t in
       read bs t h
       ∙ untouched (size d) (λ p. p) at (λ p q x y e. e) (take (suc t) bs) (matrix 0 cs) (cell d t) (cell d t) (omega arith) b
-      (mod-eq-of-lt (let z : 0 + cell d t < size d = omega arith in z) ∙ (let z : 0 + cell d t ≡ cell d t = omega arith in z)) b (let z = length-take-le (suc t) bs h in omega arith)
+      (mod-eq-of-lt (let z : 0 + cell d t < size d = omega arith in z) ∙ (let z : 0 + cell d t ≡ cell d t = omega arith in z)) b
+      (let z = length-take-le (suc t) bs h in omega arith)
 
   -- the first N - 1 received bytes give none back
   none-yet : (rs : List ℕ) (n : ℕ) → n < length rs → n ≡ size d - 1 → n ≡ pick false 0 (min (size d - 1 - 0) (length rs))
@@ -78,7 +81,8 @@ module _ (d : ℕ) (deep : 2 ≤ d) (cs : List ℕ) (room : size d ≤ length cs
       sym (each-append (size d) (cell d) behind m (take n rs) (take (suc t) (drop n rs))) ∙ ap (λ (x : List ℕ). run (taken d) m x .1) z in
       let place : run (taken d) m (take (suc (n + t)) rs) .1 .place ≡ cell d (v % size d) =
       each-place (size d) (cell d) behind m (take (suc (n + t)) rs) (omega arith)
-      ∙ ap (λ (x : ℕ). x % size d) (let y = length-take-le (suc (n + t)) rs (omega arith) in let w : 0 + length (take (suc (n + t)) rs) ≡ t + size d = omega arith in w)
+      ∙ ap (λ (x : ℕ). x % size d) (let y = length-take-le (suc (n + t)) rs (omega arith) in
+      let w : 0 + length (take (suc (n + t)) rs) ≡ t + size d = omega arith in w)
       ∙ add-mod-right t (size d) ∙ sym e ∙ cell-mod d v in
       ap (λ (x : List ℕ × Back). getD (x .0) t 0) (some-given d rs n false m (omega arith) (none-yet rs n (omega arith) refl) (omega arith))
       ∙ each-read (size d) (cell d) behind (run (taken d) m (take n rs) .1) (drop n rs) t (let y = length-drop n rs in omega arith)
@@ -88,7 +92,8 @@ module _ (d : ℕ) (deep : 2 ≤ d) (cs : List ℕ) (room : size d ≤ length cs
 
   pub gave-length : (rs : List ℕ) → length (run (gave d) (back false (matrix 0 cs)) rs .0) ≡ length rs - (size d - 1)
   gave-length rs =
-      given-length d rs (min (size d - 1 - 0) (length rs)) false (matrix 0 cs) (omega arith) refl ∙ (let z : length rs - min (size d - 1 - 0) (length rs) ≡ length rs - (size d - 1) = omega arith in z)
+      given-length d rs (min (size d - 1 - 0) (length rs)) false (matrix 0 cs) (omega arith) refl
+      ∙ (let z : length rs - min (size d - 1 - 0) (length rs) ≡ length rs - (size d - 1) = omega arith in z)
 
 -- ---- fresh on both sides
 module _ (d : ℕ) (deep : 2 ≤ d) (most : d ≤ depthLimit) where
@@ -143,7 +148,8 @@ module _ (d : ℕ) (deep : 2 ≤ d) (most : d ≤ depthLimit) where
       returned-is xs t (w .0) (omega arith) (w .1) (w .2) (w .3)
       ∙ output-is bs t (w .0) (w .1) (w .2) (sym (w .3)) (let z = w .2 in omega arith) ∙ sym (getD-take n bs t 0 (omega arith)))
 
-pub there-and-back : (d : ℕ) → d ≤ depthLimit → (bs cs : List ℕ) → length cs ≡ closingBytes d → run (pull d) freshBack (run (push d) fresh (bs ++ cs) .0) .0 ≡ bs
+pub there-and-back : (d : ℕ) → d ≤ depthLimit → (bs cs : List ℕ) → length cs ≡ closingBytes d → run (pull d) freshBack (run (push d) fresh (bs ++ cs) .0) .0
+    ≡ bs
 there-and-back d most bs cs e = by-le 2 d closed flat
   where
     closed : 2 ≤ d → run (pull d) freshBack (run (push d) fresh (bs ++ cs) .0) .0 ≡ bs

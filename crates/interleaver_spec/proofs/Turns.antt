@@ -70,13 +70,15 @@ module _ (n : ℕ) (f : ℕ → ℕ) (r : Matrix → Matrix → ℕ) where
     stays [] b ys m h c l =
         let p : (m .place + 0) % n ≡ m .place = ap (λ (x : ℕ). x % n) (let z : m .place + 0 ≡ m .place = omega arith in z) ∙ mod-eq-of-lt h in
         let e : ((m .place + 1) % n + (n - 1)) % n ≡ m .place =
-        on-one n (m .place) (n - 1) ∙ ap (λ (x : ℕ). (m .place + x) % n) (let z : suc (n - 1) ≡ n = omega arith in z) ∙ add-mod-right (m .place) n ∙ mod-eq-of-lt h in
+        on-one n (m .place) (n - 1) ∙ ap (λ (x : ℕ). (m .place + x) % n) (let z : suc (n - 1) ≡ n = omega arith in z) ∙ add-mod-right (m .place) n
+        ∙ mod-eq-of-lt h in
         ap (λ (q : ℕ). getD (run each (store m b) ys .1 .cells) (f q) 0) p
         ∙ untouched ys (store m b) (m .place) (n - 1) (mod-lt (m .place + 1) (omega arith)) h e (omega arith) (omega arith)
         ∙ getD-set-same (m .cells) (f (m .place)) b 0 (c (m .place) h)
     stays (x ∷ xs) b ys m h c l =
         ap (λ (q : ℕ). getD (run each (store m x) (xs ++ b ∷ ys) .1 .cells) (f q) 0) (sym (on-one n (m .place) (length xs)))
-        ∙ stays xs b ys (store m x) (mod-lt (m .place + 1) (omega arith)) (λ q k. subst (λ (z : ℕ). f q < z) (sym (length-set (m .cells) (f (m .place)) x)) (c q k)) l
+        ∙ stays xs b ys (store m x) (mod-lt (m .place + 1) (omega arith))
+        (λ q k. subst (λ (z : ℕ). f q < z) (sym (length-set (m .cells) (f (m .place)) x)) (c q k)) l
 
     -- byte u of bs, with those up to byte t behind it
     pub kept : (bs : List ℕ) (m : Matrix) (u t : ℕ) → m .place ≡ 0 → 0 < n → ((q : ℕ) → q < n → f q < length (m .cells)) → u ≤ t → t < u + n → t < length bs

@@ -3,9 +3,10 @@
 -- matrix, fresh, stored          the cells and the place whose turn it is; at first; a byte stored in its turn
 -- passing                        depth 0 and 1
 -- sent, push                     one byte of the sender: written, and then its output read
--- back, freshBack, gave, pull    one received byte: stored, and then the byte N - 1 before it given back
+-- back, freshBack, taken, full, gave, pull   one received byte: stored, and then the byte N - 1 before it given back
 -- beyond, calling                refusals 10, 32 and 23
--- pushing, closing, pulling      what the three calls answer and leave
+-- step, stepAt                   a place's cell, and the place behind it, asked for one at a time
+-- pushing, closing, pulling      what the three calls answer and leave; closingBytes, zeros: of the closing push
 use mathlib.Core.Bool.{Bool, false, _&&_, _||_}
 use mathlib.Core.List.{List}
 use mathlib.Core.Option.{Option, some, none}
@@ -18,6 +19,7 @@ use Rattle.base.specs.Written.{Outcome, refused, write}
 use Rattle.interleaver_spec.specs.Places.{width, cell}
 use Rattle.interleaver_spec.specs.declared.Matrix.{Matrix}
 use Rattle.interleaver_spec.specs.declared.Back.{Back}
+use Rattle.interleaver_spec.specs.declared.Step.{Step}
 
 -- "Depth 0 to 64"
 abbrev pub depthLimit : ℕ
@@ -82,6 +84,14 @@ pull d = passing d (gave d)
 -- 10: "a cell place of N or more"; depth 0 and 1 have no cell
 abbrev pub beyond : ℕ → ℕ → Bool
 beyond d p = leb 2 d && leb (size d) p
+
+-- a cell, and the place behind
+abbrev pub step : ℕ → ℕ → Step
+step k q = record { cell = k; next = q }
+
+-- of the place p; none, which is 0 and 0, where bytes pass, where the depth is above 64, and where p is none of the N cells
+abbrev pub stepAt : ℕ → ℕ → Step
+stepAt d p = pick (ltb d 2) (step 0 0) (pick (ltb depthLimit d) (step 0 0) (pick (beyond d p) (step 0 0) (step (cell d p) (next d p))))
 
 -- a call at place p with state s and result r: 10; 32 where the depth is above 64; 23 as for every call that writes, and the state stays too
 abbrev pub calling : {S : Type 0} → ℕ → ℕ → S → List ℕ × S → List ℕ → Outcome × S

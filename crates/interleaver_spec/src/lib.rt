@@ -16,6 +16,12 @@ impl Matrix {
     pub const CELLS: usize = Self::DEEPEST * Self::ROW;
 }
 
+/// Of a place: the cell that its output is read from, and the place behind it.
+pub struct Step {
+    pub cell: usize,
+    pub next: usize,
+}
+
 /// The receiving side: whether its first pass is over, its place and cells.
 pub struct Back {
     pub again: bool,

@@ -1,9 +1,9 @@
 -- What bits are worth, in lanes: five bits at a time, and eight bytes of a division.
--- sums, sum-is, passed   some of five bits' rows added in one number: the arms of the `match`, and its last one
--- adding-is              .. in four
--- raised-..              a row doubled so many times
--- worths-are             the eight worths, each from the one before it
--- group, turn-is         five bits more; thirteen times five of them are eight bytes more of a division
+-- sums, sum-is, passed     some of five bits' rows added in one number: the arms of the `match`, and its last one
+-- adding-is                .. in four
+-- raised-next, raised-done  a row doubled so many times
+-- worths-are               the eight worths, each from the one before it
+-- group, groups, turn-is   five bits more; thirteen times five of them are eight bytes more of a division
 use mathlib.Core.Path.{_≡_, refl, sym, ap, ap₂, _∙_, subst}
 use mathlib.Core.Bool.{Bool, true, false}
 use mathlib.Core.List.{List, [], _∷_, _++_, map, map-append}
@@ -26,7 +26,8 @@ use Rattle.lanes.specs.declared.coefficients.Lanes.{Lanes}
 use Rattle.word_spec.proofs.Sums.{onto-comm, zeros-onto}
 use Rattle.word_spec.proofs.Packed.{length-bytes, bytes-xor}
 use Rattle.word_spec.proofs.Residue.{worth, fed-leading}
-use Rattle.word_spec.proofs.Rows.{length-kept, kept-zero, kept-one, length-summed, summed-append, summed-low, summed-onto, both, summed-both, doublings, bitWorths, spent-bits}
+use Rattle.word_spec.proofs.Rows.{length-kept, kept-zero, kept-one, length-summed, summed-append, summed-low}
+use Rattle.word_spec.proofs.Rows.{summed-onto, both, summed-both, doublings, bitWorths, spent-bits}
 use Rattle.lanes.proofs.Laid.{length-laid, bytes-laid, laid-plus}
 
 -- ---- some of five bits' rows added, in one number of eight bytes
@@ -48,7 +49,8 @@ unfolding total summed add
 bytes-total v [] = unfold bytesOf in refl
 bytes-total v (x ∷ xs) =
     bytes-xor 8 (total (v / 2) xs) (v % 2 * x) ∙ ap₂ onto (bytes-total (v / 2) xs) (bit-bytes (v % 2) x (mod-lt v (omega arith)))
-    ∙ onto-comm rest (kept (v % 2) (bytesOf 8 x)) (length-summed (map (bytesOf 8) xs) (v / 2) (replicate 8 0) ∙ sym (length-kept (v % 2) (bytesOf 8 x) ∙ length-bytes 8 x))
+    ∙ onto-comm rest (kept (v % 2) (bytesOf 8 x)) (length-summed (map (bytesOf 8) xs) (v / 2) (replicate 8 0)
+    ∙ sym (length-kept (v % 2) (bytesOf 8 x) ∙ length-bytes 8 x))
   where
     rest : List ℕ
     rest = summed (map (bytesOf 8) xs) (v / 2) (replicate 8 0)
@@ -187,7 +189,8 @@ passed (suc n) v h = let e : v ≡ n → ⊥ = h .1 in omega (arith, passed n v 
 module _ (n a b c d e y : ℕ) (eb : bytesOf 8 b ≡ following n 1 (bytesOf 8 a) (bytesOf 8 y)) (ec : bytesOf 8 c ≡ following n 2 (bytesOf 8 b) (bytesOf 8 y))
     (ed : bytesOf 8 d ≡ following n 3 (bytesOf 8 c) (bytesOf 8 y)) (ee : bytesOf 8 e ≡ following n 4 (bytesOf 8 d) (bytesOf 8 y)) where
   -- the rows behind one that is as it should be
-  behind : (m k : ℕ) (x z : List ℕ) {rs : List (List ℕ)} → z ≡ following n k x (bytesOf 8 y) → rs ≡ bits m (suc (suc k)) n (following n (suc k) z (bytesOf 8 y)) (bytesOf 8 y)
+  behind : (m k : ℕ) (x z : List ℕ) {rs : List (List ℕ)} → z ≡ following n k x (bytesOf 8 y)
+      → rs ≡ bits m (suc (suc k)) n (following n (suc k) z (bytesOf 8 y)) (bytesOf 8 y)
       → z ∷ rs ≡ bits (suc m) (suc k) n (following n k x (bytesOf 8 y)) (bytesOf 8 y)
   unfolding bits
   behind m k x z ez er = ap (λ (l : List (List ℕ)). z ∷ l) er ∙ ap (λ (t : List ℕ). bits (suc m) (suc k) n t (bytesOf 8 y)) ez
@@ -281,7 +284,8 @@ module _ (n v : ℕ) where
   laid-rows o x y ea eb ec ed =
       (λ i. lane (o .a) (x .a) (y .a) ea i ++ lane (o .b) (x .b) (y .b) eb i ++ lane (o .c) (x .c) (y .c) ec i ++ lane (o .d) (x .d) (y .d) ed i)
       ∙ sym (rows-append (A ++ B ++ C) D (P ++ Q ++ R) S three
-      ∙ ap (λ (t : List ℕ). t ++ rows D S) (rows-append (A ++ B) C (P ++ Q) R two ∙ ap (λ (t : List ℕ). t ++ rows C R) (rows-append A B P Q (same (x .a) (y .a)))))
+      ∙ ap (λ (t : List ℕ). t ++ rows D S)
+      (rows-append (A ++ B) C (P ++ Q) R two ∙ ap (λ (t : List ℕ). t ++ rows C R) (rows-append A B P Q (same (x .a) (y .a)))))
     where
       A : List ℕ
       A = bytesOf 8 (x .a)
@@ -318,12 +322,15 @@ module _ (n v : ℕ) where
       → bytesOf 8 (o .b) ≡ summed (five n (bytesOf 8 (x .b)) (bytesOf 8 (y .b))) v (replicate 8 0)
       → bytesOf 8 (o .c) ≡ summed (five n (bytesOf 8 (x .c)) (bytesOf 8 (y .c))) v (replicate 8 0)
       → bytesOf 8 (o .d) ≡ summed (five n (bytesOf 8 (x .d)) (bytesOf 8 (y .d))) v (replicate 8 0)
-      → laid (record { a = bitXor (l .a) (o .a); b = bitXor (l .b) (o .b); c = bitXor (l .c) (o .c); d = bitXor (l .d) (o .d) }) ≡ summed (five n (laid x) (laid y)) h (laid l)
+      → laid (record { a = bitXor (l .a) (o .a); b = bitXor (l .b) (o .b); c = bitXor (l .c) (o .c); d = bitXor (l .d) (o .d) })
+      ≡ summed (five n (laid x) (laid y)) h (laid l)
   unfolding bits
   adding-is l o x y h ev ea eb ec ed =
       laid-plus l o ∙ onto-comm (laid l) (laid o) (length-laid l ∙ sym (length-laid o))
-      ∙ ap (λ (z : List ℕ). onto z (laid l)) (laid-rows o x y ea eb ec ed ∙ ap (λ (m : ℕ). summed (five n (laid x) (laid y)) v (replicate m 0)) (length-laid x ∙ sym (length-laid l)))
-      ∙ summed-onto (five n (laid x) (laid y)) v (laid l) (bits-long (length (laid l)) 5 1 n (laid x) (laid y) (length-laid x ∙ sym (length-laid l)) (length-laid y ∙ sym (length-laid l)))
+      ∙ ap (λ (z : List ℕ). onto z (laid l))
+      (laid-rows o x y ea eb ec ed ∙ ap (λ (m : ℕ). summed (five n (laid x) (laid y)) v (replicate m 0)) (length-laid x ∙ sym (length-laid l)))
+      ∙ summed-onto (five n (laid x) (laid y)) v (laid l)
+      (bits-long (length (laid l)) 5 1 n (laid x) (laid y) (length-laid x ∙ sym (length-laid l)) (length-laid y ∙ sym (length-laid l)))
       ∙ ap (λ (k : ℕ). summed (five n (laid x) (laid y)) k (laid l)) ev
       ∙ summed-low (five n (laid x) (laid y)) h (laid l)
 
@@ -384,7 +391,7 @@ module _ (w : List ℕ) where
 pub group : (n h : ℕ) {u x y v x′ y′ v′ : List ℕ} → x ≡ x′ → y ≡ y′ → u ≡ summed (five n x y) h v → v ≡ v′ → u ≡ summed (five n x′ y′) h v′
 group n h ex ey eu ev = eu ∙ (λ i. summed (five n (ex i) (ey i)) h (ev i))
 
-abbrev pub stepsOf : List (List (List ℕ)) → ℕ → ℕ → List ℕ → List ℕ
+abbrev stepsOf : List (List (List ℕ)) → ℕ → ℕ → List ℕ → List ℕ
 stepsOf [] at h v = v
 stepsOf (rs ∷ rss) at h v = summed rs (h / 2 ^ at) (stepsOf rss (at + 5) h v)
 
@@ -392,11 +399,13 @@ joined : List (List (List ℕ)) → List (List ℕ)
 joined [] = []
 joined (rs ∷ rss) = rs ++ joined rss
 
-steps-joined : (rss : List (List (List ℕ))) (at h : ℕ) (v : List ℕ) → Each (λ (rs : List (List ℕ)). length rs ≡ 5) rss → stepsOf rss at h v ≡ summed (joined rss) (h / 2 ^ at) v
+steps-joined : (rss : List (List (List ℕ))) (at h : ℕ) (v : List ℕ) → Each (λ (rs : List (List ℕ)). length rs ≡ 5) rss
+    → stepsOf rss at h v ≡ summed (joined rss) (h / 2 ^ at) v
 unfolding joined summed
 steps-joined [] at h v e = refl
 steps-joined (rs ∷ rss) at h v e =
-    ap (summed rs (h / 2 ^ at)) (steps-joined rss (at + 5) h v (e .1) ∙ ap (λ (k : ℕ). summed (joined rss) k v) (sym (ap (λ (m : ℕ). h / 2 ^ at / 2 ^ m) (e .0) ∙ shr-shr h at 5)))
+    ap (summed rs (h / 2 ^ at))
+    (steps-joined rss (at + 5) h v (e .1) ∙ ap (λ (k : ℕ). summed (joined rss) k v) (sym (ap (λ (m : ℕ). h / 2 ^ at / 2 ^ m) (e .0) ∙ shr-shr h at 5)))
     ∙ sym (summed-append rs (joined rss) (h / 2 ^ at) v)
 
 -- a row of zeros adds nothing
@@ -412,9 +421,11 @@ nothing-more rs n h v = summed-append rs (replicate n 0 ∷ []) h v ∙ ap (summ
 module _ (g : List ℕ) where
   abbrev pub groups : List (List (List ℕ))
   groups =
-      five 8 (worth g 0) (worth g 1) ∷ five 3 (doubledBy 5 (worth g 0)) (worth g 1) ∷ five 6 (doubledBy 2 (worth g 1)) (worth g 2) ∷ five 1 (doubledBy 7 (worth g 1)) (worth g 2)
+      five 8 (worth g 0) (worth g 1) ∷ five 3 (doubledBy 5 (worth g 0)) (worth g 1) ∷ five 6 (doubledBy 2 (worth g 1)) (worth g 2)
+      ∷ five 1 (doubledBy 7 (worth g 1)) (worth g 2)
       ∷ five 4 (doubledBy 4 (worth g 2)) (worth g 3) ∷ five 7 (doubledBy 1 (worth g 3)) (worth g 4) ∷ five 2 (doubledBy 6 (worth g 3)) (worth g 4)
-      ∷ five 5 (doubledBy 3 (worth g 4)) (worth g 5) ∷ five 8 (worth g 5) (worth g 6) ∷ five 3 (doubledBy 5 (worth g 5)) (worth g 6) ∷ five 6 (doubledBy 2 (worth g 6)) (worth g 7)
+      ∷ five 5 (doubledBy 3 (worth g 4)) (worth g 5) ∷ five 8 (worth g 5) (worth g 6) ∷ five 3 (doubledBy 5 (worth g 5)) (worth g 6)
+      ∷ five 6 (doubledBy 2 (worth g 6)) (worth g 7)
       ∷ five 1 (doubledBy 7 (worth g 6)) (worth g 7) ∷ five 4 (doubledBy 4 (worth g 7)) (replicate laneRoots 0) ∷ []
 
   whole : joined groups ≡ bitWorths g 8 ++ replicate laneRoots 0 ∷ []
@@ -436,7 +447,8 @@ module _ (g : List ℕ) where
 
     pub turn-is : {u : List ℕ} → u ≡ stepsOf groups 0 (l .a) (drop 8 (laid l) ++ bytesOf 8 x) → u ≡ fedAll g (laid l) (bytesOf 8 x)
     turn-is e =
-        e ∙ steps-joined groups 0 (l .a) v fives ∙ ap₂ (λ (rs : List (List ℕ)) (h : ℕ). summed rs h v) whole all ∙ nothing-more (bitWorths g 8) laneRoots (l .a) v
+        e ∙ steps-joined groups 0 (l .a) v fives ∙ ap₂ (λ (rs : List (List ℕ)) (h : ℕ). summed rs h v) whole all
+        ∙ nothing-more (bitWorths g 8) laneRoots (l .a) v
         ∙ sym (spent-bits g bytes 8 (l .a) v)
         ∙ sym (fed-leading g (bytesOf 8 (l .a)) (drop 8 (laid l)) (bytesOf 8 x) (length-bytes 8 (l .a) ∙ sym (length-bytes 8 x))
         (omega (arith, length-bytes 8 (l .a), length-drop 8 (laid l), length-laid l, long)) (omega (arith, long)))

@@ -2,6 +2,9 @@
 -- countAll             answers counted one by one
 -- Did, print-did, takes-did    that, of a call
 -- Prints, all-prints   what the calls on all pieces print is the lines of all answers
+-- before               answers before others
+-- LeftBy, left-room, left-more   what is left behind a call, by what it wants
+-- lists-prints         what the calls on one piece print
 use Prim.Native.Nat.{ℕ, zero, suc, _+_, _-_}
 use native.Mathlib.Omega.{arith}
 use mathlib.Core.Path.{_≡_, refl, sym, _∙_, ap, subst}
@@ -20,7 +23,7 @@ use Rattle.channel_spec.specs.declared.Answer.{Answer}
 use Rattle.listing_spec.specs.Lines.{line, given, lines, longest}
 use Rattle.recording.specs.Deck.{Deck, deckOwes, deckHand, deckEat, deckAll, deckHear}
 use Rattle.recording.proofs.Ears.{deck-hand-one}
-use Rattle.listing.specs.declared.lister.Totals.{Totals}
+use Rattle.listing_lines.specs.declared.totals.Totals.{Totals}
 use Rattle.listing.specs.declared.lister.Wants.{Wants}
 use Rattle.listing.specs.declared.lister.Wants.the-variants.{More, Room, Refused}
 use Rattle.listing.specs.Call.{counted, Printed, printed, further, onAnswer, print, near, takesBy, takes}
@@ -134,7 +137,12 @@ module _ (rooms : ℕ → ℕ) where
   lists-prints {i} {m = m} {t = t} {bs = bs} (more e) =
       let d = takes-did (rooms i) m t bs in
       let r : Printed = takes m t (rooms i) bs in
-      record { events = d .events; are = left-more (r .wants) (d .events) (r .deck) (r .taken) bs (deckAll m bs) (d .left) e; says = d .text; counts = d .counts }
+      record {
+        events = d .events;
+        are = left-more (r .wants) (d .events) (r .deck) (r .taken) bs (deckAll m bs) (d .left) e;
+        says = d .text;
+        counts = d .counts;
+      }
   lists-prints {i} {m = m} {t = t} {bs = bs} (room e l) =
       let d = takes-did (rooms i) m t bs in
       let r : Printed = takes m t (rooms i) bs in
@@ -150,7 +158,12 @@ module _ (rooms : ℕ → ℕ) where
   pub all-prints : {i j : ℕ} {m m′ : Deck} {t t′ : Totals} {ps : List (List ℕ)} {text : List ℕ} → deckOwes m ≡ 0 → ListsAll rooms i m t ps j text m′ t′
       → Prints m t (joined ps) text m′ t′
   unfolding lines
-  all-prints {m = m} h done = record { events = []; are = ap (λ n. drain deckOwes deckHand deckEat n m (rest deckOwes deckHand deckEat [])) h; says = refl; counts = refl }
+  all-prints {m = m} h done = record {
+    events = [];
+    are = ap (λ n. drain deckOwes deckHand deckEat n m (rest deckOwes deckHand deckEat [])) h;
+    says = refl;
+    counts = refl;
+  }
   all-prints {m = m} {t = t} h (piece {m₁ = m₁} {p = p} {ps = ps} l ls) =
       let a = lists-prints l in
       let z : deckOwes m₁ ≡ 0 = subst (λ (q : List Event × Deck). deckOwes (q .1) ≡ 0) (a .are) (settled deckOwes deckHand deckEat deck-hand-one m p) in

@@ -3,6 +3,7 @@
 -- Safe             no call is refused
 -- listing-ends     every cutting of a recording is listed by a run of calls
 -- finish-ends      the finishing call is not refused where any line has room
+-- print-not        printing refuses nothing
 use Prim.Native.Nat.{ℕ, zero, suc, _+_, _-_, _*_, _≤_, _<_}
 use native.Mathlib.Omega.{arith}
 use mathlib.Core.Path.{_≡_, refl, sym, _∙_, ap, subst}
@@ -28,13 +29,13 @@ use Rattle.listing_spec.specs.declared.Place.the-variants.{Mode, Mark, Second, 
 use Rattle.listing_spec.specs.declared.Spot.{Spot}
 use Rattle.listing_spec.specs.Apart.{most, freshSpot, on, wrong, through, nextAt, next, inStream, apart, well, keep}
 use Rattle.listing_spec.specs.Lines.{given, line, lines, isPacket, isRefusal, isDamaged, isLost, longest}
-use Rattle.lines.proofs.Short.{line-some, end-short, wrong-short}
+use Rattle.listing_lines.proofs.Short.{line-some, end-short, wrong-short}
 use Rattle.recording.specs.Deck.{Ear, ear, owesBy, earOwes, earHand, earEat, Deck, deck, fresh, deckOwes, deckHand, deckEat, deckAll, deckHear}
 use Rattle.recording.specs.Call.{far}
 use Rattle.recording.proofs.Ears.{deck-hand-one}
 use Rattle.recording.proofs.Kept.{FineDeck, Kept, hear-kept}
 use Rattle.recording.proofs.Means.{earAll, means-start, fresh-owes}
-use Rattle.listing.specs.declared.lister.Totals.{Totals}
+use Rattle.listing_lines.specs.declared.totals.Totals.{Totals}
 use Rattle.listing.specs.declared.lister.Lister.{Lister}
 use Rattle.listing.specs.declared.lister.Wants.{Wants}
 use Rattle.listing.specs.declared.lister.Wants.the-variants.{More, Room, Refused}
@@ -66,7 +67,8 @@ tell-few : (o : Option Event) (r : List Event × Ear) (n : ℕ) → length (r .0
 tell-few none r n h = omega arith
 tell-few (some a) r n h = omega arith
 
-drain-few : (k : Ear → List Event × Ear) (c : ℕ) → ((d : Ear) → length (k d .0) ≤ c) → (n : ℕ) (d : Ear) → length (drain earOwes earHand earEat n d k .0) ≤ n + c
+drain-few : (k : Ear → List Event × Ear) (c : ℕ) → ((d : Ear) → length (k d .0) ≤ c) → (n : ℕ) (d : Ear)
+    → length (drain earOwes earHand earEat n d k .0) ≤ n + c
 drain-few k c h zero d = let g = h d in omega arith
 drain-few k c h (suc n) d =
     let g = tell-few (earHand d .0) (drain earOwes earHand earEat n (earHand d .1) k) (n + c) (drain-few k c h n (earHand d .1)) in
@@ -124,13 +126,17 @@ module _ (recv word : List ℕ) (recv-room : rawLimit ≤ length recv) (word-roo
   answers-few (b ∷ bs) =
       let q : List ℕ × Spot = apart (next freshSpot b) bs in
       let d : Ear = ear (eqb b 0x4F) (memory freshReceiver recv word) in
-      let s : length (q .0) ≤ most = omega (arith, apart-count bs (next freshSpot b), apart-most bs (next freshSpot b) (most-at Mode freshSpot b (omega arith))) in
-      let e = ap (λ (x : List Event × Deck). length (x .0)) (means-start b bs (ear false (memory freshReceiver recv word)) (fresh-owes recv word recv-room word-room false)) in
+      let s : length (q .0) ≤ most = omega
+      (arith, apart-count bs (next freshSpot b), apart-most bs (next freshSpot b) (most-at Mode freshSpot b (omega arith))) in
+      let e = ap (λ (x : List Event × Deck). length (x .0))
+      (means-start b bs (ear false (memory freshReceiver recv word)) (fresh-owes recv word recv-room word-room false)) in
       omega (arith, e, all-few (q .0) d, fresh-owes recv word recv-room word-room (eqb b 0x4F), s)
 
 -- ---- what a call keeps
-behind-kept : (m k : Deck) (bs ws : List ℕ) (n : ℕ) (r : Printed) → Kept m bs n k → Kept k (drop n bs) (r .taken) (r .deck) → Kept m bs (further n ws r .taken) (further n ws r .deck)
-behind-kept m k bs ws n r h j = record { fine = j .fine; within = omega (arith, h .within, j .within, length-drop n bs); near = omega (arith, h .near, j .near) }
+behind-kept : (m k : Deck) (bs ws : List ℕ) (n : ℕ) (r : Printed) → Kept m bs n k → Kept k (drop n bs) (r .taken) (r .deck)
+    → Kept m bs (further n ws r .taken) (further n ws r .deck)
+behind-kept m k bs ws n r h j =
+    record { fine = j .fine; within = omega (arith, h .within, j .within, length-drop n bs); near = omega (arith, h .near, j .near) }
 
 none-kept : (m : Deck) (bs : List ℕ) → FineDeck m → Kept m bs 0 m
 none-kept m bs i = record { fine = i; within = omega arith; near = omega arith }
@@ -140,7 +146,8 @@ answer-kept : (m : Deck) (t : Totals) (bs : List ℕ) → FineDeck m → (next :
     → let r = onAnswer o (further (deckHear m bs .1) [] (printed More (deckHear m bs .2) t)) next in Kept m bs (r .taken) (r .deck)
 answer-kept m t bs i next k none =
     let h = hear-kept m bs i in
-    behind-kept m (deckHear m bs .2) bs [] (deckHear m bs .1) (printed More (deckHear m bs .2) t) h (none-kept (deckHear m bs .2) (drop (deckHear m bs .1) bs) (h .fine))
+    behind-kept m (deckHear m bs .2) bs [] (deckHear m bs .1) (printed More (deckHear m bs .2) t) h
+    (none-kept (deckHear m bs .2) (drop (deckHear m bs .1) bs) (h .fine))
 answer-kept m t bs i next k (some e) = k (given e)
 
 room-kept : (b : Bool) (m : Deck) (t : Totals) (bs : List ℕ) (r : Printed) → FineDeck m → Kept m bs (r .taken) (r .deck)
@@ -157,7 +164,8 @@ print-kept (suc f) n m t bs i =
     let next : Answer → Printed = λ a. further (x .1) (line a) (print f (n - length (line a)) (x .2) (counted t a) (drop (x .1) bs)) in
     room-kept (ltb n longest) m t bs (onAnswer (x .0) (further (x .1) [] (printed More (x .2) t)) next) i
     (answer-kept m t bs i next
-    (λ a. behind-kept m (x .2) bs (line a) (x .1) (print f (n - length (line a)) (x .2) (counted t a) (drop (x .1) bs)) h (print-kept f (n - length (line a)) (x .2) (counted t a) (drop (x .1) bs) (h .fine)))
+    (λ a. behind-kept m (x .2) bs (line a) (x .1) (print f (n - length (line a)) (x .2) (counted t a) (drop (x .1) bs)) h
+    (print-kept f (n - length (line a)) (x .2) (counted t a) (drop (x .1) bs) (h .fine)))
     (x .0))
 
 -- ---- with room for a line, a call that wants more room has printed something
@@ -166,8 +174,11 @@ unfolding print
 some-printed f n m t bs h = rw (le-ltb n longest h) (go (deckHear m bs .0))
   where
     go : (o : Option Event)
-        → onAnswer o (further (deckHear m bs .1) [] (printed More (deckHear m bs .2) t)) (λ a. further (deckHear m bs .1) (line a) (print f (n - length (line a)) (deckHear m bs .2) (counted t a) (drop (deckHear m bs .1) bs))) .wants ≡ Room
-        → 0 < length (onAnswer o (further (deckHear m bs .1) [] (printed More (deckHear m bs .2) t)) (λ a. further (deckHear m bs .1) (line a) (print f (n - length (line a)) (deckHear m bs .2) (counted t a) (drop (deckHear m bs .1) bs))) .text)
+        → onAnswer o (further (deckHear m bs .1) [] (printed More (deckHear m bs .2) t))
+        (λ a. further (deckHear m bs .1) (line a) (print f (n - length (line a)) (deckHear m bs .2) (counted t a) (drop (deckHear m bs .1) bs))) .wants
+        ≡ Room
+        → 0 < length (onAnswer o (further (deckHear m bs .1) [] (printed More (deckHear m bs .2) t))
+        (λ a. further (deckHear m bs .1) (line a) (print f (n - length (line a)) (deckHear m bs .2) (counted t a) (drop (deckHear m bs .1) bs))) .text)
     go none e = absurd (omega (arith, ap wantsTag e))
     go (some x) e =
         let r = print f (n - length (line (given x))) (deckHear m bs .2) (counted t (given x)) (drop (deckHear m bs .1) bs) in
@@ -178,7 +189,8 @@ pub print-not : (f n : ℕ) (m : Deck) (t : Totals) (bs : List ℕ) (c : ℕ) �
 unfolding print
 print-not zero n m t bs c = λ e. omega (arith, ap wantsTag e)
 print-not (suc f) n m t bs c =
-    room-not (ltb n longest) (onAnswer (deckHear m bs .0) (further (deckHear m bs .1) [] (printed More (deckHear m bs .2) t)) (λ a. further (deckHear m bs .1) (line a) (print f (n - length (line a)) (deckHear m bs .2) (counted t a) (drop (deckHear m bs .1) bs))))
+    room-not (ltb n longest) (onAnswer (deckHear m bs .0) (further (deckHear m bs .1) [] (printed More (deckHear m bs .2) t))
+    (λ a. further (deckHear m bs .1) (line a) (print f (n - length (line a)) (deckHear m bs .2) (counted t a) (drop (deckHear m bs .1) bs))))
     (answer-not (deckHear m bs .0) (λ a. print-not f (n - length (line a)) (deckHear m bs .2) (counted t a) (drop (deckHear m bs .1) bs) c))
   where
     room-not : (b : Bool) (r : Printed) → (r .wants ≡ Refused c → ⊥) → pick b (printed Room m t) r .wants ≡ Refused c → ⊥
@@ -187,7 +199,9 @@ print-not (suc f) n m t bs c =
 
     answer-not : (o : Option Event)
         → ((a : Answer) → print f (n - length (line a)) (deckHear m bs .2) (counted t a) (drop (deckHear m bs .1) bs) .wants ≡ Refused c → ⊥)
-        → onAnswer o (further (deckHear m bs .1) [] (printed More (deckHear m bs .2) t)) (λ a. further (deckHear m bs .1) (line a) (print f (n - length (line a)) (deckHear m bs .2) (counted t a) (drop (deckHear m bs .1) bs))) .wants ≡ Refused c → ⊥
+        → onAnswer o (further (deckHear m bs .1) [] (printed More (deckHear m bs .2) t))
+        (λ a. further (deckHear m bs .1) (line a) (print f (n - length (line a)) (deckHear m bs .2) (counted t a) (drop (deckHear m bs .1) bs))) .wants
+        ≡ Refused c → ⊥
     answer-not none k e = omega (arith, ap wantsTag e)
     answer-not (some x) k e = k (given x) e
 
@@ -240,7 +254,8 @@ grown (e ∷ es) t =
       lost = omega (arith, g .lost, one-most (isLost (given e)));
     }
 
-safe-on : (m m′ : Deck) (t t′ : Totals) (bs : List ℕ) (n k a b : ℕ) (es : List Event) → Safe m t (length bs + k) a → Kept m bs n m′ → t′ ≡ countAll t es → length es + b ≤ a
+safe-on : (m m′ : Deck) (t t′ : Totals) (bs : List ℕ) (n k a b : ℕ) (es : List Event) → Safe m t (length bs + k) a → Kept m bs n m′ → t′ ≡ countAll t es
+    → length es + b ≤ a
     → Safe m′ t′ (length bs - n + k) b
 safe-on m m′ t t′ bs n k a b es s h e l =
     let g = grown es t in
@@ -308,7 +323,8 @@ module _ (rooms : ℕ → ℕ) (fair : Fair rooms) where
         let left : List Event = deckAll (r .deck) (drop (r .taken) bs) .0 in
         let l : length (deckAll m bs .0) ≡ length (d .events) + length left =
         ap (λ (x : List Event × Deck). length (x .0)) a ∙ length-append (d .events) left in
-        let u = safe-on m (r .deck) t (r .totals) bs (r .taken) k (length (deckAll m bs .0) + b) (length left + b) (d .events) s kept (d .counts) (omega arith) in
+        let u = safe-on m (r .deck) t (r .totals) bs (r .taken) k (length (deckAll m bs .0) + b) (length left + b) (d .events) s kept (d .counts)
+        (omega arith) in
         let v = ih (r .deck) (r .totals) (drop (r .taken) bs)
         (subst (λ (n : ℕ). Safe (r .deck) (r .totals) (n + k) (length left + b)) (sym (length-drop (r .taken) bs)) u) (omega (arith, progress e)) in
         record { calls = v .calls; text = r .text ++ v .text; deck = v .deck; totals = v .totals; run = room e (v .run); safe = v .safe }

@@ -28,7 +28,7 @@ use Rattle.listing_spec.specs.Lines.{given, lines, count, one, isPacket, isRefu
 use Rattle.listing_spec.specs.Meaning.{totalLine, heard, lastLine, listed, listing}
 use Rattle.recording.specs.Deck.{Ear, ear, Deck, deck, fresh, deckOwes, deckAll}
 use Rattle.recording.proofs.Means.{earAll, means-start, heard-all, fresh-owes}
-use Rattle.listing.specs.declared.lister.Totals.{Totals}
+use Rattle.listing_lines.specs.declared.totals.Totals.{Totals}
 use Rattle.listing.specs.Call.{noTotals, counted, recorded, lastBy, lastOf, finishing}
 use Rattle.listing.specs.Runs.{ListsAll}
 use Rattle.listing.proofs.Did.{countAll, Prints, all-prints}

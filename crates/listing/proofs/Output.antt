@@ -1,6 +1,7 @@
 -- A call with an output, step by step.
 -- Far                               what a call has printed so far
 -- far-start, far-asks, far-on, far-done   the loop's start, what a step asks, a step that goes on, a step that ends the call
+-- far-length, far-within            the output keeps its length, and no more is taken or written than there is
 use Prim.Native.Nat.{ℕ, zero, suc, _+_, _-_, _≤_, _<_}
 use native.Mathlib.Omega.{arith}
 use native.Mathlib.Nat.{zero-add, add-zero, sub-zero, add-assoc}
@@ -107,7 +108,15 @@ module _ {x : Printed} {bs old : List ℕ} {i w : ℕ} {r : Lister} {l k out : L
         ∙ sym (drop-drop (s .written) w out) ∙ ap (drop (s .written)) (far .old-behind) ∙ drop-drop (s .written) w old
 
     out-length : length out′ ≡ length out
-    out-length = omega (arith, ap length out-is, length-append (take w out ++ text) (drop (w + length text) out), head-length, length-drop (w + length text) out, fits, far .wrote)
+    out-length = omega (
+      arith,
+      ap length out-is,
+      length-append (take w out ++ text) (drop (w + length text) out),
+      head-length,
+      length-drop (w + length text) out,
+      fits,
+      far .wrote,
+    )
 
     pub far-length : length out′ ≡ length old
     far-length = out-length ∙ far .old-length
@@ -136,7 +145,8 @@ module _ {x : Printed} {bs old : List ℕ} {i w : ℕ} {r : Lister} {l k out : L
                   far .same ∙ ap (λ (n : ℕ). further i (take w out) (print n (length out - w) (deckOf (r .tape) l k) (r .totals) (drop i bs))) g
                   ∙ ap (λ (n : ℕ). further i (take w out) (print (suc f) n (deckOf (r .tape) l k) (r .totals) (drop i bs))) (sym room-length)
                   ∙ ap (further i (take w out)) (from-left (suc f) (length room) ∙ y .0 f (omega (arith, far .enough, room-length)))
-                  ∙ behind-behind i (s .taken) (take w out) text (print f (length room - length text) (deckOf (s .next .tape) l′ k′) (s .next .totals) (drop (s .taken) left))
+                  ∙ behind-behind i (s .taken) (take w out) text
+                  (print f (length room - length text) (deckOf (s .next .tape) l′ k′) (s .next .totals) (drop (s .taken) left))
                   ∙ (λ j.
                   further (i + s .taken) (sym printed-is j)
                   (print f (sym a j) (deckOf (s .next .tape) l′ k′) (s .next .totals) ((ap (drop (s .taken)) (tail-is i bs) ∙ drop-drop (s .taken) i bs) j)));

@@ -1,7 +1,6 @@
 -- A call with an output, line by line.
 -- step-room, step-more, step-line    the three ways out of a step
 -- Near, near-of, near-is             no number is near its width
--- count-asks                         what counting asks
 use Prim.Native.Nat.{ℕ, zero, suc, _+_, _-_, _≤_, _<_}
 use native.Mathlib.Omega.{arith}
 use native.Mathlib.Nat.{sub-zero}
@@ -19,7 +18,9 @@ use Rattle.channel_spec.specs.declared.Answer.{Answer}
 use Rattle.base.proofs.Tests.{and-parts}
 use Rattle.listing_spec.specs.declared.Spot.{Spot}
 use Rattle.listing_spec.specs.Lines.{line, given, isPacket, isRefusal, isDamaged, isLost, longest}
-use Rattle.lines.proofs.Short.{line-short, line-some}
+use Rattle.listing_lines.specs.Counts.{counting, Below}
+use Rattle.listing_lines.proofs.Short.{line-short, line-some}
+use Rattle.listing_lines.proofs.Counting.{counting-below}
 use Rattle.recording.specs.declared.reader.RecordingReader.{RecordingReader}
 use Rattle.recording.specs.declared.reader.Hearing.{Hearing}
 use Rattle.recording.specs.Deck.{Deck, deckHear}
@@ -27,9 +28,9 @@ use Rattle.recording.specs.Call.{far, deckOf, isMore, tapeCall, NextIs}
 use Rattle.recording.specs.Private.{Stays, HeardIs}
 use Rattle.recording.proofs.Turn.{more-none, more-some}
 use Rattle.recording.proofs.Next.{next-heard}
-use Rattle.listing.specs.declared.lister.Totals.{Totals}
+use Rattle.listing_lines.specs.declared.totals.Totals.{Totals}
 use Rattle.listing.specs.declared.lister.Wants.the-variants.{More, Room}
-use Rattle.listing.specs.Private.{Below, StepIs}
+use Rattle.listing.specs.Private.{StepIs}
 use Rattle.listing.specs.Call.{counted, Printed, printed, further, onAnswer, print, near}
 use Rattle.listing.proofs.Counting.{one-most}
 
@@ -157,9 +158,9 @@ module _ (t : RecordingReader) (u : Totals) (l k bs out : List ℕ) (wide : leng
       }));
     }
 
-    -- what counting asks
-    pub count-asks : Below u
-    count-asks = (
+    -- no total is the greatest number
+    below : Below u
+    below = (
       total-below _ (length out) (ni .packets) (omega arith) wide-out,
       total-below _ (length out) (ni .refused) (omega arith) wide-out,
       total-below _ (length out) (ni .damaged) (omega arith) wide-out,
@@ -168,9 +169,10 @@ module _ (t : RecordingReader) (u : Totals) (l k bs out : List ℕ) (wide : leng
 
     -- an answer's line
     pub step-line : isMore (h .answer) ≡ false → (w : ℕ) (out′ : List ℕ) (u′ : Totals)
-        → (w ≡ length (line (h .answer))) × (out′ ≡ line (h .answer) ++ drop (length (line (h .answer))) out) → u′ ≡ counted u (h .answer)
+        → (w ≡ length (line (h .answer))) × (out′ ≡ line (h .answer) ++ drop (length (line (h .answer))) out) → u′ ≡ counting u (h .answer)
         → StepIs m u bs out (record { done = false; wants = More; taken = h .taken; written = w; next = record { tape = h .tape; totals = u′ } }) l′ k′ out′
-    step-line e w out′ u′ p c =
+    step-line e w out′ u′ p q =
+        let c : u′ ≡ counted u (h .answer) = q ∙ counting-below u (h .answer) below in
         let o = more-some (deckHear m bs .0) (ap isMore (sym (heard .0 .0)) ∙ e) in
         let a : given (o .0) ≡ h .answer = sym (heard .0 .0 ∙ ap answered (o .1)) in
         let s : length (line (h .answer)) ≤ longest = line-short (h .answer) in
@@ -179,10 +181,12 @@ module _ (t : RecordingReader) (u : Totals) (l k bs out : List ℕ) (wide : leng
         record {
           text = line (h .answer);
           means = (
-            (λ f q.
+            (λ f r.
                 told f (some (o .0)) (o .1)
-                ∙ ap (λ (x : Answer). further (h .taken) (line x) (print f (length out - length (line x)) (deckOf (h .tape) l′ k′) (counted u x) (drop (h .taken) bs))) a
-                ∙ ap (λ (x : Totals). further (h .taken) (line (h .answer)) (print f (length out - length (line (h .answer))) (deckOf (h .tape) l′ k′) x (drop (h .taken) bs))) (sym c)),
+                ∙ ap (λ (x : Answer). further (h .taken) (line x)
+                (print f (length out - length (line x)) (deckOf (h .tape) l′ k′) (counted u x) (drop (h .taken) bs))) a
+                ∙ ap (λ (x : Totals). further (h .taken) (line (h .answer))
+                (print f (length out - length (line (h .answer))) (deckOf (h .tape) l′ k′) x (drop (h .taken) bs))) (sym c)),
             i,
           );
           written = v;

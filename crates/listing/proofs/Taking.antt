@@ -1,4 +1,7 @@
 -- One call: refused with 10, with 11, or let on.
+-- take-unsound, take-far   refused with 10: the receiver's counts, these numbers
+-- take-cramped             refused with 11
+-- take-on                  let on
 use Prim.Native.Nat.{ℕ}
 use mathlib.Core.Path.{_≡_, refl, sym, subst}
 use mathlib.Core.Bool.{Bool, true, false}
@@ -24,7 +27,8 @@ module _ (r : Lister) (l k bs out : List ℕ) where
       → takes m (r .totals) (length out) bs ≡ takesBy s n b m (r .totals) (length out) bs
   by s n b e f g = λ i. takesBy (e i) (f i) (g i) m (r .totals) (length out) bs
 
-  told : (x : Printed) {t : Took} {l′ k′ out′ : List ℕ} → takes m (r .totals) (length out) bs ≡ x → TookIs x t l′ k′ out out′ → TookIs (takes m (r .totals) (length out) bs) t l′ k′ out out′
+  told : (x : Printed) {t : Took} {l′ k′ out′ : List ℕ} → takes m (r .totals) (length out) bs ≡ x → TookIs x t l′ k′ out out′
+      → TookIs (takes m (r .totals) (length out) bs) t l′ k′ out out′
   told x {t} {l′} {k′} {out′} e h = subst (λ y. TookIs y t l′ k′ out out′) (sym e) h
 
   pub take-unsound : {t : Took} → sound (r .tape .receiver) ≡ false → t ≡ refused 10 → TookIs (takes m (r .totals) (length out) bs) t l k out out
@@ -38,6 +42,7 @@ module _ (r : Lister) (l k bs out : List ℕ) where
       → t ≡ refused 11 → TookIs (takes m (r .totals) (length out) bs) t l k out out
   take-cramped e n b f = told (printed (Refused 11) m (r .totals)) (by true true false e n b) (f, refl, refl, refl)
 
-  pub take-on : {t : Took} {l′ k′ out′ : List ℕ} → sound (r .tape .receiver) ≡ true → near (r .tape .spot) (r .totals) (length bs) (length out) ≡ true → roomy l k ≡ true
+  pub take-on : {t : Took} {l′ k′ out′ : List ℕ} → sound (r .tape .receiver) ≡ true → near (r .tape .spot) (r .totals) (length bs) (length out) ≡ true
+      → roomy l k ≡ true
       → TookIs (print (length out) (length out) m (r .totals) bs) t l′ k′ out out′ → TookIs (takes m (r .totals) (length out) bs) t l′ k′ out out′
   take-on e n b h = told (print (length out) (length out) m (r .totals) bs) (by true true true e n b) h

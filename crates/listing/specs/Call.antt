@@ -3,6 +3,12 @@
 -- print                  lines, while there is room for any line
 -- takes, TookIs          one call, and that the code's results are those
 -- lastOf, finishing      the last line
+-- freshRecording         before the first byte, and nothing counted
+-- printed, further       nothing taken or printed; the same behind bytes taken and a text printed
+-- onAnswer               a call's answer: none, or the line of one and then more
+-- nearTotals, near       no number can pass its width in a call
+-- takesBy, tookOf, recorded   a call by its refusals; the code's result of it, and the code's state
+-- lastBy                 the last line, by: may the recording end here
 use Prim.Native.Nat.{ℕ, zero, suc, _+_, _-_}
 use mathlib.Core.Path.{_≡_}
 use mathlib.Core.Bool.{Bool, true, false, _&&_}
@@ -16,38 +22,21 @@ use Rattle.channel_spec.specs.Meaning.{Event}
 use Rattle.channel.specs.Call.{sound, roomy}
 use Rattle.channel_spec.specs.declared.Answer.{Answer}
 use Rattle.listing_spec.specs.declared.Spot.{Spot}
-use Rattle.listing_spec.specs.declared.Total.{Total}
 use Rattle.listing_spec.specs.Apart.{well}
-use Rattle.listing_spec.specs.Lines.{line, given, one, totalOf, inPackets, inRefusals, inDamaged, inLost, endLine, wrongLine, longest}
+use Rattle.listing_spec.specs.Lines.{line, given, endLine, wrongLine, longest}
 use Rattle.recording.specs.Deck.{Deck, deckHear}
 use Rattle.recording.specs.Call.{freshTape, far, nearSpot, tapeOf}
 pub use Rattle.recording.specs.Call.{deckOf}
-use Rattle.listing.specs.declared.lister.Totals.{Totals}
+use Rattle.listing_lines.specs.declared.totals.Totals.{Totals}
+pub use Rattle.listing_lines.specs.Counts.{noTotals, counted}
 use Rattle.listing.specs.declared.lister.Lister.{Lister}
 use Rattle.listing.specs.declared.lister.Wants.{Wants}
 use Rattle.listing.specs.declared.lister.Wants.the-variants.{More, Room, Refused}
 use Rattle.listing.specs.declared.lister.Took.{Took}
 
--- nothing counted yet
-abbrev pub noTotals : Totals
-noTotals = record { packets = 0; refused = 0; damaged = 0; lost = 0 }
-
 -- before the first byte, and nothing counted
 abbrev pub freshRecording : Lister
 freshRecording = record { tape = freshTape; totals = noTotals }
-
--- one more in a total
-abbrev pub countedIn : Totals → Total → Totals
-countedIn t x = record {
-  packets = t .packets + one (inPackets x);
-  refused = t .refused + one (inRefusals x);
-  damaged = t .damaged + one (inDamaged x);
-  lost = t .lost + one (inLost x);
-}
-
--- an answer is counted
-abbrev pub counted : Totals → Answer → Totals
-counted t a = countedIn t (totalOf a)
 
 -- what is wanted next, the bytes taken, the bytes printed, and how the deck and the totals stand then
 pub record Printed : Type 0 where

@@ -1,21 +1,17 @@
 -- What private functions alone are promised by: what the code does with a line.
--- Below      no total is at its width
 -- StepIs     a step of a call gives one line at most
+-- StepBy     .. by: does it end the call
 use Prim.Native.Nat.{ℕ, suc, _-_, _≤_, _<_}
 use mathlib.Core.Path.{_≡_}
 use mathlib.Core.Bool.{Bool, true, false}
 use mathlib.Core.List.{List, _++_}
 use lib.ListN.{length, drop}
 use Rattle.recording.specs.Deck.{Deck}
-use Rattle.recording.specs.Call.{far, deckOf}
+use Rattle.recording.specs.Call.{deckOf}
 use Rattle.recording.specs.Private.{Stays}
-use Rattle.listing.specs.declared.lister.Totals.{Totals}
+use Rattle.listing_lines.specs.declared.totals.Totals.{Totals}
 use Rattle.listing.specs.declared.lister.Step.{Step}
 use Rattle.listing.specs.Call.{near, printed, further, print}
-
--- no total is at its width
-abbrev pub Below : Totals → Type 0
-Below t = (t .packets < far) × (t .refused < far) × (t .damaged < far) × (t .lost < far)
 
 -- by: does the step end the call. Else the call goes on behind it with less room
 abbrev pub StepBy : Bool → Deck → Totals → List ℕ → ℕ → Step → List ℕ → List ℕ → List ℕ → Type 0

@@ -6,7 +6,7 @@ use Prim.Native.Nat.{ℕ, suc, _≤_}
 use mathlib.Core.Path.{_≡_}
 use mathlib.Core.List.{List, [], _∷_, _++_}
 use lib.ListN.{drop}
-use Rattle.listing.specs.declared.lister.Totals.{Totals}
+use Rattle.listing_lines.specs.declared.totals.Totals.{Totals}
 use Rattle.listing.specs.declared.lister.Wants.the-variants.{More, Room}
 use Rattle.recording.specs.Deck.{Deck}
 use Rattle.listing_spec.specs.Lines.{longest}

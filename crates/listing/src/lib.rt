@@ -3,5 +3,4 @@ mod lister;
 
 pub use lister::Lister;
 pub use lister::Took;
-pub use lister::Totals;
 pub use lister::Wants;

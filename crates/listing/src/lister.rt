@@ -6,29 +6,18 @@ ghost use Prim.Native.Nat.{_≤_, _<_};
 ghost use lib.ListN.{length, drop};
 ghost use Rattle.base.specs.Written.{outcome};
 ghost use Rattle.channel.specs.Call.{sound, roomy};
-ghost use Rattle.listing_spec.specs.Lines.{line, totalOf, longest};
-ghost use Rattle.channel_spec.specs.declared.Answer.the-variants.{Said, Block};
+ghost use Rattle.listing_spec.specs.Lines.{line, longest};
 ghost use Rattle.listing.specs.declared.lister.Wants.the-variants.{Refused};
 ghost use Rattle.recording.specs.Call.{deckOf};
-ghost use Rattle.listing.specs.Call.{noTotals, freshRecording, counted, nearTotals, near, takes, print, TookIs, finishing};
-ghost use Rattle.listing.specs.Private.{Below, StepIs};
+ghost use Rattle.listing.specs.Call.{freshRecording, nearTotals, near, takes, print, TookIs, finishing};
+ghost use Rattle.listing.specs.Private.{StepIs};
 use base::Refusal;
 use base::Written;
 use channel::Answer;
-use channel::Condition;
 use channel::Receiver;
-use lines::Line;
-use listing_spec::Total;
-use packet::Judged;
+use listing_lines::Line;
+use listing_lines::Totals;
 use recording::RecordingReader;
-
-/// What is counted of a recording's answers.
-pub struct Totals {
-    pub packets: u64,
-    pub refused: u64,
-    pub damaged: u64,
-    pub lost: u64,
-}
 
 /// A recording that is being listed.
 pub struct Lister {
@@ -66,114 +55,32 @@ struct Step {
     next: Lister,
 }
 
-// The total that a frame's answer counts in ..
-fn total_of_frame(judged: Judged) -> Total
-    ensures { λ r. ⌜ r ≡ totalOf (Said judged) ⌝ }
-{
-    match judged {
-        Judged::Packet(_) => Total::Packets,
-        Judged::Refused(_) => Total::Refusals,
-        Judged::Broken(_) => Total::Refusals,
-    }
-}
-
-// .. a block's ..
-fn total_of_block(condition: Condition) -> Total
-    ensures { λ r. ⌜ r ≡ totalOf (Block condition) ⌝ }
-{
-    match condition {
-        Condition::Clean => Total::Nothing,
-        Condition::Repaired(_) => Total::Nothing,
-        Condition::Beyond => Total::Damaged,
-    }
-}
-
-// .. and any.
-fn total_of(answer: Answer) -> Total
-    ensures { λ r. ⌜ r ≡ totalOf answer ⌝ }
-{
-    match answer {
-        Answer::More => Total::Nothing,
-        Answer::Said(judged) => total_of_frame(judged),
-        Answer::Block(condition) => total_of_block(condition),
-        Answer::LockLost => Total::Lost,
-    }
-}
-
 // An answer's line, where there is room for any.
 fn put(answer: Answer, out: &mut [u8]) -> usize
     requires { ⌜ longest ≤ length (now out) ⌝ }
     ensures { λ r. ⌜ (r ≡ length (line answer)) × (now (out .exit) ≡ line answer ++ drop (length (line answer)) (now (out .entry))) ⌝ }
 {
-    match lines::print(answer, out) {
+    match listing_lines::print(answer, out) {
         Written::Wrote(n) => n,
         Written::Refused(_) => 0,
     }
 }
 
-impl Totals {
-    // Nothing counted yet.
-    fn none() -> Self
-        ensures { λ r. ⌜ r ≡ noTotals ⌝ }
-    {
-        Totals {
-            packets: 0,
-            refused: 0,
-            damaged: 0,
-            lost: 0,
-        }
+// Whether no total can pass its width while so many bytes are written.
+fn near_totals(totals: Totals, room: usize) -> bool
+    ensures { λ r. ⌜ r ≡ nearTotals totals room ⌝ }
+{
+    let most = u64::MAX - room as u64;
+    if most < totals.packets {
+        return false;
     }
-
-    // An answer is counted.
-    fn count(self, answer: Answer) -> Self
-        requires { ⌜ Below self ⌝ }
-        ensures { λ r. ⌜ r ≡ counted self answer ⌝ }
-    {
-        match total_of(answer) {
-            Total::Packets => Totals {
-                packets: self.packets + 1,
-                refused: self.refused,
-                damaged: self.damaged,
-                lost: self.lost,
-            },
-            Total::Refusals => Totals {
-                packets: self.packets,
-                refused: self.refused + 1,
-                damaged: self.damaged,
-                lost: self.lost,
-            },
-            Total::Damaged => Totals {
-                packets: self.packets,
-                refused: self.refused,
-                damaged: self.damaged + 1,
-                lost: self.lost,
-            },
-            Total::Lost => Totals {
-                packets: self.packets,
-                refused: self.refused,
-                damaged: self.damaged,
-                lost: self.lost + 1,
-            },
-            Total::Nothing => self,
-        }
+    if most < totals.refused {
+        return false;
     }
-
-    // Whether no total can pass its width while so many bytes are written.
-    fn near(self, room: usize) -> bool
-        ensures { λ r. ⌜ r ≡ nearTotals self room ⌝ }
-    {
-        let most = u64::MAX - room as u64;
-        if most < self.packets {
-            return false;
-        }
-        if most < self.refused {
-            return false;
-        }
-        if most < self.damaged {
-            return false;
-        }
-        self.lost <= most
+    if most < totals.damaged {
+        return false;
     }
+    totals.lost <= most
 }
 
 impl Took {
@@ -214,7 +121,7 @@ impl Lister {
         if u64::MAX - (n as u64) < at.offset {
             return false;
         }
-        totals.near(room)
+        near_totals(totals, room)
     }
 
     // One answer, and its line.
@@ -315,7 +222,7 @@ impl Lister {
         let at = tape.spot;
         let totals = self.totals;
         if tape.may_end() {
-            return lines::print_end(
+            return listing_lines::print_end(
                 at.count,
                 totals.packets,
                 totals.refused,
@@ -324,6 +231,6 @@ impl Lister {
                 out,
             );
         }
-        lines::print_wrong(at.offset, out)
+        listing_lines::print_wrong(at.offset, out)
     }
 }

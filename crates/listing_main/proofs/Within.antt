@@ -17,7 +17,7 @@ use Rattle.channel_spec.specs.declared.Answer.{Answer}
 use Rattle.listing_spec.specs.Lines.{line, longest}
 use Rattle.recording.specs.Deck.{Deck, deckOwes, deckHand, deckEat, deckHear}
 use Rattle.recording.proofs.Ears.{deck-hand-one}
-use Rattle.listing.specs.declared.lister.Totals.{Totals}
+use Rattle.listing_lines.specs.declared.totals.Totals.{Totals}
 use Rattle.listing.specs.declared.lister.Took.{Took}
 use Rattle.listing.specs.Call.{Printed, print, counted, onAnswer, near, takesBy, takes, TookIs}
 

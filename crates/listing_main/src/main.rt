@@ -2,8 +2,9 @@
 //! without a last line. Where the last line is `X`, it stands on standard error too. Behind a wrong byte it reads no more.
 ghost use Prim.Native.Nat.{_≤_};
 ghost use lib.ListN.{length};
-use base::Written;
 use channel::Receiver;
+use console::say;
+use libc::STDIN_FILENO;
 use listing::Lister;
 use listing::Wants;
 
@@ -25,9 +26,9 @@ fn main() {
     let mut recording = Lister::fresh();
     let mut reads = u64::MAX;
     while reads > 0 {
-        let got = libc::read(0, &mut piece);
+        let got = libc::read(STDIN_FILENO, &mut piece);
         if got < 0 {
-            fail(b"listing: cannot read standard input\n");
+            say_unread();
             return;
         }
         if got == 0 {
@@ -47,6 +48,10 @@ fn main() {
         }
         reads -= 1;
     }
+}
+
+fn say_unread() {
+    console::say_unread(b"listing");
 }
 
 // A piece, until more is wanted.
@@ -109,37 +114,23 @@ fn is_refused(wants: Wants) -> bool {
         Wants::More => false,
         Wants::Room => false,
         Wants::Refused(_) => {
-            fail(b"listing: the recording is too long\n");
+            say(b"listing: the recording is too long\n");
             true
         }
     }
 }
 
-// The last line.
+// The last line, and where the input is no whole recording.
 fn finish(recording: Lister, out: &mut [u8]) {
-    match recording.finish(out) {
-        Written::Wrote(n) => end(&out[0..base::least(n, out.len())]),
-        Written::Refused(_) => {}
-    }
-}
-
-// .. which begins with `X` where the input is no whole recording.
-fn end(line: &[u8]) {
-    if print(line) && line.len() > 0 && line[0] == 0x58 {
-        fail(b"listing: no whole recording: ");
-        fail(line);
+    let tape = recording.tape;
+    let at = tape.spot;
+    let last = recording.finish(out);
+    if console::put(b"listing", last, out) && !tape.may_end() {
+        console::say_wrong(b"listing", at.offset);
     }
 }
 
 // Lines to standard output; whether all went there.
 fn print(text: &[u8]) -> bool {
-    if io::write_all(1, text) {
-        return true;
-    }
-    fail(b"listing: cannot write standard output\n");
-    false
-}
-
-fn fail(message: &[u8]) {
-    io::write_all(2, message);
+    console::print(b"listing", text)
 }

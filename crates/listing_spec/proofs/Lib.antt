@@ -4,4 +4,3 @@ pub mod Numbers
 pub mod Offsets
 pub mod Wrong
 pub mod Described
-pub mod Digits

@@ -3,6 +3,7 @@
 -- ended-is, stays                   taking them apart says so; behind a wrong byte nothing moves
 -- offset-right                      where no byte is wrong, it is the length of all
 -- offset-wrong                      where one is, it is the offset of the first wrong byte
+-- is-wrong                          a wrong place is that one
 use Prim.Native.Nat.{ℕ, suc, _+_, _-_, _*_, _<_}
 use native.Mathlib.Nat.{add-zero, zero-add}
 use native.Mathlib.Omega.{arith}

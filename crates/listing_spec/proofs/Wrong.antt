@@ -2,6 +2,7 @@
 -- wrong-apart     no byte is a stream byte, and the recording stands where it stood
 -- wrong-rest      so bytes behind it change neither the stream bytes, nor where the recording ends, nor which stream it is
 -- wrong-listing   nor what is printed
+-- wrong-next, wrong-out   one byte there, and that it is no stream byte
 use Prim.Native.Nat.{ℕ}
 use mathlib.Core.Path.{_≡_, refl, sym, ap, _∙_}
 use mathlib.Core.Bool.{Bool, true, false, false≢true}

@@ -5,6 +5,10 @@
 -- isWrong     a wrong byte was met
 -- onChannel   which stream it is
 -- records     the records of some pieces
+-- most        a stream has at most so many bytes
+-- freshSpot, on, wrong, left, through, nextAt   before the first byte; where one byte leads, by the place
+-- inStream, keep   the next byte is a stream byte, and stands before the rest then
+-- recordOf    a piece as a record
 use Prim.Native.Nat.{ℕ, _+_, _-_, _*_, _/_, _%_}
 use mathlib.Core.Bool.{Bool, true, false}
 use mathlib.Core.List.{List, [], _∷_, _++_}

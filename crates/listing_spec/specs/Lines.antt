@@ -1,16 +1,19 @@
 -- The lines of a listing (paper 01, "The listing program"), as ASCII.
--- decimal              a number without leading zeros
--- line, lines          an answer's line, and line after line
--- totalOf, count       the total that an answer counts in, and how many answers are such
--- packetsIn, ..        the same told of the frame answers, and of the block answers
+-- letter, told, blockLine   the letter of a class; the lines of a frame and of a block
+-- line, given, lines   an answer's line; the answer of an event; line after line
+-- totalOf              the total that an answer counts in
+-- inPackets, inRefusals, inDamaged, inLost, one   which total it is; 1 where a test holds
+-- isPacket, isRefusal, isDamaged, isLost, count   an answer counts in it, and how many answers are such
+-- packetsIn, refusalsIn, damagedIn   the same told of the frame answers, and of the block answers
 -- endLine, wrongLine   the last line
 -- longest              no line is longer
-use Prim.Native.Nat.{ℕ, zero, suc, _+_, _/_, _%_}
+use Prim.Native.Nat.{ℕ, suc, _+_}
+use Prim.Native.Char.{code}
 use mathlib.Core.Bool.{Bool, true, false}
 use mathlib.Core.List.{List, [], _∷_, _++_}
 use mathlib.Core.Option.{some}
-use lib.Dec.{ltb}
 use Rattle.base.specs.Choice.{pick}
+use Rattle.text.specs.Text.{ascii, number}
 use Rattle.packet_spec.specs.Port.{class}
 use Rattle.packet_spec.specs.declared.Class.{Class}
 use Rattle.packet_spec.specs.declared.Class.the-variants.{System, Applications, M, D, Future, Barred}
@@ -26,43 +29,33 @@ use Rattle.channel_spec.specs.Answer.{answered}
 use Rattle.channel_spec.specs.declared.Answer.{Answer}
 use Rattle.channel_spec.specs.declared.Answer.the-variants.{More, Said, Block, LockLost}
 
--- the digits of n, at most k + 1 of them
-unfoldable pub decimalBy : ℕ → ℕ → List ℕ
-decimalBy zero n = (48 + n) ∷ []
-decimalBy (suc k) n = pick (ltb n 10) ((48 + n) ∷ []) (decimalBy k (n / 10) ++ ((48 + n % 10) ∷ []))
-
--- a number below 2^64 has at most 20 digits
-unfoldable pub decimal : ℕ → List ℕ
-decimal n = decimalBy 19 n
-
 -- the letter of a class; a port that may not be used is never delivered
 abbrev pub letter : Class → ℕ
-letter System = 83
-letter Applications = 65
-letter M = 77
-letter D = 68
-letter Future = 70
-letter Barred = 70
+letter System = code "S"
+letter Applications = code "A"
+letter M = code "M"
+letter D = code "D"
+letter Future = code "F"
+letter Barred = code "F"
 
 -- `P port sequence payload-length class`, or `R n`; `R 3 place` where an escape broke
 unfoldable pub told : Judged → List ℕ
-told (Packet d) =
-    80 ∷ 32 ∷ (decimal (d .port) ++ 32 ∷ (decimal (d .sequence) ++ 32 ∷ (decimal (d .length) ++ 32 ∷ letter (class (d .port)) ∷ 10 ∷ [])))
-told (Refused n) = 82 ∷ 32 ∷ (decimal n ++ 10 ∷ [])
-told (Broken n) = 82 ∷ 32 ∷ (decimal 3 ++ 32 ∷ (decimal n ++ 10 ∷ []))
+told (Packet d) = ascii "P " ++ number (d .port) " " ++ number (d .sequence) " " ++ number (d .length) " " ++ (letter (class (d .port)) ∷ ascii "\n")
+told (Refused n) = ascii "R " ++ number n "\n"
+told (Broken n) = ascii "R " ++ number 3 " " ++ number n "\n"
 
 -- `B 0` clean, `B count` repaired, `B X` beyond repair
 abbrev pub blockLine : Condition → List ℕ
-blockLine Clean = 66 ∷ 32 ∷ 48 ∷ 10 ∷ []
-blockLine (Repaired n) = 66 ∷ 32 ∷ (decimal n ++ 10 ∷ [])
-blockLine Beyond = 66 ∷ 32 ∷ 88 ∷ 10 ∷ []
+blockLine Clean = ascii "B 0\n"
+blockLine (Repaired n) = ascii "B " ++ number n "\n"
+blockLine Beyond = ascii "B X\n"
 
 -- an answer's line: these; `L` lock lost; "more wanted" has none
 abbrev pub line : Answer → List ℕ
 line More = []
 line (Said j) = told j
 line (Block c) = blockLine c
-line LockLost = 76 ∷ 10 ∷ []
+line LockLost = ascii "L\n"
 
 -- the answer that a call gives of an event
 abbrev pub given : Event → Answer
@@ -169,8 +162,8 @@ damagedIn (Beyond ∷ cs) = suc (damagedIn cs)
 -- `E stream-bytes packets frame-refusals damaged-blocks lost-locks`
 unfoldable pub endLine : ℕ → ℕ → ℕ → ℕ → ℕ → List ℕ
 endLine n packets refused damaged lost =
-    69 ∷ 32 ∷ (decimal n ++ 32 ∷ (decimal packets ++ 32 ∷ (decimal refused ++ 32 ∷ (decimal damaged ++ 32 ∷ (decimal lost ++ 10 ∷ [])))))
+    ascii "E " ++ number n " " ++ number packets " " ++ number refused " " ++ number damaged " " ++ number lost "\n"
 
 -- `X offset`
 unfoldable pub wrongLine : ℕ → List ℕ
-wrongLine offset = 88 ∷ 32 ∷ (decimal offset ++ 10 ∷ [])
+wrongLine offset = ascii "X " ++ number offset "\n"

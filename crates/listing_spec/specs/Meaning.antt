@@ -1,6 +1,8 @@
 -- What a listing prints (paper 01, "The listing program"): from the bytes of a recording to the bytes printed.
 -- heard     the answers of its stream bytes
 -- listing   their lines, and the last line
+-- totalLine, lastLine   the last line: `E` with the totals counted from the answers; that or `X`
+-- listed    the lines of answers, and the last line
 use Prim.Native.Nat.{ℕ}
 use mathlib.Core.Bool.{Bool, true, false}
 use mathlib.Core.List.{List, _++_, map}

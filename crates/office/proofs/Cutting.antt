@@ -23,7 +23,8 @@ use Rattle.bid.specs.Input.{packetsOf, complaints}
 use Rattle.office.specs.declared.Started.{Started}
 use Rattle.office.specs.declared.Started.the-variants.{Ready}
 use Rattle.office.specs.Meaning.{sentFor, Said, Desk, waiting, eat, deskAll, sentBy, complaintsBy}
-use Rattle.office.specs.Call.{holdLimit, outLimit, freshOffice, starting, hearBy, hearCall, endBytes, closeCall, finishBy, finishing, sound, roomy, Fine, first, lastOf}
+use Rattle.office.specs.Call.{holdLimit, outLimit, freshOffice, starting, hearBy, hearCall, endBytes, closeCall, finishBy, finishing, sound}
+use Rattle.office.specs.Call.{roomy, Fine, first, lastOf}
 use Rattle.office.proofs.Taking.{call-on, start-ready}
 use Rattle.office.proofs.Sent.{sent-append, fine-sound, fine-roomy, fine-eat, fine-closed, closed, says, names}
 
@@ -75,7 +76,8 @@ module _ (line hold : List ℕ) (l : lineLimit ≤ length line) (h : holdLimit �
         sent-is : sentBy (xs ++ lastOf (closeCall last t .0)) ++ marked (waiting (closeCall last t .2)) ≡ sentFor (joined ps)
         sent-is =
             let c : Option Said × ℕ × Desk = closeCall last t in
-            ap (λ (x : List ℕ). x ++ marked (waiting (c .2))) (sent-append xs (lastOf (c .0))) ∙ append-assoc (sentBy xs) (sentBy (lastOf (c .0))) (marked (waiting (c .2)))
+            ap (λ (x : List ℕ). x ++ marked (waiting (c .2))) (sent-append xs (lastOf (c .0)))
+            ∙ append-assoc (sentBy xs) (sentBy (lastOf (c .0))) (marked (waiting (c .2)))
             ∙ ap (λ (r : Option Said × ℕ × Desk). sentBy xs ++ (sentBy (lastOf (r .0)) ++ marked (waiting (r .2)))) last-is
             ∙ ap (λ (r : List Said × Desk). sentBy (r .0) ++ (sentBy (lastOf (closed (r .1) .0)) ++ marked (waiting (closed (r .1) .2)))) whole
             ∙ says (joined ps) (first line hold) [] fine-first refl

@@ -1,4 +1,5 @@
--- Each public function's promise determines its result, and what each lent buffer then holds.
+-- Each public function's promise determines its result, and what each lent buffer then holds:
+-- start-determined, hear-determined, close-determined, finish-determined.
 use Prim.Native.Nat.{ℕ}
 use mathlib.Core.Path.{_≡_, refl, sym}
 use mathlib.Core.List.{List}

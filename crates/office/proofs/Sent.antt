@@ -1,6 +1,8 @@
 -- What is sent is the stream of exactly the accepted lines, in order; the others are named.
+-- sent-append             what is sent of two runs of answers
 -- line-sent, line-named   a line
--- fine-eat, fine-closed   what passes 10 and 11
+-- fine-sound, fine-roomy, fine-eat, fine-closed   what passes 10 and 11
+-- closed                  the end of the input
 -- Shows, shows-kept       the line so far
 -- says, names             an input, byte by byte
 use Prim.Native.Nat.{ℕ, suc, _+_, _-_, _*_, _/_, _≤_, min}
@@ -22,7 +24,8 @@ use Rattle.bid.specs.Line.{feed, lineLimit, Verdict, noBid, refused, accepted, 
 use Rattle.bid.specs.Input.{linesFrom, packets, numbered, complaintsFrom}
 use Rattle.bid.proofs.Verdicts.{verdict-first}
 use Rattle.bid.proofs.Lines.{lines-feed, lines-other, lines-none, lines-one}
-use Rattle.office.specs.Meaning.{Spoken, blocks, unread, refusal, Said, putOut, endingBy, Desk, soFar, waiting, kept, endingOf, ended, eat, deskAll, sentBy, complaintsBy}
+use Rattle.office.specs.Meaning.{Spoken, blocks, unread, refusal, Said, putOut, endingBy, Desk, soFar, waiting, kept, endingOf, ended, eat}
+use Rattle.office.specs.Meaning.{deskAll, sentBy, complaintsBy}
 use Rattle.channel_spec.specs.Sender.{wholes, restOf, messageBytes}
 use Rattle.office.specs.Call.{heldLimit, holdLimit, sound, roomy, hearOn, endBytes, Fine, lastOf}
 use Rattle.channel_spec.proofs.Marking.{rest-short, marked-rest}
@@ -60,7 +63,7 @@ sent-append ((k, blocks bs) ∷ xs) ys = ap (λ (l : List ℕ). bs ++ l) (sent-a
 sent-append ((k, unread) ∷ xs) ys = sent-append xs ys
 sent-append ((k, refusal n) ∷ xs) ys = sent-append xs ys
 
-pub named-append : (xs ys : List Said) → complaintsBy (xs ++ ys) ≡ complaintsBy xs ++ complaintsBy ys
+named-append : (xs ys : List Said) → complaintsBy (xs ++ ys) ≡ complaintsBy xs ++ complaintsBy ys
 unfolding complaintsBy
 named-append [] ys = refl
 named-append ((k, blocks bs) ∷ xs) ys = named-append xs ys
@@ -75,8 +78,9 @@ held-is bs hold =
     let h : length r ≤ length x = omega (arith, length-drop (length bs / messageBytes * messageBytes) bs, length-append bs (drop (length bs) hold)) in
     ap (take (length r)) (copied-fits r x h) ∙ take-at r (drop (length r) x) (length r) refl
 
-pub line-sent : (v : Verdict) (at : ℕ) (hold more : List ℕ)
-    → blocksOf (endingBy v at hold .said) ++ marked (take (endingBy v at hold .held) (endingBy v at hold .hold) ++ more) ≡ marked (take at hold ++ (bytesOf v ++ more))
+line-sent : (v : Verdict) (at : ℕ) (hold more : List ℕ)
+    → blocksOf (endingBy v at hold .said) ++ marked (take (endingBy v at hold .held) (endingBy v at hold .hold) ++ more) ≡ marked
+    (take at hold ++ (bytesOf v ++ more))
 line-sent noBid at hold more = refl
 line-sent (refused n) at hold more = refl
 line-sent (accepted p) at hold more =
@@ -84,7 +88,7 @@ line-sent (accepted p) at hold more =
     ap (λ (x : List ℕ). marked (wholes bs) ++ marked (x ++ more)) (held-is bs hold)
     ∙ marked-rest bs more ∙ ap marked (append-assoc (take at hold) (rawOf p ++ flag ∷ []) more)
 
-pub line-named : (v : Verdict) (k at : ℕ) (hold : List ℕ) (xs : List Said) (vs : List Verdict) → complaintsBy xs ≡ complaintsFrom (numbered k) vs
+line-named : (v : Verdict) (k at : ℕ) (hold : List ℕ) (xs : List Said) (vs : List Verdict) → complaintsBy xs ≡ complaintsFrom (numbered k) vs
     → complaintsBy ((numbered k, endingBy v at hold .said) ∷ xs) ≡ complaintsFrom k (v ∷ vs)
 unfolding complaintsBy complaintsFrom
 line-named noBid k at hold xs vs e = ap (λ (l : List (ℕ × ℕ)). (numbered k, 0) ∷ l) e
@@ -114,7 +118,8 @@ hold-fits (accepted p) at hold h k =
     let bs : List ℕ = take at hold ++ (rawOf p ++ flag ∷ []) in
     let r : List ℕ = restOf bs in
     let x : List ℕ = bs ++ drop (length bs) hold in
-    let l : length x ≡ length bs + (length hold - length bs) = length-append bs (drop (length bs) hold) ∙ ap (λ (n : ℕ). length bs + n) (length-drop (length bs) hold) in
+    let l : length x ≡ length bs + (length hold - length bs) = length-append bs (drop (length bs) hold)
+    ∙ ap (λ (n : ℕ). length bs + n) (length-drop (length bs) hold) in
     let s : length r ≤ length x = omega (arith, length-drop (length bs / messageBytes * messageBytes) bs) in
     (omega (arith, rest-short bs), omega (arith, ap length (copied-fits r x s), length-append r (drop (length r) x), length-drop (length r) x))
 
@@ -136,10 +141,10 @@ module _ (d : Desk) (l : List ℕ) (f : Fine d) (w : Shows d l) where
   stored-is : d .st .stored ≡ length (take lineLimit l)
   stored-is = sym (length-take-le (d .st .stored) (d .line) (omega (arith, f .stored, f .line))) ∙ ap length w
 
-  pub same-verdict : verdict (soFar d) ≡ verdict l
+  same-verdict : verdict (soFar d) ≡ verdict l
   same-verdict = ap verdict w ∙ verdict-first lineLimit l (omega arith)
 
-  pub shows-kept : (b : ℕ) → Shows (kept d (b ∷ [])) (l ++ b ∷ [])
+  shows-kept : (b : ℕ) → Shows (kept d (b ∷ [])) (l ++ b ∷ [])
   shows-kept b =
       let s : ℕ = d .st .stored in
       by-le lineLimit s
@@ -161,10 +166,10 @@ module _ (d : Desk) (l : List ℕ) (f : Fine d) (w : Shows d l) where
       ∙ sym (take-all lineLimit (l ++ b ∷ []) (omega (arith, length-append l (b ∷ [])))))
 
   -- a line is begun exactly where some of it is stored
-  pub none-stored : d .st .stored ≡ 0 → length l ≡ 0
+  none-stored : d .st .stored ≡ 0 → length l ≡ 0
   none-stored e = omega (arith, stored-is, length-take lineLimit l)
 
-  pub some-stored : (d .st .stored ≡ 0 → ⊥) → length l ≡ 0 → ⊥
+  some-stored : (d .st .stored ≡ 0 → ⊥) → length l ≡ 0 → ⊥
   some-stored n e = n (stored-is ∙ length-take lineLimit l ∙ omega arith)
 
 abbrev streamFrom : List (List ℕ) → List ℕ
@@ -207,7 +212,8 @@ says [] d l f w =
     ∙ ap (λ (ls : List (List ℕ)). marked (waiting d ++ streamFrom ls)) (sym (lines-none l (none-stored d l f w e))))
     (λ n.
     ap lastly (closed-line d n)
-    ∙ ap (λ (x : List ℕ). x ++ marked (waiting (ended d .1))) (sent-cons (numbered (d .st .lines)) (endingOf d .said) [] ∙ append-nil (blocksOf (endingOf d .said)))
+    ∙ ap (λ (x : List ℕ). x ++ marked (waiting (ended d .1)))
+    (sent-cons (numbered (d .st .lines)) (endingOf d .said) [] ∙ append-nil (blocksOf (endingOf d .said)))
     ∙ ap (λ (x : List ℕ). blocksOf (endingOf d .said) ++ marked x) (sym (append-nil (waiting (ended d .1))))
     ∙ line-then d l 0 [] (same-verdict d l f w)
     ∙ ap (λ (ls : List (List ℕ)). marked (waiting d ++ streamFrom ls)) (sym (lines-one l (some-stored d l f w n))))
@@ -215,7 +221,8 @@ says (b ∷ bs) d l f w =
     by-eq b feed
     (λ e.
     ap (λ (r : Option Said × Desk). let x = tell (r .0) (deskAll (r .1) bs) in sentBy (x .0) ++ lastly (closed (x .1))) (eat-feed d b e)
-    ∙ ap (λ (x : List ℕ). x ++ lastly (closed (deskAll (ended d .1) bs .1))) (sent-cons (numbered (d .st .lines)) (endingOf d .said) (deskAll (ended d .1) bs .0))
+    ∙ ap (λ (x : List ℕ). x ++ lastly (closed (deskAll (ended d .1) bs .1)))
+    (sent-cons (numbered (d .st .lines)) (endingOf d .said) (deskAll (ended d .1) bs .0))
     ∙ append-assoc (blocksOf (endingOf d .said)) (sentBy (deskAll (ended d .1) bs .0)) (lastly (closed (deskAll (ended d .1) bs .1)))
     ∙ ap (λ (x : List ℕ). blocksOf (endingOf d .said) ++ x) (says bs (ended d .1) [] (fine-ended d f) refl)
     ∙ line-then d l 0 (linesFrom [] bs) (same-verdict d l f w)
@@ -237,7 +244,8 @@ pub names : (bs : List ℕ) (d : Desk) (l : List ℕ) → Fine d → Shows d l
 names [] d l f w =
     by-eq (d .st .stored) 0
     (λ e.
-    ap namedLast (closed-none d e) ∙ none-named (d .st .lines) ∙ ap (λ (ls : List (List ℕ)). complaintsFrom (d .st .lines) (map verdict ls)) (sym (lines-none l (none-stored d l f w e))))
+    ap namedLast (closed-none d e) ∙ none-named (d .st .lines) ∙ ap (λ (ls : List (List ℕ)). complaintsFrom (d .st .lines) (map verdict ls))
+    (sym (lines-none l (none-stored d l f w e))))
     (λ n.
     ap namedLast (closed-line d n)
     ∙ line-named (verdict (soFar d)) (d .st .lines) (d .st .held) (d .hold) [] [] (none-named (numbered (d .st .lines)))

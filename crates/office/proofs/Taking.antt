@@ -3,10 +3,11 @@
 -- eat-feed, eat-other           a byte
 -- hear-all, hear-line           a call that finds no line feed, and one that finds it
 -- heard-more, heard-line        what the code then answers and leaves; stored-fits, what it asks before
--- call-unsound .. call-on       refusals 10, 11 and 23, or let on
+-- call-unsound, call-cramped, call-short, call-on, called-on   refusals 10, 11 and 23, or let on
+-- sound-stored, sound-held, roomy-line, roomy-hold            what these tests show
 -- close-as                      the end of the input; none-begun, one-begun, what it stands for
--- start-short .. start-copied   the start
--- finish-unsound .. finish-on   the last block
+-- start-short, start-ready, start-copied          the start
+-- finish-unsound, finish-cramped, finish-on       the last block
 use Prim.Native.Nat.{ℕ, suc, _+_, _-_, _≤_, _<_, min}
 use native.Mathlib.Omega.{arith}
 use native.Mathlib.Nat.{sub-zero}
@@ -36,7 +37,8 @@ use Rattle.office.specs.declared.Answer.the-variants.{More, Refused}
 use Rattle.office.specs.declared.Hearing.{Hearing}
 use Rattle.office.specs.declared.Ended.{Ended}
 use Rattle.office.specs.Meaning.{Said, endingBy, Desk, desk, kept, endingOf, ended, eat}
-use Rattle.office.specs.Call.{heldLimit, holdLimit, outLimit, freshOffice, starting, sound, roomy, hearOn, denied, hearBy, hearCall, lastFeed, endBytes, closeCall, HeardIs, finishBy, finishing}
+use Rattle.office.specs.Call.{heldLimit, holdLimit, outLimit, freshOffice, starting, sound, roomy, hearOn, denied, hearBy, hearCall, lastFeed}
+use Rattle.office.specs.Call.{endBytes, closeCall, HeardIs, finishBy, finishing}
 use Rattle.office.specs.Private.{EndedIs}
 
 -- ---- bytes of a line stored
@@ -76,7 +78,8 @@ module _ (line bs : List ℕ) (at : ℕ) (h : at ≤ lineLimit) (room : lineLimi
 
   pub keep-is : {y : List ℕ} → y ≡ copied bs part → putMid at m line y ≡ sets line at (take m bs)
   keep-is {y} e =
-      let k : length (take m bs) ≤ m = by-le m (length bs) (λ l. omega (arith, length-take-le m bs l)) (λ l. omega (arith, ap length (take-all m bs (omega arith)))) in
+      let k : length (take m bs) ≤ m = by-le m (length bs) (λ l. omega (arith, length-take-le m bs l))
+      (λ l. omega (arith, ap length (take-all m bs (omega arith)))) in
       ap (λ (x : List ℕ). take at line ++ (x ++ drop m tail)) e ∙ ap (λ (x : List ℕ). take at line ++ x) part-copied
       ∙ ap (λ (x : List ℕ). take at line ++ (take m bs ++ x)) (drop-drop (length (take m bs)) at line)
       ∙ sym (append-assoc (take at line) (take m bs) (drop (at + length (take m bs)) line))
@@ -92,17 +95,18 @@ unfolding eat
 eat-other d b n = ap (λ (t : Bool). pick t (ended d) (none, kept d (b ∷ []))) (ne-eqb b feed n)
 
 module _ (d : Desk) (h : d .st .stored ≤ lineLimit) where
-  pub kept-none : kept d [] ≡ d
+  kept-none : kept d [] ≡ d
   kept-none =
       let e : min (d .st .stored + 0) lineLimit ≡ d .st .stored = omega arith in
       λ i. desk (record { lines = d .st .lines; stored = e i; held = d .st .held })
       (sets (d .line) (d .st .stored) (take-nil {A = ℕ} (lineLimit - d .st .stored) i)) (d .hold)
 
-  pub kept-most : (bs : List ℕ) → kept d bs .st .stored ≤ lineLimit
+  kept-most : (bs : List ℕ) → kept d bs .st .stored ≤ lineLimit
   kept-most bs = omega arith
 
   line-more : (b : ℕ) (bs : List ℕ)
-      → sets (sets (d .line) (d .st .stored) (take (lineLimit - d .st .stored) (b ∷ []))) (min (d .st .stored + 1) lineLimit) (take (lineLimit - min (d .st .stored + 1) lineLimit) bs)
+      → sets (sets (d .line) (d .st .stored) (take (lineLimit - d .st .stored) (b ∷ []))) (min (d .st .stored + 1) lineLimit)
+      (take (lineLimit - min (d .st .stored + 1) lineLimit) bs)
       ≡ sets (d .line) (d .st .stored) (take (lineLimit - d .st .stored) (b ∷ bs))
   line-more b bs =
       let s : ℕ = d .st .stored in
@@ -119,7 +123,7 @@ module _ (d : Desk) (h : d .st .stored ≤ lineLimit) where
       ∙ ap (λ (x : List ℕ). sets (sets (d .line) s (b ∷ x)) (suc s) (take n bs)) (take-nil n)
       ∙ ap (λ (k : ℕ). sets (d .line) s (take k (b ∷ bs))) (sym e))
 
-  pub kept-more : (b : ℕ) (bs : List ℕ) → kept (kept d (b ∷ [])) bs ≡ kept d (b ∷ bs)
+  kept-more : (b : ℕ) (bs : List ℕ) → kept (kept d (b ∷ [])) bs ≡ kept d (b ∷ bs)
   kept-more b bs =
       let e : min (min (d .st .stored + 1) lineLimit + length bs) lineLimit ≡ min (d .st .stored + suc (length bs)) lineLimit = omega arith in
       λ i. desk (record { lines = d .st .lines; stored = e i; held = d .st .held }) (line-more b bs i) (d .hold)
@@ -128,7 +132,7 @@ hear-other : (d : Desk) (b : ℕ) (bs : List ℕ) → (b ≡ feed → ⊥) → h
 hear-other d b bs n = ap (λ (r : Option Said × Desk). unless (r .0) 1 (r .1) (oneMore (hearOn (r .1) bs))) (eat-other d b n)
 
 -- no line feed
-pub hear-all : (bs : List ℕ) (d : Desk) → d .st .stored ≤ lineLimit → length bs ≤ length (upTo feed bs)
+hear-all : (bs : List ℕ) (d : Desk) → d .st .stored ≤ lineLimit → length bs ≤ length (upTo feed bs)
     → hearOn d bs ≡ (none, length (upTo feed bs), kept d (upTo feed bs))
 unfolding upTo
 hear-all [] d h k = λ i. (none, 0, sym (kept-none d h) i)
@@ -153,7 +157,7 @@ up-to-miss b bs m = ap (λ (t : Bool). pick t [] (b ∷ upTo feed bs)) (ne-eqb b
 abbrev lineEnd : Desk → List ℕ → Option Said × ℕ × Desk
 lineEnd d u = (ended (kept d u) .0, length u + 1, ended (kept d u) .1)
 
-pub hear-line : (bs : List ℕ) (d : Desk) → d .st .stored ≤ lineLimit → length (upTo feed bs) < length bs → hearOn d bs ≡ lineEnd d (upTo feed bs)
+hear-line : (bs : List ℕ) (d : Desk) → d .st .stored ≤ lineLimit → length (upTo feed bs) < length bs → hearOn d bs ≡ lineEnd d (upTo feed bs)
 hear-line [] d h k = absurd (omega arith)
 hear-line (b ∷ bs) d h k =
     by-eq b feed
@@ -187,10 +191,11 @@ module _ (s : Office) (line hold bs : List ℕ) (h : s .stored ≤ lineLimit) {n
   heard-more e out =
       let x : hearOn d bs ≡ (none, n, desk (record { lines = s .lines; stored = k; held = s .held }) line′ hold) =
       hear-all bs d h (omega arith) ∙ (λ i. (none, sym en i, sym kept-is i)) in
-      subst (λ (y : Option Said × ℕ × Desk). HeardIs y out (record { answer = More; taken = n; office = record { lines = s .lines; stored = k; held = s .held } }) line′ hold out)
+      subst (λ (y : Option Said × ℕ × Desk). HeardIs y out
+      (record { answer = More; taken = n; office = record { lines = s .lines; stored = k; held = s .held } }) line′ hold out)
       (sym x) (refl, refl, refl, refl)
 
-  pub line-stops : (n ≡ length bs → ⊥) → n < length bs
+  line-stops : (n ≡ length bs → ⊥) → n < length bs
   line-stops e = by-le (length bs) n (λ m. absurd (e (omega (arith, up-to-short feed bs)))) (λ m. m)
 
   pub heard-line : (n ≡ length bs → ⊥) → (out : List ℕ) {x : Ended} {hold′ out′ : List ℕ} {j : ℕ}
@@ -202,7 +207,8 @@ module _ (s : Office) (line hold bs : List ℕ) (h : s .stored ≤ lineLimit) {n
       hear-line bs d h (omega (arith, line-stops e)) ∙ (λ i. (ended (sym kept-is i) .0, sym en i + 1, ended (sym kept-is i) .1)) in
       let f : EndedIs (endingOf c) out x hold′ out′ =
       subst (λ (m : ℕ). EndedIs (endingBy (verdict (take m line′)) (s .held) hold) out x hold′ out′) (sub-zero k) ends in
-      subst (λ (z : Option Said × ℕ × Desk). HeardIs z out (record { answer = x .answer; taken = n + 1; office = record { lines = j; stored = 0; held = x .held } }) line′ hold′ out′)
+      subst (λ (z : Option Said × ℕ × Desk). HeardIs z out
+      (record { answer = x .answer; taken = n + 1; office = record { lines = j; stored = 0; held = x .held } }) line′ hold′ out′)
       (sym y) (
         (λ i. record { answer = f .0 i .answer; taken = n + 1; office = record { lines = ej i; stored = 0; held = f .0 i .held } }),
         refl,
@@ -279,5 +285,6 @@ finish-unsound s hold out e = sym (ap (λ (t : Bool). finishBy t (leb holdLimit 
 pub finish-cramped : (s : Office) (hold out : List ℕ) → sound s ≡ true → length hold < holdLimit → refused 11 out ≡ finishing s hold out
 finish-cramped s hold out e h = sym (λ i. finishBy (e i) (lt-leb holdLimit (length hold) h i) s hold out)
 
-pub finish-on : (s : Office) (hold out : List ℕ) {o : Outcome} → sound s ≡ true → holdLimit ≤ length hold → o ≡ finishBy true true s hold out → o ≡ finishing s hold out
+pub finish-on : (s : Office) (hold out : List ℕ) {o : Outcome} → sound s ≡ true → holdLimit ≤ length hold → o ≡ finishBy true true s hold out
+    → o ≡ finishing s hold out
 finish-on s hold out e h f = f ∙ sym (λ i. finishBy (e i) (le-leb holdLimit (length hold) h i) s hold out)

@@ -1,8 +1,12 @@
 -- The office as it is called: its state and the lent buffers go in and come back, and one call gives at most one answer.
--- freshOffice, starting         the start
+-- heldLimit, holdLimit, outLimit   bytes held, those and a packet's, and the marked blocks of so many
+-- sound, roomy             what passes 10, and 11
+-- freshOffice, starting    the start
+-- hearOn, denied, hearBy   a call behind the refusals, a call refused, and which it is
 -- hearCall, HeardIs        one call on bytes, and that the code's results are those
--- endBytes, closeCall      the end of the input
--- finishing                the last block
+-- spoken, answered, spokenOut, answeredOut, heardOf   the code's answer, the output then, and the result
+-- lastFeed, endBytes, closeCall   the end of the input
+-- finishBy, finishing      the last block
 -- Fine                     desks that pass 10 and 11
 -- first, lastOf            from where, and to what end, an input is sent
 use Prim.Native.Nat.{ℕ, _+_, _-_, _*_, _/_, _≤_}

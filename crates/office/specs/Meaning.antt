@@ -1,7 +1,10 @@
 -- The office's desk: lines of bids in, marked blocks out, byte by byte.
 -- Spoken, Said         what the sender says of a line, and the line's number
--- Ending, endingBy     a line ended: what is said, and what is held then
+-- sentFor              the bytes of an input's bids as they are sent
+-- Ending, endingBy, putOut   a line ended: what is said, and what is held then
 -- Desk, eat            the desk, and one byte
+-- soFar, waiting       the line so far, and the stream bytes not yet sent
+-- kept, endingOf       bytes of a line stored; what becomes of the line
 -- deskAll              an input: what is said of its lines, and the desk behind it
 -- sentBy, complaintsBy what was sent, and the complaints, of all that is said
 use Prim.Native.Nat.{ℕ, _+_, _-_, _*_, _/_, min}
@@ -75,7 +78,7 @@ kept d bs =
     (sets (d .line) (d .st .stored) (take (lineLimit - d .st .stored) bs)) (d .hold)
 
 -- the desk behind a line
-abbrev pub behindLine : Desk → Ending → Desk
+abbrev behindLine : Desk → Ending → Desk
 behindLine d e = desk (record { lines = numbered (d .st .lines); stored = 0; held = e .held }) (d .line) (e .hold)
 
 -- what becomes of the line

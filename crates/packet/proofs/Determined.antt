@@ -1,4 +1,6 @@
 -- Each public function's promise determines its result, and what the lent buffer then holds.
+-- class-of-determined, wrong-behind-determined, up-to-determined, pair-determined, payload-at-determined, judge-determined, write-as-determined,
+-- write-determined   of the function of that name
 use mathlib.Core.Path.{refl}
 use Rattle.base.specs.Determined.{Determined}
 use Rattle.base.proofs.Determining.{same, same-answer, same-output, buffer, skip}
@@ -8,6 +10,10 @@ use Rattle.packet.proofs.escape.wrong_behind.Kinds as wrong-behind-kind
 use Rattle.packet.proofs.escape.wrong_behind.Reads as wrong-behind-reads
 use Rattle.packet.proofs.search.up_to.Kinds as up-to-kinds
 use Rattle.packet.proofs.search.up_to.Reads as up-to-reads
+use Rattle.packet.proofs.frame.pair.Kinds as pair-kinds
+use Rattle.packet.proofs.frame.pair.Reads as pair-reads
+use Rattle.packet.proofs.frame.payload_at.Kinds as payload-at-kinds
+use Rattle.packet.proofs.frame.payload_at.Reads as payload-at-reads
 use Rattle.packet.proofs.frame.judge.Kinds as judge-kinds
 use Rattle.packet.proofs.frame.judge.Reads as judge-reads
 use Rattle.packet.proofs.sender.write_as.Kinds as write-as-kinds
@@ -23,6 +29,12 @@ wrong-behind-determined κs a z z′ ws ws′ pre p q = (same p q, refl)
 
 pub up-to-determined : Determined up-to-kinds.ps up-to-kinds.r up-to-reads.Asked up-to-reads.Learnt
 up-to-determined κs a z z′ ws ws′ pre p q = (same (p .0) (q .0), refl)
+
+pub pair-determined : Determined pair-kinds.ps pair-kinds.r pair-reads.Asked pair-reads.Learnt
+pair-determined κs a z z′ ws ws′ pre p q = (same p q, refl)
+
+pub payload-at-determined : Determined payload-at-kinds.ps payload-at-kinds.r payload-at-reads.Asked payload-at-reads.Learnt
+payload-at-determined κs a z z′ ws ws′ pre p q = (same p q, refl)
 
 pub judge-determined : Determined judge-kinds.ps judge-kinds.r judge-reads.Asked judge-reads.Learnt
 judge-determined κs a z z′ ws ws′ pre p q = (same (p .0) (q .0), buffer (same (p .1) (q .1)) refl)

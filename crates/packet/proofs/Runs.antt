@@ -1,6 +1,6 @@
 -- Laws of `run`, the bytes before the first 7D.
 -- shift-none, shift-more, shift-done   bytes that are moved: to where they stand; a turn of the loop, and its end
--- run-within, run-moved          a run of known length, and what moving it leaves
+-- run-moved, moved-within        what moving a run leaves, and its length
 -- found-is, found-within         the place of the 7D behind it, or the end
 -- scan-ends, scan-hands          plain reading ends behind the run, or hands over behind the 7D that follows it
 -- wrong-plain                    .. and goes on behind a right byte
@@ -69,7 +69,8 @@ unfolding wrongFrom upTo
 wrong-run [] p at n h = absurd (omega (arith, h))
 wrong-run (b ∷ bs) p at n h =
     by-eq b 0x7D
-    (λ e. let s : suc at ≡ at + 1 = omega arith in rw (ne-eqb p 0x7D n) (simp (eq-eqb b 0x7D e) (ap (λ (x : ℕ). wrongFrom x (suc at) bs) e ∙ ap (λ (m : ℕ). wrongFrom 0x7D m bs) s)))
+    (λ e. let s : suc at ≡ at + 1 = omega arith in rw (ne-eqb p 0x7D n)
+    (simp (eq-eqb b 0x7D e) (ap (λ (x : ℕ). wrongFrom x (suc at) bs) e ∙ ap (λ (m : ℕ). wrongFrom 0x7D m bs) s)))
     (λ m.
     let k = simp (ne-eqb b 0x7D m) at h in
     let s : suc at + suc (length (run bs)) ≡ at + suc (suc (length (run bs))) = omega arith in
@@ -84,7 +85,8 @@ shift-none l i n h =
     let m : length (drop i (take n l)) ≡ n - i = length-drop i (take n l) ∙ ap (λ (x : ℕ). x - i) (length-take-le n l h) in
     let e : i + length (drop i (take n l)) ≡ n = omega arith in
     sets-eq (drop i (take n l)) l i (omega arith)
-    ∙ ap₂ (λ (x : List ℕ) (j : ℕ). x ++ drop (i + length (drop i (take n l))) l) (ap (λ (x : List ℕ). x ++ drop i (take n l)) (sym (take-take i n l k)) ∙ take-append-drop i (take n l)) e
+    ∙ ap₂ (λ (x : List ℕ) (j : ℕ). x ++ drop (i + length (drop i (take n l))) l)
+    (ap (λ (x : List ℕ). x ++ drop i (take n l)) (sym (take-take i n l k)) ∙ take-append-drop i (take n l)) e
     ∙ ap (λ (j : ℕ). take n l ++ drop j l) e
     ∙ take-append-drop n l)
     (λ k. ap (sets l i) (part-over l i n (omega arith)))
@@ -100,10 +102,10 @@ shift-done l i j n h inv = sym (ap (sets l j) (part-over l i n h)) ∙ inv
 
 -- the run, where its length is known
 module _ (l : List ℕ) (n from : ℕ) {k : ℕ} (e : k ≡ length (run (take (n - from) (drop from l)))) (room : n ≤ length l) where
-  pub run-within : from ≤ n → from + k ≤ n
+  run-within : from ≤ n → from + k ≤ n
   run-within h = omega (arith, up-to-short 0x7D (take (n - from) (drop from l)), length-take-le (n - from) (drop from l) (omega (arith, length-drop from l)))
 
-  pub run-part : from ≤ n → drop from (take (from + k) l) ≡ run (drop from (take n l))
+  run-part : from ≤ n → drop from (take (from + k) l) ≡ run (drop from (take n l))
   run-part h =
       let j : from + k - from ≡ k = omega arith in
       drop-take from (from + k) l
@@ -113,7 +115,8 @@ module _ (l : List ℕ) (n from : ℕ) {k : ℕ} (e : k ≡ length (run (take (n
       ∙ sym (up-to-is 0x7D (take (n - from) (drop from l)))
       ∙ ap run (sym (drop-take from n l))
 
-  pub run-moved : from ≤ n → (to : ℕ) {after : List ℕ} → after ≡ sets l to (drop from (take (from + k) l)) → Laid l to (run (drop from (take n l))) after (to + k)
+  pub run-moved : from ≤ n → (to : ℕ) {after : List ℕ} → after ≡ sets l to (drop from (take (from + k) l))
+      → Laid l to (run (drop from (take n l))) after (to + k)
   run-moved h to s =
       record {
         ends = ap (λ (m : ℕ). to + m) (e ∙ ap (λ (x : List ℕ). length (run x)) (sym (drop-take from n l)));

@@ -1,8 +1,7 @@
 -- Laws of the search for a byte, sixteen bytes at a time.
--- up-to-behind                bytes passed before the first c, and those that are left before it
 -- found-more                  a turn of the loop over sixteen bytes
 -- passed-more, passed-found   sixteen bytes among which there is no c, and among which there is one
--- Seen, seen-none .. -fits    the loop that makes a bit of each of sixteen bytes: its start, a turn, its end, its numbers
+-- Seen, seen-none, seen-more, seen-all, seen-fits   the loop that makes a bit of each of sixteen bytes: its start, a turn, its end, its numbers
 -- sought                      the bytes passed, and those of the sixteen behind them
 use mathlib.Core.Path.{_≡_, sym, ap, ap₂, _∙_, subst}
 use mathlib.Core.Bool.{Bool, true, false, _||_}
@@ -22,7 +21,7 @@ use Rattle.base.proofs.Lists.{next, over}
 use Rattle.base.proofs.Tests.{by-eq, by-le}
 use Rattle.base.proofs.UpTo.{up-to-here, up-to-more, up-to-take, up-to-long}
 
-pub up-to-behind : (c n : ℕ) (l : List ℕ) → n ≤ length (upTo c l) → n + length (upTo c (drop n l)) ≡ length (upTo c l)
+up-to-behind : (c n : ℕ) (l : List ℕ) → n ≤ length (upTo c l) → n + length (upTo c (drop n l)) ≡ length (upTo c l)
 unfolding upTo
 up-to-behind c zero l h = omega arith
 up-to-behind c (suc n) [] h = absurd (omega arith)

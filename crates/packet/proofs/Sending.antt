@@ -1,11 +1,12 @@
 -- Laws of the sender.
--- refusing-empty .. refusing-none   what the sender says of a packet, by facts on numbers
--- write-empty .. write-frame  what the call answers and leaves, by the same
--- laid-frame, frame-fits      a frame stored part by part
--- laid-plain, laid-key, key-length, laid-opening, opening-most, fits-most   .. and its opening, and how long that is
+-- refusing-empty, refusing-long, refusing-barred, refusing-none   what the sender says of a packet, by facts on numbers
+-- write-empty, write-long, write-barred, write-head, write-frame  what the call answers and leaves, by the same
+-- framed-length, laid-frame, frame-fits      a frame stored part by part
+-- laid-plain, laid-key, key-length, laid-opening   .. and its opening
+-- head-most, opening-most, opening-short, opening-part, fits-most   .. and how long that is
 -- sent-parts                  the parts that are stored are the packet's frame
 -- writing-keeps               a refused call leaves the output as it was
--- wrote-is                    what a packet that was written shows
+-- Wrote-is, wrote-is          what a packet that was written shows (some, short, free, fits, holds)
 use mathlib.Core.Path.{_≡_, refl, sym, ap, ap₂, subst, _∙_}
 use mathlib.Core.Bool.{Bool, true, false}
 use mathlib.Core.List.{List, [], _∷_, _++_, append-assoc}
@@ -44,7 +45,7 @@ module _ {A : Type 0} (p : Packet) (refuse : ℕ → A) (send : A) where
       refusing-barred b = rw (ne-eqb _ _ some, le-ltb _ _ short, b)
 
       module _ (free : barred (p .port) ≡ false) where
-        pub refusing-head : headFits (p .format) (p .number) (length (p .key)) ≡ false → refusing p refuse send ≡ refuse 24
+        refusing-head : headFits (p .format) (p .number) (length (p .key)) ≡ false → refusing p refuse send ≡ refuse 24
         refusing-head h = rw (ne-eqb _ _ some, le-ltb _ _ short, free, h)
 
         pub refusing-none : headFits (p .format) (p .number) (length (p .key)) ≡ true → refusing p refuse send ≡ send
@@ -83,7 +84,7 @@ module _ (p : Packet) (out : List ℕ) where
       (pick-keeps (headFits (p .format) (p .number) (length (p .key))) out (write-keeps (frameOf p) out) (refused-keeps 24 out))))
 
 module _ (a b c : List ℕ) where
-  pub framed-parts : flagged (a ++ b ++ c) ≡ escape a ++ escape b ++ escape c ++ (flag ∷ [])
+  framed-parts : flagged (a ++ b ++ c) ≡ escape a ++ escape b ++ escape c ++ (flag ∷ [])
   unfolding flagged
   framed-parts = rw (escape-append (a ++ b) c, escape-append a b)
 
@@ -122,7 +123,8 @@ pub laid-opening : (p : Packet) {l m₁ m₂ m₃ : List ℕ} {e₁ e₂ e₃ : 
     → Laid l 0 (head (p .format) (p .number) (p .key)) m₁ e₁ → Laid m₁ e₁ (two (p .port)) m₂ e₂ → Laid m₂ e₂ (two (p .sequence)) m₃ e₃
     → Laid l 0 (opening p) m₃ e₃
 laid-opening p {l} {m₃ = m} {e₃ = e} h₁ h₂ h₃ =
-    subst (λ (bs : List ℕ). Laid l 0 bs m e) (append-assoc (head (p .format) (p .number) (p .key)) (two (p .port)) (two (p .sequence))) (laid-append (laid-append h₁ h₂) h₃)
+    subst (λ (bs : List ℕ). Laid l 0 bs m e) (append-assoc (head (p .format) (p .number) (p .key)) (two (p .port)) (two (p .sequence)))
+    (laid-append (laid-append h₁ h₂) h₃)
 
 -- a key that fits its head is no longer than a key may be
 pub fits-most : (format number : ℕ) (key : List ℕ) → headFits format number (length key) ≡ true → length key ≤ keyMost
@@ -138,7 +140,8 @@ head-most format number key h = go (eqb format keyFormat)
     go false = omega arith
 
 pub opening-most : (p : Packet) → length (p .key) ≤ keyMost → length (opening p) ≤ openingMost
-opening-most p h = omega (arith, head-most (p .format) (p .number) (p .key) h, length-append (head (p .format) (p .number) (p .key)) (two (p .port) ++ two (p .sequence)))
+opening-most p h = omega
+    (arith, head-most (p .format) (p .number) (p .key) h, length-append (head (p .format) (p .number) (p .key)) (two (p .port) ++ two (p .sequence)))
 
 -- the opening as a part of the array that it was stored in
 module _ (p : Packet) {l after : List ℕ} {n : ℕ} (h : Laid l 0 (opening p) after n) (room : openingMost ≤ length l) (most : length (p .key) ≤ keyMost) where
@@ -173,7 +176,8 @@ pub wrote-is : (p : Packet) (out : List ℕ) (n : ℕ) → writing p out .answer
     → Wrote-is p out n (writing p out .output)
 unfolding writing
 wrote-is p out n =
-    go (eqb (length (p .payload)) 0) (ltb payloadLimit (length (escape (p .payload)))) (barred (p .port)) (headFits (p .format) (p .number) (length (p .key))) (ltb (length out) (length bs)) refl refl refl refl
+    go (eqb (length (p .payload)) 0) (ltb payloadLimit (length (escape (p .payload)))) (barred (p .port)) (headFits (p .format) (p .number) (length (p .key)))
+    (ltb (length out) (length bs)) refl refl refl refl
   where
     bs : List ℕ
     bs = frameOf p
@@ -184,7 +188,9 @@ wrote-is p out n =
     -- what the call says, by what was tested
     said : (e l b f r : Bool) → Outcome
     said e l b f r =
-        pick e (refused 20 out) (pick l (refused 21 out) (pick b (refused 22 out) (pick f (pick r (refused 23 out) (outcome (Wrote (length bs)) (bs ++ drop (length bs) out))) (refused 24 out))))
+        pick e (refused 20 out)
+        (pick l (refused 21 out)
+        (pick b (refused 22 out) (pick f (pick r (refused 23 out) (outcome (Wrote (length bs)) (bs ++ drop (length bs) out))) (refused 24 out))))
 
     go : (e l b f r : Bool) → eqb (length (p .payload)) 0 ≡ e → ltb payloadLimit (length (escape (p .payload))) ≡ l → barred (p .port) ≡ b
         → headFits (p .format) (p .number) (length (p .key)) ≡ f → said e l b f r .answer ≡ Wrote n → Wrote-is p out n (said e l b f r .output)

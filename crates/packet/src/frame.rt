@@ -2,7 +2,7 @@
 ghost use mathlib.Core.Path.{_≡_};
 ghost use Prim.Native.Nat.{_+_, _≤_, _<_};
 ghost use lib.ListN.{length};
-ghost use Rattle.packet_spec.specs.Contents.{keySized, pair, pairAt, unpacked};
+ghost use Rattle.packet_spec.specs.Contents.{keySized, pair, pairAt, payloadAt, unpacked};
 ghost use Rattle.packet_spec.specs.Frame.{judged, judgePacket, keyFits, judgeBody, judgeContents, closed, judging};
 use crate::escape;
 use crate::port;
@@ -27,8 +27,8 @@ impl Packet {
     const KEY_MOST: usize = 32;
     /// Where its key stands: behind format byte, key length and key number.
     pub const KEY_AT: usize = 3;
-    // Bytes behind it, at least, before the check: port, sequence, one of payload.
-    const REST_LEAST: usize = 5;
+    /// Bytes behind it, at least, before the check: port, sequence, one of payload.
+    pub const REST_LEAST: usize = 5;
     /// Format byte to sequence, at most.
     pub const OPENING: usize = Self::KEY_AT + Self::KEY_MOST + 4;
     /// Raw bytes of a packet of format 0x21, at most.
@@ -41,8 +41,8 @@ impl Packet {
     pub const PAYLOAD: usize = 8192;
 }
 
-// Two bytes as a number, low first.
-fn pair(low: u8, high: u8) -> u16
+/// Two bytes as a number, low first.
+pub fn pair(low: u8, high: u8) -> u16
     ensures { λ r. ⌜ r ≡ pair low high ⌝ }
 {
     low as u16 + 256 * (high as u16)
@@ -156,6 +156,17 @@ fn close(recv: &mut [u8], raw: usize) -> Judged
             let n = escape::undo_plain(recv, stored, 0, 0);
             judge_contents(&recv[..n])
         }
+    }
+}
+
+/// Where the payload of a packet with so many key bytes stands in the receive buffer.
+pub fn payload_at(key: u8) -> usize
+    ensures { λ r. ⌜ r ≡ payloadAt key ⌝ }
+{
+    if key == 0 {
+        5
+    } else {
+        Packet::KEY_AT + key as usize + 4
     }
 }
 

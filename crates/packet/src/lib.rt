@@ -8,6 +8,8 @@ mod sender;
 pub use escape::wrong_behind;
 pub use frame::Packet;
 pub use frame::judge;
+pub use frame::pair;
+pub use frame::payload_at;
 pub use packet_spec::Class;
 pub use packet_spec::Delivery;
 pub use packet_spec::Judged;

@@ -1,4 +1,6 @@
--- Table 5-2, row after row: the class of each range of ports; and the barred ports are one of the classes.
+-- Table 5-2, row after row.
+-- from-0000, from-0401, from-5100, from-5101, from-5201, from-5208, from-5300, from-7D00, from-7F00, from-FF00   the class of each range of ports
+-- class-barred   the barred ports are one of the classes
 use mathlib.Core.Path.{_≡_}
 use mathlib.Core.Bool.{true}
 use Prim.Native.Nat.{ℕ, _≤_}
@@ -26,27 +28,41 @@ module _ (p : ℕ) where
 
   pub from-5201 : 0x5201 ≤ p → p ≤ 0x5207 → class p ≡ D
   unfolding class
-  from-5201 lo hi = simp (lt-leb p 0x0400 (omega arith), lt-leb p 0x50FF (omega arith), lt-leb p 0x5100 (omega arith), lt-leb p 0x5200 (omega arith), le-leb p 0x5207 hi)
+  from-5201 lo hi =
+      rw (lt-leb p 0x0400 (omega arith), lt-leb p 0x50FF (omega arith), lt-leb p 0x5100 (omega arith), lt-leb p 0x5200 (omega arith))
+      (simp (le-leb p 0x5207 hi))
 
   pub from-5208 : 0x5208 ≤ p → p ≤ 0x52FF → class p ≡ System
   unfolding class
-  from-5208 lo hi = simp (lt-leb p 0x0400 (omega arith), lt-leb p 0x50FF (omega arith), lt-leb p 0x5100 (omega arith), lt-leb p 0x5200 (omega arith), lt-leb p 0x5207 (omega arith), le-leb p 0x52FF hi)
+  from-5208 lo hi =
+      rw (lt-leb p 0x0400 (omega arith), lt-leb p 0x50FF (omega arith), lt-leb p 0x5100 (omega arith), lt-leb p 0x5200 (omega arith))
+      (simp (lt-leb p 0x5207 (omega arith), le-leb p 0x52FF hi))
 
   pub from-5300 : 0x5300 ≤ p → p ≤ 0x7CFF → class p ≡ Future
   unfolding class
-  from-5300 lo hi = simp (lt-leb p 0x0400 (omega arith), lt-leb p 0x50FF (omega arith), lt-leb p 0x5100 (omega arith), lt-leb p 0x5200 (omega arith), lt-leb p 0x5207 (omega arith), lt-leb p 0x52FF (omega arith), le-leb p 0x7CFF hi)
+  from-5300 lo hi =
+      rw (lt-leb p 0x0400 (omega arith), lt-leb p 0x50FF (omega arith), lt-leb p 0x5100 (omega arith), lt-leb p 0x5200 (omega arith))
+      (simp (lt-leb p 0x5207 (omega arith), lt-leb p 0x52FF (omega arith), le-leb p 0x7CFF hi))
 
   pub from-7D00 : 0x7D00 ≤ p → p ≤ 0x7EFF → class p ≡ Barred
   unfolding class
-  from-7D00 lo hi = simp (lt-leb p 0x0400 (omega arith), lt-leb p 0x50FF (omega arith), lt-leb p 0x5100 (omega arith), lt-leb p 0x5200 (omega arith), lt-leb p 0x5207 (omega arith), lt-leb p 0x52FF (omega arith), lt-leb p 0x7CFF (omega arith), le-leb p 0x7EFF hi)
+  from-7D00 lo hi =
+      rw (lt-leb p 0x0400 (omega arith), lt-leb p 0x50FF (omega arith), lt-leb p 0x5100 (omega arith), lt-leb p 0x5200 (omega arith))
+      (simp (lt-leb p 0x5207 (omega arith), lt-leb p 0x52FF (omega arith), lt-leb p 0x7CFF (omega arith), le-leb p 0x7EFF hi))
 
   pub from-7F00 : 0x7F00 ≤ p → p ≤ 0xFEFF → class p ≡ Future
   unfolding class
-  from-7F00 lo hi = simp (lt-leb p 0x0400 (omega arith), lt-leb p 0x50FF (omega arith), lt-leb p 0x5100 (omega arith), lt-leb p 0x5200 (omega arith), lt-leb p 0x5207 (omega arith), lt-leb p 0x52FF (omega arith), lt-leb p 0x7CFF (omega arith), lt-leb p 0x7EFF (omega arith), le-leb p 0xFEFF hi)
+  from-7F00 lo hi =
+      rw (lt-leb p 0x0400 (omega arith), lt-leb p 0x50FF (omega arith), lt-leb p 0x5100 (omega arith), lt-leb p 0x5200 (omega arith))
+      (rw (lt-leb p 0x5207 (omega arith), lt-leb p 0x52FF (omega arith), lt-leb p 0x7CFF (omega arith), lt-leb p 0x7EFF (omega arith))
+      (simp (le-leb p 0xFEFF hi)))
 
   pub from-FF00 : 0xFF00 ≤ p → class p ≡ System
   unfolding class
-  from-FF00 lo = simp (lt-leb p 0x0400 (omega arith), lt-leb p 0x50FF (omega arith), lt-leb p 0x5100 (omega arith), lt-leb p 0x5200 (omega arith), lt-leb p 0x5207 (omega arith), lt-leb p 0x52FF (omega arith), lt-leb p 0x7CFF (omega arith), lt-leb p 0x7EFF (omega arith), lt-leb p 0xFEFF (omega arith))
+  from-FF00 lo =
+      rw (lt-leb p 0x0400 (omega arith), lt-leb p 0x50FF (omega arith), lt-leb p 0x5100 (omega arith), lt-leb p 0x5200 (omega arith))
+      (rw (lt-leb p 0x5207 (omega arith), lt-leb p 0x52FF (omega arith), lt-leb p 0x7CFF (omega arith), lt-leb p 0x7EFF (omega arith))
+      (simp (lt-leb p 0xFEFF (omega arith))))
 
   pub class-barred : 0x7D00 ≤ p → p ≤ 0x7EFF → barred p ≡ true
   class-barred lo hi = simp (le-leb 0x7D00 p lo, le-leb p 0x7EFF hi)

@@ -1,4 +1,8 @@
--- Laws of escapes: the kinds of bytes, parts and lengths, and that undoing makes no bytes.
+-- Laws of escapes.
+-- Kind, kind, right-in, right-low, right-high, last-at         the kinds of bytes; a byte that is right behind 7D; the last byte
+-- escape-flag, escape-escape, escape-other, width-most         a byte as it is escaped
+-- escape-cons, escape-next, escape-append, escape-most         parts and lengths
+-- plain-short                                                  undoing makes no bytes
 use mathlib.Core.Path.{_≡_, refl, sym}
 use mathlib.Core.Bool.{true, false}
 use Prim.Native.Nat.{ℕ, suc, _+_, _-_, _*_, _<_, _≤_}
@@ -89,6 +93,6 @@ mutual
   plain-short (b ∷ bs) =
       by-eq b 0x7D (λ e. simp (eq-eqb _ _ e) (omega (arith, escaped-short bs))) (λ n. simp (ne-eqb _ _ n) (omega (arith, plain-short bs)))
 
-  pub escaped-short : (bs : List ℕ) → length (escaped bs) ≤ length bs
+  escaped-short : (bs : List ℕ) → length (escaped bs) ≤ length bs
   escaped-short [] = omega arith
   escaped-short (b ∷ bs) = omega (arith, plain-short bs)

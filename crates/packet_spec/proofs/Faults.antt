@@ -1,7 +1,8 @@
 -- What the escapes of raw bytes are, in the words of refusals 2 and 3.
--- broken-there, broken-is   the place told is the one that `BrokenAt` says, and that one is told
--- scan-says      unfinished: the last raw byte is 7D; wrong: it is not, and `BrokenAt`; right: neither
--- closed-broken, judge-broken   a frame is refused with 3 and a place exactly where `BrokenAt` says
+-- broken-there, broken-is        the place told is the one that `BrokenAt` says, and that one is told
+-- broken-followed                7D is then followed by something other than 5E and 5D
+-- Scanned, scan-says             unfinished: the last raw byte is 7D; wrong: it is not, and `BrokenAt`; right: neither
+-- closed-broken, judge-broken    a frame is refused with 3 and a place exactly where `BrokenAt` says
 use mathlib.Core.Path.{_≡_, refl, sym, ap, subst, _∙_}
 use mathlib.Core.Bool.{Bool, true, false}
 use mathlib.Core.Logic.{_≢_, _↔_}

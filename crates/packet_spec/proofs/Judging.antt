@@ -1,16 +1,18 @@
 -- Laws of a closed frame.
--- packet-port, packet-payload, packet-is   which answer a packet has, taken apart, by facts on numbers
--- body-format .. body-keyed         .. format byte to last payload byte
--- fits-.., as-.., rest-..           .. as the code tests and answers it
--- judge-short, judge-check, judge-body   .. and contents
--- key-fits, body-ways               what a key must be, and a fact of every answer
--- closed-over, closed-as, closed-stored   the same of the raw bytes in the receive buffer
--- judging-is, ..-over, ..-short     the call that judges, where 10 and 11 are passed and where not
--- judge-is                          the buffer's raw bytes alone decide
--- length-closed                     the buffer keeps its length
--- payload-there                     a delivered payload stands in the buffer, and its key
--- contents-broken                   contents alone are never refused with a place
--- closed-keeps                      refused with 1, 2 or 3, it keeps its contents
+-- packet-is                                    which answer a packet has, taken apart, by facts on numbers
+-- body-format, body-plain, body-key, body-keyed   .. format byte to last payload byte
+-- fits-sized, fits-not, as-plain, as-keyed, rest-port, rest-payload, rest-packet   .. as the code tests and answers it
+-- judge-short, judge-check, judge-body, judge-long   .. and contents; of too many raw bytes
+-- key-fits, body-ways                          what a key must be, and a fact of every answer
+-- closed-over, closed-as, closed-stored        the same of the raw bytes in the receive buffer
+-- plain-room                                   it has room for what undoing escapes leaves
+-- judging-is, judging-over, judging-short      the call that judges, where 10 and 11 are passed and where not
+-- both                                         its answer and its buffer, apart
+-- judge-is                                     the buffer's raw bytes alone decide
+-- length-closed                                the buffer keeps its length
+-- payload-there                                a delivered payload stands in the buffer, and its key
+-- contents-broken                              contents alone are never refused with a place
+-- closed-keeps                                 refused with 1, 2 or 3, it keeps its contents
 use mathlib.Core.Path.{_≡_, refl, sym, ap, subst, _∙_}
 use mathlib.Core.Bool.{Bool, true, false, _&&_}
 use mathlib.Core.List.{List, [], _∷_, _++_, nil≢cons, append-assoc}
@@ -26,9 +28,11 @@ use Rattle.base.proofs.Parts.{tail-is}
 use Rattle.base.proofs.Tests.{by-le, and-parts}
 use Rattle.fcs.specs.Fcs.{fcs}
 use Rattle.packet_spec.specs.Port.{barred}
-use Rattle.packet_spec.specs.Contents.{Packet, plainFormat, keyFormat, keyLeast, keyMost, keySized, payloadLimit, rawLimit, pairAt, unpacked, keyAt, restLeast, keyLength, plainly, keyed, body}
+use Rattle.packet_spec.specs.Contents.{Packet, plainFormat, keyFormat, keyLeast, keyMost, keySized, payloadLimit, rawLimit}
+use Rattle.packet_spec.specs.Contents.{pairAt, unpacked, keyAt, restLeast, keyLength, plainly, keyed, body}
 use Rattle.packet_spec.specs.Escape.{escape, scan, plain}
-use Rattle.packet_spec.specs.Frame.{Told, packet, refusal, broken, judged, number, Closed, kept, judgePacket, keyFits, judgeBody, judgeContents, closedBy, closed, judging, judge, part, There}
+use Rattle.packet_spec.specs.Frame.{Told, packet, refusal, broken, judged, number, Closed, kept, judgePacket}
+use Rattle.packet_spec.specs.Frame.{keyFits, judgeBody, judgeContents, closedBy, closed, judging, judge, part, There}
 use Rattle.packet_spec.specs.declared.Escapes.{Escapes}
 use Rattle.packet_spec.specs.declared.Escapes.the-variants.{Right, Unfinished, Wrong}
 use Rattle.packet_spec.specs.declared.Judged.{Judged}
@@ -37,11 +41,11 @@ use Rattle.packet_spec.proofs.Escaping.{plain-short}
 
 -- ---- a packet, taken apart
 module _ (p : Packet) where
-  pub packet-port : barred (p .port) ≡ true → judgePacket p ≡ refusal 7
+  packet-port : barred (p .port) ≡ true → judgePacket p ≡ refusal 7
   packet-port b = rw b
 
   module _ (free : barred (p .port) ≡ false) where
-    pub packet-payload : payloadLimit < length (escape (p .payload)) → judgePacket p ≡ refusal 8
+    packet-payload : payloadLimit < length (escape (p .payload)) → judgePacket p ≡ refusal 8
     packet-payload h = rw (free, lt-ltb _ _ h)
 
     pub packet-is : length (escape (p .payload)) ≤ payloadLimit → judgePacket p ≡ packet p
@@ -91,7 +95,8 @@ key-fits bs e =
 -- a packet of format 0x21 or of format 0x26 that bytes are judged to be, by where it was taken from
 pub body-ways : (bs : List ℕ) (P : Told → Type 0) → P (refusal 6) → P (refusal 12) → P (refusal 7) → P (refusal 8)
     → (getD bs 0 0 ≡ plainFormat → barred (plainly bs .port) ≡ false → length (escape (plainly bs .payload)) ≤ payloadLimit → P (packet (plainly bs)))
-    → (getD bs 0 0 ≡ keyFormat → keyFits bs ≡ true → barred (keyed bs .port) ≡ false → length (escape (keyed bs .payload)) ≤ payloadLimit → P (packet (keyed bs)))
+    → (getD bs 0 0 ≡ keyFormat → keyFits bs ≡ true → barred (keyed bs .port) ≡ false → length (escape (keyed bs .payload)) ≤ payloadLimit
+    → P (packet (keyed bs)))
     → P (judgeBody bs)
 unfolding judgeBody
 body-ways bs P six twelve seven eight plain key = go (eqb (getD bs 0 0) plainFormat) refl (eqb (getD bs 0 0) keyFormat) refl (keyFits bs) refl
@@ -107,18 +112,21 @@ body-ways bs P six twelve seven eight plain key = go (eqb (getD bs 0 0) plainFor
 module _ (bs : List ℕ) {k : ℕ} (e : k ≡ keyLength bs) where
   pub fits-sized : keySized k ≡ true → leb (keyAt + k + restLeast) (length bs) ≡ keyFits bs
   fits-sized t =
-      ap (λ (m : ℕ). leb (keyAt + m + restLeast) (length bs)) e ∙ sym (ap (λ (u : Bool). u && leb (keyAt + keyLength bs + restLeast) (length bs)) (ap keySized (sym e) ∙ t))
+      ap (λ (m : ℕ). leb (keyAt + m + restLeast) (length bs)) e
+      ∙ sym (ap (λ (u : Bool). u && leb (keyAt + keyLength bs + restLeast) (length bs)) (ap keySized (sym e) ∙ t))
 
   pub fits-not : keySized k ≡ false → false ≡ keyFits bs
   fits-not t = sym (ap (λ (u : Bool). u && leb (keyAt + keyLength bs + restLeast) (length bs)) (ap keySized (sym e) ∙ t))
 
 -- ---- the code's answer, by the parts that it takes apart ..
 module _ (bs : List ℕ) {j : Judged} where
-  pub as-plain : getD bs 0 0 ≡ plainFormat → j ≡ judged (judgePacket (unpacked (getD bs 0 0) 0 [] (take (length bs - 1) (drop 1 bs)))) → j ≡ judged (judgeBody bs)
+  pub as-plain : getD bs 0 0 ≡ plainFormat → j ≡ judged (judgePacket (unpacked (getD bs 0 0) 0 [] (take (length bs - 1) (drop 1 bs))))
+      → j ≡ judged (judgeBody bs)
   as-plain g e = e ∙ (λ i. judged (judgePacket (unpacked (g i) 0 [] (tail-is 1 bs i)))) ∙ ap judged (sym (body-plain bs g))
 
   pub as-keyed : {k : ℕ} → k ≡ keyLength bs → getD bs 0 0 ≡ keyFormat → keyFits bs ≡ true
-      → j ≡ judged (judgePacket (unpacked (getD bs 0 0) (getD bs 2 0) (take (keyAt + k - keyAt) (drop keyAt bs)) (take (length bs - (keyAt + k)) (drop (keyAt + k) bs))))
+      → j ≡ judged (judgePacket
+      (unpacked (getD bs 0 0) (getD bs 2 0) (take (keyAt + k - keyAt) (drop keyAt bs)) (take (length bs - (keyAt + k)) (drop (keyAt + k) bs))))
       → j ≡ judged (judgeBody bs)
   as-keyed {k} l g f e =
       let n : keyAt + k - keyAt ≡ keyLength bs = omega arith in
@@ -196,7 +204,8 @@ judge-is recv n h k =
     ap (λ (c : Closed). c .told) (closed-as recv n h (scan raw) refl) ∙ told-by (scan raw) raw recv raw
     ∙ sym
     (ap (λ (c : Closed). c .told)
-    (closed-as raw (length raw) (omega arith) (scan raw) (ap scan (take-all (length raw) raw (omega arith))) ∙ ap (λ (r : List ℕ). closedBy (scan raw) r raw) (take-all (length raw) raw (omega arith))))
+    (closed-as raw (length raw) (omega arith) (scan raw) (ap scan (take-all (length raw) raw (omega arith)))
+    ∙ ap (λ (r : List ℕ). closedBy (scan raw) r raw) (take-all (length raw) raw (omega arith))))
 
 pub judge-long : (raw : List ℕ) → rawLimit < length raw → judge raw ≡ refusal 1
 unfolding judge

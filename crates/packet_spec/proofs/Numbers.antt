@@ -1,6 +1,6 @@
 -- numbers           number (d) of paper 01: the contents of port 5100, sequence 0, payload 41
 -- edges, raw-edges  the paper's edges: of the payload's limit, and of the raw limit
--- key-contents, key-back, key-edges, sent-edges   format 0x26: written, read back, and the edges of 12 and 24
+-- key-contents      format 0x26: key length, key number and key between format and port
 -- places, behind    where an escape broke: of a frame, and of the bytes from a place on
 use mathlib.Core.Path.{_≡_, refl}
 use mathlib.Core.List.{List, [], _∷_, _++_}
@@ -42,7 +42,8 @@ raw-edges = refl
 
 -- the first wrong byte counts, a second 7D is one, and where the last raw byte is 7D there is no place; the last place is one below the limit
 pub places : _≡_ {A = List Told}
-    (judge (0x7D ∷ 0x21 ∷ 0x7D ∷ 0x22 ∷ []) ∷ judge (0x7D ∷ 0x5E ∷ 0x7D ∷ 0x7D ∷ 0x5E ∷ []) ∷ judge (0x7D ∷ 0x21 ∷ 0x7D ∷ []) ∷ judge (replicate (rawLimit - 2) 0 ++ 0x7D ∷ 0x21 ∷ []) ∷ [])
+    (judge (0x7D ∷ 0x21 ∷ 0x7D ∷ 0x22 ∷ []) ∷ judge (0x7D ∷ 0x5E ∷ 0x7D ∷ 0x7D ∷ 0x5E ∷ []) ∷ judge (0x7D ∷ 0x21 ∷ 0x7D ∷ []) ∷ judge
+    (replicate (rawLimit - 2) 0 ++ 0x7D ∷ 0x21 ∷ []) ∷ [])
     (broken 1 ∷ broken 3 ∷ refusal 2 ∷ broken (rawLimit - 1) ∷ [])
 unfolding judge closed closedBy scan last wrongFrom right
 places = refl

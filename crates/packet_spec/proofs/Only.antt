@@ -17,7 +17,8 @@ use Rattle.base.proofs.Lists.{next, over}
 use Rattle.base.proofs.Tests.{by-eq}
 use Rattle.fcs.specs.Fcs.{fcs}
 use Rattle.packet_spec.specs.Port.{barred}
-use Rattle.packet_spec.specs.Contents.{Packet, plainFormat, keyFormat, keyLeast, keyMost, keyAt, restLeast, payloadLimit, rawLimit, two, pair, pairAt, head, packed, unpacked, plainly, keyed, withCheck, contents, body}
+use Rattle.packet_spec.specs.Contents.{Packet, plainFormat, keyFormat, keyLeast, keyMost, keyAt, restLeast, payloadLimit, rawLimit, two}
+use Rattle.packet_spec.specs.Contents.{pair, pairAt, head, packed, unpacked, plainly, keyed, withCheck, contents, body}
 use Rattle.packet_spec.specs.Escape.{escape, plain, escaped, scan}
 use Rattle.packet_spec.specs.Frame.{Told, packet, refusal, broken, kept, judgeBody, judgeContents, closedBy, closed, judge}
 use Rattle.packet_spec.specs.Sender.{headFits, Accepted}
@@ -84,7 +85,8 @@ key-rest b k n l h =
     let e : keyAt + k ≡ suc (suc (suc k)) = omega arith in
     ap (λ (m : ℕ). take k l ++ drop m (b ∷ k ∷ n ∷ l)) e ∙ take-append-drop k l
 
-only-keyed : (bs : List ℕ) → Bytes bs → getD bs 0 0 ≡ keyFormat → (keyLeast ≤ getD bs 1 0) × (getD bs 1 0 ≤ keyMost) × (keyAt + getD bs 1 0 + restLeast ≤ length bs)
+only-keyed : (bs : List ℕ) → Bytes bs → getD bs 0 0 ≡ keyFormat
+    → (keyLeast ≤ getD bs 1 0) × (getD bs 1 0 ≤ keyMost) × (keyAt + getD bs 1 0 + restLeast ≤ length bs)
     → barred (keyed bs .port) ≡ false → length (escape (keyed bs .payload)) ≤ payloadLimit → Only (packet (keyed bs)) bs
 only-keyed [] h e k f s = absurd (omega (arith, k .0))
 only-keyed (b ∷ []) h e k f s = absurd (omega (arith, k .0))
@@ -108,7 +110,8 @@ last-two : (bs : List ℕ) → Bytes bs → 2 ≤ length bs → two (pairAt bs (
 last-two bs h n =
     let i = length bs - 2 in
     two-pair (getD bs i 0) (getD bs (i + 1) 0) (wide bs i h) (wide bs (i + 1) h)
-    ∙ sym (next bs i (omega arith) ∙ ap (λ (l : List ℕ). getD bs i 0 ∷ l) (next bs (i + 1) (omega arith) ∙ ap (λ (l : List ℕ). getD bs (i + 1) 0 ∷ l) (over bs (i + 1 + 1) (omega arith))))
+    ∙ sym (next bs i (omega arith) ∙ ap (λ (l : List ℕ). getD bs i 0 ∷ l)
+    (next bs (i + 1) (omega arith) ∙ ap (λ (l : List ℕ). getD bs (i + 1) 0 ∷ l) (over bs (i + 1 + 1) (omega arith))))
 
 -- of a packet: the contents are its own, and the sender accepts it
 abbrev OnlyIn : Told → List ℕ → Type 0

@@ -2,7 +2,8 @@
 -- wrong-here     a wrong byte behind 7D is told by its own place
 -- wrong-append   over two lists one after the other: what a piece adds to what is known
 -- wrong-within   it lies within the bytes looked at
--- wrong-there, wrong-found   a place told is that of a wrong byte behind 7D, and before it there is none; where there is one, a place is told
+-- FirstWrong, wrong-there, wrong-found   a place told is that of a wrong byte (b) behind 7D, and before it (xs) there is none, whatever stands behind
+--                (ys); where there is one, a place is told
 -- wrong-before   a byte before them that is no 7D is as none
 use mathlib.Core.Path.{_≡_, refl, sym, ap, _∙_}
 use mathlib.Core.Bool.{Bool, true, false, not, _&&_, false≢true}

@@ -1,5 +1,6 @@
 -- The round trip: what the sender makes of a packet that it accepts is judged to be that packet.
--- scan-right, plain-undoes   the escapes of escaped bytes are right, and undoing them gives the bytes back
+-- scan-right, wrong-escape, last-escape   the escapes of escaped bytes are right: no byte behind 7D is wrong, and 7D is not the last
+-- plain-undoes, escape-least   undoing them gives the bytes back; escaped bytes are no fewer
 -- no-flag                    no flag stands in escaped bytes
 -- by-format                  a head that fits is that of one format or of the other
 -- plain-fits, raw-fits       a packet's raw bytes are within the limit, of format 0x21 and of either
@@ -21,12 +22,14 @@ use Rattle.base.proofs.Bytes.{each-append}
 use Rattle.base.proofs.Tests.{and-parts}
 use Rattle.fcs.specs.Fcs.{fcs}
 use Rattle.packet_spec.specs.Escape.{escape, escapeByte, plain, wrongFrom, scannedBy, scan, last, right, NoFlag}
-use Rattle.packet_spec.specs.Contents.{Packet, packetOf, plainPacket, keyPacket, plainFormat, keyFormat, keyLeast, keyMost, keySized, payloadLimit, plainLimit, rawLimit, contents, withCheck, packed, unpacked, keyed, keyAt, restLeast, two, pairAt, body}
+use Rattle.packet_spec.specs.Contents.{Packet, packetOf, plainPacket, keyPacket, plainFormat, keyFormat, keyLeast, keyMost}
+use Rattle.packet_spec.specs.Contents.{keySized, payloadLimit, plainLimit, rawLimit, contents, withCheck, packed, unpacked}
+use Rattle.packet_spec.specs.Contents.{keyed, keyAt, restLeast, two, pairAt, body}
 use Rattle.packet_spec.specs.Frame.{Closed, packet, judge, judgePacket, keyFits, judgeBody, judgeContents, closedBy}
 use Rattle.packet_spec.specs.Sender.{headFits, Accepted}
 use Rattle.packet_spec.specs.declared.Escapes.the-variants.{Right}
 use Rattle.packet_spec.proofs.Escaping.Kind.{flag, esc, other}
-use Rattle.packet_spec.proofs.Escaping.{Kind, kind, escape-other, escape-append, escape-most, width-most}
+use Rattle.packet_spec.proofs.Escaping.{Kind, kind, escape-other, escape-append, escape-most, width-most, plain-short}
 use Rattle.packet_spec.proofs.Judging.{packet-is, body-plain, body-keyed, judge-body, closed-as}
 
 -- ---- undoing what escaping did
@@ -36,7 +39,7 @@ plain-byte flag t = refl
 plain-byte esc t = refl
 plain-byte (other n m) t = simp (ne-eqb _ _ n, ne-eqb _ _ m)
 
-pub plain-escape : (bs t : List ℕ) → plain (escape bs ++ t) ≡ bs ++ plain t
+plain-escape : (bs t : List ℕ) → plain (escape bs ++ t) ≡ bs ++ plain t
 unfolding escape
 plain-escape [] t = refl
 plain-escape (b ∷ bs) t = rw (append-assoc (escapeByte b) (escape bs) t, plain-byte (kind b) (escape bs ++ t), plain-escape bs t)
@@ -80,6 +83,9 @@ unfolding plain
 plain-undoes bs =
     let e : plain (escape bs) ≡ plain (escape bs ++ []) = rw append-nil in
     e ∙ plain-escape bs [] ∙ append-nil bs
+
+pub escape-least : (bs : List ℕ) → length bs ≤ length (escape bs)
+escape-least bs = omega (arith, plain-short (escape bs), ap length (plain-undoes bs))
 
 -- ---- no flag
 no-flag-byte : {b : ℕ} → Kind b → NoFlag (escapeByte b)
@@ -145,7 +151,7 @@ module _ (port sequence : ℕ) (payload : List ℕ) where
       let s : pairAt rest 2 ≡ sequence = omega arith in
       λ i. packetOf format number key (p i) (s i) payload
 
-  pub packed-key : (number : ℕ) (key : List ℕ) → packed (keyPacket number key port sequence payload) ≡ keyFormat ∷ length key ∷ number ∷ (key ++ rest)
+  packed-key : (number : ℕ) (key : List ℕ) → packed (keyPacket number key port sequence payload) ≡ keyFormat ∷ length key ∷ number ∷ (key ++ rest)
   packed-key number key = ap (λ (l : List ℕ). keyFormat ∷ length key ∷ number ∷ l) (append-assoc key (two port ++ two sequence) payload)
 
   keyed-back : (number : ℕ) (key : List ℕ) → keyed (keyFormat ∷ length key ∷ number ∷ (key ++ rest)) ≡ keyPacket number key port sequence payload
@@ -247,7 +253,8 @@ module _ (p : Packet) (a : Accepted p) where
   raw-fits =
       by-format p (a .fits)
       (λ e. subst (λ (q : Packet). length (escape (contents q)) ≤ rawLimit) (sym e) (omega (arith, plain-fits (p .port) (p .sequence) (p .payload) (a .short))))
-      (λ e low high. subst (λ (q : Packet). length (escape (contents q)) ≤ rawLimit) (sym e) (key-raw (p .port) (p .sequence) (p .payload) (a .short) (p .number) (p .key) high))
+      (λ e low high. subst (λ (q : Packet). length (escape (contents q)) ≤ rawLimit) (sym e)
+      (key-raw (p .port) (p .sequence) (p .payload) (a .short) (p .number) (p .key) high))
 
   -- the round trip
   pub round : judge (escape (contents p)) ≡ packet p

@@ -1,9 +1,12 @@
 -- The contents of a frame (paper 01, "Packet and frame"; request W8), before escaping.
--- Packet, packetOf, ..Packet   a packet, of its parts, and one of each format
+-- Packet, packetOf, plainPacket, keyPacket   a packet, of its parts, and one of each format
+-- plainFormat, keyFormat                     the two format bytes
+-- keyLeast, keyMost, keySized, restLeast     how long a key may be, and what stands behind it at least
+-- payloadLimit, plainLimit, rawLimit         the papers' limits
+-- two, pair, pairAt                          a number as two bytes, low first, and back
 -- head, opening             format byte and, in format 0x26, key length, key number and key; then port and sequence
--- packed, contents          format byte to last payload byte, and the check behind it
--- plainly, keyed, body      the same taken apart; keyAt, payloadAt, where key and payload stand
--- ..Format, ..Limit, key..  the papers' numbers
+-- packed, withCheck, contents   format byte to last payload byte, and the check behind it
+-- unpacked, keyLength, plainly, keyed, body   the same taken apart; keyAt, payloadAt, where key and payload stand
 use Prim.Native.Nat.{ℕ, _+_, _*_, _-_, _/_, _%_}
 use mathlib.Core.Bool.{Bool, _&&_}
 use mathlib.Core.List.{List, [], _∷_, _++_}

@@ -1,10 +1,11 @@
 -- Escapes (paper 01, "Packet and frame").
--- escape           7E becomes 7D 5E, 7D becomes 7D 5D, and no other byte is escaped
--- plain, escaped   on reading: plain and escaped reading hand over to each other until the raw bytes run out
--- wrongFrom, wrongAt, wrongBehind   the place of the first byte behind 7D that is neither 5E nor 5D
--- scan             whether every escape is right
--- Followed, BrokenAt   .. and what it is to be wrong, and where first
--- NoFlag           no flag among the bytes
+-- flag, right, last                   the flag; a byte that is right behind 7D; the last byte
+-- escapeByte, escape                  7E becomes 7D 5E, 7D becomes 7D 5D, and no other byte is escaped
+-- restored, plain, escaped            on reading: plain and escaped reading hand over to each other until the raw bytes run out
+-- wrongFrom, wrongAt, byteBefore, wrongBehind   the place of the first byte behind 7D that is neither 5E nor 5D
+-- scannedBy, scan                     whether every escape is right
+-- Followed, BrokenAt                  .. and what it is to be wrong, and where first
+-- NoFlag                              no flag among the bytes
 use Prim.Native.Nat.{ℕ, suc, _-_}
 use mathlib.Core.Path.{_≡_}
 use mathlib.Core.Logic.{_≢_}

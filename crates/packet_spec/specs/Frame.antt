@@ -1,10 +1,11 @@
 -- A closed frame (paper 01, "Numbered refusals"; request W8): the first refusal that applies of 1 to 6, 12, 7, 8, or the packet.
--- Told     what a frame is told to be, judged, the answer that the code gives of it, and number, the paper's number of it
--- judgeBody, judgeContents   what is told of format byte to last payload byte, and of these with their check
--- closed   what it is told to be, and what the receive buffer then holds
--- judging  the same by a call, behind refusals 10 and 11
--- judge    the same of raw bytes alone
--- part     a part of the receive buffer, and There, that a delivered payload and its key are such parts
+-- Told                 what a frame is told to be: packet, refusal, broken
+-- delivery, noDelivery, judged, number   a packet as it is told of; the answer that the code gives of it, and the paper's number of it
+-- judgePacket, keyFits, judgeBody, judgeContents   what is told of a packet, of format byte to last payload byte, and of these with their check
+-- Closed, kept, closedBy, closed   what it is told to be (told), and what the receive buffer then holds (recv)
+-- judging              the same by a call, behind refusals 10 and 11
+-- judge                the same of raw bytes alone
+-- part, There          a part of the receive buffer, and that a delivered payload and its key are such parts
 use Prim.Native.Nat.{ℕ, suc, _+_, _-_}
 use mathlib.Core.Path.{_≡_}
 use mathlib.Core.List.{List, [], _++_}
@@ -15,22 +16,8 @@ use lib.ListN.{length, getD, take, drop}
 use Rattle.base.specs.Choice.{pick}
 use Rattle.fcs.specs.Fcs.{fcs}
 use Rattle.packet_spec.specs.Port.{barred}
-use Rattle.packet_spec.specs.Contents.{
-  Packet,
-  plainFormat,
-  keyFormat,
-  keySized,
-  restLeast,
-  payloadLimit,
-  rawLimit,
-  pairAt,
-  keyLength,
-  keyAt,
-  payloadAt,
-  plainly,
-  keyed,
-  body,
-}
+use Rattle.packet_spec.specs.Contents.{Packet, plainFormat, keyFormat, keySized, restLeast, payloadLimit, rawLimit}
+use Rattle.packet_spec.specs.Contents.{pairAt, keyLength, keyAt, payloadAt, plainly, keyed, body}
 use Rattle.packet_spec.specs.Escape.{escape, plain, scan}
 use Rattle.packet_spec.specs.declared.Escapes.{Escapes}
 use Rattle.packet_spec.specs.declared.Escapes.the-variants.{Right, Unfinished, Wrong}

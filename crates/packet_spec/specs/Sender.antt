@@ -1,7 +1,10 @@
 -- One packet written (paper 01, "Packet and frame", "Numbered refusals"; request W8).
--- frameOf    its escaped contents, and one flag behind them
--- refusing   what the sender says of it, and Accepted, that it takes it
--- writing    what the call answers and leaves
+-- flagged, frameOf     its escaped contents, and one flag behind them
+-- headFits             whether format, key number and key length may be sent
+-- refusing             what the sender says of it
+-- Accepted             that it takes it: some payload, not too long (short), a free port, a head that fits, and numbers that are such
+--                      (number-fits, key-bytes, port-fits, sequence-fits, bytes)
+-- writing              what the call answers and leaves
 use Prim.Native.Nat.{ℕ, _≤_, _<_}
 use mathlib.Core.Path.{_≡_}
 use mathlib.Core.Bool.{Bool, true, false, _&&_}

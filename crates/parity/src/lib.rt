@@ -114,15 +114,19 @@ fn at_first(r: usize, word: &[u8]) -> [u8; Word::MOST]
     at_all(word)
 }
 
-/// The values of a word at its r roots, at most 64, and zeros behind them.
-pub fn at_roots(r: usize, word: &[u8]) -> [u8; Word::MOST]
-    ensures { λ v. ⌜ v ≡ atRoots r (now (word .entry)) ⌝ }
+/// Writes the values of a word at its r roots.
+pub fn at_roots(r: usize, word: &[u8], out: &mut [u8]) -> Written
+    ensures { λ w. ⌜ outcome w (now (out .exit)) ≡ atRoots r (now (word .entry)) (now (out .entry)) ⌝ }
 {
-    let n = base::least(r, Word::MOST);
-    let first = at_first(n, word);
-    let mut v = [0u8; Word::MOST];
-    base::copy(&first[..n], &mut v);
-    v
+    if Word::MOST < r {
+        return Written::Refused(Refusal::ROOTS);
+    }
+    if out.len() < r {
+        return Written::Refused(Refusal::OUTPUT);
+    }
+    let v = at_first(r, word);
+    base::copy(&v[..r], out);
+    Written::Wrote(r)
 }
 
 // Whether a word is zero at the roots 1 to r.

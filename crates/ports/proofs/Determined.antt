@@ -1,4 +1,7 @@
--- The promises of the covered public functions leave nothing open. Those of `note` and `forget`, proved by hand, stand in Says.
+-- The promises of the covered public functions leave nothing open. Those of `note` and `forget` of a lent
+-- table, proved by hand, stand in Says.
+-- rule-determined                                                           the distance rule
+-- fresh-determined, sound-determined, note-determined, forget-determined    the table by value
 use mathlib.Core.Path.{refl}
 use Rattle.base.specs.Determined.{Determined}
 use Rattle.base.proofs.Determining.{same}

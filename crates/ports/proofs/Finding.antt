@@ -1,5 +1,6 @@
 -- What the covered functions of the table of ports need.
 -- place-here, place-on, place-end    the loop that finds a port; free-.. that finds a free place
+-- twice-here, twice-on, twice-end    the loop that finds a port held twice
 use mathlib.Core.Path.{_≡_, refl, sym, ap, _∙_}
 use mathlib.Core.Bool.{Bool, true, false, not, _&&_, false≢true, true≢false}
 use mathlib.Core.List.{List, [], _∷_}
@@ -95,20 +96,23 @@ within a m n k e h =
     by-le n (m + a) (λ l. le-ltb (m + a) n l ∙ sym (le-ltb a k (omega (arith, e))))
     (λ l. lt-ltb (m + a) n l ∙ sym (lt-ltb a k (omega (arith, e))))
 
-module _ (t : List Entry) (n i : ℕ) (h : i < n) (k : n ≤ length t) {place : ℕ} (ep : place ≡ i + 1 + placeOf (getD t i freed .port) (drop (i + 1) (take n t))) where
-  left : length (drop (i + 1) (take n t)) ≡ n - (i + 1)
-  left = length-drop (i + 1) (take n t) ∙ ap (λ (m : ℕ). m - (i + 1)) (length-take-le n t k)
+module _ (t : List Entry) (n i : ℕ) (h : i < n) (k : n ≤ length t) {place : ℕ} (ep : place ≡ i + 1 + placeOf (getD t i freed .port) (drop (i + 1) (take n t)))
+  where
+    left : length (drop (i + 1) (take n t)) ≡ n - (i + 1)
+    left = length-drop (i + 1) (take n t) ∙ ap (λ (m : ℕ). m - (i + 1)) (length-take-le n t k)
 
-  same : getD t i freed .held && ltb place n ≡ getD t i freed .held && ltb (placeOf (getD t i freed .port) (drop (i + 1) (take n t))) (length (drop (i + 1) (take n t)))
-  same =
-      ap (λ (b : Bool). getD t i freed .held && b)
-      (ap (λ (p : ℕ). ltb p n) ep ∙ within (placeOf (getD t i freed .port) (drop (i + 1) (take n t))) (i + 1) n (length (drop (i + 1) (take n t))) left (omega (arith, h)))
+    same : getD t i freed .held && ltb place n ≡ getD t i freed .held && ltb (placeOf (getD t i freed .port) (drop (i + 1) (take n t)))
+        (length (drop (i + 1) (take n t)))
+    same =
+        ap (λ (b : Bool). getD t i freed .held && b)
+        (ap (λ (p : ℕ). ltb p n) ep ∙ within (placeOf (getD t i freed .port) (drop (i + 1) (take n t))) (i + 1) n (length (drop (i + 1) (take n t))) left
+        (omega (arith, h)))
 
-  pub twice-here : {r : Bool} → twice (drop i (take n t)) ≡ r → getD t i freed .held && ltb place n ≡ true → true ≡ r
-  twice-here inv q = sym (twice-stop (part-next t i n h k) (sym same ∙ q)) ∙ inv
+    pub twice-here : {r : Bool} → twice (drop i (take n t)) ≡ r → getD t i freed .held && ltb place n ≡ true → true ≡ r
+    twice-here inv q = sym (twice-stop (part-next t i n h k) (sym same ∙ q)) ∙ inv
 
-  pub twice-on : {r : Bool} → twice (drop i (take n t)) ≡ r → getD t i freed .held && ltb place n ≡ false → twice (drop (i + 1) (take n t)) ≡ r
-  twice-on inv q = sym (twice-go (part-next t i n h k) (sym same ∙ q)) ∙ inv
+    pub twice-on : {r : Bool} → twice (drop i (take n t)) ≡ r → getD t i freed .held && ltb place n ≡ false → twice (drop (i + 1) (take n t)) ≡ r
+    twice-on inv q = sym (twice-go (part-next t i n h k) (sym same ∙ q)) ∙ inv
 
 pub twice-end : (t : List Entry) (n i : ℕ) {r : Bool} → twice (drop i (take n t)) ≡ r → n ≤ i → false ≡ r
 twice-end t n i inv h = sym (twice-nil (part-over t i n h)) ∙ inv

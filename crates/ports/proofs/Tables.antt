@@ -1,8 +1,9 @@
 -- A lent table as a value, and back.
--- set-past       nothing is put behind the end
--- whole          the places gathered are the table
+-- set-past, put-over        nothing is put behind the end; nor behind place 16 of a table by value
+-- whole                     the places gathered are the table
 -- free-.., note-..         the decisions, way by way; freed-.., noted-.. as the functions come to them
--- freeing-is, noting-is     the decision on the value, put, is what the two calls are to answer and leave; freeing-in, noting-in of a table by value
+-- freeing-is, noting-is     the decision on the value, put, is what the two calls are to answer and leave; freeing-in, noting-in of a table by value,
+--                           frees-in, notes-in as the functions come to them
 -- sound-in                  .. whether it is fit
 use mathlib.Core.Path.{_≡_, refl, sym, ap, subst, _∙_}
 use mathlib.Core.Bool.{Bool, true, false, not, _||_}
@@ -53,7 +54,7 @@ tab-all (suc n) (e ∷ es) l = ap (λ (xs : List Entry). e ∷ xs) (tab-all n es
 pub whole : (es : List Entry) → length es ≤ 16 → take (length es) (gathered es) ≡ es
 whole es l = tab-all 16 es l
 
-pub gathered-at : (es : List Entry) (i : ℕ) → i < 16 → getD (gathered es) i freed ≡ getD es i freed
+gathered-at : (es : List Entry) (i : ℕ) → i < 16 → getD (gathered es) i freed ≡ getD es i freed
 gathered-at es i l = tab-at 16 (λ j. getD es j freed) i l
 
 -- ---- a port forgotten, way by way
@@ -66,16 +67,21 @@ module _ (t : Table) (port : ℕ) where
   free-over h = rw (lt-ltb 16 (t .places) h) refl
 
   module _ (few : t .places ≤ 16) where
-    pub free-twice : twice es ≡ true → unfreed (t .places) 43 ≡ freeingOf t port
+    free-twice : twice es ≡ true → unfreed (t .places) 43 ≡ freeingOf t port
     unfolding freeingOf
     free-twice h = rw (le-ltb 16 (t .places) few, h) refl
 
     module _ (once : twice es ≡ false) where
-      pub free-held : placeOf port es < t .places → record { forgot = Forgotten; place = placeOf port es; entry = record { held = false; port = port; last = getD (t .entries) (placeOf port es) freed .last } } ≡ freeingOf t port
+      free-held : placeOf port es < t .places
+          → record {
+            forgot = Forgotten;
+            place = placeOf port es;
+            entry = record { held = false; port = port; last = getD (t .entries) (placeOf port es) freed .last };
+          } ≡ freeingOf t port
       unfolding freeingOf
       free-held h = rw (le-ltb 16 (t .places) few, once, lt-ltb (placeOf port es) (t .places) h) refl
 
-      pub free-away : t .places ≤ placeOf port es → unfreed (t .places) 41 ≡ freeingOf t port
+      free-away : t .places ≤ placeOf port es → unfreed (t .places) 41 ≡ freeingOf t port
       unfolding freeingOf
       free-away h = rw (le-ltb 16 (t .places) few, once, le-ltb (placeOf port es) (t .places) h) refl
 
@@ -88,7 +94,9 @@ module _ (t : Table) (port : ℕ) where
       there : place ≡ placeOf port es
       there = ep ∙ omega arith
 
-      pub freed-held : place < t .places → record { forgot = Forgotten; place = place; entry = record { held = false; port = port; last = getD (t .entries) place freed .last } } ≡ freeingOf t port
+      pub freed-held : place < t .places
+          → record { forgot = Forgotten; place = place; entry = record { held = false; port = port; last = getD (t .entries) place freed .last } }
+          ≡ freeingOf t port
       freed-held h =
           ap (λ (k : ℕ). record { forgot = Forgotten; place = k; entry = record { held = false; port = port; last = getD (t .entries) k freed .last } }) there ∙
           free-held few (sym eu ∙ once) (omega (arith, there, h))
@@ -109,17 +117,18 @@ module _ (t : Table) (port sequence : ℕ) where
   note-over h = rw (lt-ltb 16 (t .places) h) refl
 
   module _ (few : t .places ≤ 16) where
-    pub note-twice : twice of ≡ true → unnoted (t .places) 43 ≡ notingOf t port sequence
+    note-twice : twice of ≡ true → unnoted (t .places) 43 ≡ notingOf t port sequence
     unfolding notingOf
     note-twice h = rw (le-ltb 16 (t .places) few, h) refl
 
     module _ (once : twice of ≡ false) where
-      pub note-held : placeOf port of < t .places → record { noted = ruled last sequence; place = placeOf port of; entry = entry port (lastBehind last sequence) } ≡ notingOf t port sequence
+      note-held : placeOf port of < t .places
+          → record { noted = ruled last sequence; place = placeOf port of; entry = entry port (lastBehind last sequence) } ≡ notingOf t port sequence
       unfolding notingOf
       note-held h = rw (le-ltb 16 (t .places) few, once, lt-ltb (placeOf port of) (t .places) h) refl
 
       module _ (away : t .places ≤ placeOf port of) where
-        pub note-new : freePlace of < t .places → record { noted = First; place = freePlace of; entry = entry port sequence } ≡ notingOf t port sequence
+        note-new : freePlace of < t .places → record { noted = First; place = freePlace of; entry = entry port sequence } ≡ notingOf t port sequence
         unfolding notingOf
         note-new h = rw (le-ltb 16 (t .places) few, once, le-ltb (placeOf port of) (t .places) away, lt-ltb (freePlace of) (t .places) h) refl
 
@@ -136,17 +145,23 @@ module _ (t : Table) (port sequence : ℕ) where
       here : place ≡ placeOf port of
       here = ep ∙ omega arith
 
-      pub noted-held : {a : Noted} {l : ℕ} → place < t .places → a ≡ ruled (getD (t .entries) place freed .last) sequence → l ≡ lastBehind (getD (t .entries) place freed .last) sequence
+      pub noted-held : {a : Noted} {l : ℕ} → place < t .places → a ≡ ruled (getD (t .entries) place freed .last) sequence
+          → l ≡ lastBehind (getD (t .entries) place freed .last) sequence
           → record { noted = a; place = place; entry = entry port l } ≡ notingOf t port sequence
       noted-held {a} {l} h ea el =
           (λ i. record { noted = ea i; place = place; entry = entry port (el i) }) ∙
-          ap (λ (k : ℕ). record { noted = ruled (getD (t .entries) k freed .last) sequence; place = k; entry = entry port (lastBehind (getD (t .entries) k freed .last) sequence) }) here ∙
+          ap (λ (k : ℕ). record {
+            noted = ruled (getD (t .entries) k freed .last) sequence;
+            place = k;
+            entry = entry port (lastBehind (getD (t .entries) k freed .last) sequence);
+          }) here ∙
           note-held few (sym eu ∙ once) (omega (arith, here, h))
 
       module _ (away : t .places ≤ place) {free : ℕ} (ef : free ≡ freePlace of) where
         pub noted-new : free < t .places → record { noted = First; place = free; entry = entry port sequence } ≡ notingOf t port sequence
         noted-new h =
-            ap (λ (k : ℕ). record { noted = First; place = k; entry = entry port sequence }) ef ∙ note-new few (sym eu ∙ once) (omega (arith, here, away)) (omega (arith, ef, h))
+            ap (λ (k : ℕ). record { noted = First; place = k; entry = entry port sequence }) ef ∙ note-new few (sym eu ∙ once) (omega (arith, here, away))
+            (omega (arith, ef, h))
 
         pub noted-full : t .places ≤ free → unnoted (t .places) 40 ≡ notingOf t port sequence
         noted-full h = note-full few (sym eu ∙ once) (omega (arith, here, away)) (omega (arith, ef, h))
@@ -188,15 +203,18 @@ module _ (es g : List Entry) (all : length es ≤ 16 → take (length es) g ≡ 
         frees-held h =
             ap (λ (d : Freeing). Freed d es) (sym (free-held t port few (ap twice (all few) ∙ once) (omega (arith, at, h)))) ∙
             ap (λ (k : ℕ). Freed (record { forgot = Forgotten; place = k; entry = record { held = false; port = port; last = getD g k freed .last } }) es) at ∙
-            ap (λ (e : Entry). Freed (record { forgot = Forgotten; place = placeOf port es; entry = record { held = false; port = port; last = e .last } }) es) (each (placeOf port es) (omega (arith, h, few))) ∙
+            ap (λ (e : Entry). Freed (record { forgot = Forgotten; place = placeOf port es; entry = record { held = false; port = port; last = e .last } }) es)
+            (each (placeOf port es) (omega (arith, h, few))) ∙
             rw (le-ltb 16 (length es) few, once, lt-ltb (placeOf port es) (length es) h) refl
 
         frees-away : length es ≤ placeOf port es → Frees
         unfolding forgetting
-        frees-away h = ap (λ (d : Freeing). Freed d es) (sym (free-away t port few (ap twice (all few) ∙ once) (omega (arith, at, h)))) ∙ kept 41 ∙ rw (le-ltb 16 (length es) few, once, le-ltb (placeOf port es) (length es) h) refl
+        frees-away h = ap (λ (d : Freeing). Freed d es) (sym (free-away t port few (ap twice (all few) ∙ once) (omega (arith, at, h)))) ∙ kept 41
+            ∙ rw (le-ltb 16 (length es) few, once, le-ltb (placeOf port es) (length es) h) refl
 
     freeing : Frees
-    freeing = by-le (length es) 16 (λ few. by-test (twice es) (frees-twice few) (λ once. by-le (length es) (placeOf port es) (frees-away few once) (frees-held few once))) frees-over
+    freeing = by-le (length es) 16
+        (λ few. by-test (twice es) (frees-twice few) (λ once. by-le (length es) (placeOf port es) (frees-away few once) (frees-held few once))) frees-over
 
   module _ (port sequence : ℕ) where
     abbrev Notes : Type 0
@@ -213,7 +231,8 @@ module _ (es g : List Entry) (all : length es ≤ 16 → take (length es) g ≡ 
     module _ (few : length es ≤ 16) where
       notes-twice : twice es ≡ true → Notes
       unfolding noting
-      notes-twice h = ap (λ (d : Noting). Put d es) (sym (note-twice t port sequence few (ap twice (all few) ∙ h))) ∙ stays 43 ∙ rw (le-ltb 16 (length es) few, h) refl
+      notes-twice h = ap (λ (d : Noting). Put d es) (sym (note-twice t port sequence few (ap twice (all few) ∙ h))) ∙ stays 43
+          ∙ rw (le-ltb 16 (length es) few, h) refl
 
       module _ (once : twice es ≡ false) where
         place : placeOf port (take (length es) g) ≡ placeOf port es
@@ -223,8 +242,13 @@ module _ (es g : List Entry) (all : length es ≤ 16 → take (length es) g ≡ 
         unfolding noting
         notes-held h =
             ap (λ (d : Noting). Put d es) (sym (note-held t port sequence few (ap twice (all few) ∙ once) (omega (arith, place, h)))) ∙
-            ap (λ (k : ℕ). Put (record { noted = ruled (getD g k freed .last) sequence; place = k; entry = entry port (lastBehind (getD g k freed .last) sequence) }) es) place ∙
-            ap (λ (e : Entry). Put (record { noted = ruled (e .last) sequence; place = placeOf port es; entry = entry port (lastBehind (e .last) sequence) }) es) (each (placeOf port es) (omega (arith, h, few))) ∙
+            ap (λ (k : ℕ). Put (record {
+              noted = ruled (getD g k freed .last) sequence;
+              place = k;
+              entry = entry port (lastBehind (getD g k freed .last) sequence);
+            }) es) place ∙
+            ap (λ (e : Entry). Put (record { noted = ruled (e .last) sequence; place = placeOf port es; entry = entry port (lastBehind (e .last) sequence) })
+            es) (each (placeOf port es) (omega (arith, h, few))) ∙
             rw (le-ltb 16 (length es) few, once, lt-ltb (placeOf port es) (length es) h) refl
 
         module _ (away : length es ≤ placeOf port es) where
@@ -234,19 +258,23 @@ module _ (es g : List Entry) (all : length es ≤ 16 → take (length es) g ≡ 
           notes-new : freePlace es < length es → Notes
           unfolding noting
           notes-new h =
-              ap (λ (d : Noting). Put d es) (sym (note-new t port sequence few (ap twice (all few) ∙ once) (omega (arith, place, away)) (omega (arith, first, h)))) ∙
+              ap (λ (d : Noting). Put d es)
+              (sym (note-new t port sequence few (ap twice (all few) ∙ once) (omega (arith, place, away)) (omega (arith, first, h)))) ∙
               ap (λ (k : ℕ). Put (record { noted = First; place = k; entry = entry port sequence }) es) first ∙
               rw (le-ltb 16 (length es) few, once, le-ltb (placeOf port es) (length es) away, lt-ltb (freePlace es) (length es) h) refl
 
           notes-full : length es ≤ freePlace es → Notes
           unfolding noting
           notes-full h =
-              ap (λ (d : Noting). Put d es) (sym (note-full t port sequence few (ap twice (all few) ∙ once) (omega (arith, place, away)) (omega (arith, first, h)))) ∙ stays 40 ∙
+              ap (λ (d : Noting). Put d es)
+              (sym (note-full t port sequence few (ap twice (all few) ∙ once) (omega (arith, place, away)) (omega (arith, first, h)))) ∙ stays 40 ∙
               rw (le-ltb 16 (length es) few, once, le-ltb (placeOf port es) (length es) away, le-ltb (freePlace es) (length es) h) refl
 
     notes : Notes
     notes = by-le (length es) 16
-        (λ few. by-test (twice es) (notes-twice few) (λ once. by-le (length es) (placeOf port es) (λ away. by-le (length es) (freePlace es) (notes-full few once away) (notes-new few once away)) (notes-held few once)))
+        (λ few. by-test (twice es) (notes-twice few)
+        (λ once. by-le (length es) (placeOf port es) (λ away. by-le (length es) (freePlace es) (notes-full few once away) (notes-new few once away))
+        (notes-held few once)))
         notes-over
 
 -- ---- of a lent table, gathered
@@ -261,19 +289,23 @@ module _ (es : List Entry) (size : length es ≡ 16) where
   abbrev sixteen : ℕ → Table
   sixteen n = record { places = n; entries = es }
 
-  pub freeing-in : (port : ℕ) → Freed (freeingOf (sixteen 16) port) es ≡ forgetting es port
-  freeing-in port = ap (λ (n : ℕ). Freed (freeingOf (sixteen n) port) es) (sym size) ∙ freeing es es (λ _. take-all (length es) es (omega arith)) (λ i _. refl) port
+  freeing-in : (port : ℕ) → Freed (freeingOf (sixteen 16) port) es ≡ forgetting es port
+  freeing-in port = ap (λ (n : ℕ). Freed (freeingOf (sixteen n) port) es) (sym size) ∙ freeing es es (λ _. take-all (length es) es (omega arith))
+      (λ i _. refl) port
 
   pub noting-in : (port sequence : ℕ) → Put (notingOf (sixteen 16) port sequence) es ≡ noting es port sequence
-  noting-in port sequence = ap (λ (n : ℕ). Put (notingOf (sixteen n) port sequence) es) (sym size) ∙ notes es es (λ _. take-all (length es) es (omega arith)) (λ i _. refl) port sequence
+  noting-in port sequence = ap (λ (n : ℕ). Put (notingOf (sixteen n) port sequence) es) (sym size) ∙ notes es es (λ _. take-all (length es) es (omega arith))
+      (λ i _. refl) port sequence
 
   pub put-over : (i : ℕ) (e : Entry) → 16 ≤ i → es ≡ set es i e
   put-over i e h = sym (set-past es i e (omega (arith, size, h)))
 
-  pub frees-in : (port : ℕ) {d : Freeing} {z : List Entry} → d ≡ freeingOf (sixteen 16) port → z ≡ set es (d .place) (d .entry) → forgotIn (d .forgot, z) ≡ forgotIn (forgetting es port)
+  pub frees-in : (port : ℕ) {d : Freeing} {z : List Entry} → d ≡ freeingOf (sixteen 16) port → z ≡ set es (d .place) (d .entry)
+      → forgotIn (d .forgot, z) ≡ forgotIn (forgetting es port)
   frees-in port {d} {z} ed ez = ap forgotIn ((λ i. (d .forgot, ez i)) ∙ ap (λ (c : Freeing). Freed c es) ed ∙ freeing-in port)
 
-  pub notes-in : (port sequence : ℕ) {d : Noting} {z : List Entry} → d ≡ notingOf (sixteen 16) port sequence → z ≡ set es (d .place) (d .entry) → notedIn (d .noted, z) ≡ notedIn (noting es port sequence)
+  pub notes-in : (port sequence : ℕ) {d : Noting} {z : List Entry} → d ≡ notingOf (sixteen 16) port sequence → z ≡ set es (d .place) (d .entry)
+      → notedIn (d .noted, z) ≡ notedIn (noting es port sequence)
   notes-in port sequence {d} {z} ed ez = ap notedIn ((λ i. (d .noted, ez i)) ∙ ap (λ (c : Noting). Put c es) ed ∙ noting-in port sequence)
 
   pub sound-in : {t : Bool} → t ≡ twice (take 16 es) → not t ≡ not (unfit es)

@@ -1,5 +1,5 @@
 -- What private functions alone are promised by: a lent table as a value, and a call's answer with what it puts where.
--- gathered, tableOf          the value
+-- gathered, tableOf          the value; inTable, lastIn: its places, and a port's last number
 -- freeingOf, notingOf        what a port to forget, and a packet, come to; unfreed, unnoted where that is a refusal
 use Prim.Native.Nat.{ℕ}
 use mathlib.Core.List.{List, [], _∷_}
@@ -26,11 +26,11 @@ abbrev pub tableOf : List Entry → Table
 tableOf es = record { places = length es; entries = gathered es }
 
 -- its places, at most 16
-abbrev pub inTable : Table → List Entry
+abbrev inTable : Table → List Entry
 inTable t = take (t .places) (t .entries)
 
 -- the last number at the place where a port is held
-abbrev pub lastIn : Table → ℕ → ℕ
+abbrev lastIn : Table → ℕ → ℕ
 lastIn t port = getD (t .entries) (placeOf port (inTable t)) freed .last
 
 -- a refusal puts nothing: its place is behind the end

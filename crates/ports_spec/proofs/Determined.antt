@@ -1,4 +1,5 @@
 -- Each public function's promise determines its result.
+-- all-determined, has-determined    the range of all ports; whether a range has a port
 use mathlib.Core.Path.{refl}
 use Rattle.base.specs.Determined.{Determined}
 use Rattle.base.proofs.Determining.{same}

@@ -1,4 +1,4 @@
--- Every port is inside the range of all.
+-- Every port is inside the range of all: inside-every.
 use Prim.Native.Nat.{ℕ, _≤_}
 use mathlib.Core.Path.{_≡_, refl}
 use native.Mathlib.Omega.{arith}

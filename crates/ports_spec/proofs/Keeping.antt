@@ -12,7 +12,7 @@ use borrow.Author.Tests.{eq-eqb, ne-eqb, eqb-true, ltb-true, ltb-false, le-ltb}
 use lib.Dec.{eqb, ltb}
 use lib.ListN.{length, getD, set, length-set}
 use Rattle.base.specs.Choice.{pick}
-use Rattle.base.proofs.Tests.{and-parts}
+use Rattle.base.proofs.Tests.{and-parts, or-left, or-right}
 use Rattle.ports_spec.specs.declared.Entry.{Entry}
 use Rattle.ports_spec.specs.declared.Noted.{Noted}
 use Rattle.ports_spec.specs.declared.Noted.the-variants.{First, Refused}
@@ -21,7 +21,7 @@ use Rattle.ports_spec.specs.declared.Forgot.the-variants.{Forgotten, Ref
 use Rattle.ports_spec.specs.Distance.{ruled, lastBehind}
 use Rattle.ports_spec.specs.Ports.{placeLimit, freed, entry, unheld, holds, placeOf, freePlace, lastOf, twice, unfit, lastAt, noting, forgetting}
 use Rattle.ports_spec.specs.Refusing.{Call, packet, forget, keeps}
-use Rattle.ports_spec.proofs.Laws.{notingBy, forgettingBy, noting-ways, forgetting-ways, once, or-left, or-right, other-set, away-by}
+use Rattle.ports_spec.proofs.Laws.{notingBy, forgettingBy, noting-ways, forgetting-ways, once, other-set, away-by}
 use Rattle.ports_spec.proofs.Refusing.{rule-given}
 
 -- a port's place hangs on held and port alone: an entry of the same port where it is held changes no place ..
@@ -66,7 +66,8 @@ twice-set (e ∷ es) port l f = go (holds port e) refl (twice-set es port l (or-
         rw (p .0, k) at f
     go false h r =
         let a = or-left (e .held && ltb (placeOf (e .port) es) (length es)) (twice es) f in
-        or-both (e .held && ltb (placeOf (e .port) (set es (placeOf port es) (entry port l))) (length (set es (placeOf port es) (entry port l)))) (twice (set es (placeOf port es) (entry port l)))
+        or-both (e .held && ltb (placeOf (e .port) (set es (placeOf port es) (entry port l))) (length (set es (placeOf port es) (entry port l))))
+        (twice (set es (placeOf port es) (entry port l)))
         (rw (place-set es port (e .port) l, length-set es (placeOf port es) (entry port l)) a) r
 
 not-held : (e : Entry) (es : List Entry) (port : ℕ) → length (e ∷ es) ≤ placeOf port (e ∷ es) → (holds port e ≡ false) × (length es ≤ placeOf port es)
@@ -92,7 +93,8 @@ twice-free (e ∷ es) port l f n k =
         let a = or-left (e .held && ltb (placeOf (e .port) es) (length es)) (twice es) f in
         let j : freePlace es < length es = omega (arith, k) in
         let m : port ≢ e .port = λ z. let u : holds port e ≡ true = rw (h, eq-eqb (e .port) port (sym z)) refl in true≢false (sym u ∙ q) in
-        or-both (e .held && ltb (placeOf (e .port) (set es (freePlace es) (entry port l))) (length (set es (freePlace es) (entry port l)))) (twice (set es (freePlace es) (entry port l)))
+        or-both (e .held && ltb (placeOf (e .port) (set es (freePlace es) (entry port l))) (length (set es (freePlace es) (entry port l))))
+        (twice (set es (freePlace es) (entry port l)))
         (rw (place-free es port (e .port) l m j, length-set es (freePlace es) (entry port l)) a) (r j)
     go false h r q n k =
         or-both (ltb (placeOf port es) (length es)) (twice es) (le-ltb _ _ n) (or-right (e .held && ltb (placeOf (e .port) es) (length es)) (twice es) f)
@@ -122,7 +124,7 @@ twice-freed (e ∷ es) port x f n p =
         let l = le-ltb _ _ (away-by (set es (placeOf port es) x) (e .port) o) in
         rw (k, l) r
 
-pub fit-forgotten : (es : List Entry) (port : ℕ) → unfit es ≡ false → unfit (forgetting es port .1) ≡ false
+fit-forgotten : (es : List Entry) (port : ℕ) → unfit es ≡ false → unfit (forgetting es port .1) ≡ false
 fit-forgotten es port f =
     let x = unheld port (lastAt es port) in
     forgetting-ways es port (λ y. unfit (y .1) ≡ false) f
@@ -130,14 +132,15 @@ fit-forgotten es port f =
     (twice-freed es port x (or-right (ltb placeLimit (length es)) (twice es) f) refl refl)) f
 
 -- ---- behind any such calls
-pub kept-fit : (cs : List Call) (es : List Entry) → unfit es ≡ false → unfit (keeps cs es) ≡ false
+kept-fit : (cs : List Call) (es : List Entry) → unfit es ≡ false → unfit (keeps cs es) ≡ false
 kept-fit [] es f = f
 kept-fit (packet port sequence ∷ cs) es f = kept-fit cs (noting es port sequence .1) (fit-noted es port sequence f)
 kept-fit (forget port ∷ cs) es f = kept-fit cs (forgetting es port .1) (fit-forgotten es port f)
 
 not-43 : (es : List Entry) (port sequence : ℕ) → unfit es ≡ false → (noting es port sequence .0 ≢ Refused 43) × (forgetting es port .0 ≢ Unforgotten 43)
 unfolding noting forgetting
-not-43 es port sequence f = (noted (unfit es) f (ltb (placeOf port es) (length es)) (ltb (freePlace es) (length es)), forgot (unfit es) f (ltb (placeOf port es) (length es)))
+not-43 es port sequence f =
+    (noted (unfit es) f (ltb (placeOf port es) (length es)) (ltb (freePlace es) (length es)), forgot (unfit es) f (ltb (placeOf port es) (length es)))
   where
     noted : (a : Bool) → a ≡ false → (b c : Bool) → notingBy a b c es port sequence .0 ≢ Refused 43
     noted true f b c e = true≢false f

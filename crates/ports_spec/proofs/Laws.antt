@@ -1,7 +1,9 @@
 -- What the two calls do to a table of ports.
+-- notingBy, forgettingBy           the two calls as their tests go; noting-ways, forgetting-ways: what holds of every answer
 -- place-holds, place-least         a port's place holds it, and no place before it does
 -- first-free, free-is              before the first free place every place is held; it is free itself
--- others-noted, others-forgotten   another port's last number stays
+-- others-noted, others-forgotten   another port's last number stays; other-set: where this port's entry is put
+-- place-none, away-by              a port that is not held has no last number, and the other way round; once: nor behind its place
 -- entries-noted                    every place that holds another port stays
 -- noted-last                       a port that is held: what a packet is told, and its last number then
 -- noted-first, first-last          a new port that finds a free place; noted-full: one that finds none
@@ -22,14 +24,15 @@ use lib.Dec.{eqb, ltb}
 use lib.ListN.{length, getD, set}
 use lib.Seq.{getD-set-same, getD-set-other}
 use Rattle.base.specs.Choice.{pick}
-use Rattle.base.proofs.Tests.{and-parts, and-false, by-le}
+use Rattle.base.proofs.Tests.{and-parts, and-false, or-left, or-right, by-le}
 use Rattle.ports_spec.specs.declared.Entry.{Entry}
 use Rattle.ports_spec.specs.declared.Noted.{Noted}
 use Rattle.ports_spec.specs.declared.Noted.the-variants.{First, Refused}
 use Rattle.ports_spec.specs.declared.Forgot.{Forgot}
 use Rattle.ports_spec.specs.declared.Forgot.the-variants.{Forgotten, Refused as Unforgotten}
 use Rattle.ports_spec.specs.Distance.{ruled, lastBehind}
-use Rattle.ports_spec.specs.Ports.{placeLimit, freed, freshTable, entry, unheld, holds, placeOf, freePlace, lastOf, twice, unfit, lastAt, further, taken, without, noting, forgetting}
+use Rattle.ports_spec.specs.Ports.{placeLimit, freed, freshTable, entry, unheld, holds, placeOf, freePlace, lastOf, twice, unfit, lastAt}
+use Rattle.ports_spec.specs.Ports.{further, taken, without, noting, forgetting}
 
 -- ---- the two calls as their tests go
 abbrev pub notingBy : Bool → Bool → Bool → List Entry → ℕ → ℕ → Noted × List Entry
@@ -151,11 +154,12 @@ pub entries-noted : (es : List Entry) (port sequence i : ℕ) → getD es i free
     → getD (noting es port sequence .1) i freed ≡ getD es i freed
 entries-noted es port sequence i held other =
     noting-ways es port sequence (λ x. getD (x .1) i freed ≡ getD es i freed) refl
-    (λ h. getD-set-other es (placeOf port es) i _ freed (λ e. other (ap (λ (j : ℕ). getD es j freed .port) e ∙ holds-is port (getD es (placeOf port es) freed) (place-holds es port h))))
+    (λ h. getD-set-other es (placeOf port es) i _ freed
+    (λ e. other (ap (λ (j : ℕ). getD es j freed .port) e ∙ holds-is port (getD es (placeOf port es) freed) (place-holds es port h))))
     (λ h k. getD-set-other es (freePlace es) i _ freed (λ e. true≢false (sym held ∙ ap (λ (j : ℕ). getD es j freed .held) e ∙ free-is es k))) refl
 
 -- ---- the port itself
-pub place-none : (es : List Entry) (port : ℕ) → length es ≤ placeOf port es → lastOf port es ≡ none
+place-none : (es : List Entry) (port : ℕ) → length es ≤ placeOf port es → lastOf port es ≡ none
 unfolding lastOf placeOf
 place-none [] port h = refl
 place-none (e ∷ es) port h = go (holds port e) (place-none es port) h
@@ -232,7 +236,8 @@ pub first-last : (es : List Entry) (port sequence : ℕ) → unfit es ≡ false 
 first-last es port sequence f e k = rw (noted-first es port sequence f e k) (free-last es port sequence e k)
 
 -- .. and with none
-pub noted-full : (es : List Entry) (port sequence : ℕ) → unfit es ≡ false → lastOf port es ≡ none → length es ≤ freePlace es → noting es port sequence ≡ (Refused 40, es)
+pub noted-full : (es : List Entry) (port sequence : ℕ) → unfit es ≡ false → lastOf port es ≡ none → length es ≤ freePlace es
+    → noting es port sequence ≡ (Refused 40, es)
 unfolding noting
 noted-full es port sequence f e k = rw (f, le-ltb _ _ (away-by es port e), le-ltb _ _ k) refl
 
@@ -259,14 +264,6 @@ once e es h k = go (ltb (placeOf (e .port) es) (length es)) refl
     go true a = let z : true ≡ false = rw (k, a) at h in absurd (true≢false z)
     go false a = place-none es (e .port) (ltb-false _ _ a)
 
-pub or-left : (a b : Bool) → a || b ≡ false → a ≡ false
-or-left true b e = absurd (true≢false e)
-or-left false b e = refl
-
-pub or-right : (a b : Bool) → a || b ≡ false → b ≡ false
-or-right true b e = absurd (true≢false e)
-or-right false b e = e
-
 rest : (e : Entry) (es : List Entry) → twice (e ∷ es) ≡ false → twice es ≡ false
 unfolding twice
 rest e es f = or-right (e .held && ltb (placeOf (e .port) es) (length es)) (twice es) f
@@ -291,11 +288,13 @@ forgotten-none es port f =
 
 -- its place is free, and has port and last as they were
 pub forgotten-at : (es : List Entry) (port : ℕ) → unfit es ≡ false → placeOf port es < length es
-    → getD (forgetting es port .1) (placeOf port es) freed ≡ record { held = false; port = getD es (placeOf port es) freed .port; last = getD es (placeOf port es) freed .last }
+    → getD (forgetting es port .1) (placeOf port es) freed ≡ record
+    { held = false; port = getD es (placeOf port es) freed .port; last = getD es (placeOf port es) freed .last }
 unfolding forgetting
 forgotten-at es port f h =
     rw (f, lt-ltb _ _ h)
-    (getD-set-same es (placeOf port es) (unheld port (lastAt es port)) freed h ∙ ap (λ (q : ℕ). unheld q (lastAt es port)) (sym (holds-is port (getD es (placeOf port es) freed) (place-holds es port h))))
+    (getD-set-same es (placeOf port es) (unheld port (lastAt es port)) freed h
+    ∙ ap (λ (q : ℕ). unheld q (lastAt es port)) (sym (holds-is port (getD es (placeOf port es) freed) (place-holds es port h))))
 
 pub forgotten-else : (es : List Entry) (port i : ℕ) → i ≢ placeOf port es → getD (forgetting es port .1) i freed ≡ getD es i freed
 forgotten-else es port i n =

@@ -1,6 +1,8 @@
 -- Computed cases of the request's sentences.
 -- rules, lasts          distances 0, 1, 2, 32,767, -32,768 and -1, around 65,536 too
--- noted .. from-free    packets: held, new, late; a table that is full, of no places, of 16 and 17, with a port held twice
+-- notes, late           a packet of a port that is held
+-- new-port, first-place, full, no-places, free-port   a new port: its place, or none; what stands in a free place does not count
+-- seventeen, held-twice, twice-first   a table that is not fit
 -- forgot, not-held      ports forgotten
 -- insides               a range's two ends, and the ports beside them
 use Prim.Native.Nat.{ℕ}
@@ -31,7 +33,7 @@ pub notes : noting two-places 5 4 ≡ (Missing 2, entry 5 4 ∷ freed ∷ [])
 unfolding noting placeOf freePlace twice
 notes = refl
 
-pub new-port : noting two-places 9 4 ≡ (First, entry 5 1 ∷ entry 9 4 ∷ [])
+new-port : noting two-places 9 4 ≡ (First, entry 5 1 ∷ entry 9 4 ∷ [])
 unfolding noting placeOf freePlace twice
 new-port = refl
 
@@ -57,7 +59,7 @@ unfolding forgetting placeOf twice
 not-held = refl
 
 -- a table of no places, one of seventeen
-pub no-places : noting [] 5 4 ≡ (Refused 40, [])
+no-places : noting [] 5 4 ≡ (Refused 40, [])
 unfolding noting placeOf freePlace twice
 no-places = refl
 
@@ -66,7 +68,7 @@ unfolding noting placeOf freePlace twice
 seventeen = refl
 
 -- 43 is found before 40 and 41
-pub twice-first : noting (entry 5 1 ∷ entry 5 2 ∷ []) 7 4 ≡ (Refused 43, entry 5 1 ∷ entry 5 2 ∷ [])
+twice-first : noting (entry 5 1 ∷ entry 5 2 ∷ []) 7 4 ≡ (Refused 43, entry 5 1 ∷ entry 5 2 ∷ [])
 unfolding noting placeOf freePlace twice
 twice-first = refl
 
@@ -75,7 +77,7 @@ pub late : noting (entry 5 10 ∷ []) 5 9 ≡ (Late, entry 5 10 ∷ [])
 unfolding noting placeOf freePlace twice
 late = refl
 
-pub free-port : noting (record { held = false; port = 5; last = 3 } ∷ []) 5 4 ≡ (First, entry 5 4 ∷ [])
+free-port : noting (record { held = false; port = 5; last = 3 } ∷ []) 5 4 ≡ (First, entry 5 4 ∷ [])
 unfolding noting placeOf freePlace twice
 free-port = refl
 

@@ -2,6 +2,7 @@
 -- twice-held, held-twice       the test finds one port held at two places, as the request has it
 -- unfit-is, fit-not            43; held-is, away-not: 41; full-is, free-not: 40
 -- noting-keeps, forgetting-keeps      a refused call leaves the table
+-- rule-given                          the distance rule refuses nothing
 use mathlib.Core.Path.{_≡_, refl, sym, subst, _∙_}
 use mathlib.Core.Bool.{Bool, true, false, _&&_, _||_, false≢true, true≢false}
 use mathlib.Core.Logic.{_⊎_, inl, inr, ⊎-elim}
@@ -25,7 +26,7 @@ use Rattle.ports_spec.specs.Refusing.{HeldTwice, Unfit, Held, Full}
 use Rattle.ports_spec.proofs.Laws.{place-holds, place-least, first-free, free-is, noting-ways, forgetting-ways}
 
 -- ---- held twice
-pub twice-held : (es : List Entry) → twice es ≡ true → HeldTwice es
+twice-held : (es : List Entry) → twice es ≡ true → HeldTwice es
 unfolding twice
 twice-held [] h = absurd (false≢true h)
 twice-held (e ∷ es) h = go (e .held && ltb (placeOf (e .port) es) (length es)) refl (twice-held es) h
@@ -34,7 +35,8 @@ twice-held (e ∷ es) h = go (e .held && ltb (placeOf (e .port) es) (length es))
     go true q f l =
         let both = and-parts (e .held) (ltb (placeOf (e .port) es) (length es)) q in
         let within = ltb-true (placeOf (e .port) es) (length es) (both .1) in
-        let at = and-parts (getD es (placeOf (e .port) es) freed .held) (eqb (getD es (placeOf (e .port) es) freed .port) (e .port)) (place-holds es (e .port) within) in
+        let at = and-parts (getD es (placeOf (e .port) es) freed .held) (eqb (getD es (placeOf (e .port) es) freed .port) (e .port))
+        (place-holds es (e .port) within) in
         (0, suc (placeOf (e .port) es), omega arith, (omega arith, both .0), (omega (arith, within), at .0), sym (eqb-true _ _ (at .1)))
     go false q f l =
         let r = f l in
@@ -51,7 +53,8 @@ held-twice (e ∷ es) i zero l m h k p = absurd (not-suc-le-zero l)
 held-twice (e ∷ es) zero (suc j) l m h k p =
     let q : placeOf (e .port) es ≤ j = place-least es (e .port) j (held-there (getD es j freed) (e .port) k (sym p)) in
     rw (h, lt-ltb (placeOf (e .port) es) (length es) (omega (arith, q, m))) refl
-held-twice (e ∷ es) (suc i) (suc j) l m h k p = go (e .held && ltb (placeOf (e .port) es) (length es)) (held-twice es i j (le-of-suc-le-suc l) (le-of-suc-le-suc m) h k p)
+held-twice (e ∷ es) (suc i) (suc j) l m h k p = go (e .held && ltb (placeOf (e .port) es) (length es))
+    (held-twice es i j (le-of-suc-le-suc l) (le-of-suc-le-suc m) h k p)
   where
     go : (t : Bool) → twice es ≡ true → t || twice es ≡ true
     go true r = refl
@@ -59,7 +62,8 @@ held-twice (e ∷ es) (suc i) (suc j) l m h k p = go (e .held && ltb (placeOf (e
 
 -- ---- the conditions, and the tests that find them
 pub unfit-is : (es : List Entry) → unfit es ≡ true → Unfit es
-unfit-is es h = by-test (ltb placeLimit (length es)) (λ l. inl (ltb-true placeLimit (length es) l)) (λ l. inr (twice-held es (subst (λ (b : Bool). b || twice es ≡ true) l h)))
+unfit-is es h = by-test (ltb placeLimit (length es)) (λ l. inl (ltb-true placeLimit (length es) l))
+    (λ l. inr (twice-held es (subst (λ (b : Bool). b || twice es ≡ true) l h)))
 
 pub fit-not : (es : List Entry) → unfit es ≡ false → Unfit es → ⊥
 fit-not es h =

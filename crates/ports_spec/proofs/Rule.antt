@@ -1,5 +1,5 @@
 -- The distance rule, way by way.
--- rule-zero .. rule-late      what it says
+-- rule-zero, rule-one, rule-missing, rule-late   what it says
 -- last-new, last-late         the port's last number then
 use mathlib.Core.Path.{_≡_, refl, sym, ap, subst, _∙_}
 use mathlib.Core.Logic.{_≢_}
@@ -19,7 +19,8 @@ module _ (last new : ℕ) {d : ℕ} (e : d ≡ gap last new) where
     module _ (m : d ≢ 1) where
       pub rule-missing : d < half → Missing (d - 1) ≡ ruled last new
       rule-missing h =
-          rw (ne-eqb _ _ (λ z. n (e ∙ z)), ne-eqb _ _ (λ z. m (e ∙ z)), lt-ltb (gap last new) half (subst (λ (k : ℕ). k < half) e h)) (ap (λ (k : ℕ). Missing (k - 1)) e)
+          rw (ne-eqb _ _ (λ z. n (e ∙ z)), ne-eqb _ _ (λ z. m (e ∙ z)), lt-ltb (gap last new) half (subst (λ (k : ℕ). k < half) e h))
+          (ap (λ (k : ℕ). Missing (k - 1)) e)
 
       pub rule-late : half ≤ d → Late ≡ ruled last new
       rule-late h =

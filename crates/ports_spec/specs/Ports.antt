@@ -3,7 +3,7 @@
 -- freed, entry, unheld     a place that is free, held, or freed again
 -- freshTable               a table that holds no port
 -- placeOf, freePlace       where a port is held, and the first free place; the table's length where there is none
--- lastOf                   a port's last number, if it is held
+-- lastOf, lastAt           a port's last number, if it is held; the one at its place
 -- twice, unfit             43: more than 16 places, or one port held twice
 -- further, taken, without  the table behind a packet, the first of a new port, a port forgotten
 -- noting, forgetting       what the two calls answer and leave

@@ -1,4 +1,5 @@
 -- When the two calls refuse, as the request says it, and a table that is kept by them.
+-- HeldAt               a place is held
 -- HeldTwice, Unfit     43
 -- Full                 40: of a new port
 -- Held                 41: where this is not so
@@ -13,7 +14,7 @@ use Rattle.ports_spec.specs.Ports.{placeLimit, freed, noting, forgetting
 use Rattle.ports_spec.specs.declared.Entry.{Entry}
 
 -- place i is held
-abbrev pub HeldAt : List Entry → ℕ → Type 0
+abbrev HeldAt : List Entry → ℕ → Type 0
 HeldAt es i = (i < length es) × (getD es i freed .held ≡ true)
 
 -- one port is held at two places

@@ -1,4 +1,5 @@
 -- Each function's promise determines the number that it answers, and what the lent memory then holds.
+-- make-determined, check-determined, repair-determined, read-determined, hear-determined   of the function whose name ends so
 use mathlib.Core.Path.{refl, ap}
 use Rattle.base.specs.Determined.{Determined}
 use Rattle.base.proofs.Determining.{same, buffer, skip}

@@ -1,10 +1,10 @@
 -- What the functions' proofs cite: a returned number, and what the lent memory holds, are those of the definitions.
--- made-number, checked-number, mended-number   words, by what the callee answers
--- few                                          a number of repaired places is small
--- packet-told, broken-told, repaired-told      an answer with what it tells
--- receiver-is, stream-is, channel-is           a state from its numbers, and the numbers of a state
--- read-kept, read-written                      a call on the plain stream, refused or not
--- heard-kept, heard-written                    .. on the channel
+-- made-number, checked-number, mended-number          words, by what the callee answers
+-- few                                                 a number of repaired places is small
+-- bare-told, packet-told, broken-told, repaired-told  an answer with what it tells
+-- receiver-is, stream-is, channel-is                  a state from its numbers, and the numbers of a state
+-- read-kept, read-written                             a call on the plain stream, refused or not
+-- heard-kept, heard-written                           .. on the channel
 use Prim.Native.Nat.{ℕ, _≤_, _%_}
 use native.Mathlib.Omega.{arith}
 use mathlib.Core.Path.{_≡_, sym, ap, subst, _∙_}
@@ -39,7 +39,8 @@ use Rattle.channel.specs.declared.receiver.Receiver.{Receiver}
 use Rattle.channel.specs.declared.answer.Hearing.{Hearing}
 use Rattle.rack.specs.declared.answers.Numbered.{Numbered}
 use Rattle.rack.specs.Words.{writtenNumber, checkedNumber, mendedNumber, byNumber, making, checking, mending}
-use Rattle.rack.specs.Answers.{bare, ofJudged, ofHeard, ofBlock, ofAnswer, ofCall, isSet, flagNumber, frameOf, receiverOf, toldNumbers, streamNumbers, channelNumbers}
+use Rattle.rack.specs.Answers.{bare, ofJudged, ofHeard, ofBlock, ofAnswer, ofCall, isSet}
+use Rattle.rack.specs.Answers.{flagNumber, frameOf, receiverOf, toldNumbers, streamNumbers, channelNumbers}
 use Rattle.rack.specs.Call.{left, reading, hearing}
 
 -- ---- words
@@ -71,7 +72,8 @@ pub packet-told : {j : Judged} {d : Delivery} {k : ℕ} → k ≡ payloadAt (d .
     → record { number = 256; delivery = d; place = k; repaired = 0 } ≡ ofJudged j
 packet-told {d = d} p e = ap (λ (k : ℕ). record { number = 256; delivery = d; place = k; repaired = 0 }) p ∙ sym (ap ofJudged e)
 
-pub broken-told : {j : Judged} {d : Delivery} {k : ℕ} → d ≡ noDelivery → j ≡ Broken k → record { number = 3; delivery = d; place = k; repaired = 0 } ≡ ofJudged j
+pub broken-told : {j : Judged} {d : Delivery} {k : ℕ} → d ≡ noDelivery → j ≡ Broken k → record { number = 3; delivery = d; place = k; repaired = 0 }
+    ≡ ofJudged j
 broken-told {k = k} p e = ap (λ (d : Delivery). record { number = 3; delivery = d; place = k; repaired = 0 }) p ∙ sym (ap ofJudged e)
 
 pub repaired-told : {c : Condition} {d : Delivery} {k : ℕ} → d ≡ noDelivery → c ≡ Mended-block k
@@ -79,7 +81,8 @@ pub repaired-told : {c : Condition} {d : Delivery} {k : ℕ} → d ≡ noDeliver
 repaired-told {k = k} p e = ap (λ (d : Delivery). record { number = 259; delivery = d; place = 0; repaired = k }) p ∙ sym (ap ofBlock e)
 
 -- ---- states
-pub receiver-is : (s : List ℕ) {a b c d : ℕ} {f : FrameReader} → a ≡ getD s 17 0 % 256 → b ≡ getD s 18 0 % 256 → c ≡ getD s 19 0 % 256 → d ≡ getD s 20 0 % 256 → f ≡ frameOf s
+pub receiver-is : (s : List ℕ) {a b c d : ℕ} {f : FrameReader} → a ≡ getD s 17 0 % 256 → b ≡ getD s 18 0 % 256 → c ≡ getD s 19 0 % 256 → d ≡ getD s 20 0 % 256
+    → f ≡ frameOf s
     → record {
       locked = isSet (getD s 13 0);
       hunting = record { a = a; b = b; c = c; d = d };

@@ -1,8 +1,10 @@
 -- A receiver's answers and states, for C: each answer as a number and what it tells besides, each state as numbers.
--- ofHeard, ofAnswer                an answer by its number, on the plain stream and on the channel
--- ofCall                           the numbers that refuse a call
--- frameOf, receiverOf              a state read from its numbers, whatever these are
--- streamNumbers, channelNumbers    the numbers behind a call
+-- bare, ofJudged, ofBlock                       a number alone; what is told of a closed frame, of a block
+-- ofHeard, ofAnswer                             an answer by its number, on the plain stream and on the channel
+-- ofCall                                        the numbers that refuse a call
+-- isSet, flagNumber                             a flag from its number, and back
+-- frameBy, frameOf, receiverOf                  a state read from its numbers, whatever these are
+-- toldNumbers, streamNumbers, channelNumbers    the numbers behind a call
 use Prim.Native.Nat.{ℕ, _%_}
 use mathlib.Core.Bool.{Bool, not, _||_}
 use mathlib.Core.List.{List, [], _∷_, _++_}
@@ -86,11 +88,11 @@ toldNumbers taken t =
     taken ∷ t .delivery .format ∷ t .delivery .number ∷ t .delivery .key ∷ t .delivery .port ∷ t .delivery .sequence ∷ t .delivery .length ∷ t .place ∷ []
 
 -- 8 to 11: the frame reader
-abbrev pub frameNumbers : FrameReader → List ℕ
+abbrev frameNumbers : FrameReader → List ℕ
 frameNumbers f = flagNumber (f .opened) ∷ f .raw ∷ f .stored ∷ f .place ∷ []
 
 -- 12 to 20 on the channel: places repaired; the lock and its counts, the hunted bytes
-abbrev pub lockNumbers : Numbered → Receiver → List ℕ
+abbrev lockNumbers : Numbered → Receiver → List ℕ
 lockNumbers t s =
     t .repaired ∷ flagNumber (s .locked) ∷ s .lock .word ∷ s .lock .handed ∷ s .lock .marker
     ∷ s .hunting .a ∷ s .hunting .b ∷ s .hunting .c ∷ s .hunting .d ∷ []

@@ -1,6 +1,7 @@
 -- The two receiving calls, for C: answer and state in numbers, and the lent buffers. A refused call leaves every number and every byte.
--- reading   on the plain stream: what `readCall` says
--- hearing   on the channel: what `hearCall` says
+-- left               the numbers that a call leaves
+-- readBy, reading    on the plain stream: what `readCall` says
+-- heardBy, hearing   on the channel: what `hearCall` says
 use Prim.Native.Nat.{ℕ}
 use mathlib.Core.List.{List}
 use mathlib.Core.Option.{Option}

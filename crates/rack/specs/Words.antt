@@ -1,7 +1,7 @@
 -- Words, for C: what the crates `parity` and `repair` answer, each case by its number. Refusals have the paper's numbers.
--- making     parity made: the number, and the output
--- checking   a word checked: the number
--- mending    a word repaired: the number, and the word
+-- writtenNumber, byNumber, making    parity made: the number, and the output
+-- checkedNumber, checking            a word checked: the number
+-- mendedNumber, mending              a word repaired: the number, and the word
 use Prim.Native.Nat.{ℕ, _+_}
 use mathlib.Core.List.{List}
 use Rattle.base.specs.Written.{Outcome}

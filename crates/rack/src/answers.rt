@@ -1,6 +1,5 @@
 //! What an answer tells, in numbers.
 ghost use mathlib.Core.Path.{_≡_};
-ghost use Rattle.packet_spec.specs.Contents.{payloadAt};
 ghost use Rattle.packet_spec.specs.Frame.{noDelivery};
 ghost use Rattle.rack.specs.Answers.{bare, ofJudged, ofHeard, ofBlock, ofAnswer, ofCall, frameBy, flagNumber};
 use base::Refusal;
@@ -8,23 +7,25 @@ use channel::Answer;
 use channel_spec::Condition;
 use packet::Delivery;
 use packet::Judged;
-use packet::Packet;
 use stream::FrameReader;
 use stream::Heard;
 
 // The numbers of answers; those below are the paper's, and 0 is "more wanted".
-struct Number;
+pub(crate) struct Number;
 
 impl Number {
-    const PACKET: usize = 256;
+    // The first of them. A word repaired in n places is told as this and n.
+    pub(crate) const FIRST: usize = 256;
 
-    const LOCK_LOST: usize = 257;
+    const PACKET: usize = Self::FIRST;
 
-    const CLEAN: usize = 258;
+    const LOCK_LOST: usize = Self::FIRST + 1;
 
-    const REPAIRED: usize = 259;
+    const CLEAN: usize = Self::FIRST + 2;
 
-    const BEYOND: usize = 260;
+    const REPAIRED: usize = Self::FIRST + 3;
+
+    const BEYOND: usize = Self::FIRST + 4;
 }
 
 // An answer by its number, and what it tells besides; zeros where it tells nothing.
@@ -65,17 +66,6 @@ impl Numbered {
     }
 }
 
-// Where the payload of a packet with so many key bytes stands.
-fn payload_at(key: u8) -> usize
-    ensures { λ r. ⌜ r ≡ payloadAt key ⌝ }
-{
-    if key == 0 {
-        5
-    } else {
-        Packet::KEY_AT + key as usize + 4
-    }
-}
-
 // What is told of a closed frame, or of a call refused.
 fn of_judged(judged: Judged) -> Numbered
     ensures { λ r. ⌜ r ≡ ofJudged judged ⌝ }
@@ -84,7 +74,7 @@ fn of_judged(judged: Judged) -> Numbered
         Judged::Packet(delivery) => Numbered {
             number: Number::PACKET,
             delivery,
-            place: payload_at(delivery.key),
+            place: packet::payload_at(delivery.key),
             repaired: 0,
         },
         Judged::Refused(n) => Numbered::bare(n as usize),

@@ -1,12 +1,10 @@
 //! Words: parity made, a word checked, a word repaired.
 ghost use mathlib.Core.Path.{_≡_};
 ghost use Rattle.rack.specs.Words.{making, checking, mending};
+use crate::answers::Number;
 use base::Written;
 use parity::Checked;
 use repair::Mended;
-
-/// A word repaired in n places is told as this number and n; below it stand numbers of the paper.
-const REPAIRED: usize = 256;
 
 /// Makes the r parity bytes of a message: 0, or refused with 30, 31, 23.
 #[no_mangle]
@@ -41,7 +39,7 @@ pub extern "C" fn aas_word_repair(r: usize, word: &mut [u8]) -> usize
     let mended = repair::repair(r, word);
     match mended {
         Mended::Clean => 0,
-        Mended::Repaired(n) => REPAIRED + n,
+        Mended::Repaired(n) => Number::FIRST + n,
         Mended::Beyond => 1,
         Mended::Refused(n) => n as usize,
     }

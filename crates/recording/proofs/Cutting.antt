@@ -1,5 +1,6 @@
 -- Every way of cutting a recording below 2^64 bytes comes to its end, and yields the answers and the deck of the uncut recording.
 -- Safe           so many bytes may still come: no call on them is refused
+-- fewer          .. then fewer may come too
 -- tape-yields    from any deck that is safe for the bytes to come, where nothing is owed
 use Prim.Native.Nat.{ℕ, _+_, _≤_}
 use native.Mathlib.Omega.{arith}
@@ -29,7 +30,7 @@ safe-behind m bs k s =
     let c : Kept m bs (deckHear m bs .1) (deckHear m bs .2) = hear-kept m bs (s .fine) in
     record { fine = c .fine; offset = omega (arith, s .offset, c .within, c .near, length-drop (deckHear m bs .1) bs) }
 
-fewer : (m : Deck) (n k : ℕ) → Safe m (n + k) → Safe m k
+pub fewer : (m : Deck) (n k : ℕ) → Safe m (n + k) → Safe m k
 fewer m n k s = record { fine = s .fine; offset = omega (arith, s .offset) }
 
 -- every way of cutting comes to its end, and yields the answers and the deck of the uncut bytes

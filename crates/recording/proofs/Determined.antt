@@ -1,4 +1,5 @@
 -- Each public function's promise determines its result, and what the lent buffers then hold.
+-- ..-determined   a law of each function
 use mathlib.Core.Path.{refl}
 use Rattle.base.specs.Determined.{Determined}
 use Rattle.base.proofs.Determining.{same, buffer, skip}
@@ -6,6 +7,8 @@ use Rattle.recording.proofs.reader.RecordingReader.fresh.Kinds as fresh
 use Rattle.recording.proofs.reader.RecordingReader.fresh.Reads as fresh-reads
 use Rattle.recording.proofs.reader.RecordingReader.next.Kinds as next-kinds
 use Rattle.recording.proofs.reader.RecordingReader.next.Reads as next-reads
+use Rattle.recording.proofs.reader.RecordingReader.next_packet.Kinds as next-packet-kinds
+use Rattle.recording.proofs.reader.RecordingReader.next_packet.Reads as next-packet-reads
 use Rattle.recording.proofs.reader.RecordingReader.may_end.Kinds as may-end-kinds
 use Rattle.recording.proofs.reader.RecordingReader.may_end.Reads as may-end-reads
 use Rattle.recording.proofs.reader.RecordingReader.is_wrong.Kinds as is-wrong-kinds
@@ -18,6 +21,10 @@ fresh-determined κs a z z′ ws ws′ pre p q = (same p q, refl)
 
 pub next-determined : Determined next-kinds.ps next-kinds.r next-reads.Asked next-reads.Learnt
 next-determined κs a z z′ ws ws′ pre p q = (same (p .0) (q .0), skip (buffer (same (p .1) (q .1)) (buffer (same (p .2) (q .2)) refl)))
+
+pub next-packet-determined : Determined next-packet-kinds.ps next-packet-kinds.r next-packet-reads.Asked next-packet-reads.Learnt
+next-packet-determined κs a z z′ ws ws′ pre p q =
+    (same (p .0) (q .0), skip (buffer (same (p .1) (q .1)) (buffer (same (p .2) (q .2)) refl)))
 
 pub may-end-determined : Determined may-end-kinds.ps may-end-kinds.r may-end-reads.Asked may-end-reads.Learnt
 may-end-determined κs a z z′ ws ws′ pre p q = (same p q, refl)

@@ -2,7 +2,8 @@
 -- ear-hand-one, deck-hand-one                       a move that is owed leaves one less
 -- channel-hear, plain-hear                          of one call
 -- channel-all, plain-all                            of a whole byte string
--- listen-on, listen-off, listen-more, listen-said   as the code hears it
+-- listen-..                                         as the code hears it
+-- plain-fine                                        a plain stream's frame reader passes 10
 use Prim.Native.Nat.{ℕ, suc, _≤_}
 use native.Mathlib.Omega.{arith}
 use mathlib.Core.Path.{_≡_, refl, sym, _∙_, ap, subst}
@@ -149,7 +150,8 @@ module _ (s : Receiver) (bs l : List ℕ) {read : Read} {l′ : List ℕ} (fine 
   abbrev kept : Receiver
   kept = record { locked = s .locked; hunting = s .hunting; lock = s .lock; frame = read .frame }
 
-  listen-plain : (a : Answer) → a ≡ answered (asEvent (readOn (held (s .frame) l) bs .0)) → PlainIs s l bs (record { answer = a; taken = read .taken; receiver = kept }) l′
+  listen-plain : (a : Answer) → a ≡ answered (asEvent (readOn (held (s .frame) l) bs .0))
+      → PlainIs s l bs (record { answer = a; taken = read .taken; receiver = kept }) l′
   listen-plain a e k =
       let x : Option Told × ℕ × Held = readOn (held (s .frame) l) bs in
       let j : ReadIs x read l′ = subst (λ y. ReadIs y read l′) (read-agrees (held (s .frame) l) bs (frame-fine (s .frame) l fine room)) h in

@@ -1,6 +1,6 @@
 -- A call on a recording's bytes, turn by turn.
 -- So                              what a call has done so far: it goes on behind so many bytes
--- so-start, so-asks, so-on, so-done   the loop's start, what a turn asks, a turn that goes on, a turn that ends the call
+-- so-start, so-asks, so-within, so-on, so-done   the loop's start, what a turn asks, a turn that goes on, a turn that ends the call
 use Prim.Native.Nat.{ℕ, _+_, _-_, _≤_, _<_}
 use native.Mathlib.Omega.{arith}
 use mathlib.Core.Path.{_≡_, sym, _∙_, ap, subst}

@@ -5,9 +5,13 @@ pub mod Run
 pub mod Turn
 pub mod Heard
 pub mod Kept
+pub mod Within
 pub mod Next
+pub mod Sift
+pub mod Sought
 pub mod Means
 pub mod Cutting
 pub mod Demands
+pub mod Packets
 pub mod Wrong
 pub mod Determined

@@ -1,4 +1,5 @@
 -- A recording's bytes, taken one by one, mean what the two steps mean: taken apart, and then heard.
+-- earAll, fresh-owes   all that the ear hears; a fresh one owes nothing
 -- means, means-start   the deck's answers are those of the stream bytes
 -- heard-all            which are those of a fresh receiver, whatever its buffers hold
 -- deck-means           so are those of a whole recording, and where it ends is where taking it apart ends
@@ -94,7 +95,8 @@ drain-means p q bs ss k (suc n) d h =
     ap (tell (earHand d .0)) (drain-means p q bs ss k n (earHand d .1) (ear-hand-one d n h))
     ∙ tell-placed q (earHand d .0) (drain earOwes earHand earEat n (earHand d .1) (earRest ss))
 
-byte-means : (p : Spot) (b : ℕ) (bs : List ℕ) (q : List ℕ × Spot) (k : (d : Ear) → earOwes d ≡ 0 → deckRest bs (deck (next p b) d) ≡ placed (q .1) (earRest (q .0) d))
+byte-means : (p : Spot) (b : ℕ) (bs : List ℕ) (q : List ℕ × Spot)
+    (k : (d : Ear) → earOwes d ≡ 0 → deckRest bs (deck (next p b) d) ≡ placed (q .1) (earRest (q .0) d))
     (c : Bool) → Begun (p .place) → (d : Ear) → earOwes d ≡ 0
     → tell (byteBy c (deck p d) b .0) (deckDrain (deckOwes (byteBy c (deck p d) b .1)) (byteBy c (deck p d) b .1) (deckRest bs))
     ≡ placed (keep c b q .1) (earRest (keep c b q .0) d)
@@ -142,7 +144,8 @@ module _ (recv word : List ℕ) (recv-room : rawLimit ≤ length recv) (word-roo
 
   -- a whole recording: the answers of its stream bytes, and where it ends
   pub deck-means : (file : List ℕ)
-      → (deckAll (fresh recv word) file .0 ≡ heard (onChannel file) (apart freshSpot file .0)) × (deckAll (fresh recv word) file .1 .spot ≡ apart freshSpot file .1)
+      → (deckAll (fresh recv word) file .0 ≡ heard (onChannel file) (apart freshSpot file .0))
+      × (deckAll (fresh recv word) file .1 .spot ≡ apart freshSpot file .1)
   unfolding apart inStream heard
   deck-means [] = none-heard (fresh-owes false)
     where

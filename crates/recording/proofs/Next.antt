@@ -27,7 +27,7 @@ use Rattle.recording.specs.Private.{HeardIs}
 use Rattle.recording.proofs.Kept.{Kept, hear-kept}
 
 -- on n bytes the offset stays below 2^64
-near-is : (p : Spot) (n : ℕ) → p .offset + n ≤ far → nearSpot p n ≡ true
+pub near-is : (p : Spot) (n : ℕ) → p .offset + n ≤ far → nearSpot p n ≡ true
 near-is p n h = le-leb (p .offset) (far - n) (omega arith)
 
 near-of : (p : Spot) (n : ℕ) → n ≤ far → nearSpot p n ≡ true → p .offset + n ≤ far
@@ -96,4 +96,5 @@ module _ (t : RecordingReader) (l k bs : List ℕ) where
 -- behind 10 and 11, as facts, a call hears
 pub tape-agrees : (m : Deck) (bs : List ℕ) → Fine (m .ear .memory) → m .spot .offset + length bs ≤ far → tapeCall m bs ≡ deckHear m bs
 tape-agrees m bs f o =
-    let-on (tapeOf m) (m .ear .memory .recv) (m .ear .memory .word) bs (fine-is (m .ear .memory) f) (near-is (m .spot) (length bs) o) (fine-roomy (m .ear .memory) f)
+    let-on (tapeOf m) (m .ear .memory .recv) (m .ear .memory .word) bs (fine-is (m .ear .memory) f) (near-is (m .spot) (length bs) o)
+    (fine-roomy (m .ear .memory) f)

@@ -1,5 +1,5 @@
 -- A run of stream bytes that lies in a recording is heard as one piece.
--- Bodies, skips   every one of these bytes is a stream byte; where it stands behind them
+-- Bodies, skips, withRest, skip-none   every one of these bytes is a stream byte; where it stands behind them
 -- run-first       a call on a recording's bytes begins with the ear's call on the run that lies there
 -- run-fits        the run that the code takes is one
 -- run-none        where there is none, the byte is no stream byte
@@ -92,7 +92,8 @@ next-inside : (k o c b : ℕ) → c < most → next (inside (suc k) o c) b ≡ i
 unfolding nextAt
 next-inside k o c b h =
     let e : suc k - 1 ≡ k = omega arith in
-    λ i. pick (lt-ltb c most h i) (record { place = pick (ne-eqb (suc k) 0 (λ z. omega arith) i) Mark (Inside (e i)); offset = o + 1; count = c + 1 }) (wrong (inside (suc k) o c))
+    λ i. pick (lt-ltb c most h i) (record { place = pick (ne-eqb (suc k) 0 (λ z. omega arith) i) Mark (Inside (e i)); offset = o + 1; count = c + 1 })
+    (wrong (inside (suc k) o c))
 
 pub skip-none : (p : Spot) → p ≡ skipped p 0
 skip-none p = λ i. record { place = p .place; offset = sym (add-zero (p .offset)) i; count = sym (add-zero (p .count)) i }
@@ -113,8 +114,11 @@ run-inside (b ∷ []) zero o c l m = ((lt-ltb c most (omega arith), tt), next-en
 run-inside (b ∷ x ∷ xs) zero o c l m = absurd (omega arith)
 run-inside (b ∷ xs) (suc k) o c l m =
     let e = next-inside k o c b (omega arith) in
-    let r = run-inside xs k (o + 1) (c + 1) (omega arith) (omega arith) in
-    ((lt-ltb c most (omega arith), subst (λ (q : Spot). Bodies q xs) (sym e) (r .0)), ap (λ (q : Spot). skips q xs) e ∙ r .1 ∙ skip-more (length xs) k o c (omega arith))
+    let r = run-inside xs k (o + 1) (c + 1) (omega arith) (omega arith) in (
+      (lt-ltb c most (omega arith), subst (λ (q : Spot). Bodies q xs) (sym e) (r .0)),
+      ap (λ (q : Spot). skips q xs) e ∙ r .1
+          ∙ skip-more (length xs) k o c (omega arith),
+    )
 
 abbrev spotAt : Place → Spot → Spot
 spotAt q p = record { place = q; offset = p .offset; count = p .count }

@@ -1,6 +1,6 @@
 -- One byte of a recording that is no stream byte, by its place.
--- mode-plain, mode-else, at-mark .. at-wrong   where the recording stands behind it
--- left-none, left-some, on-here ..             places in a record
+-- mode-plain, mode-else, at-..                 where the recording stands behind it
+-- left-none, left-some, on-..                  places in a record
 -- next-near                                    a byte is one byte at most
 use Prim.Native.Nat.{ℕ, _+_, _-_, _*_, _≤_, _<_}
 use native.Mathlib.Omega.{arith}

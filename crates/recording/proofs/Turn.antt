@@ -1,8 +1,10 @@
 -- One turn of a call on a recording's bytes, as the code makes it: the ear's call on a run of stream bytes, or a byte that is none.
--- FineEar, fine-hear       the ear passes refusals 10 and 11, and still does behind a call
--- skip-fine                what counting a run asks
+-- FineEar, fine-..         the ear passes refusals 10 and 11, and still does behind a call
+-- skip-fine, head-fine     what counting a run asks, and one byte
+-- more-none, more-some     "more wanted", and an answer
 -- turn-out, turn-end       an answer ends the call, and so does the end of the bytes
 -- turn-run, turn-head      a run, or one byte, is taken
+-- ..-stays                 .. and what stays within its limits
 use Prim.Native.Nat.{ℕ, suc, _+_, _-_, _≤_, _<_}
 use native.Mathlib.Omega.{arith}
 use native.Mathlib.Nat.{sub-zero, add-zero}
@@ -131,7 +133,8 @@ module _ (t : Bool) (s : Receiver) (p : Spot) (l k bs : List ℕ) (n : ℕ) (run
     turned-at =
         turned ∙ (λ i. unless (x .0) (r .taken) (deck (sym stands i) d′) (after (r .taken) (deckHear (deck (sym stands i) d′) (drop (r .taken) bs))))
 
-    call-as : (o : Option Event) → x .0 ≡ o → deckHear (deck p d) bs ≡ (o, r .taken, deck q d′) → CallIs (deckHear (deck p d) bs) (r .answer) (r .taken) tape l′ k′
+    call-as : (o : Option Event) → x .0 ≡ o → deckHear (deck p d) bs ≡ (o, r .taken, deck q d′)
+        → CallIs (deckHear (deck p d) bs) (r .answer) (r .taken) tape l′ k′
     call-as o e f = (told .0 ∙ ap answered (e ∙ sym (ap (λ y. y .0) f)), f ∙ (λ i. (ap (λ y. y .0) (sym f) i, r .taken, deck q d′)))
 
     -- an answer

@@ -31,7 +31,8 @@ module _ (m : Deck) (e : isWrong (m .spot .place) ≡ true) (owes : deckOwes m �
   wrong-waits : (bs : List ℕ) → waits bs m ≡ (none, length bs, m)
   wrong-waits [] = refl
   wrong-waits (b ∷ bs) =
-      ap (λ (x : Option Event × Deck). unless (x .0) 1 (x .1) (oneMore (first deckOwes deckHand deckEat (deckOwes (x .1)) (x .1) (waits bs)))) (wrong-eats m b e)
+      ap (λ (x : Option Event × Deck). unless (x .0) 1 (x .1) (oneMore (first deckOwes deckHand deckEat (deckOwes (x .1)) (x .1) (waits bs))))
+      (wrong-eats m b e)
       ∙ ap (λ (n : ℕ). oneMore (first deckOwes deckHand deckEat n m (waits bs))) owes
       ∙ ap oneMore (wrong-waits bs)
 

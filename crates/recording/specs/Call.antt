@@ -3,7 +3,8 @@
 -- freshTape            before the first byte
 -- deckOf, tapeOf       the deck of a tape and the buffers lent, and a deck's tape
 -- isMore               that an answer is "more wanted"
--- tapeCall, NextIs     one call, and that the code's results are those
+-- far, nearSpot        the highest offset, and that n bytes more do not pass it
+-- tapeCall, tapeBy, heardOf, NextIs   one call, and that the code's results are those
 -- EveryCut             a recording, cut in every way
 -- ThereDeck            that a delivered payload and its key stand in the receive buffer
 use Prim.Native.Nat.{ℕ, _-_, _≤_}
@@ -14,6 +15,7 @@ use mathlib.Core.Option.{Option, some}
 use lib.Dec.{leb}
 use lib.ListN.{length}
 use Rattle.base.specs.Calls.{joined, Yields}
+use Rattle.base.specs.Highest.{highest}
 use Rattle.packet_spec.specs.Contents.{rawLimit}
 use Rattle.packet_spec.specs.Frame.{refusal}
 use Rattle.channel_spec.specs.Sender.{wordBytes}
@@ -30,7 +32,7 @@ use Rattle.recording.specs.Deck.{ear, Deck, deck, fresh, deckHear}
 
 -- numbers are below 2^64
 abbrev pub far : ℕ
-far = 18446744073709551615
+far = highest
 
 -- before the first byte
 abbrev pub freshTape : RecordingReader

@@ -1,8 +1,9 @@
 -- A recording as it is taken, byte by byte (paper 01, "The listing program"): a reader of its bytes, in the sense of base/specs/Calls.
 -- Ear                           which stream it is, and the receiver that hears it
+-- withHeld, plainly, owesBy, eatBy, begun   of a plain stream the frame reader's, of the channel the receiver's
 -- earOwes, earHand, earEat      a stream byte as it is heard
--- Deck                          where the taking apart stands, and the ear
--- deckOwes, deckHand, deckEat   a byte of the recording
+-- Deck, deck, fresh             where the taking apart stands, and the ear
+-- deckOwes, deckHand, deckEat, byteBy, channelAt   a byte of the recording; the first says which stream it is
 -- deckAll, deckHear             all its bytes, and one call
 use Prim.Native.Nat.{ℕ}
 use mathlib.Core.Bool.{Bool, true, false}

@@ -1,7 +1,10 @@
 -- What private functions alone are promised by: what the code does with many bytes at once.
--- runOf, skipped       a run of stream bytes
--- earHear, EarIs       one call on stream bytes
--- TurnIs, HeardIs      a turn of a call on a recording's bytes, and the call
+-- runOf, skipped, leftAt, onTo   a run of stream bytes
+-- earHear, EarIs, PlainIs   one call on stream bytes
+-- headed               behind a byte that is none
+-- TurnIs, TurnBy, CallIs, Stays, HeardIs   a turn of a call on a recording's bytes, and the call
+-- passed, passedFrame, foundIn, foundFrame   an answer that is passed over on the way to a packet, and what is found in one that is not
+-- FoundIs, SoughtIs    a call for a packet
 use Prim.Native.Nat.{ℕ, _+_, _-_, _≤_, _<_, min}
 use mathlib.Core.Path.{_≡_}
 use mathlib.Core.Bool.{Bool, true, false}
@@ -15,7 +18,10 @@ use Rattle.channel_spec.specs.Meaning.{Event}
 use Rattle.channel.specs.Call.{memory, sound, roomy}
 use Rattle.channel_spec.specs.Answer.{answered}
 use Rattle.channel.specs.declared.receiver.Receiver.{Receiver}
+use Rattle.packet_spec.specs.declared.Judged.{Judged}
+use Rattle.packet_spec.specs.declared.Judged.the-variants.{Packet, Refused, Broken}
 use Rattle.channel_spec.specs.declared.Answer.{Answer}
+use Rattle.channel_spec.specs.declared.Answer.the-variants.{More, Said, Block, LockLost}
 use Rattle.channel.specs.declared.answer.Hearing.{Hearing as ChannelHearing}
 use Rattle.listing_spec.specs.declared.Place.{Place}
 use Rattle.listing_spec.specs.declared.Place.the-variants.{Mode, Mark, Second, Low, High, Inside, Wrong}
@@ -24,8 +30,12 @@ use Rattle.listing_spec.specs.Apart.{most, next}
 use Rattle.recording.specs.declared.reader.RecordingReader.{RecordingReader}
 use Rattle.recording.specs.declared.reader.Hearing.{Hearing}
 use Rattle.recording.specs.declared.reader.Turn.{Turn}
+use Rattle.recording.specs.declared.reader.NextPacket.{NextPacket}
+use Rattle.recording.specs.declared.found.Found.{Found}
+use Rattle.recording.specs.declared.found.Found.the-variants as found
 use Rattle.recording.specs.Deck.{Ear, ear, earOwes, earHand, earEat, channelAt, Deck, deckHear}
 use Rattle.recording.specs.Call.{deckOf}
+use Rattle.recording.specs.Packets.{Item, packetHear, foundOf}
 
 -- stream bytes left in the record, this one with them
 abbrev pub leftAt : Place → ℕ
@@ -88,3 +98,37 @@ TurnIs m bs t l k = TurnBy (t .done) m bs t l k × Stays m bs (t .taken) (t .tap
 -- one call
 abbrev pub HeardIs : Deck → List ℕ → Hearing → List ℕ → List ℕ → Type 0
 HeardIs m bs r l k = CallIs (deckHear m bs) (r .answer) (r .taken) (r .tape) l k × Stays m bs (r .taken) (r .tape) l k
+
+-- a frame that is no packet is passed over ..
+abbrev pub passedFrame : Judged → Bool
+passedFrame (Packet d) = false
+passedFrame (Refused n) = true
+passedFrame (Broken n) = true
+
+-- .. and so is every answer but a packet and "more wanted"
+abbrev pub passed : Answer → Bool
+passed More = false
+passed (Said j) = passedFrame j
+passed (Block c) = true
+passed LockLost = true
+
+-- what is found in a frame ..
+abbrev pub foundFrame : Judged → Found
+foundFrame (Packet d) = found.Packet d
+foundFrame (Refused n) = found.More
+foundFrame (Broken n) = found.More
+
+-- .. and in an answer that is not passed over
+abbrev pub foundIn : Answer → Found
+foundIn More = found.More
+foundIn (Said j) = foundFrame j
+foundIn (Block c) = found.More
+foundIn LockLost = found.More
+
+-- a call with this packet, so many bytes taken and this tape
+abbrev pub FoundIs : Option Item × ℕ × Deck → NextPacket → List ℕ → List ℕ → Type 0
+FoundIs x r l k = (r .found ≡ foundOf (x .0)) × (x ≡ (x .0, r .taken, deckOf (r .tape) l k))
+
+-- a call for a packet, behind refusals 10 and 11
+abbrev pub SoughtIs : Deck → List ℕ → NextPacket → List ℕ → List ℕ → Type 0
+SoughtIs m bs r l k = FoundIs (packetHear m bs) r l k × Stays m bs (r .taken) (r .tape) l k

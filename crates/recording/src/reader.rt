@@ -9,9 +9,13 @@ ghost use Rattle.channel.specs.Call.{memory, sound, roomy};
 ghost use Rattle.listing_spec.specs.Apart.{inStream, well, isWrong};
 ghost use Rattle.packet_spec.specs.declared.Judged.the-variants.{Refused};
 ghost use Rattle.channel_spec.specs.declared.Answer.the-variants.{Said};
+ghost use Rattle.recording.specs.declared.found.Found.the-variants as found;
 ghost use Rattle.recording.specs.Deck.{ear};
 ghost use Rattle.recording.specs.Call.{freshTape, far, deckOf, isMore, nearSpot, tapeCall, NextIs};
-ghost use Rattle.recording.specs.Private.{earHear, EarIs, PlainIs, headed, TurnIs, HeardIs};
+ghost use Rattle.recording.specs.Packets.{packetCall, PacketIs};
+ghost use Rattle.recording.specs.Private.{earHear, EarIs, PlainIs, headed, TurnIs, HeardIs, SoughtIs};
+use crate::found;
+use crate::found::Found;
 use crate::spot;
 use base::Refusal;
 use channel::Answer;
@@ -31,6 +35,14 @@ pub struct RecordingReader {
 /// What a call on a recording's bytes gives.
 pub struct Hearing {
     pub answer: Answer,
+    /// Bytes of the piece taken.
+    pub taken: usize,
+    pub tape: RecordingReader,
+}
+
+/// What a call for a recording's next packet gives.
+pub struct NextPacket {
+    pub found: Found,
     /// Bytes of the piece taken.
     pub taken: usize,
     pub tape: RecordingReader,
@@ -103,6 +115,19 @@ impl Hearing {
     {
         Hearing {
             answer: Answer::Said(Judged::Refused(number)),
+            taken: 0,
+            tape,
+        }
+    }
+}
+
+impl NextPacket {
+    // The call is refused: nothing is taken.
+    fn refused(number: u8, tape: RecordingReader) -> Self
+        ensures { λ r. ⌜ r ≡ record { found = found.Refused number; taken = 0; tape = tape } ⌝ }
+    {
+        NextPacket {
+            found: Found::Refused(number),
             taken: 0,
             tape,
         }
@@ -237,6 +262,46 @@ impl RecordingReader {
             return Hearing::refused(Refusal::BUFFER, self);
         }
         self.hear(recv, word, piece)
+    }
+
+    // A call for a packet behind refusals 10 and 11: other answers are passed over.
+    fn seek(self, recv: &mut [u8], word: &mut [u8], piece: &[u8]) -> NextPacket
+        requires { ⌜ (sound (self .receiver) ≡ true) × (roomy (now recv) (now word) ≡ true) × (self .spot .offset + length (now piece) ≤ far) ⌝ }
+        ensures { λ r. ⌜ SoughtIs (deckOf self (now (recv .entry)) (now (word .entry))) (now (piece .entry)) r (now (recv .exit)) (now (word .exit)) ⌝ }
+    {
+        let mut tape = self;
+        let mut i: usize = 0;
+        loop {
+            let h = tape.hear(recv, word, &piece[i..]);
+            tape = h.tape;
+            i += h.taken;
+            let answer = h.answer;
+            if !found::is_passed(answer) {
+                return NextPacket {
+                    found: found::found_in(answer),
+                    taken: i,
+                    tape,
+                };
+            }
+        }
+    }
+
+    /// The next packet among the answers of the next bytes, or that more are wanted; its payload stands in the receive buffer.
+    pub fn next_packet(self, recv: &mut [u8], word: &mut [u8], piece: &[u8]) -> NextPacket
+        ensures { λ r. ⌜ PacketIs (packetCall (deckOf self (now (recv .entry)) (now (word .entry))) (now (piece .entry)))
+            r (now (recv .exit)) (now (word .exit)) ⌝ }
+    {
+        let receiver = self.receiver;
+        if !receiver.sound() {
+            return NextPacket::refused(Refusal::STATE, self);
+        }
+        if !self.near(piece.len()) {
+            return NextPacket::refused(Refusal::STATE, self);
+        }
+        if !Receiver::has_room(recv, word) {
+            return NextPacket::refused(Refusal::BUFFER, self);
+        }
+        self.seek(recv, word, piece)
     }
 
     /// Whether the recording may end here.

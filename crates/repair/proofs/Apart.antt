@@ -1,9 +1,9 @@
 -- How far clean words are from each other.
--- distance-self, -zero, -sym   the number of places in which words differ is a distance
--- distance-set                 of a word and that word with one byte altered it is 1
--- checked-clean, ..            what the check says, in terms of the word
--- minimum                      two different clean words differ in more than r places
--- altered-damaged              a clean word with 1 to r bytes altered is never clean
+-- distance-self, distance-zero, distance-sym      the number of places in which words differ is a distance
+-- distance-weight, distance-set                   it is the weight of their sum; of a word and that word with one byte altered it is 1
+-- checked-clean, checked-damaged, checked-is      what the check says, in terms of the word
+-- minimum                                         two different clean words differ in more than r places
+-- altered-damaged                                 a clean word with 1 to r bytes altered is never clean
 use mathlib.Core.Path.{_≡_, refl, sym, ap, ap₂, _∙_}
 use mathlib.Core.Bool.{Bool, true, false}
 use mathlib.Core.List.{List, [], _∷_}
@@ -121,7 +121,8 @@ checked-is r w h l = rw (le-ltb rootLimit r h, eq-eqb (length w) wordBytes l)
 each-zero : (d : List ℕ) → Bytes d → length d ≤ wordBytes → AtEach (λ x e. mul e x ≡ 0) d → d ≡ replicate (length d) 0
 each-zero [] b l e = refl
 each-zero (c ∷ cs) b l e =
-    ap₂ _∷_ (cancel (pow alpha (length cs)) c (point-pos (length cs) (omega arith)) (pow-lt alpha _) (b .0) (mul-comm _ c ∙ e .0)) (each-zero cs (b .1) (omega arith) (e .1))
+    ap₂ _∷_ (cancel (pow alpha (length cs)) c (point-pos (length cs) (omega arith)) (pow-lt alpha _) (b .0) (mul-comm _ c ∙ e .0))
+    (each-zero cs (b .1) (omega arith) (e .1))
 
 light-zero : (r : ℕ) (d : List ℕ) → Bytes d → length d ≤ wordBytes → weight d ≤ r → Zero r d → d ≡ replicate (length d) 0
 light-zero r d b l k h =
@@ -129,7 +130,8 @@ light-zero r d b l k h =
     (few d (λ x. x) r l k
     (λ j i. weigh-same (λ x. mul x (pow x j)) (λ x. pow x (suc j)) d (λ x. sym (pow-suc x j)) ∙ sym (sum-weigh (suc j) d b) ∙ h (suc j) (omega arith) i))
 
-near-same : (r : ℕ) (v w : List ℕ) → Bytes v → Bytes w → length v ≡ wordBytes → length w ≡ wordBytes → clean r v ≡ true → clean r w ≡ true → distance v w ≤ r → v ≡ w
+near-same : (r : ℕ) (v w : List ℕ) → Bytes v → Bytes w → length v ≡ wordBytes → length w ≡ wordBytes → clean r v ≡ true → clean r w ≡ true → distance v w ≤ r
+    → v ≡ w
 near-same r v w bv bw lv lw cv cw k =
     let l : length v ≡ length w = lv ∙ sym lw in
     onto-zero v w l

@@ -1,4 +1,4 @@
--- The promise of repair determines its answer, and what the word then holds.
+-- repair-determined   the promise of repair determines its answer, and what the word then holds
 use denote.Ref.{now}
 use mathlib.Core.Path.{refl}
 use Rattle.base.specs.Determined.{Determined}

@@ -1,7 +1,7 @@
 -- Elimination finds a least solution exactly where there is a solution but zero.
--- None, Least      no solution of at most n numbers but zero; a solution that is not zero, and none is shorter
+-- None, Least      no solution of at most n numbers but zero; a solution (kills) that is not zero (nonzero), and none is shorter
 -- Row              a row: 33 bytes
--- solved           what `solve` gives
+-- Answers, solved  what `solve` gives
 use mathlib.Core.Path.{_≡_, refl, sym, ap, ap₂, _∙_}
 use mathlib.Core.Bool.{Bool, true, false}
 use mathlib.Core.List.{List, [], _∷_, _++_, map}
@@ -102,7 +102,8 @@ unfolding reduced
 reduces p row l x u =
     dot-shift x u row ∙ reduce-step x (head row) (dot u p) (dot u (shift row))
     ∙ ap (add (mul (head row) (add x (dot u p))))
-    (sym (dot-onto u (scale (head row) p) (shift row) (omega (arith, length-scale (head row) p)) ∙ ap (λ (t : ℕ). add t (dot u (shift row))) (dot-scale (head row) u p)))
+    (sym (dot-onto u (scale (head row) p) (shift row) (omega (arith, length-scale (head row) p))
+    ∙ ap (λ (t : ℕ). add t (dot u (shift row))) (dot-scale (head row) u p)))
 
 length-shift : (row : List ℕ) → length row ≡ 33 → length (shift row) ≡ 33
 length-shift [] l = absurd (omega arith)
@@ -215,7 +216,8 @@ head-byte (x ∷ xs) b = b .0
 pivot-fixes : (row : List ℕ) → Row row → (head row ≡ 0 → ⊥) → (x : ℕ) (u : List ℕ) → x < 256 → dot (x ∷ u) row ≡ 0 → x ≡ dot u (normal row)
 unfolding normal
 pivot-fixes row h n x u l e =
-    fix-step (inverse (head row)) (head row) x (dot u (shift row)) (mul-inverse (head row) (pos-of-ne-zero n) (head-byte row (h .1))) l (sym (dot-shift x u row) ∙ e)
+    fix-step (inverse (head row)) (head row) x (dot u (shift row)) (mul-inverse (head row) (pos-of-ne-zero n) (head-byte row (h .1))) l
+    (sym (dot-shift x u row) ∙ e)
     ∙ sym (dot-scale (inverse (head row)) u (shift row))
 
 -- ---- the recursion

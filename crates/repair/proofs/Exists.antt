@@ -100,7 +100,8 @@ locates-by true c cs l q h = (ap (λ (t : ℕ). mul t (low l (pow alpha (length 
 locates-by false c cs l q h = (
   ap (mul c) (raise-low a 0 l a) ∙ same-zero c a (low l a),
   at-each-map (λ x d. mul d (low l x) ≡ 0) (λ x d. mul d (low (raise a 0 l) x) ≡ 0) cs
-      (λ i hi d y. ap (mul d) (raise-low a 0 l (pow alpha i)) ∙ take-out d (add (pow alpha i) a) (low l (pow alpha i)) ∙ ap (mul (add (pow alpha i) a)) y ∙ mul-zero _) h,
+      (λ i hi d y. ap (mul d) (raise-low a 0 l (pow alpha i)) ∙ take-out d (add (pow alpha i) a) (low l (pow alpha i)) ∙ ap (mul (add (pow alpha i) a)) y
+      ∙ mul-zero _) h,
 )
   where
     a : ℕ

@@ -1,3 +1,5 @@
+-- weight                            how many bytes are not zero
+-- point-pos, points-differ, apart   the points of places are not zero, and differ
 -- few   where as many sums are zero as bytes of the word are not, each term of them is zero. Minimum distance, the locator and
 --       the altered bytes all come of this
 use mathlib.Core.Path.{_≡_, sym, ap, ap₂, _∙_}
@@ -26,7 +28,8 @@ pub point-pos : (k : ℕ) → k < 255 → 0 < pow alpha k
 point-pos k h =
     pos-of-ne-zero λ z.
     let split : 255 ≡ k + (255 - k) = omega arith in
-    let one : _≡_ {A = ℕ} 1 0 = sym alpha-order ∙ ap (pow alpha) split ∙ pow-add alpha k (255 - k) ∙ ap (λ (x : ℕ). mul x (pow alpha (255 - k))) z ∙ zero-mul _ in
+    let one : _≡_ {A = ℕ} 1 0 = sym alpha-order ∙ ap (pow alpha) split ∙ pow-add alpha k (255 - k) ∙ ap (λ (x : ℕ). mul x (pow alpha (255 - k))) z
+    ∙ zero-mul _ in
     omega arith
 
 pub apart : (i j : ℕ) → (pow alpha i ≡ pow alpha j → ⊥) → 0 < add (pow alpha i) (pow alpha j)
@@ -104,7 +107,8 @@ module _ (g : ℕ → ℕ) (c : ℕ) (cs : List ℕ) (l : length cs < 255)
   taken zero k h n = let heavy : 1 + weight cs ≤ 0 = rw (ne-eqb c 0 n) at k in absurd (omega arith)
   taken (suc m) k h n =
       let light : 1 + weight cs ≤ suc m = rw (ne-eqb c 0 n) at k in
-      let e = rest g c cs l (ih (λ x. mul (g x) (add x (pow alpha (length cs)))) m (omega arith) (λ j i. shorter g c cs j (h j (omega arith)) (h (suc j) (omega arith)))) in
+      let e = rest g c cs l
+      (ih (λ x. mul (g x) (add x (pow alpha (length cs)))) m (omega arith) (λ j i. shorter g c cs j (h j (omega arith)) (h (suc j) (omega arith)))) in
       (here g c cs (h 0 (omega arith)) e, e)
 
 pub few : (d : List ℕ) (g : ℕ → ℕ) (m : ℕ) → length d ≤ 255 → weight d ≤ m → ((j : ℕ) → j < m → weigh (λ x. mul (g x) (pow x j)) d ≡ 0)

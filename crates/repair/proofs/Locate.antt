@@ -2,7 +2,8 @@
 -- Kills, AllZero        v solves the equations; v is zero
 -- Locates               v is zero at the point of each altered place
 -- locates, located      with at most m altered places the solutions of m equations are exactly those polynomials
--- division, ..-tails    division by x - a
+-- low-lt                values are bytes
+-- division, length-tails, bytes-tails, zero-first, zero-tails   division by x - a
 use mathlib.Core.Path.{_≡_, refl, sym, ap, ap₂, _∙_}
 use mathlib.Core.List.{List, [], _∷_}
 use Prim.Native.Nat.{ℕ, zero, suc, _+_, _≤_, _<_}
@@ -106,7 +107,8 @@ module _ (e : List ℕ) (b : Bytes e) (l : length e ≤ 255) (r m n : ℕ) (fits
   pub locates : weight e ≤ m → (v : List ℕ) → length v ≤ n → Kills (windows 0 m (sums r e)) v → Locates e v
   locates k v h q =
       at-each-map (λ x c. mul c (mul x (low v x)) ≡ 0) (λ x c. mul c (low v x) ≡ 0) e
-      (λ i j c z. cancel (pow alpha i) _ (point-pos i (omega arith)) (pow-lt alpha i) (mul-lt c _) (sym (mul-left-comm c (pow alpha i) (low v (pow alpha i))) ∙ z))
+      (λ i j c z. cancel (pow alpha i) _ (point-pos i (omega arith)) (pow-lt alpha i) (mul-lt c _)
+      (sym (mul-left-comm c (pow alpha i) (low v (pow alpha i))) ∙ z))
       (few e (λ x. mul x (low v x)) m l k
       (λ j i.
       weigh-same (λ x. mul (mul x (low v x)) (pow x j)) (λ x. mul (pow x (suc j)) (low v x)) e

@@ -1,7 +1,22 @@
 -- A turn and the end of each loop, on the lists that it works on; and what the calls of a function leave together.
+-- distance-more, distance-same, distance-done             the places in which words differ
+-- sums-are                                                the sums
+-- dot-next, dot-done                                      a sum of products
+-- equations-next, equations-done                          the equations
+-- reduce-next, reduce-done, reduced-is, reduced-zero      the first unknown taken out of every row, and of one
+-- pivot-here, pivot-next, pivot-none, normal-is           the pivot
+-- behind-some, behind-none                                a solution and the unknown before it
+-- solve-zero, solve-free, solve-some, locator-is          a least solution: the locator
+-- turned-next, turned-done                                coefficients turned round
+-- places-start, places-length, places-next, places-done, value-there   the values at all places
+-- back-done, add-start, add-next, point-next              the bytes added, from the last place on
+-- Summed, error-none, error-start, error-next, error-done  the byte to be added at a place
+-- amend-none, amend-some                                  the word that comes of it
+-- mend-far, mend-clean, mend-damaged, mend-refused        .. taken or not
+-- repair-damaged                                          repair's promise, from this
 use mathlib.Core.Path.{_≡_, refl, sym, ap, ap₂, _∙_, subst}
 use mathlib.Core.List.{List, [], _∷_, _++_, append-assoc, append-nil, map, reverse, reverse-cons}
-use Prim.Native.Nat.{ℕ, zero, suc, _+_, _-_, _*_, _≤_, _<_, min}
+use Prim.Native.Nat.{ℕ, zero, suc, _+_, _-_, _*_, _≤_, _<_}
 use native.Mathlib.Nat.{le-refl, le-antisymm, suc-inj, pos-of-ne-zero}
 use native.Mathlib.Nat.{add-zero as plus-zero, add-assoc as nat-add-assoc, zero-add as nat-zero-add}
 use native.Mathlib.Numerals.{add-one}
@@ -13,8 +28,10 @@ use lib.ListN.{length, take, drop, getD, set, replicate, drop-of-length-le, leng
 use lib.Seq.{drop-cons, take-suc, take-all, take-at, take-take, drop-length, take-length, set-at, getD-take, length-take-le, take-suc-set, drop-set-lt}
 use Rattle.base.specs.Choice.{pick}
 use Rattle.base.specs.Bytes.{Bytes}
-use Rattle.base.specs.Written.{copied}
-use Rattle.base.proofs.Writing.{copied-fits}
+use Rattle.base.specs.Written.{Outcome, outcome, copied}
+use Rattle.base.specs.declared.Written.{Written}
+use Rattle.base.proofs.Lists.{drop-same}
+use Rattle.base.proofs.Writing.{copied-fits, write-fits}
 use Rattle.base.proofs.Parts.{tail-put, tail-length}
 use Rattle.field.specs.Field.{alpha, add, mul, pow, inverse}
 use Rattle.field.proofs.Sum.{add-zero, zero-add, add-assoc, add-comm}
@@ -30,7 +47,8 @@ use Rattle.word_spec.proofs.Roots.{length-values, values-at}
 use Rattle.repair.specs.declared.Mended.{Mended}
 use Rattle.repair.specs.declared.Mended.the-variants.{Repaired, Beyond}
 use Rattle.repair.specs.Promise.{distance, half, Promised}
-use Rattle.repair.specs.Way.{low, tails, dot, sums, windows, head, shift, pivot, normal, reduced, extended, solve, errorAt, errors, locator, amended, settled, mended}
+use Rattle.repair.specs.Way.{low, tails, dot, sums, windows, head, shift, pivot, normal}
+use Rattle.repair.specs.Way.{reduced, extended, solve, errorAt, errors, locator, amended, settled, mended}
 use Rattle.repair.proofs.Meeting.{mended-promised}
 
 -- ---- distance
@@ -50,13 +68,19 @@ module _ (n i : ℕ) (a b : List ℕ) {t : ℕ} (inv : n + distance (drop i a) (
   unfolding distance
   distance-done h = sym (plus-zero n) ∙ rw (drop-of-length-le a h) at inv
 
--- ---- sums: of a word with at most 64 roots they are its values there
-pub sums-are : (r : ℕ) (w : List ℕ) {s : List ℕ} → r ≤ rootLimit → s ≡ atRoots r w → s ≡ sums r w
+-- ---- sums: of a word with at most 64 roots they are its values there, written over zeros
+pub sums-are : (r : ℕ) (w : List ℕ) {a : Written} {s : List ℕ} → r ≤ rootLimit → outcome a s ≡ atRoots r w (replicate rootLimit 0) → s ≡ sums r w
 unfolding sums
-sums-are r w h e = e ∙ ap (λ (n : ℕ). valuesFrom w 1 n ++ replicate (rootLimit - r) 0) least
+sums-are r w h e =
+    ap (λ (o : Outcome). o .output) e ∙ wrote
+    ∙ copied-fits (valuesFrom w 1 r) (replicate rootLimit 0) room
+    ∙ ap (λ (t : List ℕ). valuesFrom w 1 r ++ t) (ap (λ (n : ℕ). drop n (replicate rootLimit 0)) (length-values w 1 r) ∙ drop-same 0 r rootLimit)
   where
-    least : min r rootLimit ≡ r
-    least = omega arith
+    room : length (valuesFrom w 1 r) ≤ length (replicate {A = ℕ} rootLimit 0)
+    room = omega (arith, length-values w 1 r, length-replicate {A = ℕ} rootLimit 0)
+
+    wrote : atRoots r w (replicate rootLimit 0) .output ≡ copied (valuesFrom w 1 r) (replicate rootLimit 0)
+    wrote = rw (le-ltb rootLimit r h) (ap (λ (o : Outcome). o .output) (write-fits (valuesFrom w 1 r) (replicate rootLimit 0) room))
 
 -- ---- dot
 module _ (a i : ℕ) (u row : List ℕ) {d : ℕ} (inv : add a (dot (drop i u) (drop i row)) ≡ d) where
@@ -106,7 +130,8 @@ module _ (n i : ℕ) (s : List ℕ) (rows : List (List ℕ)) {t : List (List ℕ
       ap (λ (m : ℕ). take m rows) (le-antisymm k h) ∙ sym (append-nil (take i rows)) ∙ rw z at inv
 
 module _ (p : List ℕ) (i : ℕ) (rows : List (List ℕ)) {t : List (List ℕ)} (inv : take i rows ++ map (reduced p) (drop i rows) ≡ t) where
-  pub reduce-next : {row : List ℕ} → i < length rows → row ≡ reduced p (getD rows i []) → take (i + 1) (set rows i row) ++ map (reduced p) (drop (i + 1) (set rows i row)) ≡ t
+  pub reduce-next : {row : List ℕ} → i < length rows → row ≡ reduced p (getD rows i [])
+      → take (i + 1) (set rows i row) ++ map (reduced p) (drop (i + 1) (set rows i row)) ≡ t
   reduce-next {row} h e =
       let later : drop (i + 1) (set rows i row) ≡ drop (suc i) rows = rw add-one (drop-set-lt (suc i) rows i row (le-refl (suc i))) in
       ap (λ (l : List (List ℕ)). take (i + 1) (set rows i row) ++ map (reduced p) l) later
@@ -151,7 +176,8 @@ module _ (row : List ℕ) (l : length row ≡ 33) where
   pub normal-is : {k : ℕ} {o : List ℕ} → k ≡ inverse (getD row 0 0) → o ≡ onto (scale k (take 32 (drop 1 row))) (replicate 33 0) → o ≡ normal row
   unfolding normal
   normal-is {k} ek eo =
-      eo ∙ ap (λ (t : List ℕ). onto (scale k t) (replicate 33 0)) tail ∙ scale-zeros k (drop 1 row) 32 (omega (arith, length-drop 1 row)) ∙ ap (λ (t : ℕ). scale t (shift row)) ek
+      eo ∙ ap (λ (t : List ℕ). onto (scale k t) (replicate 33 0)) tail ∙ scale-zeros k (drop 1 row) 32 (omega (arith, length-drop 1 row))
+      ∙ ap (λ (t : ℕ). scale t (shift row)) ek
 
   pub reduced-is : (p : List ℕ) {s o : List ℕ} → s ≡ copied (take 32 (drop 1 row)) (replicate 33 0) → o ≡ onto (scale (getD row 0 0) p) s → o ≡ reduced p row
   unfolding reduced
@@ -171,7 +197,7 @@ behind-is p [] n = absurd (n refl)
 behind-is p (x ∷ u) n = refl
 
 module _ (p v : List ℕ) (k : ℕ) (l : length v ≡ 33) (n : k ≡ 0 → ⊥) (h : k ≤ 32) where
-  pub found-short : length (take k v) ≡ k
+  found-short : length (take k v) ≡ k
   found-short = length-take-le k v (omega arith)
 
   pub behind-some : {x : ℕ} {o : List ℕ} → x ≡ dot (take k v) p → o ≡ copied (take 32 v) (replicate 32 0) → take (k + 1) (x ∷ (o ++ [])) ≡ extended p (take k v)
@@ -211,7 +237,8 @@ module _ (n : ℕ) (rows : List (List ℕ)) where
     pub solve-free : head row ≡ 0 → 1 ∷ [] ≡ solve n rows
     solve-free e = sym (rw (eq-eqb (head row) 0 e) at opened-solve)
 
-    pub solve-some : (head row ≡ 0 → ⊥) → {p : List ℕ} {reds : List (List ℕ)} {u o : List ℕ} → p ≡ normal row → reds ≡ map (reduced p) rows → u ≡ solve (n - 1) reds → o ≡ extended p u
+    pub solve-some : (head row ≡ 0 → ⊥) → {p : List ℕ} {reds : List (List ℕ)} {u o : List ℕ} → p ≡ normal row → reds ≡ map (reduced p) rows
+        → u ≡ solve (n - 1) reds → o ≡ extended p u
         → o ≡ solve n rows
     solve-some n0 ep ered eu eo = rw (eo, eu, ered, ep) (sym (rw (ne-eqb (head row) 0 n0) at opened-solve))
 
@@ -250,7 +277,8 @@ module _ (u z : List ℕ) (k : ℕ) (l : length z ≡ 256) (inv : take (k * 64) 
   module _ (h : k < 4) {p y : List ℕ} (ep : p ≡ atPowers (k * 64) u) (ey : y ≡ copied p (take (256 - k * 64) (drop (k * 64) z))) where
     came : y ≡ valuesFrom u (k * 64) 64 ++ drop 64 (drop (k * 64) z)
     came =
-        let rest : take (256 - k * 64) (drop (k * 64) z) ≡ drop (k * 64) z = take-all (256 - k * 64) (drop (k * 64) z) (omega (arith, length-drop (k * 64) z)) in
+        let rest : take (256 - k * 64) (drop (k * 64) z) ≡ drop (k * 64) z = take-all (256 - k * 64) (drop (k * 64) z)
+        (omega (arith, length-drop (k * 64) z)) in
         let long : length (valuesFrom u (k * 64) 64) ≡ 64 = length-values u (k * 64) 64 in
         ey ∙ ap₂ copied ep rest ∙ copied-fits (valuesFrom u (k * 64) 64) (drop (k * 64) z) (omega (arith, long, length-drop (k * 64) z))
         ∙ ap (λ (n : ℕ). valuesFrom u (k * 64) 64 ++ drop n (drop (k * 64) z)) long
@@ -267,7 +295,8 @@ module _ (u z : List ℕ) (k : ℕ) (l : length z ≡ 256) (inv : take (k * 64) 
     places-next =
         let more : (k + 1) * 64 ≡ k * 64 + 64 = omega arith in
         rw more
-        (ap (take (k * 64 + 64)) (ap (λ (n : ℕ). putMid (k * 64) (n - k * 64) z y) (sym l) ∙ tail-put (k * 64) z y ∙ ap₂ _++_ inv came ∙ sym (append-assoc (valuesFrom u 0 (k * 64)) (valuesFrom u (k * 64) 64) (drop 64 (drop (k * 64) z)))
+        (ap (take (k * 64 + 64)) (ap (λ (n : ℕ). putMid (k * 64) (n - k * 64) z y) (sym l) ∙ tail-put (k * 64) z y ∙ ap₂ _++_ inv came
+        ∙ sym (append-assoc (valuesFrom u 0 (k * 64)) (valuesFrom u (k * 64) 64) (drop 64 (drop (k * 64) z)))
         ∙ ap (λ (t : List ℕ). t ++ drop 64 (drop (k * 64) z)) joined)
         ∙ take-at (valuesFrom u 0 (k * 64 + 64)) (drop 64 (drop (k * 64) z)) (k * 64 + 64) (length-values u 0 (k * 64 + 64)))
       where
@@ -293,23 +322,24 @@ value-there v k h ez ex =
 -- ---- a list changed in place from its end: f is what is left of a tail
 module _ (f : List ℕ → List ℕ) (v : List ℕ) where
   module _ (i : ℕ) (h : 0 < i) (k : i ≤ length v) (w : List ℕ) (inv : w ≡ take i v ++ f (drop i v)) where
-    pub back-read : getD w (i - 1) 0 ≡ getD v (i - 1) 0
+    back-read : getD w (i - 1) 0 ≡ getD v (i - 1) 0
     back-read =
         ap (λ (t : List ℕ). getD t (i - 1) 0) inv
         ∙ List·getD-append (take i v) (f (drop i v)) 0 (i - 1) (omega (arith, length-take-le i v k))
         ∙ getD-take i v (i - 1) 0 (omega arith)
 
-    pub back-next : (b : ℕ) → b ∷ f (drop i v) ≡ f (drop (i - 1) v) → set w (i - 1) b ≡ take (i - 1) v ++ f (drop (i - 1) v)
+    back-next : (b : ℕ) → b ∷ f (drop i v) ≡ f (drop (i - 1) v) → set w (i - 1) b ≡ take (i - 1) v ++ f (drop (i - 1) v)
     back-next b e =
         ap (λ (t : List ℕ). set t (i - 1) b)
-        (inv ∙ ap (λ (t : List ℕ). t ++ f (drop i v)) (ap (λ (n : ℕ). take n v) same ∙ take-suc v (i - 1) 0 (omega arith)) ∙ append-assoc (take (i - 1) v) (getD v (i - 1) 0 ∷ []) (f (drop i v)))
+        (inv ∙ ap (λ (t : List ℕ). t ++ f (drop i v)) (ap (λ (n : ℕ). take n v) same ∙ take-suc v (i - 1) 0 (omega arith))
+        ∙ append-assoc (take (i - 1) v) (getD v (i - 1) 0 ∷ []) (f (drop i v)))
         ∙ set-at (take (i - 1) v) (getD v (i - 1) 0) (f (drop i v)) b (i - 1) (length-take-le (i - 1) v (omega arith))
         ∙ ap (λ (t : List ℕ). take (i - 1) v ++ t) e
       where
         same : i ≡ suc (i - 1)
         same = omega arith
 
-  pub back-start : f [] ≡ [] → v ≡ take (length v) v ++ f (drop (length v) v)
+  back-start : f [] ≡ [] → v ≡ take (length v) v ++ f (drop (length v) v)
   back-start e = sym (ap₂ (λ (s t : List ℕ). s ++ t) (take-length v) (ap f (drop-length v) ∙ e) ∙ append-nil v)
 
   pub back-done : (i : ℕ) (w : List ℕ) → i ≤ 0 → w ≡ take i v ++ f (drop i v) → w ≡ f v
@@ -322,7 +352,8 @@ module _ (v s w₀ : List ℕ) where
   unfolding errors onto
   add-start = back-start (λ t. onto (errors v s (length t)) t) w₀ refl
 
-  pub add-next : (k i : ℕ) (w : List ℕ) → 0 < i → w ≡ take i w₀ ++ onto (errors v s (length (drop i w₀))) (drop i w₀) → {x e b : ℕ} → k + i ≡ length w₀ → x ≡ pow alpha k → e ≡ errorAt v s x
+  pub add-next : (k i : ℕ) (w : List ℕ) → 0 < i → w ≡ take i w₀ ++ onto (errors v s (length (drop i w₀))) (drop i w₀) → {x e b : ℕ} → k + i ≡ length w₀
+      → x ≡ pow alpha k → e ≡ errorAt v s x
       → b ≡ add e (getD w (i - 1) 0) → set w (i - 1) b ≡ take (i - 1) w₀ ++ onto (errors v s (length (drop (i - 1) w₀))) (drop (i - 1) w₀)
   unfolding errors onto
   add-next k i w h inv {x} {e} {b} at ex ee eb =
@@ -358,10 +389,12 @@ module _ (v s : List ℕ) (x : ℕ) where
   unfolding low tails dot
   error-start = rw (drop-length v) (refl, refl, refl)
 
-  pub error-next : (i : ℕ) {a b sum : ℕ} → 1 < i → i ≤ length v → length v ≤ length s → Summed v s x i a b sum → {t a′ t′ b′ u sum′ : ℕ} → t ≡ mul x a → a′ ≡ add (getD v (i - 1) 0) t
+  pub error-next : (i : ℕ) {a b sum : ℕ} → 1 < i → i ≤ length v → length v ≤ length s → Summed v s x i a b sum → {t a′ t′ b′ u sum′ : ℕ} → t ≡ mul x a
+      → a′ ≡ add (getD v (i - 1) 0) t
       → t′ ≡ mul x b → b′ ≡ add a′ t′ → u ≡ mul a′ (getD s (i - 1 - 1) 0) → sum′ ≡ add u sum → Summed v s x (i - 1) a′ b′ sum′
   unfolding low tails dot
-  error-next i h k l inv {t} {a′} {t′} {b′} {u} {sum′} et ea et′ eb eu es = rw (front v i (omega arith) k, front s (i - 1) (omega arith) (omega arith)) (value, slope, product)
+  error-next i h k l inv {t} {a′} {t′} {b′} {u} {sum′} et ea et′ eb eu es = rw (front v i (omega arith) k, front s (i - 1) (omega arith) (omega arith))
+      (value, slope, product)
     where
       value : a′ ≡ add (getD v (i - 1) 0) (mul x (low (drop i v) x))
       value = ea ∙ ap (add (getD v (i - 1) 0)) (et ∙ ap (mul x) (inv .0))
@@ -372,7 +405,8 @@ module _ (v s : List ℕ) (x : ℕ) where
       product : sum′ ≡ add (mul (add (getD v (i - 1) 0) (mul x (low (drop i v) x))) (getD s (i - 1 - 1) 0)) (dot (tails (drop i v) x) (drop (i - 1) s))
       product = es ∙ ap₂ add (eu ∙ ap (λ (y : ℕ). mul y (getD s (i - 1 - 1) 0)) value) (inv .2)
 
-  pub error-done : (i : ℕ) {l a b sum : ℕ} → 0 < i → i ≤ 1 → 0 < length v → l ≡ low v x → l ≡ 0 → Summed v s x i a b sum → {slope inv e : ℕ} → slope ≡ mul x b → inv ≡ inverse slope
+  pub error-done : (i : ℕ) {l a b sum : ℕ} → 0 < i → i ≤ 1 → 0 < length v → l ≡ low v x → l ≡ 0 → Summed v s x i a b sum → {slope inv e : ℕ} → slope ≡ mul x b
+      → inv ≡ inverse slope
       → e ≡ mul sum inv → e ≡ errorAt v s x
   unfolding errorAt
   error-done i h g pos el z inv ep ei ee =
@@ -398,7 +432,8 @@ module _ (r : ℕ) (w : List ℕ) {s : List ℕ} (es : s ≡ sums r w) (k : ℕ)
   amend-some e = rw (sym es, sym ev) e
 
 -- ---- mend
-module _ (r : ℕ) (w : List ℕ) (l : length w ≡ wordBytes) {copy : List ℕ} (left : List ℕ) (ec : copy ≡ copied w (replicate wordBytes 0)) (el : left ≡ amended r copy) where
+module _ (r : ℕ) (w : List ℕ) (l : length w ≡ wordBytes) {copy : List ℕ} (left : List ℕ) (ec : copy ≡ copied w (replicate wordBytes 0))
+    (el : left ≡ amended r copy) where
   became : left ≡ amended r w
   became =
       el ∙ ap (amended r)
@@ -421,7 +456,8 @@ module _ (r : ℕ) (w : List ℕ) (l : length w ≡ wordBytes) {copy : List ℕ}
         long = ap length became ∙ unfold amended in length-onto _ w
 
         back : copied left w ≡ left
-        back = copied-fits left w (omega (arith, long)) ∙ ap (λ (t : List ℕ). left ++ t) (drop-of-length-le w {i = length left} (omega (arith, long))) ∙ append-nil left
+        back = copied-fits left w (omega (arith, long)) ∙ ap (λ (t : List ℕ). left ++ t) (drop-of-length-le w {i = length left} (omega (arith, long)))
+            ∙ append-nil left
 
     pub mend-damaged : c ≡ check.Damaged → (Beyond, w) ≡ mended r w
     mend-damaged e = rw e at near
@@ -430,5 +466,6 @@ module _ (r : ℕ) (w : List ℕ) (l : length w ≡ wordBytes) {copy : List ℕ}
     mend-refused m e = rw e at near
 
 -- ---- repair
-pub repair-damaged : (r : ℕ) (w : List ℕ) → Bytes w → {c : Checked} → c ≡ checked r w → c ≡ check.Damaged → (a : Mended) (o : List ℕ) → (a, o) ≡ mended r w → Promised r w a o
+pub repair-damaged : (r : ℕ) (w : List ℕ) → Bytes w → {c : Checked} → c ≡ checked r w → c ≡ check.Damaged → (a : Mended) (o : List ℕ) → (a, o) ≡ mended r w
+    → Promised r w a o
 repair-damaged r w b ec e a o em = subst (λ (m : Mended × List ℕ). Promised r w (m .0) (m .1)) (sym em) (mended-promised r w b (sym ec ∙ e))

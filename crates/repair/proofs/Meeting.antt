@@ -1,6 +1,5 @@
--- The way leads where the promise says (specs/Way, specs/Promise).
--- near-amended        where a clean word is near, it is what comes of the locator
--- repaired-promised   what `repaired` answers and leaves is as promised
+-- The way leads where the promise says (specs/Way, specs/Promise): where a clean word is near, it is what comes of the locator.
+-- mended-promised, repaired-promised   what `mended`, and `repaired`, answer and leave is as promised
 use mathlib.Core.Path.{_≡_, refl, sym, ap, ap₂, _∙_}
 use mathlib.Core.Bool.{Bool, true, false}
 use mathlib.Core.List.{List, [], _∷_, _++_}
@@ -37,7 +36,8 @@ use Rattle.repair.proofs.Values.{found-errors}
 -- ---- the equations are rows of 33 bytes
 bytes-sums : (r : ℕ) (w : List ℕ) → Bytes w → Bytes (sums r w)
 unfolding sums
-bytes-sums r w b = each-append IsByte (valuesFrom w 1 r) (replicate (rootLimit - r) 0) (bytes-values w b 1 r) (each-replicate IsByte (rootLimit - r) 0 (omega arith))
+bytes-sums r w b = each-append IsByte (valuesFrom w 1 r) (replicate (rootLimit - r) 0) (bytes-values w b 1 r)
+    (each-replicate IsByte (rootLimit - r) 0 (omega arith))
 
 length-sums : (r : ℕ) (w : List ℕ) → r ≤ rootLimit → length (sums r w) ≡ rootLimit
 unfolding sums
@@ -111,10 +111,11 @@ module _ (r : ℕ) (w : List ℕ) (b : Bytes w) (l : length w ≡ wordBytes) (v 
   found [] a =
       absurd (not-none e bytes-e (omega (arith, length-e)) r (r - half r) (half r + 1) (omega arith) (omega (arith, fine .0)) (omega (arith, light)) a)
   found (x ∷ u) a =
-      found-errors e bytes-e (omega (arith, length-e)) r (r - half r) (half r + 1) (omega arith) (omega (arith, fine .0)) (omega (arith, light)) (x ∷ u) (a .0) (a .1)
+      found-errors e bytes-e (omega (arith, length-e)) r (r - half r) (half r + 1) (omega arith) (omega (arith, fine .0)) (omega (arith, light)) (x ∷ u) (a .0)
+      (a .1)
       ∙ ap (errors (x ∷ u) (sums r e)) length-e
 
-  pub near-amended : amended r w ≡ v
+  near-amended : amended r w ≡ v
   unfolding amended locator
   near-amended =
       ap₂ (λ (s : List ℕ) (n : ℕ). onto (errors (locator r s) s n) w) same-sums l

@@ -100,11 +100,13 @@ one-restored r v hv two i c hi hc n a o p =
     let s = restored r v hv (set v i c) (bytes-set v i c hc (hv .0)) (length-set v i c ∙ l) (omega arith) (omega arith) a o p in
     (s .0 ∙ ap Repaired d, s .1)
 
-pub beyond-exactly : (r : ℕ) (w : List ℕ) → r ≤ rootLimit → Bytes w → length w ≡ wordBytes → (a : Mended) (o : List ℕ) → Promised r w a o → (a ≡ Beyond) ↔ ((v : List ℕ) → Near r w v → ⊥)
+pub beyond-exactly : (r : ℕ) (w : List ℕ) → r ≤ rootLimit → Bytes w → length w ≡ wordBytes → (a : Mended) (o : List ℕ) → Promised r w a o
+    → (a ≡ Beyond) ↔ ((v : List ℕ) → Near r w v → ⊥)
 beyond-exactly r w h b l Clean o p = (λ e. absurd (let z : _≡_ {A = ℕ} 0 1 = cc in omega arith), λ f. absurd (f w ((b, p .0), omega (arith, distance-self w))))
 beyond-exactly r w h b l (Repaired n) o p = (λ e. absurd (let z : _≡_ {A = ℕ} 0 1 = cc in omega arith), λ f. absurd (f o (p .4)))
 beyond-exactly r w h b l Beyond o p = (λ e. p .1, λ f. refl)
-beyond-exactly r w h b l (Refused n) o p = (λ e. absurd (let z : _≡_ {A = ℕ} 0 1 = cc in omega arith), λ f. absurd (no (clean r w) (sym (checked-is r w h l) ∙ p .0)))
+beyond-exactly r w h b l (Refused n) o p =
+    (λ e. absurd (let z : _≡_ {A = ℕ} 0 1 = cc in omega arith), λ f. absurd (no (clean r w) (sym (checked-is r w h l) ∙ p .0)))
   where
     no : (t : Bool) → pick t check.Clean check.Damaged ≡ check.Refused n → ⊥
     no true e = let z : _≡_ {A = ℕ} 0 1 = clean-refused n e in omega arith

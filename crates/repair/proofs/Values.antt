@@ -23,16 +23,18 @@ abbrev Elsewhere : ℕ → (ℕ → ℕ) → List ℕ → Type 0
 Elsewhere a f e = AtEach (λ x c. (x ≡ a → ⊥) → mul c (f x) ≡ 0) e
 
 -- the sum of such a function has one term
-pub picks : (e : List ℕ) → length e ≤ 255 → AtEach (λ a d. (f : ℕ → ℕ) → Elsewhere a f e → weigh f e ≡ mul d (f a)) e
+picks : (e : List ℕ) → length e ≤ 255 → AtEach (λ a d. (f : ℕ → ℕ) → Elsewhere a f e → weigh f e ≡ mul d (f a)) e
 unfolding weigh
 picks [] l = tt
 picks (c ∷ cs) l = (
   λ f o.
       ap (add (mul c (f (pow alpha (length cs)))))
       (weigh-zero f cs
-      (at-each-map (λ x d. (x ≡ pow alpha (length cs) → ⊥) → mul d (f x) ≡ 0) (λ x d. mul d (f x) ≡ 0) cs (λ k h d y. y (points-differ k (length cs) h (omega arith))) (o .1)))
+      (at-each-map (λ x d. (x ≡ pow alpha (length cs) → ⊥) → mul d (f x) ≡ 0) (λ x d. mul d (f x) ≡ 0) cs
+      (λ k h d y. y (points-differ k (length cs) h (omega arith))) (o .1)))
       ∙ add-zero _,
-  at-each-map (λ a d. (f : ℕ → ℕ) → Elsewhere a f cs → weigh f cs ≡ mul d (f a)) (λ a d. (f : ℕ → ℕ) → Elsewhere a f (c ∷ cs) → weigh f (c ∷ cs) ≡ mul d (f a)) cs
+  at-each-map (λ a d. (f : ℕ → ℕ) → Elsewhere a f cs → weigh f cs ≡ mul d (f a)) (λ a d. (f : ℕ → ℕ) → Elsewhere a f (c ∷ cs) → weigh f (c ∷ cs) ≡ mul d (f a))
+      cs
       (λ k h d y f o. ap₂ add (o .0 (λ z. points-differ k (length cs) h (omega arith) (sym z))) (y f (o .1)) ∙ zero-add _) (picks cs (omega arith)),
 )
 
@@ -99,14 +101,17 @@ module _ (e : List ℕ) (b : Bytes e) (l : length e ≤ 255) (r m n : ℕ) (fits
         row-weigh e _ b (tails cs a) 0 1 r (omega (arith, length-tails cs a))
         ∙ picked (λ x. mul (pow x 1) (low (tails cs a) x))
         (at-each-map (λ x y. mul y (low (c ∷ cs) x) ≡ 0) (λ x y. (x ≡ a → ⊥) → mul y (mul (pow x 1) (low (tails cs a) x)) ≡ 0) e
-        (λ j hj y z other. mul-left-comm y (pow (pow alpha j) 1) (low (tails cs a) (pow alpha j)) ∙ ap (mul (pow (pow alpha j) 1)) (quotient i j y root other z) ∙ mul-zero _) zeros)
+        (λ j hj y z other. mul-left-comm y (pow (pow alpha j) 1) (low (tails cs a) (pow alpha j))
+        ∙ ap (mul (pow (pow alpha j) 1)) (quotient i j y root other z) ∙ mul-zero _) zeros)
         ∙ ap (λ (t : ℕ). mul d (mul t (low (tails cs a) a))) one-power
 
     byte : d ≡ mul (dot (tails cs (pow alpha i)) (sums r e)) (inverse (mul (pow alpha i) (low (tails cs (pow alpha i)) (pow alpha i))))
     unfolding a slope
-    byte = sym (ap (λ (t : ℕ). mul t (inverse slope)) sum ∙ mul-assoc d slope (inverse slope) ∙ ap (mul d) (mul-inverse slope slope-pos (mul-lt a _)) ∙ mul-one d hd)
+    byte = sym (ap (λ (t : ℕ). mul t (inverse slope)) sum ∙ mul-assoc d slope (inverse slope) ∙ ap (mul d) (mul-inverse slope slope-pos (mul-lt a _))
+        ∙ mul-one d hd)
 
-  at : (i : ℕ) → i < 255 → (d : ℕ) → (mul d (low (c ∷ cs) (pow alpha i)) ≡ 0) × (d < 256) × ((f : ℕ → ℕ) → Elsewhere (pow alpha i) f e → weigh f e ≡ mul d (f (pow alpha i)))
+  at : (i : ℕ) → i < 255 → (d : ℕ) → (mul d (low (c ∷ cs) (pow alpha i)) ≡ 0) × (d < 256)
+      × ((f : ℕ → ℕ) → Elsewhere (pow alpha i) f e → weigh f e ≡ mul d (f (pow alpha i)))
       → d ≡ errorAt (c ∷ cs) (sums r e) (pow alpha i)
   unfolding errorAt tails
   at i hi d y =
@@ -127,7 +132,8 @@ pub found-errors : (e : List ℕ) → Bytes e → length e ≤ 255 → (r m n : 
 found-errors e b l r m n fits small few [] hv least = absurd (least .nonzero tt)
 found-errors e b l r m n fits small few (c ∷ cs) hv least =
     each-errors (c ∷ cs) (sums r e) e
-    (at-each-map (λ a d. (mul d (low (c ∷ cs) a) ≡ 0) × (d < 256) × ((f : ℕ → ℕ) → Elsewhere a f e → weigh f e ≡ mul d (f a))) (λ a d. d ≡ errorAt (c ∷ cs) (sums r e) a) e
+    (at-each-map (λ a d. (mul d (low (c ∷ cs) a) ≡ 0) × (d < 256) × ((f : ℕ → ℕ) → Elsewhere a f e → weigh f e ≡ mul d (f a)))
+    (λ a d. d ≡ errorAt (c ∷ cs) (sums r e) a) e
     (λ i hi d y. at e b l r m n fits small few c cs hv least i (omega arith) d y)
     (three (λ a d. mul d (low (c ∷ cs) a) ≡ 0) (λ a d. d < 256) (λ a d. (f : ℕ → ℕ) → Elsewhere a f e → weigh f e ≡ mul d (f a)) e
     (zeros e b l r m n fits small few c cs hv least) (each-byte e b) (picks e l)))

@@ -1,9 +1,9 @@
 -- A word's bytes, each times a function of its place's point: the place with n bytes behind it has the point alpha^n. The sums
 -- S_j are those of the functions x^j.
--- weigh, weigh-add, weigh-mul   the weighted sum; linear in the function
--- sum-weigh                     S_j, the value at alpha^j
--- row-weigh                     the sums from S_j on times the coefficients of a polynomial
--- AtEach, weigh-zero            a fact at each place; a sum whose terms are zero
+-- weigh, weigh-same, weigh-add, weigh-mul, add-step   the weighted sum; linear in the function
+-- sum-weigh                                           S_j, the value at alpha^j
+-- row-weigh                                           the sums from S_j on times the coefficients of a polynomial
+-- AtEach, at-each-map, weigh-zero                     a fact at each place; a sum whose terms are zero
 use mathlib.Core.Path.{_≡_, refl, sym, ap, ap₂, _∙_}
 use mathlib.Core.List.{List, [], _∷_, _++_}
 use Prim.Native.Nat.{ℕ, zero, suc, _+_, _≤_, _<_}

@@ -3,11 +3,14 @@
 --
 -- The sums S_1 to S_r are the word's values at its roots. A locator is a polynomial that is zero at the point of every altered
 -- place; here it is a least solution of linear equations in the sums, found by elimination. Each altered byte follows from it.
--- low, tails                          value at a point, quotient; a polynomial has its lowest coefficient first here
--- sums, windows                       the sums, and the equations: a row for each, 33 numbers wide
--- pivot, normal, reduced, solve       elimination, column by column
--- errorAt, errors                     the byte to be added at a place, at all places
--- amended, mended, repaired           the word that comes of it, and what is answered and left
+-- low, tails                                     value at a point, quotient; a polynomial has its lowest coefficient first here
+-- dot                                            a sum of products
+-- sums, windows                                  the sums, and the equations: a row for each, 33 numbers wide
+-- head, shift                                    a row's first coefficient, and the row without it
+-- pivot, normal, reduced, extended, solve        elimination, column by column
+-- locator                                        what it is
+-- errorAt, errors                                the byte to be added at a place, at all places
+-- amended, settled, mended, repairedBy, repaired  the word that comes of it, and what is answered and left
 use mathlib.Core.List.{List, [], _∷_, _++_, map}
 use Prim.Native.Nat.{ℕ, zero, suc, _+_, _-_}
 use lib.Dec.{eqb, ltb}

@@ -43,7 +43,8 @@ fn amend(r: usize, word: &mut [u8])
     requires { ⌜ (r ≤ rootLimit) × (length (now word) ≡ wordBytes) ⌝ }
     ensures { λ _. ⌜ now (word .exit) ≡ amended r (now (word .entry)) ⌝ }
 {
-    let s = parity::at_roots(r, word);
+    let mut s = [0u8; Word::MOST];
+    parity::at_roots(r, word, &mut s);
     let locator = rows::locator(r, &s);
     let k = locator.n;
     if k == 0 {

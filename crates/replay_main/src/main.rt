@@ -1,14 +1,12 @@
 //! Sends the packets of the capture on standard input again: on standard output a recording of their plain stream, the first flag in a record of
 //! its own and each packet in one. Bytes are read as they come, and a packet's record is out before the next are read. Where the capture is
 //! refused, or something fails, it says so on standard error and stops; what came before is there.
-ghost use Prim.Native.Nat.{_≤_};
 use base::Refusal;
 use base::Written;
 use capture::CaptureReader;
 use capture::Ended;
 use console::say;
 use libc::STDIN_FILENO;
-use libc::STDOUT_FILENO;
 use packet::Delivery;
 use packet::Judged;
 use packet::Packet;
@@ -45,7 +43,7 @@ const MOST: u64 = 4294967295;
 fn main() {
     let mut out = [0u8; Packet::RAW];
     let begun = stream::begin(&mut out);
-    if print(&[0x50]) && put(begun, &out) {
+    if console::print(b"replay", &[0x50]) && put(begun, &out) {
         replay(&mut out);
     }
 }
@@ -63,7 +61,7 @@ fn replay(out: &mut [u8]) {
     while reads > 0 {
         let got = libc::read(STDIN_FILENO, &mut piece);
         if got < 0 {
-            say(b"replay: cannot read standard input\n");
+            console::say_unread(b"replay");
             return;
         }
         if got == 0 {
@@ -101,21 +99,13 @@ fn read(
     while calls > 0 {
         let next = turn.capture;
         turn = call(next, turn.sent, store, &piece[i..], out);
-        i = onward(i, turn.taken, piece.len());
+        i = console::onward(i, turn.taken, piece.len());
         if !turn.again {
             return turn;
         }
         calls -= 1;
     }
     turn
-}
-
-// The place n further on, or the end.
-fn onward(at: usize, n: usize, end: usize) -> usize
-    requires { ⌜ at ≤ end ⌝ }
-    ensures { λ r. ⌜ r ≤ end ⌝ }
-{
-    at + base::least(n, end - at)
 }
 
 // One call, and the record of its packet.
@@ -247,13 +237,5 @@ fn put(written: Written, out: &[u8]) -> bool {
 fn record(bytes: &[u8]) -> bool {
     let n = bytes.len();
     let head = [0xF5, 0x5F, (n % 256) as u8, (n / 256 % 256) as u8];
-    print(&head) && print(bytes)
-}
-
-fn print(bytes: &[u8]) -> bool {
-    if io::write_all(STDOUT_FILENO, bytes) {
-        return true;
-    }
-    say(b"replay: cannot write standard output\n");
-    false
+    console::print(b"replay", &head) && console::print(b"replay", bytes)
 }

@@ -3,6 +3,7 @@
 -- notings-within   packets noted are those of the range, each counted; recorded-range: so the others may as well not be there
 -- recorded-is      a recording's packets, and its end: what the definition says, and the sheet of the month then
 -- refused-keeps, closing-keeps    a recording that does not count leaves the sheet as it was, whatever sheet and draft it is
+-- rows-sheet, addings   a month's rows; packets that count, one after the other
 use Prim.Native.Nat.{ℕ, _≤_}
 use native.Mathlib.Omega.{arith}
 use mathlib.Core.Path.{_≡_, refl, sym, ap, subst, _∙_}
@@ -81,7 +82,8 @@ module _ (s : Sheet) (d : Draft) (port q : ℕ) where
       pick a (run (rowsOf (d .after)) true (d .wide))
       (pick b (run (rowsOf (d .after)) (d .full) true) (run (noteIn port q (rowsOf (d .after))) (d .full) (d .wide)))
 
-  goes-by : d .before ≡ s → d .after .ports ≤ portLimit → (a : Bool) → ltb portLimit (length (noteIn port q (rowsOf (d .after)))) ≡ a → (b : Bool) → Goes s (by a b) (runBy a b)
+  goes-by : d .before ≡ s → d .after .ports ≤ portLimit → (a : Bool) → ltb portLimit (length (noteIn port q (rowsOf (d .after)))) ≡ a → (b : Bool)
+      → Goes s (by a b) (runBy a b)
   goes-by e l true h b = record { before = e; same = refl; few = l }
   goes-by e l false h true = record { before = e; same = refl; few = l }
   goes-by e l false h false =
@@ -91,7 +93,8 @@ module _ (s : Sheet) (d : Draft) (port q : ℕ) where
   goes-step : (x : Run) → Goes s d x → Goes s (adding d port q) (step port q x)
   unfolding adding step
   goes-step x g =
-      let h = goes-by (g .before) (g .few) (ltb portLimit (length (noteIn port q (rowsOf (d .after))))) refl (wide (heardRow (rowFor port (rowsOf (d .after))) q .tally)) in
+      let h = goes-by (g .before) (g .few) (ltb portLimit (length (noteIn port q (rowsOf (d .after))))) refl
+      (wide (heardRow (rowFor port (rowsOf (d .after))) q .tally)) in
       subst (λ (y : Run). Goes s (adding d port q) (step port q y)) (g .same) (rw (le-ltb portLimit (d .after .ports) (g .few)) h)
 
 goes-steps : (s : Sheet) (ms : List Mark) (d : Draft) (x : Run) → Goes s d x → Goes s (addings d ms) (steps x ms)
@@ -138,7 +141,8 @@ recorded-is r month ms well f =
 -- ---- whatever sheet it is
 adding-before : (d : Draft) (port q : ℕ) → adding d port q .before ≡ d .before
 unfolding adding
-adding-before d port q = go (ltb portLimit (d .after .ports)) (ltb portLimit (length (noteIn port q (rowsOf (d .after))))) (wide (heardRow (rowFor port (rowsOf (d .after))) q .tally))
+adding-before d port q = go (ltb portLimit (d .after .ports)) (ltb portLimit (length (noteIn port q (rowsOf (d .after)))))
+    (wide (heardRow (rowFor port (rowsOf (d .after))) q .tally))
   where
     go : (a b c : Bool) → pick {A = Draft} a d (by (d .before) d port q b c) .before ≡ d .before
     go true b c = refl
@@ -161,8 +165,10 @@ pub closing-keeps : (d : Draft) (well : Bool) → closing d well .counted ≢ Co
 unfolding closing
 closing-keeps d well = go (beyond d)
   where
-    go : (b : Bool) → pick {A = Closed} b (closed (Refused 10) (d .before)) (closed (answerOf (settled well (runOf d))) (kept (settled well (runOf d)) (tidied (d .after)) (d .before))) .counted ≢ Counts
-        → pick {A = Closed} b (closed (Refused 10) (d .before)) (closed (answerOf (settled well (runOf d))) (kept (settled well (runOf d)) (tidied (d .after)) (d .before))) .sheet ≡ d .before
+    go : (b : Bool) → pick {A = Closed} b (closed (Refused 10) (d .before))
+        (closed (answerOf (settled well (runOf d))) (kept (settled well (runOf d)) (tidied (d .after)) (d .before))) .counted ≢ Counts
+        → pick {A = Closed} b (closed (Refused 10) (d .before))
+        (closed (answerOf (settled well (runOf d))) (kept (settled well (runOf d)) (tidied (d .after)) (d .before))) .sheet ≡ d .before
     go true n = refl
     go false n = kept-old (settled well (runOf d)) (tidied (d .after)) (d .before) n
 

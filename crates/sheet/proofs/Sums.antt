@@ -4,6 +4,9 @@
 -- smalls                and each then does
 -- heard-is, ..          a row behind a packet from its parts
 -- put-before, ..        a row put at a place
+-- not-2, not-3          of these the second and the third test
+-- tally-is, verdict-heard, one-is   a row's numbers, what the packet is, and its own numbers
+-- put-there, put-new, put-old   at the place, behind a new row, behind an old one
 use Prim.Native.Nat.{ℕ, _+_, _-_, _≤_, _<_}
 use native.Mathlib.Omega.{arith}
 use mathlib.Core.Path.{_≡_, refl, sym, ap, _∙_}
@@ -88,8 +91,13 @@ none-1 false false false false true h = absurd (true≢false h)
 
 pub smalls : (t : Tally) → wide t ≡ false → (t .delivered ≤ far) × (t .repeated ≤ far) × (t .late ≤ far) × (t .missing ≤ far) × (t .total ≤ far)
 smalls t h =
-    let p = none-1 (ltb far (t .delivered)) (ltb far (t .repeated)) (ltb far (t .late)) (ltb far (t .missing)) (ltb far (t .total)) h in
-    (ltb-false far (t .delivered) (p .0), ltb-false far (t .repeated) (p .1), ltb-false far (t .late) (p .2), ltb-false far (t .missing) (p .3), ltb-false far (t .total) (p .4))
+    let p = none-1 (ltb far (t .delivered)) (ltb far (t .repeated)) (ltb far (t .late)) (ltb far (t .missing)) (ltb far (t .total)) h in (
+      ltb-false far (t .delivered) (p .0),
+      ltb-false far (t .repeated) (p .1),
+      ltb-false far (t .late) (p .2),
+      ltb-false far (t .missing) (p .3),
+      ltb-false far (t .total) (p .4),
+    )
 
 -- ---- the row
 pub tally-is : (r : Row) (s : ℕ) {n : Noted} {m : Tally} → n ≡ verdict r s → m ≡ one n → plus (r .tally) m ≡ heardRow r s .tally

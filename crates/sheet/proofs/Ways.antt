@@ -1,7 +1,8 @@
 -- The calls, way by way.
--- found-old, found-new       what a packet finds
+-- found-old                  what a packet finds
 -- fresh-is, tidied-is, begin-is   a sheet's rows
 -- note-.., close-.., print-..   the three calls; note-out, note-in: a packet by its port
+-- unfound-is, found-other, found-end   nothing found: before a greater port, and behind the last
 use Prim.Native.Nat.{ℕ, _+_, _≤_, _<_, min}
 use native.Mathlib.Omega.{arith}
 use mathlib.Core.Path.{_≡_, refl, sym, ap, _∙_}
@@ -40,7 +41,11 @@ module _ (port n : ℕ) (rs : List Row) (size : length rs ≡ n) {at : ℕ} {r :
 
   old : at < n → r .port ≡ port → isOld port rs ≡ true
   old h k =
-      sym (old-is port rs) ∙ rw (lt-ltb (placeFor port rs) (length rs) (omega (arith, h, ea, size)), sym (ap (λ (x : Row). x .port) there), eq-eqb (r .port) port k) refl
+      sym (old-is port rs) ∙ rw (
+        lt-ltb (placeFor port rs) (length rs) (omega (arith, h, ea, size)),
+        sym (ap (λ (x : Row). x .port) there),
+        eq-eqb (r .port) port k,
+      ) refl
 
   pub found-old : at < n → r .port ≡ port → record { at = at; new = false; row = r; behind = n } ≡ foundIn port rs
   found-old h k =
@@ -57,7 +62,8 @@ module _ (port n : ℕ) (rs : List Row) (size : length rs ≡ n) {at : ℕ} {r :
       e ∙ rw (o, f) (λ i. record { at = ea i; new = true; row = blank port; behind = sym size i + 1 })
 
   pub found-other : {x : Found} → r .port ≢ port → x ≡ new → x ≡ foundIn port rs
-  found-other n e = new-by (sym (old-is port rs) ∙ rw (sym (ap (λ (x : Row). x .port) there), ne-eqb (r .port) port n) (and-false (ltb (placeFor port rs) (length rs)))) e
+  found-other n e = new-by
+      (sym (old-is port rs) ∙ rw (sym (ap (λ (x : Row). x .port) there), ne-eqb (r .port) port n) (and-false (ltb (placeFor port rs) (length rs)))) e
     where
       and-false : (b : Bool) → b && false ≡ false
       and-false true = refl
@@ -117,14 +123,20 @@ module _ (d : Draft) (port s : ℕ) where
       pub note-wide : not t ≡ true → drafted d (d .after) (d .full) true ≡ adding d port s
       unfolding adding
       note-wide h =
-          rw (le-ltb portLimit (d .after .ports) few, le-ltb portLimit (length (noteIn port s rs)) (omega (arith, room, behind)), sym same ∙ wide-by (wide (heardRow (f .row) s .tally)) t fits h) refl
+          rw (
+            le-ltb portLimit (d .after .ports) few,
+            le-ltb portLimit (length (noteIn port s rs)) (omega (arith, room, behind)),
+            sym same
+                ∙ wide-by (wide (heardRow (f .row) s .tally)) t fits h,
+          ) refl
 
       pub note-put : not t ≡ false → {x : Row} {z : List Row} → x ≡ heardRow (f .row) s → z ≡ tab 16 (putAt rs (f .at) (f .new) x)
           → drafted d (record { ports = f .behind; rows = z }) (d .full) (d .wide) ≡ adding d port s
       unfolding adding
       note-put h {x} {z} ex ez =
           let g : z ≡ padded (noteIn port s rs) =
-          ez ∙ ap (λ (y : Row). tab 16 (putAt rs (f .at) (f .new) y)) ex ∙ ap (λ (y : Found). tab 16 (putAt rs (y .at) (y .new) (heardRow (y .row) s))) e ∙ put-all-is 16 port s rs in
+          ez ∙ ap (λ (y : Row). tab 16 (putAt rs (f .at) (f .new) y)) ex ∙ ap (λ (y : Found). tab 16 (putAt rs (y .at) (y .new) (heardRow (y .row) s))) e
+          ∙ put-all-is 16 port s rs in
           rw (le-ltb portLimit (d .after .ports) few, le-ltb portLimit (length (noteIn port s rs)) (omega (arith, room, behind)), sym same ∙ note-small h)
           (λ i. drafted d (record { ports = behind i; rows = g i }) (d .full) (d .wide))
 
@@ -173,7 +185,8 @@ module _ (d : Draft) where
       close-wide true h f g = rw (le-ltb portLimit (d .before .ports) few, le-ltb portLimit (d .after .ports) less, f, g) refl
       close-wide false h f g = absurd (true≢false h)
 
-      pub close-counts : (well : Bool) {s : Sheet} → not well ≡ false → d .full ≡ false → d .wide ≡ false → s ≡ tidied (d .after) → closed Counts s ≡ closing d well
+      pub close-counts : (well : Bool) {s : Sheet} → not well ≡ false → d .full ≡ false → d .wide ≡ false → s ≡ tidied (d .after)
+          → closed Counts s ≡ closing d well
       unfolding closing
       close-counts true h f g e = rw (le-ltb portLimit (d .before .ports) few, le-ltb portLimit (d .after .ports) less, f, g) (ap (closed Counts) e)
       close-counts false h f g e = absurd (true≢false h)

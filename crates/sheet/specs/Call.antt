@@ -4,6 +4,9 @@
 -- noting                          .. delivers a packet, of which only those of a range of ports count
 -- printing                        a row's line
 -- notings, recorded               packets one after the other, a whole recording
+-- tidied, drafted, noted, rowThen, runOf   the last recording forgotten; a draft, the rows and the packet's row in it, what it has of the recording
+-- answerOf, closed                the code's answer, and the sheet then
+-- beyond, lineOf                  10: a count of rows above 16; a row's line
 use Prim.Native.Nat.{ℕ}
 use mathlib.Core.Bool.{Bool, true, false, _||_}
 use mathlib.Core.List.{List, [], _∷_, map}
@@ -11,7 +14,7 @@ use lib.Dec.{ltb}
 use lib.ListN.{length, take, getD}
 use Rattle.base.specs.Choice.{pick}
 use Rattle.base.specs.Written.{Outcome, refused, write}
-use Rattle.lines.specs.Row.{rowLine}
+use Rattle.sheet_spec.specs.Line.{rowLine}
 use Rattle.ports_spec.specs.declared.Range.{Range}
 use Rattle.ports_spec.specs.Range.{inside}
 use Rattle.sheet_spec.specs.declared.Row.{Row}

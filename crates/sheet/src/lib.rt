@@ -4,6 +4,7 @@ ghost use Rattle.base.specs.Written.{outcome};
 ghost use Rattle.sheet.specs.Call.{freshSheet, tidied, beginning, adding, noting, closing, printing};
 use base::Refusal;
 use base::Written;
+use line::print_row;
 use ports_spec::Range;
 use rows::clear_all;
 use rows::find;
@@ -14,6 +15,7 @@ use tally::blank;
 use tally::fits;
 use tally::heard_row;
 
+mod line;
 mod rows;
 mod tally;
 
@@ -53,6 +55,8 @@ pub struct Closed {
 impl Sheet {
     /// At most so many ports.
     pub const PORTS: usize = 16;
+    /// No line is longer.
+    pub const LINE: usize = 147;
 
     /// A sheet of no recording.
     pub fn fresh() -> Sheet
@@ -99,7 +103,7 @@ impl Sheet {
         if i < n {
             let row = row_at(rows, n, i);
             let t = row.tally;
-            return lines::print_row(
+            return print_row(
                 row.port,
                 t.delivered,
                 t.repeated,

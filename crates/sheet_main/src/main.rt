@@ -1,22 +1,11 @@
 //! The monthly sheet as a program, `sheet progress|quiet FIRST LAST FILE..`: counts the packets of ports FIRST to LAST of the recordings named, and
 //! prints a line for each port on standard output. On standard error it says which recordings do not count, and why; with `progress` also which one
 //! it is at. Behind a wrong byte of a recording it reads no more of it.
-mod argument;
-
-ghost use mathlib.Core.Path.{_≡_};
-ghost use Prim.Native.Nat.{_≤_};
-ghost use lib.ListN.{length};
-ghost use Rattle.sheet.specs.Call.{noting};
-use base::Refusal;
-use base::Written;
-use channel::Answer;
 use channel::Receiver;
-use libc::STDERR_FILENO;
-use libc::STDOUT_FILENO;
-use lines::Line;
-use packet::Delivery;
-use packet::Judged;
+use console::LAST_PORT;
+use console::say;
 use ports_spec::Range;
+use recording::Found;
 use recording::RecordingReader;
 use sheet::Counted;
 use sheet::Draft;
@@ -33,13 +22,6 @@ struct Turn {
     draft: Draft,
 }
 
-// What becomes of an answer.
-struct Passed {
-    again: bool,
-    go: bool,
-    draft: Draft,
-}
-
 // A recording heard: whether it could be read to its end, and whether it may end there.
 struct Finished {
     whole: bool,
@@ -48,15 +30,15 @@ struct Finished {
 }
 
 fn main() {
-    let first = argument::port(2);
-    let last = argument::port(3);
+    let first = console::port(2);
+    let last = console::port(3);
     let count = os::arg_count();
-    if count < 5 || first > argument::LAST || last > argument::LAST {
+    if count < 5 || first > LAST_PORT || last > LAST_PORT {
         say(b"usage: sheet progress|quiet FIRST LAST FILE..; FIRST and LAST are ports\n");
         return;
     }
-    let shown = is_argument(1, b"progress");
-    print_all(count_all(argument::range(first, last), shown, count));
+    let shown = console::is_argument(1, b"progress");
+    print_all(count_all(console::range(first, last), shown, count));
 }
 
 // The sheet of the recordings that the arguments behind the fourth name.
@@ -71,22 +53,15 @@ fn count_all(range: Range, shown: bool, count: usize) -> Sheet {
     sheet
 }
 
-// Whether an argument is this one.
-fn is_argument(i: usize, text: &[u8]) -> bool {
-    let mut space = io::buffer();
-    let n = os::arg(i, &mut space);
-    check::same(&space[..n], text)
-}
-
 // Which recording of how many, where that is asked for.
 fn progress(shown: bool, i: usize, all: usize) {
     if !shown {
         return;
     }
     say(b"recording ");
-    io::print_decimal(STDERR_FILENO, i as u64);
+    console::say_number(i as u64);
     say(b" of ");
-    io::print_decimal(STDERR_FILENO, all as u64);
+    console::say_number(all as u64);
     say(b"\n");
 }
 
@@ -181,7 +156,7 @@ fn hear(
     let mut calls = u64::MAX;
     while calls > 0 {
         turn = call(range, turn.tape, turn.draft, recv, word, &piece[i..]);
-        i += turn.taken;
+        i = console::onward(i, turn.taken, piece.len());
         if !turn.again {
             return turn;
         }
@@ -190,7 +165,7 @@ fn hear(
     turn
 }
 
-// One call, and its packet noted.
+// One call: a packet is noted, and a refused call ends the work.
 fn call(
     range: Range,
     start: RecordingReader,
@@ -198,74 +173,33 @@ fn call(
     recv: &mut [u8],
     word: &mut [u8],
     piece: &[u8],
-) -> Turn
-    ensures { λ t. ⌜ t .taken ≤ length (now (piece .entry)) ⌝ }
-{
-    let heard = start.next(recv, word, piece);
-    let taken = heard.taken;
-    let tape = heard.tape;
-    let answer = heard.answer;
-    let passed = pass(range, answer, draft);
-    let behind = passed.draft;
-    Turn {
-        again: passed.again,
-        go: passed.go,
-        taken,
-        tape,
-        draft: behind,
-    }
-}
-
-// An answer: a packet is noted; of the others only a refused call ends the work.
-fn pass(range: Range, answer: Answer, draft: Draft) -> Passed {
-    match answer {
-        Answer::More => Passed {
+) -> Turn {
+    let next = start.next_packet(recv, word, piece);
+    let taken = next.taken;
+    let tape = next.tape;
+    let found = next.found;
+    match found {
+        Found::More => Turn {
             again: false,
             go: true,
+            taken,
+            tape,
             draft,
         },
-        Answer::Said(judged) => judge(range, judged, draft),
-        Answer::Block(_) => Passed {
+        Found::Packet(delivery) => Turn {
             again: true,
             go: true,
+            taken,
+            tape,
+            draft: draft.note(range, delivery.port, delivery.sequence),
+        },
+        Found::Refused(_) => Turn {
+            again: false,
+            go: false,
+            taken,
+            tape,
             draft,
         },
-        Answer::LockLost => Passed {
-            again: true,
-            go: true,
-            draft,
-        },
-    }
-}
-
-fn judge(range: Range, judged: Judged, draft: Draft) -> Passed {
-    match judged {
-        Judged::Packet(delivery) => note(range, delivery, draft),
-        Judged::Refused(n) => {
-            let go = n != Refusal::STATE;
-            Passed {
-                again: go,
-                go,
-                draft,
-            }
-        }
-        Judged::Broken(_) => Passed {
-            again: true,
-            go: true,
-            draft,
-        },
-    }
-}
-
-// A packet; one of a port outside the range does not count.
-fn note(range: Range, delivery: Delivery, draft: Draft) -> Passed
-    ensures { λ p. ⌜ p .draft ≡ noting range draft (delivery .port) (delivery .sequence) ⌝ }
-{
-    let behind = draft.note(range, delivery.port, delivery.sequence);
-    Passed {
-        again: true,
-        go: true,
-        draft: behind,
     }
 }
 
@@ -283,22 +217,14 @@ fn tell_counted(name: &[u8], counted: Counted) {
 
 // The lines.
 fn print_all(sheet: Sheet) {
-    let mut text = [0u8; Line::ROW];
+    let mut text = [0u8; Sheet::LINE];
     let mut i: usize = 0;
     while i < Sheet::PORTS {
-        if !print_row(sheet, i, &mut text) {
-            say(b"sheet: cannot write standard output\n");
+        let written = sheet.print(i, &mut text);
+        if !console::put(b"sheet", written, &text) {
             return;
         }
         i += 1;
-    }
-}
-
-// Row i's line; whether it went to standard output.
-fn print_row(sheet: Sheet, i: usize, out: &mut [u8]) -> bool {
-    match sheet.print(i, out) {
-        Written::Wrote(n) => io::write_all(STDOUT_FILENO, &out[0..n]),
-        Written::Refused(_) => false,
     }
 }
 
@@ -306,8 +232,4 @@ fn print_row(sheet: Sheet, i: usize, out: &mut [u8]) -> bool {
 fn tell(name: &[u8], what: &[u8]) {
     say(name);
     say(what);
-}
-
-fn say(message: &[u8]) {
-    io::write_all(STDERR_FILENO, message);
 }

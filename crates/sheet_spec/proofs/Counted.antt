@@ -3,6 +3,7 @@
 -- counted-is                       the packets of a recording, noted one after the other, and its end
 -- refused-stays                    a recording that does not count leaves the month as it was
 -- counts-with                      and one that counts is in it whole
+-- month-fit                        .. of recordings one after the other
 use Prim.Native.Nat.{suc, _≤_}
 use native.Mathlib.Omega.{arith}
 use mathlib.Core.Path.{_≡_, refl, sym, ap, subst, _∙_}
@@ -14,7 +15,8 @@ use lib.Dec.{ltb}
 use lib.ListN.{length}
 use Rattle.sheet_spec.specs.declared.Row.{Row}
 use Rattle.sheet_spec.specs.Tally.{wide}
-use Rattle.sheet_spec.specs.Meaning.{Mark, Month, addedAll, lines, anyWide, portLimit, Counting, counts, wrong, refuses, ruling, kept, with, rulingOf, counting, monthOf}
+use Rattle.sheet_spec.specs.Meaning.{Mark, Month, addedAll, lines, anyWide, portLimit, Counting, counts, wrong, refuses, ruling, kept, with}
+use Rattle.sheet_spec.specs.Meaning.{rulingOf, counting, monthOf}
 use Rattle.sheet_spec.specs.Rows.{cleared, Run, run, steps, settled}
 use Rattle.sheet_spec.proofs.Running.{notedAll, running, run-is, run-starts, run-ends}
 use Rattle.sheet_spec.proofs.Kept.{Same, steps-same, start-same}
@@ -75,12 +77,14 @@ module _ (month : Month) (ms : List Mark) (f : Fit month) where
 
   -- what becomes of it, and the rows then
   pub counted-is : (well : Bool)
-      → _≡_ {A = Counting × List Row} (settled well end, kept (settled well end) (map cleared (end .rows)) (lines month)) (counting well month ms .0, lines (counting well month ms .1))
+      → _≡_ {A = Counting × List Row} (settled well end, kept (settled well end) (map cleared (end .rows)) (lines month))
+      (counting well month ms .0, lines (counting well month ms .1))
   unfolding counting
   counted-is well = go well (end .full) refl (ltb portLimit (length (lines (with month ms)))) fulls (end .over) refl (anyWide (lines (with month ms))) overs
     where
       go : (w a : Bool) → end .full ≡ a → (a′ : Bool) → end .full ≡ a′ → (b : Bool) → end .over ≡ b → (b′ : Bool) → (end .full ≡ false → end .over ≡ b′)
-          → _≡_ {A = Counting × List Row} (ruling w a b, kept (ruling w a b) (map cleared (end .rows)) (lines month)) (ruling w a′ b′, lines (kept (ruling w a′ b′) (with month ms) month))
+          → _≡_ {A = Counting × List Row} (ruling w a b, kept (ruling w a b) (map cleared (end .rows)) (lines month))
+          (ruling w a′ b′, lines (kept (ruling w a′ b′) (with month ms) month))
       go false a e a′ h b g b′ k = refl
       go true true e true h b g b′ k = refl
       go true true e false h b g b′ k = absurd (true≢false (sym e ∙ h))

@@ -2,6 +2,8 @@
 -- ports-note           the ports behind a packet
 -- wide-note, wide-on   a number passes 64 bits by the packet's row, and once one does, one does further on
 -- Same, steps-same     the two, side by side
+-- portOf, wide-old, wide-stays   a row's port; a row that passes 64 bits was there, and once one does, one does further on
+-- start-same           they start alike
 use Prim.Native.Nat.{ℕ, suc, _+_, _≤_}
 use native.Mathlib.Omega.{arith}
 use mathlib.Core.Path.{_≡_, refl, sym, ap, _∙_}
@@ -10,6 +12,7 @@ use mathlib.Core.List.{List, [], _∷_, map}
 use borrow.Author.Tests.{ltb-true, lt-ltb, le-ltb}
 use lib.Dec.{eqb, ltb}
 use lib.ListN.{length}
+use Rattle.base.proofs.Tests.{or-left, or-right}
 use Rattle.base.specs.Choice.{pick}
 use Rattle.sheet_spec.specs.declared.Tally.{Tally}
 use Rattle.sheet_spec.specs.declared.Row.{Row}
@@ -80,14 +83,6 @@ wide-stays port s (r ∷ rs) e = go (eqb (r .port) port) (ltb port (r .port)) (w
     go false true x = e
     go false false x = or-mono (wide (r .tally)) (anyWide rs) _ _ (λ z. z) x e
 
-or-left : (a b : Bool) → a || b ≡ false → a ≡ false
-or-left true b e = absurd (true≢false e)
-or-left false b e = refl
-
-or-right : (a b : Bool) → a || b ≡ false → b ≡ false
-or-right true b e = absurd (true≢false e)
-or-right false b e = e
-
 or-false : (a : Bool) → a || false ≡ a
 or-false true = refl
 or-false false = refl
@@ -146,7 +141,8 @@ module _ (port s : ℕ) (ks rs : List Row) where
   step-full : (v : Bool) → ltb portLimit (length rs) ≡ true → Same (step port s (run ks true v)) (noteIn port s rs)
   unfolding step
   step-full v l =
-      let k : ltb portLimit (length (noteIn port s rs)) ≡ true = lt-ltb portLimit (length (noteIn port s rs)) (omega (arith, ltb-true portLimit (length rs) l, note-longer port s rs)) in
+      let k : ltb portLimit (length (noteIn port s rs)) ≡ true = lt-ltb portLimit (length (noteIn port s rs))
+      (omega (arith, ltb-true portLimit (length rs) l, note-longer port s rs)) in
       go b w k
     where
       go : (a c : Bool) → ltb portLimit (length (noteIn port s rs)) ≡ true

@@ -6,3 +6,4 @@ pub mod Kept
 pub mod Counted
 pub mod Places
 pub mod Numbers
+pub mod Line

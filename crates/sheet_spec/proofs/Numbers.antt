@@ -12,7 +12,8 @@ use mathlib.Core.List.{List, [], _∷_, map}
 use Rattle.ports_spec.specs.Range.{range}
 use Rattle.sheet_spec.specs.declared.Row.{Row}
 use Rattle.sheet_spec.specs.Tally.{toldFrom, told, tallied, sum}
-use Rattle.sheet_spec.specs.Meaning.{Mark, within, numbersOf, numbers, added, addedAll, lines, anyWide, Counting, counts, wrong, refuses, counting, monthOf}
+use Rattle.sheet_spec.specs.Meaning.{Mark, within, numbersOf, numbers, added, addedAll, lines, anyWide, Counting, counts, wrong, refuses, counting}
+use Rattle.sheet_spec.specs.Meaning.{monthOf}
 use Rattle.sheet_spec.specs.Rows.{row, heardRow, noteIn, rowFor, run, step, steps, settled}
 
 -- a line in numbers: port, delivered, repeated, late, missing, total
@@ -29,7 +30,8 @@ abbrev sheet : List (Bool × List Mark) → List (List ℕ)
 sheet rs = map inNumbers (lines (monthOf [] rs))
 
 -- the second recording starts afresh: its first packet of port 9 is "first", not after a gap
-pub afresh : sheet ((true, (9, 65535) ∷ (9, 0) ∷ []) ∷ (true, (4, 1) ∷ (9, 3) ∷ (9, 5) ∷ []) ∷ []) ≡ (4 ∷ 1 ∷ 0 ∷ 0 ∷ 0 ∷ 1 ∷ []) ∷ (9 ∷ 4 ∷ 0 ∷ 0 ∷ 1 ∷ 5 ∷ []) ∷ []
+pub afresh : sheet ((true, (9, 65535) ∷ (9, 0) ∷ []) ∷ (true, (4, 1) ∷ (9, 3) ∷ (9, 5) ∷ []) ∷ []) ≡ (4 ∷ 1 ∷ 0 ∷ 0 ∷ 0 ∷ 1 ∷ []) ∷
+    (9 ∷ 4 ∷ 0 ∷ 0 ∷ 1 ∷ 5 ∷ []) ∷ []
 unfolding told toldFrom sum numbersOf numbers added addedAll counting monthOf anyWide
 afresh = refl
 
@@ -47,7 +49,8 @@ ports (suc n) = (n, 7) ∷ ports n
 abbrev last : List Mark → List Mark → Counting
 last a b = counting true (counting true [] a .1) b .0
 
-pub seventeen : (last [] (ports 16) ≡ counts) × (last [] (ports 17) ≡ refuses 40) × (last (ports 16) ((3, 9) ∷ []) ≡ counts) × (last (ports 16) ((20, 9) ∷ []) ≡ refuses 40)
+pub seventeen : (last [] (ports 16) ≡ counts) × (last [] (ports 17) ≡ refuses 40) × (last (ports 16) ((3, 9) ∷ []) ≡ counts)
+    × (last (ports 16) ((20, 9) ∷ []) ≡ refuses 40)
 unfolding told toldFrom sum numbersOf numbers added addedAll counting anyWide
 seventeen = (refl, refl, refl, refl)
 

@@ -4,6 +4,8 @@
 -- place-here, place-on, place-end    the loop that finds a place; old-is: what is found there
 -- row-is, length-is, put-is    the packet's row, how many rows there are then, and the rows
 -- tab-is, padded-is   rows given one by one
+-- at-over, set-next   no row behind the sixteenth; one row more is stored
+-- put-all-is, clear-all-is, padded-rows   rows given one by one: a packet's put, all cleared; rows at n places have them first
 use Prim.Native.Nat.{ℕ, zero, suc, _+_, _-_, _≤_, _<_}
 use native.Mathlib.Nat.{not-suc-le-zero, le-of-suc-le-suc}
 use native.Mathlib.Omega.{arith}
@@ -88,14 +90,16 @@ pub row-is : (port : ℕ) (rs : List Row) → rowFor port rs ≡ pick (isOld por
 unfolding rowFor isOld placeFor
 row-is port [] = refl
 row-is port (r ∷ rs) =
-    three (λ e g l. pick e r (pick g (blank port) (rowFor port rs)) ≡ pick (pick l (isOld port rs) e) (getD (r ∷ rs) (pick l (suc (placeFor port rs)) 0) (blank 0)) (blank port))
+    three (λ e g l. pick e r (pick g (blank port) (rowFor port rs)) ≡ pick (pick l (isOld port rs) e)
+    (getD (r ∷ rs) (pick l (suc (placeFor port rs)) 0) (blank 0)) (blank port))
     (r .port) port refl refl (row-is port rs)
 
 pub length-is : (port s : ℕ) (rs : List Row) → length (noteIn port s rs) ≡ pick (isOld port rs) (length rs) (length rs + 1)
 unfolding noteIn isOld
 length-is port s [] = refl
 length-is port s (r ∷ rs) =
-    three (λ e g l. length (pick e (heardRow r s ∷ rs) (pick g (heardRow (blank port) s ∷ r ∷ rs) (r ∷ noteIn port s rs))) ≡ pick (pick l (isOld port rs) e) (suc (length rs)) (suc (length rs) + 1))
+    three (λ e g l. length (pick e (heardRow r s ∷ rs) (pick g (heardRow (blank port) s ∷ r ∷ rs) (r ∷ noteIn port s rs))) ≡ pick (pick l (isOld port rs) e)
+    (suc (length rs)) (suc (length rs) + 1))
     (r .port) port refl (omega arith) (ap suc (length-is port s rs) ∙ more (isOld port rs))
   where
     more : (b : Bool) → suc (pick b (length rs) (length rs + 1)) ≡ pick b (suc (length rs)) (suc (length rs) + 1)
@@ -103,7 +107,8 @@ length-is port s (r ∷ rs) =
     more false = omega arith
 
 suc-ltb : (a b : ℕ) → ltb (suc a) (suc b) ≡ ltb a b
-suc-ltb a b = by-le b a (λ l. le-ltb (suc a) (suc b) (omega (arith, l)) ∙ sym (le-ltb a b l)) (λ l. lt-ltb (suc a) (suc b) (omega (arith, l)) ∙ sym (lt-ltb a b l))
+suc-ltb a b = by-le b a (λ l. le-ltb (suc a) (suc b) (omega (arith, l)) ∙ sym (le-ltb a b l))
+    (λ l. lt-ltb (suc a) (suc b) (omega (arith, l)) ∙ sym (lt-ltb a b l))
 
 -- what stands at the place
 pub old-is : (port : ℕ) (rs : List Row) → ltb (placeFor port rs) (length rs) && eqb (getD rs (placeFor port rs) (blank 0) .port) port ≡ isOld port rs
@@ -112,7 +117,8 @@ old-is port [] = refl
 old-is port (r ∷ rs) = go (ltb (r .port) port) (old-is port rs)
   where
     go : (l : Bool) → ltb (placeFor port rs) (length rs) && eqb (getD rs (placeFor port rs) (blank 0) .port) port ≡ isOld port rs
-        → ltb (pick l (suc (placeFor port rs)) 0) (suc (length rs)) && eqb (getD (r ∷ rs) (pick l (suc (placeFor port rs)) 0) (blank 0) .port) port ≡ pick l (isOld port rs) (eqb (r .port) port)
+        → ltb (pick l (suc (placeFor port rs)) 0) (suc (length rs)) && eqb (getD (r ∷ rs) (pick l (suc (placeFor port rs)) 0) (blank 0) .port) port ≡ pick l
+        (isOld port rs) (eqb (r .port) port)
     go true x = rw (suc-ltb (placeFor port rs) (length rs)) x
     go false x = rw (lt-ltb 0 (suc (length rs)) (omega arith)) refl
 
@@ -130,19 +136,22 @@ put-suc r rs at new x j =
     (λ n. rw (ne-eqb j at n, ne-eqb (suc j) (suc at) (λ z. n (omega (arith, z)))) (above j l n))))
     (λ l. rw (lt-ltb (suc j) (suc at) (omega (arith, l)), lt-ltb j at l) refl)
   where
-    above : (j : ℕ) → at ≤ j → j ≢ at → pick new (getD (r ∷ rs) (suc j - 1) (blank 0)) (getD (r ∷ rs) (suc j) (blank 0)) ≡ pick new (getD rs (j - 1) (blank 0)) (getD rs j (blank 0))
+    above : (j : ℕ) → at ≤ j → j ≢ at → pick new (getD (r ∷ rs) (suc j - 1) (blank 0)) (getD (r ∷ rs) (suc j) (blank 0)) ≡ pick new (getD rs (j - 1) (blank 0))
+        (getD rs j (blank 0))
     above zero l n = absurd (n (omega (arith, l)))
     above (suc k) l n =
         let e : suc (suc k) - 1 ≡ suc k = omega arith in
         let f : suc k - 1 ≡ k = omega arith in
         rw (e, f) refl
 
-pub put-is : (port s : ℕ) (rs : List Row) (j : ℕ) → putAt rs (placeFor port rs) (not (isOld port rs)) (heardRow (rowFor port rs) s) j ≡ getD (noteIn port s rs) j (blank 0)
+pub put-is : (port s : ℕ) (rs : List Row) (j : ℕ) → putAt rs (placeFor port rs) (not (isOld port rs)) (heardRow (rowFor port rs) s) j ≡ getD
+    (noteIn port s rs) j (blank 0)
 unfolding noteIn rowFor isOld placeFor
 put-is port s [] zero = refl
 put-is port s [] (suc j) = put-zero [] true (heardRow (blank port) s) j
 put-is port s (r ∷ rs) j =
-    three (λ e g l. putAt (r ∷ rs) (pick l (suc (placeFor port rs)) 0) (not (pick l (isOld port rs) e)) (heardRow (pick e r (pick g (blank port) (rowFor port rs))) s) j
+    three (λ e g l. putAt (r ∷ rs) (pick l (suc (placeFor port rs)) 0) (not (pick l (isOld port rs) e))
+    (heardRow (pick e r (pick g (blank port) (rowFor port rs))) s) j
     ≡ getD (pick e (heardRow r s ∷ rs) (pick g (heardRow (blank port) s ∷ r ∷ rs) (r ∷ noteIn port s rs))) j (blank 0))
     (r .port) port (here j) (between j) (on j (put-is port s rs))
   where
@@ -172,7 +181,8 @@ tab-is (suc n) f (x ∷ xs) e h =
 pub set-next : (xs : List Row) (j : ℕ) (x : Row) (f : ℕ → Row) → j < length xs → x ≡ f j → ((k : ℕ) → k < j → getD xs k (blank 0) ≡ f k)
     → (k : ℕ) → k < j + 1 → getD (set xs j x) k (blank 0) ≡ f k
 set-next xs j x f l e h k m =
-    by-eq k j (λ q. subst (λ (i : ℕ). getD (set xs j x) i (blank 0) ≡ f i) (sym q) (own xs j l ∙ e)) (λ n. other xs j k n ∙ h k (strict k j (omega (arith, m)) n))
+    by-eq k j (λ q. subst (λ (i : ℕ). getD (set xs j x) i (blank 0) ≡ f i) (sym q) (own xs j l ∙ e))
+    (λ n. other xs j k n ∙ h k (strict k j (omega (arith, m)) n))
   where
     strict : (a b : ℕ) → a ≤ b → a ≢ b → a < b
     strict a b k n = by-le b a (λ l. absurd (n (omega arith))) (λ l. l)
@@ -200,7 +210,8 @@ unfolding tab
 tab-same zero f g e = refl
 tab-same (suc n) f g e = λ i. e 0 i ∷ tab-same n (λ j. f (suc j)) (λ j. g (suc j)) (λ j. e (suc j)) i
 
-pub put-all-is : (n port s : ℕ) (rs : List Row) → tab n (putAt rs (placeFor port rs) (not (isOld port rs)) (heardRow (rowFor port rs) s)) ≡ paddedTo n (noteIn port s rs)
+pub put-all-is : (n port s : ℕ) (rs : List Row) → tab n (putAt rs (placeFor port rs) (not (isOld port rs)) (heardRow (rowFor port rs) s)) ≡ paddedTo n
+    (noteIn port s rs)
 put-all-is n port s rs = tab-same n _ (λ j. getD (noteIn port s rs) j (blank 0)) (put-is port s rs) ∙ padded-is n (noteIn port s rs)
 
 pub clear-all-is : (n : ℕ) (rs : List Row) → tab n (λ j. cleared (getD rs j (blank 0))) ≡ paddedTo n (map cleared rs)

@@ -5,6 +5,8 @@
 -- Among, ports-are       the ports of a month are those of its packets; ports-rise: and rise
 -- ports-with             those of a month with one recording more
 -- absent-before, absent-now  a port that is not among them has no numbers
+-- Above, above-out, rising-out   all are above a number; what is below all of them is not among them
+-- all-append, all-snoc   packets one behind the other, and one more
 use Prim.Native.Nat.{ℕ, _+_, _<_, _≤_}
 use native.Mathlib.Omega.{arith}
 use mathlib.Core.Path.{_≡_, refl, sym, ap, subst, _∙_}

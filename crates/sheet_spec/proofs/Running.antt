@@ -2,6 +2,7 @@
 -- notedAll        rows behind packets, without limits
 -- running         what they are by the definition: run-is
 -- run-starts, run-ends   they start as the month's lines, and end as those of the month with the recording
+-- note-map, runningRow   one packet more; a port's row by the definition
 use Prim.Native.Nat.{ℕ, _+_}
 use mathlib.Core.Path.{_≡_, refl, sym, ap, subst, _∙_}
 use mathlib.Core.Bool.{Bool, true, false}
@@ -39,7 +40,8 @@ module _ (port s : ℕ) (t u : ℕ → Tally) (h k : ℕ → Bool) (l m : ℕ �
     note-map own [] r first = ap (λ (x : Row). x ∷ []) (first (λ z. z))
     note-map own (p ∷ ps) r first =
         by-eq p port
-        (λ e. rw (eq-eqb p port e) (λ i. (ap (λ (q : ℕ). heardRow (old q) s) e ∙ own ∙ ap new (sym e)) i ∷ map-others ps (λ j. above-out p ps (r .0) (subst (λ (q : ℕ). In q ps) (sym e) j)) i))
+        (λ e. rw (eq-eqb p port e) (λ i. (ap (λ (q : ℕ). heardRow (old q) s) e ∙ own ∙ ap new (sym e)) i ∷ map-others ps
+        (λ j. above-out p ps (r .0) (subst (λ (q : ℕ). In q ps) (sym e) j)) i))
         (λ n. rw (ne-eqb p port n) (by-le p port
         (λ b. rw (le-ltb port p b) (λ i. others p (λ e. n (sym e)) i ∷ note-map own ps (r .1) (λ j. first (λ a. ⊎-elim n j a)) i))
         (λ b. rw (lt-ltb port p b) (let out = rising-out port p ps b (r .0) in λ i. first out i ∷ map-others (p ∷ ps) out i))))
@@ -63,7 +65,8 @@ numbers-own [] m = rw (eq-eqb (m .0) (m .0) refl) refl
 numbers-own (n ∷ ms) m = go (eqb (n .0) (m .0)) (numbers-own ms m)
   where
     go : (a : Bool) → numbersOf (m .0) (ms ++ (m ∷ [])) ≡ numbersOf (m .0) ms ++ (m .1 ∷ [])
-        → pick a (n .1 ∷ numbersOf (m .0) (ms ++ (m ∷ []))) (numbersOf (m .0) (ms ++ (m ∷ []))) ≡ pick a (n .1 ∷ numbersOf (m .0) ms) (numbersOf (m .0) ms) ++ (m .1 ∷ [])
+        → pick a (n .1 ∷ numbersOf (m .0) (ms ++ (m ∷ []))) (numbersOf (m .0) (ms ++ (m ∷ []))) ≡ pick a (n .1 ∷ numbersOf (m .0) ms) (numbersOf (m .0) ms)
+        ++ (m .1 ∷ [])
     go true x = ap (λ (xs : List ℕ). n .1 ∷ xs) x
     go false x = x
 
@@ -79,8 +82,10 @@ step-is month ms m =
     let own : heardRow (runningRow month ms q) s ≡ runningRow month (ms ++ (m ∷ [])) q =
     heard-after q (numbers q month) (numbersOf q ms) s ∙ ap (after q (numbers q month)) (sym (numbers-own ms m)) in
     let first : (In q (addedAll (portsOf month) ms) → ⊥) → heardRow (blank q) s ≡ runningRow month (ms ++ (m ∷ [])) q =
-    λ out. ap (λ (r : Row). heardRow r s) (sym (none-after q nothing) ∙ (λ i. after q (sym (absent-before month ms q out) i) (sym (absent-now month ms q out) i))) ∙ own in
-    note-map q s _ _ _ _ _ _ (λ p n. ap (after p (numbers p month)) (numbers-other ms m p n)) own (addedAll (portsOf month) ms) (all-rises ms (portsOf month) (ports-rise month)) first
+    λ out. ap (λ (r : Row). heardRow r s)
+    (sym (none-after q nothing) ∙ (λ i. after q (sym (absent-before month ms q out) i) (sym (absent-now month ms q out) i))) ∙ own in
+    note-map q s _ _ _ _ _ _ (λ p n. ap (after p (numbers p month)) (numbers-other ms m p n)) own (addedAll (portsOf month) ms)
+    (all-rises ms (portsOf month) (ports-rise month)) first
     ∙ ap (map (runningRow month (ms ++ (m ∷ [])))) (sym (all-snoc ms m (portsOf month)))
 
 pub run-is : (month : Month) (ms done : List Mark) → notedAll (running month done) ms ≡ running month (done ++ ms)
@@ -106,5 +111,6 @@ map-map f g (p ∷ ps) = ap (λ (rs : List Row). g (f p) ∷ rs) (map-map f g ps
 pub run-ends : (month : Month) (ms : List Mark) → map cleared (running month ms) ≡ lines (with month ms)
 run-ends month ms =
     map-map (runningRow month ms) cleared (addedAll (portsOf month) ms)
-    ∙ map-same (λ q. cleared (runningRow month ms q)) (line (with month ms)) (λ q. ap (λ (t : Tally). row q t false 0) (sym (numbers-with month q ms))) (addedAll (portsOf month) ms)
+    ∙ map-same (λ q. cleared (runningRow month ms q)) (line (with month ms)) (λ q. ap (λ (t : Tally). row q t false 0) (sym (numbers-with month q ms)))
+    (addedAll (portsOf month) ms)
     ∙ ap (map (line (with month ms))) (sym (ports-with month ms))

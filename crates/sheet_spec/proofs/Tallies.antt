@@ -4,6 +4,8 @@
 -- numbers-with               its numbers in a month with one recording more
 -- loss, month-loss           the loss's second number is the missing and the packets in order, first or after a gap
 -- delivered-all              each packet is delivered, and is one of these, repeated or late
+-- none-plus, none-after, lastFrom   nothing before numbers; no packet; the last number behind some packets
+-- OneEach, all-told, delivered-each, told-length   each packet is one, as many as there are sequence numbers
 use Prim.Native.Nat.{ℕ, suc, _+_, _-_}
 use native.Mathlib.Omega.{arith}
 use mathlib.Core.Path.{_≡_, refl, sym, ap, _∙_}

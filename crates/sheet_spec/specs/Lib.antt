@@ -3,3 +3,4 @@ pub mod Meaning
 pub mod Rows
 pub mod Places
 pub mod Recording
+pub mod Line

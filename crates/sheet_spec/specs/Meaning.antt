@@ -5,6 +5,10 @@
 -- portsOf, lines         the ports in rising order, and a line of each
 -- Counting, counting     what becomes of a recording: it counts whole, or the month stays as it was
 -- monthOf                .. of one after the other
+-- added, addedAll        a port among others in rising order, and those of packets
+-- line                   a port's line
+-- anyWide, portLimit     a number that passes 64 bits; at most so many ports
+-- ruling, rulingOf, kept, with   by which it counts or not, and what is had then
 use Prim.Native.Nat.{ℕ, _+_}
 use mathlib.Core.Bool.{Bool, true, false, _||_}
 use mathlib.Core.List.{List, [], _∷_, _++_, map}

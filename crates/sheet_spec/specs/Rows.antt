@@ -6,6 +6,8 @@
 -- cleared       the recording forgotten
 -- padded        the rows at 16 places
 -- Run, steps    while a recording is counted, packet by packet; settled: what becomes of it
+-- row, verdict, paddedTo   a row; what a packet is to its port; the rows at n places
+-- run, step     a run put together; one packet
 use Prim.Native.Nat.{ℕ, zero, suc}
 use mathlib.Core.Bool.{Bool, true, false}
 use mathlib.Core.List.{List, [], _∷_}

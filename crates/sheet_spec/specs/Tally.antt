@@ -4,10 +4,14 @@
 -- timelyIn     how many of them are in order, first or after a gap
 -- plus         .. of two recordings together
 -- far, wide    44: one of them passes 64 bits
+-- toldFrom     .. and behind a last number
+-- tallied, nothing   numbers put together; of no packet
+-- missing, timely, repeated, late, sum   of one packet what it adds to each; of one after the other
 use Prim.Native.Nat.{ℕ, _+_}
 use mathlib.Core.Bool.{Bool, _||_}
 use mathlib.Core.List.{List, [], _∷_}
 use lib.Dec.{ltb}
+use Rattle.base.specs.Highest.{highest}
 use Rattle.ports_spec.specs.Distance.{ruled, lastBehind}
 use Rattle.ports_spec.specs.declared.Noted.{Noted}
 use Rattle.ports_spec.specs.declared.Noted.the-variants.{First, InOrder, Repeated, Missing, Late, Refused}
@@ -92,7 +96,7 @@ timelyIn (n ∷ ns) = timely n + timelyIn ns
 
 -- numbers are below 2^64
 abbrev pub far : ℕ
-far = 18446744073709551615
+far = highest
 
 -- a number passes 64 bits
 abbrev pub wide : Tally → Bool

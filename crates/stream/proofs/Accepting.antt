@@ -58,7 +58,9 @@ module _ (p : Packet) (a : Accepted p) where
   pub raw-bytes : Bytes (rawOf p)
   unfolding contents withCheck
   raw-bytes =
-      let places : Bytes (two (p .port) ++ two (p .sequence)) = each-append IsByte (two (p .port)) (two (p .sequence)) (bytes-two (p .port) (a .port-fits)) (bytes-two (p .sequence) (a .sequence-fits)) in
-      let front : Bytes (packed p) = each-append IsByte (opening p) (p .payload) (each-append IsByte (head (p .format) (p .number) (p .key)) (two (p .port) ++ two (p .sequence)) head-bytes places) (a .bytes) in
+      let places : Bytes (two (p .port) ++ two (p .sequence)) = each-append IsByte (two (p .port)) (two (p .sequence)) (bytes-two (p .port) (a .port-fits))
+      (bytes-two (p .sequence) (a .sequence-fits)) in
+      let front : Bytes (packed p) = each-append IsByte (opening p) (p .payload)
+      (each-append IsByte (head (p .format) (p .number) (p .key)) (two (p .port) ++ two (p .sequence)) head-bytes places) (a .bytes) in
       bytes-escape (contents p)
       (each-append IsByte (packed p) (two (fcs (packed p))) front (bytes-two (fcs (packed p)) (fcs-lt (packed p))))

@@ -1,4 +1,5 @@
 -- Every way of cutting a byte string yields the answers and the final state of the uncut string.
+-- read-agrees           where 10 and 11 are passed, a call is a reading of its bytes
 -- read-law              the law of a call
 -- read-yields           from any state and buffer that pass 10 and 11: every way of cutting comes to its end, and yields that
 -- every-cut-reads       .. from the fresh one

@@ -1,4 +1,5 @@
--- payload-held   a delivered payload is the part of the receive buffer that a call of its own hands out
+-- ThereIf, there-byte   a delivered payload is there, behind the byte that tells it
+-- payload-held          a delivered payload is the part of the receive buffer that a call of its own hands out
 use Prim.Native.Nat.{ℕ}
 use mathlib.Core.Bool.{Bool, true, false}
 use mathlib.Core.List.{List}

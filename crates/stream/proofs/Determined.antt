@@ -1,5 +1,7 @@
 -- Each public function's promise determines its result, and what the lent buffer then holds. `payload` and `key` return parts
 -- of the buffer: what these hold is determined.
+-- fresh-determined, sound-determined, read-determined, payload-determined, key-determined, begin-determined, append-as-determined,
+-- append-determined   of the function of that name
 use mathlib.Core.Path.{refl}
 use denote.Ref.{now}
 use Rattle.base.specs.Determined.{Determined, DeterminedAs}

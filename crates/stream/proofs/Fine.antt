@@ -1,7 +1,7 @@
 -- States and buffers that pass refusals 10 and 11.
--- fine-is, fine-of  they are passed exactly where `Fine` holds
--- sound-stored, ..  the tests one after the other
--- fine-take         every byte keeps it
+-- fine-is, fine-of                       they are passed exactly where `Fine` holds
+-- sound-stored, sound-raw, sound-place   the tests one after the other
+-- fine-take                              every byte keeps it
 use Prim.Native.Nat.{ℕ, suc, _≤_, _<_, min}
 use native.Mathlib.Omega.{arith}
 use mathlib.Core.Path.{_≡_, refl, sym, ap}
@@ -27,7 +27,11 @@ fine-of f l s h =
 
 pub fine-is : (h : Held) → Fine h → sound (h .st) ≡ true
 fine-is h f =
-    rw (eq-eqb (h .st .stored) (min (h .st .raw) rawLimit) (f .stored), le-leb (h .st .raw) (suc rawLimit) (f .raw), le-leb (h .st .place) placeLimit (f .place)) refl
+    rw (
+      eq-eqb (h .st .stored) (min (h .st .raw) rawLimit) (f .stored),
+      le-leb (h .st .raw) (suc rawLimit) (f .raw),
+      le-leb (h .st .place) placeLimit (f .place),
+    ) refl
 
 -- the tests one after the other, as the code makes them
 module _ (f : FrameReader) where

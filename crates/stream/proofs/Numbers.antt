@@ -28,7 +28,8 @@ remembered bs = readAll (held fresh (replicate 8 0)) bs .1 .st .place
 
 -- the first wrong byte stays; a second 7D is one; behind a flag, and before the first one, there is none; a right byte is none
 pub places : _≡_ {A = List ℕ}
-    (remembered (0x7E ∷ 0x7D ∷ 0x21 ∷ 0x7D ∷ 0x22 ∷ []) ∷ remembered (0x7E ∷ 0x7D ∷ 0x5E ∷ 0x7D ∷ 0x7D ∷ 0x5E ∷ []) ∷ remembered (0x7E ∷ 0x7D ∷ 0x21 ∷ 0x7E ∷ []) ∷ remembered (0x7D ∷ 0x21 ∷ []) ∷ remembered (0x7E ∷ 0x7D ∷ 0x5D ∷ 0x21 ∷ []) ∷ [])
+    (remembered (0x7E ∷ 0x7D ∷ 0x21 ∷ 0x7D ∷ 0x22 ∷ []) ∷ remembered (0x7E ∷ 0x7D ∷ 0x5E ∷ 0x7D ∷ 0x7D ∷ 0x5E ∷ []) ∷ remembered
+    (0x7E ∷ 0x7D ∷ 0x21 ∷ 0x7E ∷ []) ∷ remembered (0x7D ∷ 0x21 ∷ []) ∷ remembered (0x7E ∷ 0x7D ∷ 0x5D ∷ 0x21 ∷ []) ∷ [])
     (1 ∷ 3 ∷ 0 ∷ 0 ∷ 0 ∷ [])
 unfolding closed closedBy scan last wrongFrom right
 places = refl

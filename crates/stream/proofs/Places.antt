@@ -3,7 +3,7 @@
 -- noticed-none, noticed-more, noticed-within   no byte more, a byte before others, and the limit that it keeps
 -- before-some, before-stored, before-last      the byte before a place
 -- looked-kept, looked-new                      the call that looks, where a place is known and where none is
--- looked-is                                    the stored bytes of a run looked at: what the definition notices byte by byte
+-- seenBy, looked-is                            the stored bytes of a run looked at: what the definition notices byte by byte
 use Prim.Native.Nat.{ℕ, suc, _+_, _-_, _≤_, _<_, min}
 use native.Mathlib.Omega.{arith}
 use mathlib.Core.Path.{_≡_, refl, sym, _∙_, ap}
@@ -142,9 +142,11 @@ looked-open h f xs = by-le (h .st .raw) rawLimit in-limit past
         ∙ sym (ap (λ (m : ℕ). noticed (h .st .place) (lastRaw h) (h .st .raw) (take m xs)) z ∙ noticed-none (h .st .place) (lastRaw h) (h .st .raw))
 
 pub looked-is : (o : Bool) (h : Held) → Fine h → (xs : List ℕ)
-    → looked (countedBy o (h .st) (length xs)) (gatheredBy o (h .st .raw) xs (h .recv)) (h .st .stored) ≡ placed (countedBy o (h .st) (length xs)) (seenBy o h xs)
+    → looked (countedBy o (h .st) (length xs)) (gatheredBy o (h .st .raw) xs (h .recv)) (h .st .stored) ≡ placed (countedBy o (h .st) (length xs))
+    (seenBy o h xs)
 looked-is true h f xs = ap (placed (countedBy true (h .st) (length xs))) (looked-open h f xs)
 looked-is false h f xs =
     let l = h .recv in
     let n : ℕ = h .st .stored in
-    ap (placed (h .st)) (ap (noticed (h .st .place) (byteBefore n (take n l)) n) (part-over l n n (omega arith)) ∙ noticed-none (h .st .place) (byteBefore n (take n l)) n)
+    ap (placed (h .st)) (ap (noticed (h .st .place) (byteBefore n (take n l)) n) (part-over l n n (omega arith))
+    ∙ noticed-none (h .st .place) (byteBefore n (take n l)) n)

@@ -40,7 +40,8 @@ closed-so waiting j n e = let z : _≡_ {A = ℕ} 0 1 = cc in absurd (omega arit
 closed-so (inside []) j n e = let z : _≡_ {A = ℕ} 0 1 = cc in absurd (omega arith)
 closed-so (inside (r ∷ rs)) j n e = let t : judge (r ∷ rs) ≡ broken n = cc in remembered-is (r ∷ rs) j n .0 t .3
 
-pub held-told : (r : Reading) (j : List ℕ) → rawLimit ≤ length (heldOf r j .recv) → (n : ℕ) → takeByte (heldOf r j) flag .0 ≡ some (broken n) → heldOf r j .st .place ≡ n
+pub held-told : (r : Reading) (j : List ℕ) → rawLimit ≤ length (heldOf r j .recv) → (n : ℕ) → takeByte (heldOf r j) flag .0 ≡ some (broken n)
+    → heldOf r j .st .place ≡ n
 held-told r j room n t = closed-so r j n (sym (ap (λ (x : Option Told × Held). x .0) (shown-byte r j flag room .1)) ∙ t)
 
 pub remembered-told : (bs : List ℕ) → EveryCut bs λ ts d. (n : ℕ) → takeByte d flag .0 ≡ some (broken n) → d .st .place ≡ n

@@ -25,14 +25,17 @@ use Rattle.stream.specs.declared.frame.FrameReader.{FrameReader}
 use Rattle.stream.specs.Private.{before, countedBy, counted, gatheredBy}
 
 -- ---- the bytes stored
-pub stored : (l recv : List ℕ) (at : ℕ) {n : ℕ} {y : List ℕ} → at + length l ≤ length recv → n ≡ length (before l) → y ≡ copied (take (n - 0) l) (take (length recv - at) (drop at recv))
+pub stored : (l recv : List ℕ) (at : ℕ) {n : ℕ} {y : List ℕ} → at + length l ≤ length recv → n ≡ length (before l)
+    → y ≡ copied (take (n - 0) l) (take (length recv - at) (drop at recv))
     → putMid at (length recv - at) recv y ≡ sets recv at (before l)
 stored l recv at {n} h e c =
     let b : take (n - 0) l ≡ before l = ap (λ (k : ℕ). take k l) (sub-zero n ∙ e) ∙ sym (up-to-is flag l) in
-    laid-copied {l = recv} {bs = before l} {at = at} (omega (arith, up-to-short flag l)) (c ∙ ap (λ (x : List ℕ). copied x (take (length recv - at) (drop at recv))) b) .holds
+    laid-copied {l = recv} {bs = before l} {at = at} (omega (arith, up-to-short flag l))
+    (c ∙ ap (λ (x : List ℕ). copied x (take (length recv - at) (drop at recv))) b) .holds
 
 -- ---- the counts
-pub counted-is : (f : FrameReader) (n : ℕ) {k s : ℕ} → f .opened ≡ true → f .raw ≤ suc rawLimit → k ≡ min n (suc rawLimit - f .raw) → s ≡ min (f .raw + k) rawLimit
+pub counted-is : (f : FrameReader) (n : ℕ) {k s : ℕ} → f .opened ≡ true → f .raw ≤ suc rawLimit → k ≡ min n (suc rawLimit - f .raw)
+    → s ≡ min (f .raw + k) rawLimit
     → _≡_ {A = FrameReader} (record { opened = true; raw = f .raw + k; stored = s; place = f .place }) (counted f n)
 counted-is f n {k} {s} o h e q =
     (λ i. record { opened = true; raw = raw i; stored = stored i; place = f .place }) ∙ ap (λ (b : Bool). countedBy b f n) (sym o)
@@ -44,7 +47,8 @@ counted-is f n {k} {s} o h e q =
     stored = omega arith
 
 -- what is counted as stored has room
-pub counted-room : (f : FrameReader) (n : ℕ) {g : FrameReader} {room : ℕ} → g ≡ counted f n → f .stored ≡ min (f .raw) rawLimit → rawLimit ≤ room → g .stored ≤ room
+pub counted-room : (f : FrameReader) (n : ℕ) {g : FrameReader} {room : ℕ} → g ≡ counted f n → f .stored ≡ min (f .raw) rawLimit → rawLimit ≤ room
+    → g .stored ≤ room
 counted-room f n {g} {room} e s h = subst (λ (x : FrameReader). x .stored ≤ room) (sym e) (go (f .opened))
   where
     go : (o : Bool) → countedBy o f n .stored ≤ room
@@ -52,7 +56,7 @@ counted-room f n {g} {room} e s h = subst (λ (x : FrameReader). x .stored ≤ r
     go false = omega arith
 
 -- ---- the bytes before the first flag, in parts
-pub before-found : (l : List ℕ) (n : ℕ) → length (before (take n l)) < length (take n l) → before (take n l) ≡ before l
+before-found : (l : List ℕ) (n : ℕ) → length (before (take n l)) < length (take n l) → before (take n l) ≡ before l
 unfolding upTo
 before-found [] zero h = refl
 before-found [] (suc n) h = refl
@@ -61,7 +65,7 @@ before-found (b ∷ l) (suc n) h =
     by-eq b flag (λ e. simp (eq-eqb b flag e))
     (λ m. let k = simp (ne-eqb b flag m) at h in simp (ne-eqb b flag m) (ap (λ (x : List ℕ). b ∷ x) (before-found l n (omega (arith, k)))))
 
-pub before-none : (l : List ℕ) (n : ℕ) → length (take n l) ≤ length (before (take n l)) → before l ≡ take n l ++ before (drop n l)
+before-none : (l : List ℕ) (n : ℕ) → length (take n l) ≤ length (before (take n l)) → before l ≡ take n l ++ before (drop n l)
 unfolding upTo
 before-none [] zero h = refl
 before-none [] (suc n) h = refl
@@ -95,11 +99,12 @@ stops (b ∷ l) h =
 pub before-stop : (l : List ℕ) → length (before l) < length l → drop (length (before l)) l ≡ flag ∷ drop (length (before l) + 1) l
 before-stop l h = next l (length (before l)) h ∙ ap (λ (b : ℕ). b ∷ drop (length (before l) + 1) l) (stops l h)
 
-pub before-all : (l : List ℕ) → length l ≤ length (before l) → before l ≡ l
+before-all : (l : List ℕ) → length l ≤ length (before l) → before l ≡ l
 before-all l h = sym (before-rest l ∙ ap (λ (x : List ℕ). before l ++ x) (over l (length (before l)) h) ∙ append-nil (before l))
 
 -- ---- gather: stored up to the limit, counted behind it
-module _ (raw : ℕ) (l recv : List ℕ) (n at : ℕ) (e : at ≡ min raw rawLimit) (en : n ≡ min (rawLimit - at) (length l)) {k : ℕ} (ek : k ≡ length (before (take n l))) where
+module _ (raw : ℕ) (l recv : List ℕ) (n at : ℕ) (e : at ≡ min raw rawLimit) (en : n ≡ min (rawLimit - at) (length l)) {k : ℕ}
+    (ek : k ≡ length (before (take n l))) where
   lent : length (take n l) ≡ n
   lent = length-take-le n l (omega arith)
 

@@ -17,7 +17,7 @@ use Rattle.base.specs.declared.Written.the-variants.{Wrote}
 use Rattle.base.proofs.Lists.{over}
 use Rattle.base.proofs.Parts.{tail-is, tail-put}
 use Rattle.base.proofs.Tests.{by-le}
-use Rattle.base.proofs.Writing.{write-fits, copied-fits, write-is}
+use Rattle.base.proofs.Writing.{wrote-fits, write-is}
 use Rattle.packet_spec.specs.Escape.{flag}
 use Rattle.packet_spec.specs.Sender.{frameOf, flagged}
 use Rattle.packet.proofs.Sending.{writing-keeps, wrote-is}
@@ -29,8 +29,7 @@ set-first [] b h = absurd (omega arith)
 set-first (x ∷ l) b h = refl
 
 pub begins : (out : List ℕ) → 0 < length out → outcome (Wrote 1) (set out 0 flag) ≡ write (flag ∷ []) out
-begins out h =
-    ap (outcome (Wrote 1)) (set-first out flag h ∙ sym (copied-fits (flag ∷ []) out h)) ∙ sym (write-fits (flag ∷ []) out h)
+begins out h = wrote-fits (flag ∷ []) out 1 refl h (set-first out flag h)
 
 -- ---- behind the first `at` bytes
 module _ (at from : ℕ) (out : List ℕ) (e : from ≡ min at (length out)) where
@@ -59,7 +58,8 @@ appending-keeps at p out n e =
 -- ---- the stream
 behind-append : (ps : List Packet) (p : Packet) → framesOf (ps ++ p ∷ []) ≡ framesOf ps ++ (rawOf p ++ flag ∷ [])
 behind-append [] p = refl
-behind-append (q ∷ ps) p = ap (λ (l : List ℕ). rawOf q ++ flag ∷ l) (behind-append ps p) ∙ sym (append-assoc (rawOf q) (flag ∷ framesOf ps) (rawOf p ++ flag ∷ []))
+behind-append (q ∷ ps) p = ap (λ (l : List ℕ). rawOf q ++ flag ∷ l) (behind-append ps p)
+    ∙ sym (append-assoc (rawOf q) (flag ∷ framesOf ps) (rawOf p ++ flag ∷ []))
 
 pub begin-stream : (out : List ℕ) (n : ℕ) → write (flag ∷ []) out .answer ≡ Wrote n → take n (write (flag ∷ []) out .output) ≡ stream []
 begin-stream out n e = write-is (flag ∷ []) out n e

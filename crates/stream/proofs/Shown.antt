@@ -1,6 +1,7 @@
 -- The reader with its buffer does what the reader without a limit does: its state is that one's, in numbers and the lent buffer.
 -- shown-byte           one byte
 -- shown-plain          a byte string
+-- tell-end             an answer before others leaves the final state
 -- held-use, held-st    what is in use does not hang on what stands behind it in the buffer
 use Prim.Native.Nat.{ℕ, suc, _+_, _-_, _≤_, _<_, min}
 use native.Mathlib.Omega.{arith}
@@ -61,8 +62,12 @@ shown-store true rs (x ∷ j) b e h =
 shown-store false rs j b e h =
     let l : rawLimit ≤ min (length rs) (suc rawLimit) = ltb-false _ _ e in
     let n : length (rs ++ b ∷ []) ≡ length rs + 1 = length-append rs (b ∷ []) in
-    let s : take rawLimit rs ≡ take rawLimit (rs ++ b ∷ []) = sym (take-append-le rawLimit rs (b ∷ []) (omega arith)) in
-    (j, in-frame (rs ++ b ∷ []) j (suc rawLimit) rawLimit (wrongAt (take rawLimit rs)) (take rawLimit rs ++ j) (omega arith) (omega arith) (ap wrongAt s) (ap (λ x. x ++ j) s), subst (λ x. rawLimit ≤ length (x ++ j)) s h)
+    let s : take rawLimit rs ≡ take rawLimit (rs ++ b ∷ []) = sym (take-append-le rawLimit rs (b ∷ []) (omega arith)) in (
+      j,
+      in-frame (rs ++ b ∷ []) j (suc rawLimit) rawLimit (wrongAt (take rawLimit rs)) (take rawLimit rs ++ j) (omega arith) (omega arith) (ap wrongAt s)
+          (ap (λ x. x ++ j) s),
+      subst (λ x. rawLimit ≤ length (x ++ j)) s h,
+    )
 
 shown-shut : (o : Bool) (x : ℕ) (xs j : List ℕ) → ltb rawLimit (min (length (x ∷ xs)) (suc rawLimit)) ≡ o → rawLimit ≤ length (take rawLimit (x ∷ xs) ++ j)
     → (k : List ℕ) × (shut false (heldOf (inside (x ∷ xs)) j) ≡ (some (judge (x ∷ xs)), held begun k)) × (rawLimit ≤ length k)

@@ -1,10 +1,10 @@
 -- Laws of the reader without a limit.
--- opened-last, opened-behind   the packets opened from a flag on are the last of the stream, and what stands behind the flag
+-- opened-behind                the packets opened from a flag on are the last of the stream, and what stands behind the flag
 -- none-opened                  from a place behind the stream on none is opened
 -- synchronised                 behind a flag the state is the same, whatever came before
 -- ignored                      bytes before the first flag are ignored
 -- unclosed, between-flags      bytes behind a flag that no flag follows are kept, and what stands between two flags is told at the second
--- stream-read                  a whole stream, filled with flags, gives its packets, once each, in order, and nothing else
+-- behind-read, stream-read     a whole stream, filled with flags, gives its packets, once each, in order, and nothing else
 -- from-flag                    and so does its rest from any flag on
 use Prim.Native.Nat.{ℕ, zero, suc, _+_, _-_, _≤_}
 use native.Mathlib.Omega.{arith}
@@ -36,13 +36,14 @@ past (b ∷ bs) h cs (x ∷ xs) ys e =
     (r .0, (λ i. sym (head-eq-of-cons-eq e) i ∷ r .1 i), r .2)
 
 -- they are the last packets of the stream ..
-pub opened-last : (ps : List Packet) (n : ℕ) → (qs : List Packet) × (ps ≡ qs ++ openedFrom ps n)
+opened-last : (ps : List Packet) (n : ℕ) → (qs : List Packet) × (ps ≡ qs ++ openedFrom ps n)
 opened-last [] n = ([], refl)
 opened-last (p ∷ ps) zero = ([], refl)
 opened-last (p ∷ ps) (suc n) = let r = opened-last ps (n - length (rawOf p)) in (p ∷ r .0, ap (λ l. p ∷ l) (r .1))
 
 -- .. and what stands behind the flag at place n is their frames, and nothing else
-pub opened-behind : (ps : List Packet) → Each (λ p. NoFlag (rawOf p)) ps → (xs ys : List ℕ) → stream ps ≡ xs ++ flag ∷ ys → ys ≡ framesOf (openedFrom ps (length xs))
+pub opened-behind : (ps : List Packet) → Each (λ p. NoFlag (rawOf p)) ps → (xs ys : List ℕ) → stream ps ≡ xs ++ flag ∷ ys
+    → ys ≡ framesOf (openedFrom ps (length xs))
 opened-behind [] h [] ys e = sym (tail-eq-of-cons-eq e)
 opened-behind [] h (x ∷ []) ys e = absurd (nil≢cons (tail-eq-of-cons-eq e))
 opened-behind [] h (x ∷ y ∷ xs) ys e = absurd (nil≢cons (tail-eq-of-cons-eq e))

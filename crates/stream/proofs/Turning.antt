@@ -1,9 +1,8 @@
 -- A call, run by run: what the code takes from flag to flag is what the definition takes byte by byte.
--- run-read                           a run of bytes that are no flags gives no answer, and is gathered
--- flag-closes, flag-opens            the flag behind it
--- turn-end, turn-answer, turn-opens  the ways through a turn
--- loop-answer, loop-more, loop-end   the loop of a call
--- call-unsound, .., call-on          refusals 10 and 11
+-- run-read                             a run of bytes that are no flags gives no answer, and is gathered
+-- turn-end, turn-answer, turn-opens    the ways through a turn
+-- loop-answer, loop-more, loop-end     the loop of a call
+-- call-unsound, call-cramped, call-on  refusals 10 and 11
 use Prim.Native.Nat.{ℕ, suc, _+_, _-_, _≤_, _<_, min}
 use native.Mathlib.Omega.{arith}
 use native.Mathlib.Nat.{add-zero}
@@ -36,7 +35,7 @@ use Rattle.stream.proofs.Fine.{fine-is, fine-take}
 use Rattle.stream.proofs.Runs.{before-rest, before-stop, before-stops, no-flag-before}
 
 -- the state behind a run
-abbrev pub ran : Held → List ℕ → Held
+abbrev ran : Held → List ℕ → Held
 ran h xs = held (placed (counted (h .st) (length xs)) (seenBy (h .st .opened) h xs)) (gathered (h .st) xs (h .recv))
 
 -- ---- one byte more
@@ -98,7 +97,8 @@ byte-read : (h : Held) (b : ℕ) (ys : List ℕ) → (b ≡ flag → ⊥) → re
 byte-read h b ys n = ap (λ (t : Bool). byteOf t h b ys) (ne-eqb b flag n) ∙ byte-by (h .st .opened) h b _
 
 pub run-read : (xs : List ℕ) → NoFlag xs → (h : Held) → Fine h → (cs : List ℕ) → readOn h (xs ++ cs) ≡ after (length xs) (readOn (ran h xs) cs)
-run-read [] n h f cs = ap (λ (g : Held). readOn g cs) (ran-none (h .st .opened) (h .st .raw) (h .st .stored) (h .st .place) (h .recv) (f .stored) (f .raw)) ∙ after-none _
+run-read [] n h f cs = ap (λ (g : Held). readOn g cs) (ran-none (h .st .opened) (h .st .raw) (h .st .stored) (h .st .place) (h .recv) (f .stored) (f .raw))
+    ∙ after-none _
 run-read (b ∷ xs) n h f cs =
     let g : Held = takeBy false (h .st .opened) h b .1 in
     let fg : Fine g = rw (ne-eqb b flag (n .0)) at (fine-take h b f) in
@@ -117,7 +117,7 @@ closes-by true false h ys o e c =
     (λ i. unless (takeBy true (o i) h flag .0) 1 (takeBy true (o i) h flag .1) (oneMore (readOn (takeBy true (o i) h flag .1) ys)))
     ∙ (λ i. unless (shut (e i) h .0) 1 (shut (e i) h .1) (oneMore (readOn (shut (e i) h .1) ys)))
 
-pub flag-closes : (h : Held) (ys : List ℕ) → closes (h .st) ≡ true
+flag-closes : (h : Held) (ys : List ℕ) → closes (h .st) ≡ true
     → readOn h (flag ∷ ys) ≡ (some (closed (h .recv) (h .st .raw) .told), 1, held begun (closed (h .recv) (h .st .raw) .recv))
 flag-closes h ys c = flag-read h ys ∙ closes-by (h .st .opened) (eqb (h .st .raw) 0) h ys refl refl c
 
@@ -130,7 +130,7 @@ opens-by true true h ys o e c =
     (λ i. unless (takeBy true (o i) h flag .0) 1 (takeBy true (o i) h flag .1) (oneMore (readOn (takeBy true (o i) h flag .1) ys)))
     ∙ (λ i. unless (shut (e i) h .0) 1 (shut (e i) h .1) (oneMore (readOn (shut (e i) h .1) ys)))
 
-pub flag-opens : (h : Held) (ys : List ℕ) → closes (h .st) ≡ false → readOn h (flag ∷ ys) ≡ oneMore (readOn (held begun (h .recv)) ys)
+flag-opens : (h : Held) (ys : List ℕ) → closes (h .st) ≡ false → readOn h (flag ∷ ys) ≡ oneMore (readOn (held begun (h .recv)) ys)
 flag-opens h ys c = flag-read h ys ∙ opens-by (h .st .opened) (eqb (h .st .raw) 0) h ys refl refl c
 
 -- a run keeps what 10 and 11 ask
@@ -170,7 +170,8 @@ module _ (h : Held) (f : Fine h) (l : List ℕ) (some-bytes : 0 < length l) {n :
       ∙ (λ i. after (sym en i) (readOn (ran h (before l)) (drop (sym en i) l)))
 
   -- the state's place counts only where the piece ends here: a flag forgets it
-  pub turn-end : {g′ : FrameReader} → g′ ≡ looked g k (h .st .stored) → n ≡ length l → TurnIs h l (record { done = false; heard = More; taken = n; frame = g′ }) k
+  pub turn-end : {g′ : FrameReader} → g′ ≡ looked g k (h .st .stored) → n ≡ length l
+      → TurnIs h l (record { done = false; heard = More; taken = n; frame = g′ }) k
   turn-end {g′} e′ e =
       let is : ran h (before l) ≡ held g′ k =
       sym (λ i. held ((e′ ∙ (λ j. looked (is-counted j) (ek j) (h .st .stored)) ∙ looked-is (h .st .opened) h f (before l)) i) (ek i)) in
@@ -195,14 +196,19 @@ module _ (h : Held) (f : Fine h) (l : List ℕ) (some-bytes : 0 < length l) {n :
         let r = ran h (before l) in
         let raw : r .st .raw ≡ g .raw = ap (λ (x : FrameReader). x .raw) (sym is-counted) in
         let shuts : closes (r .st) ≡ true = ap (λ (x : FrameReader). closes x) (sym is-counted) ∙ c in
-        let is = judging-is k (g .raw) (subst (λ (m : ℕ). m ≤ suc rawLimit) raw (fine-turn .raw)) (subst (λ (x : List ℕ). rawLimit ≤ length x) (sym ek) (fine-turn .room)) in
+        let is = judging-is k (g .raw) (subst (λ (m : ℕ). m ≤ suc rawLimit) raw (fine-turn .raw))
+        (subst (λ (x : List ℕ). rawLimit ≤ length x) (sym ek) (fine-turn .room)) in
         let ej = e .0 ∙ ap (λ (x : Closed). judged (x .told)) is in
         let er = e .1 ∙ ap (λ (x : Closed). x .recv) is in
         let told : readOn h l ≡ (some (closed k (g .raw) .told), n + 1, held begun (closed k (g .raw) .recv)) =
         behind ∙ ap (λ (x : List ℕ). after n (readOn r x)) at-flag ∙ ap (after n) (flag-closes r (drop (n + 1) l) shuts)
         ∙ (λ i. (some (closed (sym ek i) (raw i) .told), n + 1, held begun (closed (sym ek i) (raw i) .recv))) in
         record {
-          means = ((λ i. record { heard = Said (ej i); taken = n + 1; frame = eb i }) ∙ ap readOf (sym told), er ∙ ap (λ (x : Option Told × ℕ × Held). x .2 .recv) (sym told));
+          means = (
+            (λ i. record { heard = Said (ej i); taken = n + 1; frame = eb i }) ∙ ap readOf (sym told),
+            er
+                ∙ ap (λ (x : Option Told × ℕ × Held). x .2 .recv) (sym told),
+          );
           some = omega arith;
           within = omega (arith, short);
           again = ap sound eb;
@@ -257,4 +263,5 @@ module _ (h : Held) (bs : List ℕ) where
         (ap readOf (sym e), ap (λ (x : Option Told × ℕ × Held). x .2 .recv) (sym e))
 
     pub call-on : {r : Read} {l : List ℕ} → rawLimit ≤ length (h .recv) → ReadIs (readOn h bs) r l → ReadIs (readCall h bs) r l
-    call-on {r} {l} room t = subst (λ (x : Option Told × ℕ × Held). ReadIs x r l) (λ i. readBy (sym s i) (sym (le-leb rawLimit (length (h .recv)) room) i) h bs) t
+    call-on {r} {l} room t = subst (λ (x : Option Told × ℕ × Held). ReadIs x r l)
+        (λ i. readBy (sym s i) (sym (le-leb rawLimit (length (h .recv)) room) i) h bs) t

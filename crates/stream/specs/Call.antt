@@ -1,15 +1,18 @@
 -- The reader as it is called (paper 01, "Opportunistic channel" on the receive buffer and on calls): its state and the lent receive
 -- buffer go in and come back, and one call gives at most one answer.
--- Held               state and receive buffer
--- noticed            the place of the first wrong byte behind 7D, remembered
--- takeByte           one byte
--- readAll            what a byte string means: its answers, and state and buffer behind it
--- readCall, ReadIs   one call, and that the code's results are those
--- EveryCut           a byte string, cut in every way
--- Fine               states and buffers that pass 10 and 11
--- ThereHeld          that a delivered payload stands in the buffer, and its key
--- inUse              the final state that counts
--- heldOf             the state of the reader without a limit, in numbers and the buffer
+-- Held, held             state (st) and receive buffer (recv)
+-- fresh, begun           waiting for a flag, and behind one
+-- placeLimit, lastRaw, noticed   the place of the first wrong byte behind 7D, remembered
+-- store, shut, takeBy, takeByte  one byte: stored, or a flag that closes a frame
+-- readAll                what a byte string means: its answers, and state and buffer behind it
+-- sound                  whether no count of a state is beyond its limit
+-- readOn, readBy, readCall   one call, behind refusals 10 and 11
+-- answered, readOf, ReadIs   that the code's results are those
+-- EveryCut               a byte string, cut in every way
+-- Fine                   states and buffers that pass 10 and 11 (stored, raw, place, room)
+-- ThereHeld              that a delivered payload stands in the buffer, and its key
+-- inUse                  the final state that counts
+-- heldOf                 the state of the reader without a limit, in numbers and the buffer
 use Prim.Native.Nat.{ℕ, suc, _-_, _≤_, min}
 use mathlib.Core.Path.{_≡_}
 use mathlib.Core.Bool.{Bool, true, false, _&&_}

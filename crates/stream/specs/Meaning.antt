@@ -1,8 +1,8 @@
 -- What a byte stream means (paper 01, "Packet and frame"), byte by byte, to a reader whose memory has no limit: the frames that
 -- its flags cut out of it.
--- Reading   its state
--- read      one byte
--- reads     a byte string
+-- Reading                its state
+-- closing, readAt, read  one byte: a flag closes a frame
+-- reads                  a byte string
 use Prim.Native.Nat.{ℕ}
 use mathlib.Core.Bool.{Bool, true, false}
 use mathlib.Core.List.{List, [], _∷_, _++_}

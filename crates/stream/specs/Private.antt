@@ -1,9 +1,10 @@
 -- What private functions alone are promised by: what the code does run by run, from flag to flag.
--- before     the bytes before the first flag
--- counted    the state's counts after n raw bytes more
--- looked     the state after the stored bytes from a place on are looked at
--- gathered   the receive buffer after raw bytes more
--- TurnIs     what a run and its flag give
+-- before                 the bytes before the first flag
+-- countedBy, counted     the state's counts after n raw bytes more
+-- placed, looked         the state after the stored bytes from a place on are looked at
+-- gatheredBy, gathered   the receive buffer after raw bytes more
+-- closes                 whether a flag closes a frame here
+-- TurnBy, TurnIs         what a run and its flag give (means), the bytes taken, some and within those lent, and a state that is sound again
 use Prim.Native.Nat.{ℕ, suc, _+_, _-_, _≤_, _<_, min}
 use mathlib.Core.Path.{_≡_}
 use mathlib.Core.Bool.{Bool, true, false, not, _&&_}

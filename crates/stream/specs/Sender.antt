@@ -1,5 +1,7 @@
 -- The sender's stream (paper 01, "Packet and frame"): one flag, then each packet's escaped contents with one flag behind it.
+-- rawOf, framesOf    a packet's raw bytes; packets, one behind the other
 -- stream             the whole stream of packets
+-- delivered          what is told of a packet
 -- openedFrom         the packets that are opened from a flag of it on
 -- appending          what the call that appends a packet answers and leaves
 use Prim.Native.Nat.{ℕ, zero, suc, _-_}

@@ -254,17 +254,6 @@ impl FrameReader {
     }
 }
 
-// Where the payload of a packet with so many key bytes stands.
-fn payload_at(key: u8) -> usize
-    ensures { λ r. ⌜ r ≡ payloadAt key ⌝ }
-{
-    if key == 0 {
-        5
-    } else {
-        Packet::KEY_AT + key as usize + 4
-    }
-}
-
 // Bytes of the receive buffer from `at` on; an empty part where it is too short to hold them.
 fn part(recv: &[u8], at: usize, length: usize) -> &[u8]
     ensures { λ r. ⌜ now r ≡ part at length (now (recv .entry)) ⌝ }
@@ -283,7 +272,7 @@ fn part(recv: &[u8], at: usize, length: usize) -> &[u8]
 pub fn payload(recv: &[u8], delivery: Delivery) -> &[u8]
     ensures { λ r. ⌜ now r ≡ part (payloadAt (delivery .key)) (delivery .length) (now (recv .entry)) ⌝ }
 {
-    part(recv, payload_at(delivery.key), delivery.length)
+    part(recv, packet::payload_at(delivery.key), delivery.length)
 }
 
 /// Its key, likewise; an empty part where it has none.

@@ -1,6 +1,6 @@
 -- What the paper's demand 3 asks of a fixed sub-channel (request W7), of the call, for every r and d to 64: whatever the buffers hold, and
 -- however the byte string is cut. Each law says two things together (`EveryCut`): the calls come to their end, and what they yield.
--- every-cut                                       the answers and the final state of the uncut string
+-- cut-so, every-cut                               the answers and the final state of the uncut string
 -- same-cut                                        .. from the same buffers, to the last byte of both
 -- delivers                                        a whole sent stream delivers the sent packets, and nothing else
 -- earlier-answers, later-answers, other-blocks    depth 0 and 1: altered words harm no others
@@ -25,13 +25,13 @@ use Rattle.channel_spec.specs.Sender.{wordBytes}
 use Rattle.channel_spec.specs.Meaning.{Event, frames, blocks, losses, IsWord, FirstMarker}
 use Rattle.channel_spec.specs.declared.Condition.the-variants.{Clean as clean}
 use Rattle.channel_spec.specs.declared.Hunting.{Hunting}
+use Rattle.channel_spec.proofs.Given.{hears-append}
 use Rattle.subchannel_spec.specs.Sender.{closingWords, wordsOf, marked, sent}
 use Rattle.subchannel_spec.specs.Word.{condition, carried}
-use Rattle.subchannel_spec.specs.Meaning.{hears, start, answers, wordsGive, silent}
+use Rattle.subchannel_spec.specs.Meaning.{step, hears, start, answers, wordsGive, silent}
 use Rattle.subchannel_spec.proofs.Streaming.{whole-stream}
 use Rattle.subchannel_spec.proofs.Altered.{earlier-same, others-stay, later-exact}
 use Rattle.subchannel_spec.proofs.Lost.{silent-stays}
-use Rattle.subchannel_spec.proofs.Groups.{hears-append}
 use Rattle.subchannel.specs.Call.{Memory, memory, toldSub, hearCall, hearAll, EveryCut, memoryOf, inUse}
 use Rattle.subchannel.proofs.Fine.{fine-told}
 use Rattle.subchannel.proofs.Cutting.{hear-settled}
@@ -81,7 +81,7 @@ module _ (r d : ℕ) (hr : r ≤ rootLimit) (hd : d ≤ depthLimit) where
       → EveryCut r d (bs ++ cs) λ es c. es ≡ answers r d bs
   stays-silent bs cs f k e =
       cut-so (every-cut (bs ++ cs)) λ es c x.
-      x .0 ∙ ap (λ y. y .0) (hears-append r d start bs cs) ∙ ap (λ s. hears r d start bs .0 ++ hears r d s cs .0) e
+      x .0 ∙ ap (λ y. y .0) (hears-append (step r d) start bs cs) ∙ ap (λ s. hears r d start bs .0 ++ hears r d s cs .0) e
       ∙ ap (λ y. hears r d start bs .0 ++ y .0) (silent-stays r d cs f k) ∙ append-nil (hears r d start bs .0)
 
 -- ---- depth 0 and 1: of a sent stream the words us, one or more, are altered at will, to vs, and no marker is

@@ -1,6 +1,6 @@
 -- Bytes that only fill a word.
 -- fills-none, fills-most           how many are taken in one go
--- Runs, runs-first, -next, -last   the loop over them
+-- Runs, runs-first, runs-next, runs-last   the loop over them
 -- turned-placed                    .. and the cells' place
 -- goes-all                         the state behind them
 use Prim.Native.Nat.{ℕ, _+_, _-_, _≤_, _<_, min}
@@ -128,7 +128,8 @@ module _ {a : Bool} {n from d v : ℕ} {bs : List ℕ} {p₀ : ℕ} {cs₀ w₀ 
       → Runs a n from d v bs p₀ cs₀ w₀ (k + 1) (t .place) cs′ (set w (v + k) (t .byte))
   runs-next h l {t} {cs′} u s f e g =
       subst
-      (λ x. GoesOn bs from (sub s (back a (matrix p₀ cs₀))) w₀ (from + (k + 1)) (sub (filled s (k + 1)) (back a (matrix (t .place) cs′))) (set w (x + k) (t .byte)))
+      (λ x. GoesOn bs from (sub s (back a (matrix p₀ cs₀))) w₀ (from + (k + 1)) (sub (filled s (k + 1)) (back a (matrix (t .place) cs′)))
+      (set w (x + k) (t .byte)))
       g (goes-next f h l (r s f e g) (subst (λ x. TurnedIs (pull x (back a (matrix p cs)) (getD bs (from + k) 0)) t cs′) (sym e) u))
 
   pub runs-last : n ≤ k → k ≤ n → (s : Lane) → Fills s a n → s .settings .depth ≡ d → s .counts .word ≡ v

@@ -1,9 +1,11 @@
 -- States and buffers that pass refusals 10 and 11.
 -- sound-parts                     10, of all but the cells and of their place
--- fine-of, -lane, -is, -roomy     10 and 11 are passed exactly where `Fine` holds
+-- fine-of, fine-lane, fine-is, fine-roomy   10 and 11 are passed exactly where `Fine` holds
 -- fine-told                       a sub-channel that was just told its settings passes them, with buffers that are long enough
--- mend-length, mendIn-length      a word that is repaired keeps its length
+-- mendIn-length                   a word that is repaired keeps its length
 -- fine-hand, fine-eat             every move keeps it
+-- zero-placed, pull-placed        the cells' place stays within them
+-- owed-one, owed-at               what is owed behind a move, and by a lane
 use Prim.Native.Nat.{ℕ, suc, _+_, _≤_, _<_}
 use native.Mathlib.Nat.{mod-lt}
 use native.Mathlib.Omega.{arith}
@@ -15,16 +17,16 @@ use lib.ListN.{length, take, drop, getD, set, length-set, length-append, take-ap
 use lib.Dec.{eqb, ltb, leb}
 use borrow.Author.Tests.{lt-ltb, le-ltb, le-leb, lt-leb, ltb-true, leb-true}
 use Rattle.base.specs.Choice.{pick}
-use Rattle.base.proofs.Tests.{and-parts, by-le}
+use Rattle.base.proofs.Tests.{and-parts, and-true as both, by-le}
 use Rattle.packet_spec.specs.Contents.{rawLimit}
 use Rattle.parity.specs.Calls.{rootLimit}
-use Rattle.repair.proofs.Promising.{left-length}
 use Rattle.stream.proofs.Fine.{fine-take, fine-of as frame-of, fine-is as frame-is}
 use Rattle.interleaver_spec.specs.Running.{depthLimit, size, pull, gave, beyond}
 use Rattle.interleaver_spec.specs.declared.Back.{Back}
 use Rattle.channel_spec.specs.declared.Hunting.{Hunting}
 use Rattle.channel_spec.specs.Sender.{wordBytes}
 use Rattle.channel_spec.specs.Meaning.{shift, isMarker}
+use Rattle.channel_spec.proofs.Words.{mend-length}
 use Rattle.channel.specs.Call.{roomy}
 use Rattle.subchannel_spec.specs.Sender.{messageBytes, groupBytes}
 use Rattle.subchannel_spec.specs.Word.{mend}
@@ -38,9 +40,6 @@ use Rattle.subchannel_spec.specs.Settings.{within}
 not-so : (b : Bool) → not b ≡ true → b ≡ false
 not-so true e = absurd (false≢true e)
 not-so false e = refl
-
-both : {a b : Bool} → a ≡ true → b ≡ true → a && b ≡ true
-both p q = rw (p, q) refl
 
 pub sound-parts : (s : Sub) → sound s ≡ true → (soundLane (s .lane) ≡ true) × (beyond (s .lane .settings .depth) (s .back .matrix .place) ≡ false)
 sound-parts s e = let a = and-parts (soundLane (s .lane)) _ e in (a .0, not-so _ (a .1))
@@ -105,9 +104,6 @@ fine-told r d hr hd recv word a b = record {
   place = zero-placed d;
   room = b;
 }
-
-pub mend-length : (r : ℕ) (w : List ℕ) → length (mend r w) ≡ length w
-mend-length r w = left-length r w
 
 pub mendIn-length : (r : ℕ) (l : List ℕ) → length (mendIn r l) ≡ length l
 mendIn-length r l =

@@ -1,9 +1,10 @@
 -- What the code's ways through a call give.
--- hand-none, hand-more, hand-said      the rest of a stored word
--- going-first, -next, -end, -done      the loop over the bytes of a piece
+-- hand-..                              the rest of a stored word
+-- going-first, going-next, going-end, going-done   the loop over the bytes of a piece
+-- taken-within, fine-spare, able-of    .. what it asks of its parts
 -- handed-end, bytes-end                one behind the other
 -- call-unsound, call-cramped, call-on  refused with 10, with 11, or let on
-use Prim.Native.Nat.{ℕ, zero, suc, _+_, _-_, _≤_, _<_}
+use Prim.Native.Nat.{ℕ, suc, _+_, _-_, _≤_, _<_}
 use native.Mathlib.Omega.{arith}
 use native.Mathlib.Numerals.{add-one}
 use native.Mathlib.Nat.{add-zero}
@@ -11,30 +12,27 @@ use mathlib.Core.Path.{_≡_, refl, sym, _∙_, ap, subst}
 use mathlib.Core.Bool.{Bool, true, false, false≢true}
 use mathlib.Core.List.{List}
 use mathlib.Core.Option.{Option, some, none}
-use lib.ListN.{length, take, drop, getD, length-drop, set, length-replicate, drop-of-length-le}
-use lib.Seq.{drop-cons, length-take-le}
+use lib.ListN.{length, take, drop, getD, set, length-replicate, drop-of-length-le}
+use lib.Seq.{drop-cons}
 use lib.Dec.{eqb, ltb}
-use borrow.Author.Tests.{eq-eqb, ne-eqb, eqb-true, ltb-true}
-use Rattle.base.specs.Calls.{unless, after, oneMore, owesNone, handsNone}
-use Rattle.base.proofs.Above.{Along, above}
-use Rattle.base.proofs.Calls.{none-owed, FitsBy, fits, hear-hand, hear-eat, hear-end, inv-hear, after-none, after-more}
+use borrow.Author.Tests.{ne-eqb, ltb-true}
+use Rattle.base.specs.Calls.{unless, after, oneMore}
+use Rattle.base.proofs.Calls.{hear-eat, hear-end, after-none, after-more}
 use Rattle.packet_spec.specs.Contents.{rawLimit}
-use Rattle.packet_spec.specs.Frame.{Told, judged}
 use Rattle.packet_spec.specs.declared.Judged.{Judged}
 use Rattle.packet_spec.specs.declared.Judged.the-variants.{Refused}
 use Rattle.parity.specs.Calls.{rootLimit}
 use Rattle.stream.specs.declared.frame.Read.{Read}
 use Rattle.stream.specs.declared.frame.Heard.the-variants as heard
-use Rattle.stream.specs.Call.{Held, held, takeByte, readOn, readCall, ReadIs, answered as frameAnswered, Fine as FineFrame}
-use Rattle.stream.proofs.Fine.{fine-take}
-use Rattle.stream.proofs.Cutting.{read-agrees}
+use Rattle.stream.specs.Call.{Held, held, readCall, ReadIs}
 use Rattle.interleaver_spec.specs.Running.{beyond, matrix, back, freshBack, pull}
 use Rattle.interleaver_spec.specs.declared.Back.{Back}
 use Rattle.channel_spec.specs.declared.Hunting.{Hunting}
 use Rattle.channel_spec.specs.declared.Answer.the-variants.{More, Said}
 use Rattle.channel_spec.specs.Sender.{wordBytes}
-use Rattle.channel_spec.specs.Meaning.{Event, shift, isMarker}
-use Rattle.channel.specs.Call.{asEvent, roomy}
+use Rattle.channel_spec.specs.Meaning.{Event, said, shift, isMarker}
+use Rattle.channel.specs.Call.{roomy}
+use Rattle.channel.proofs.Stored as stored
 use Rattle.channel_spec.specs.Answer.{answered}
 use Rattle.subchannel_spec.specs.Sender.{messageBytes, groupBytes}
 use Rattle.subchannel.specs.declared.lane.Lane.{Lane}
@@ -49,63 +47,12 @@ use Rattle.subchannel.specs.Private.{isSome, Able, EatenIs, HandedBy, Ha
 use Rattle.subchannel.proofs.Fine.{fine-lane, fine-eat, zero-placed}
 use Rattle.subchannel.proofs.Cutting.{hand-one}
 
--- ---- the rest of a stored word is what the frame reader makes of it in one call
-module _ (c : Memory) (o : c .st .lane .lost ≡ false) (l : c .st .lane .locked ≡ true) (w : c .st .lane .counts .word ≡ wordBytes) (bs : List ℕ) where
-  abbrev m : ℕ
-  m = messageBytes (c .st .lane .settings .parity)
-
-  -- the call with h message bytes handed on, unless the frame reader has answered
-  abbrev from : ℕ → Option Told → Held → Option Event × ℕ × Memory
-  from h a g = unless (asEvent a) 0 (handed c h g) (hearOn (handed c h g) bs)
-
-  -- the same behind what it made of the bytes from the h-th on
-  abbrev onward : ℕ → Option Told × ℕ × Held → Option Event × ℕ × Memory
-  onward h r = from (h + r .1) (r .0) (r .2)
-
-  -- this message byte of the word is b
-  abbrev Stored : ℕ → ℕ → Type 0
-  Stored h b = (h < m) × (getD (c .word) h 0 ≡ b)
-
-  stored : (n h : ℕ) → h + n ≡ m → m ≤ length (c .word) → Along (λ i b. suc i) Stored h (take n (drop h (c .word)))
-  stored zero h e f = tt
-  stored (suc n) h e f =
-      subst (λ v. Along (λ i b. suc i) Stored h (take (suc n) v)) (sym (drop-cons (c .word) h 0 (omega arith)))
-      ((omega arith, refl), stored n (suc h) (omega arith) f)
-
-  owed-is : (h : ℕ) (g : Held) → owed (handed c h g) ≡ m - h
-  owed-is h g = λ i. owedBy (o i) (l i) (eq-eqb (c .st .lane .counts .word) wordBytes w i) m h
-
-  hand-run : (n h : ℕ) (g : Held) → h + n ≡ m → m ≤ length (c .word) → hearOn (handed c h g) bs ≡ onward h (readOn g (take n (drop h (c .word))))
-  hand-run n h g e f =
-      above owesNone handsNone takeByte none-owed (λ i b. suc i) Stored (λ i x xs. hearOn (handed c i x) bs) (λ i xs. onward i) (λ x. x)
-      (λ i xs x j. hearOn (handed c (add-zero i j) x) bs)
-      (λ i b xs r. let q : i + suc (r .1) ≡ suc i + r .1 = omega arith in ap (λ j. from j (r .0) (r .2)) q) (λ i x q xs z. absurd (omega (arith, z)))
-      (λ i x b xs z v.
-      hear-hand owed handOn eatByte hand-one (handed c i x) (m - suc i) bs (owed-is i x ∙ omega (arith, v .0))
-      ∙ (λ j. from (sym (add-one i) j) (takeByte x (v .1 j) .0) (takeByte x (v .1 j) .1)))
-      g (take n (drop h (c .word))) h (stored n h e f)
-
+-- ---- the rest of a stored word
 owed-some : (o l t : Bool) (m h : ℕ) → (owedBy o l t m h ≡ 0 → ⊥) → (o ≡ false) × (l ≡ true) × (t ≡ true) × (h < m)
 owed-some true l t m h e = absurd (e refl)
 owed-some false false t m h e = absurd (e refl)
 owed-some false true true m h e = (refl, refl, refl, let n : m - h ≡ 0 → ⊥ = e in omega arith)
 owed-some false true false m h e = absurd (e refl)
-
-fits-within : (o : Option Told) (n : ℕ) (g : Held) (bs : List ℕ) → FitsBy owesNone handsNone takeByte none-owed o n g bs → n ≤ length bs
-fits-within none n g bs f = omega (arith, f .0)
-fits-within (some a) n g bs f = f
-
-fits-none : (o : Option Told) (n : ℕ) (g : Held) (bs : List ℕ) → FitsBy owesNone handsNone takeByte none-owed o n g bs → o ≡ none → n ≡ length bs
-fits-none none n g bs f e = f .0
-fits-none (some a) n g bs f e = absurd (let z : _≡_ {A = ℕ} 0 1 = cc in omega arith)
-
-is-none : (o : Option Told) → frameAnswered o ≡ heard.More → o ≡ none
-is-none none e = refl
-is-none (some a) e = absurd (let z : _≡_ {A = ℕ} 0 1 = cc in omega arith)
-
-said-is : (o : Option Told) (j : Judged) → frameAnswered o ≡ heard.Said j → (t : Told) × (o ≡ some t) × (j ≡ judged t)
-said-is none j e = absurd (let z : _≡_ {A = ℕ} 0 1 = cc in omega arith)
-said-is (some t) j e = (t, refl, cc)
 
 module _ (s : Lane) (l w : List ℕ) (sd : soundLane s ≡ true) (rm : roomy l w ≡ true) where
   abbrev h : ℕ
@@ -137,49 +84,30 @@ module _ (s : Lane) (l w : List ℕ) (sd : soundLane s ≡ true) (rm : roomy l w
     some-owed : (s .lost ≡ false) × (s .locked ≡ true) × (eqb (s .counts .word) wordBytes ≡ true) × (h < n)
     some-owed = owed-some (s .lost) (s .locked) (eqb (s .counts .word) wordBytes) n h (λ z. nz (en ∙ z))
 
-    rest : List ℕ
-    rest = take (n - h) (drop h w)
+    module _ (k : Back) where
+      -- with i message bytes handed on
+      abbrev at : ℕ → Held → Memory
+      at i g = handed (memory (sub s k) l w) i g
 
-    got : Option Told × ℕ × Held
-    got = readOn (held (s .frame) l) rest
-
-    rest-length : length rest ≡ n - h
-    unfolding rest
-    rest-length = length-take-le (n - h) (drop h w) (omega (arith, length-drop h w, hand-room))
-
-    got-fits : FitsBy owesNone handsNone takeByte none-owed (got .0) (got .1) (got .2) rest
-    unfolding got
-    got-fits = fits owesNone handsNone takeByte none-owed (held (s .frame) l) rest
-
-    got-fine : FineFrame (got .2)
-    unfolding got
-    got-fine =
-        inv-hear owesNone handsNone takeByte none-owed FineFrame (λ x q e i. absurd (omega (arith, e))) (λ x b e i. fine-take x b i) (held (s .frame) l) rest
-        (fine-some .frame)
+      owes-at : (i : ℕ) (g : Held) → owed (at i g) ≡ n - i
+      owes-at i g = λ j. owedBy (some-owed .0 j) (some-owed .1 j) (some-owed .2 j) n i
 
     module _ {r : Read} {l′ : List ℕ} (e : ReadIs (readCall (held (s .frame) l) (take (n - h) (drop h w))) r l′) where
-      call-is : readCall (held (s .frame) l) (take (n - h) (drop h w)) ≡ got
-      unfolding got rest
-      call-is = read-agrees (held (s .frame) l) _ (fine-some .frame)
-
-      heard-is : r .heard ≡ frameAnswered (got .0)
-      heard-is = ap (λ (x : Read). x .heard) (e .0) ∙ ap (λ x. frameAnswered (x .0)) call-is
-
-      taken-is : r .taken ≡ got .1
-      taken-is = ap (λ (x : Read). x .taken) (e .0) ∙ ap (λ x. x .1) call-is
-
-      held-is : held (r .frame) l′ ≡ got .2
-      held-is = λ i. held ((ap (λ (x : Read). x .frame) (e .0) ∙ ap (λ x. x .2 .st) call-is) i) ((e .1 ∙ ap (λ x. x .2 .recv) call-is) i)
+      abbrev at₀ : ℕ → Held → Memory
+      at₀ = at freshBack
 
       pub taken-within : h + r .taken ≤ n
-      taken-within = omega (arith, fits-within (got .0) (got .1) (got .2) rest got-fits, rest-length, taken-is, some-owed .3)
+      taken-within =
+          stored.taken-within owed handOn eatByte hand-one n w at₀ (owes-at freshBack) (λ i g. refl) h (held (s .frame) l) (some-owed .3) hand-room
+          (fine-some .frame) e
 
       abbrev next : Lane
       next = handing s (h + r .taken) (r .frame)
 
       fine-next : (k : Back) → beyond (s .settings .depth) (k .matrix .place) ≡ false → Fine (memory (sub next k) l′ w)
       fine-next k b = record {
-        frame = subst FineFrame (sym held-is) got-fine;
+        frame = stored.fine-next owed handOn eatByte hand-one n w at₀ (owes-at freshBack) (λ i g. refl) h (held (s .frame) l) (some-owed .3) hand-room
+            (fine-some .frame) e;
         parity = fine-some .parity;
         depth = fine-some .depth;
         group = fine-some .group;
@@ -190,34 +118,28 @@ module _ (s : Lane) (l w : List ℕ) (sd : soundLane s ≡ true) (rm : roomy l w
         room = fine-some .room;
       }
 
-      -- the call, by what the frame reader answered
-      runs : (k : Back) (bs : List ℕ) {a : Option Told} → got .0 ≡ a
-          → hearOn (memory (sub s k) l w) bs ≡ unless (asEvent a) 0 (memory (sub next k) l′ w) (hearOn (memory (sub next k) l′ w) bs)
-      unfolding got rest
-      runs k bs q =
-          let c : Memory = memory (sub s k) l w in
-          hand-run c (some-owed .0) (some-owed .1) (eqb-true _ _ (some-owed .2)) bs (n - h) h (held (s .frame) l) (omega (arith, some-owed .3)) hand-room
-          ∙ (λ i. unless (asEvent (q i)) 0 (handed c (h + sym taken-is i) (sym held-is i)) (hearOn (handed c (h + sym taken-is i) (sym held-is i)) bs))
-
       pub hand-more : {t : Lane} → r .heard ≡ heard.More → t ≡ next → HandedIs s l w (record { done = false; answer = More; lane = t }) l′
       hand-more m p =
-          let q : got .0 ≡ none = is-none (got .0) (sym heard-is ∙ m) in
-          let z : n - (h + r .taken) ≡ 0 = omega (arith, fits-none (got .0) (got .1) (got .2) rest got-fits q, rest-length, taken-is, some-owed .3) in
+          let x : (k : Back) → (h + r .taken ≡ n) × ((bs : List ℕ) → hearOn (memory (sub s k) l w) bs ≡ hearOn (memory (sub next k) l′ w) bs) =
+          λ k. stored.read-more owed handOn eatByte hand-one n w (at k) (owes-at k) (λ i g. refl) h (held (s .frame) l) (some-owed .3) hand-room
+          (fine-some .frame) e m in
+          let z : n - (h + r .taken) ≡ 0 = omega (arith, x freshBack .0) in
           subst (λ t. HandedIs s l w (record { done = false; answer = More; lane = t }) l′) (sym p) (record {
-            means = λ k bs. runs k bs q;
+            means = λ k bs. x k .1 bs;
             fine = fine-next;
-            owed = λ d. (λ i. owedBy (some-owed .0 i) (some-owed .1 i) (some-owed .2 i) n (h + r .taken)) ∙ z;
+            owed = λ d. owes-at freshBack (h + r .taken) (held (r .frame) l′) ∙ z;
           })
 
       pub hand-said : (j : Judged) {t : Lane} → r .heard ≡ heard.Said j → t ≡ next → HandedIs s l w (record { done = true; answer = Said j; lane = t }) l′
       hand-said j m p =
-          let q = said-is (got .0) j (sym heard-is ∙ m) in
           subst (λ t. HandedIs s l w (record { done = true; answer = Said j; lane = t }) l′) (sym p) (record {
             means = λ k bs.
-                let x = runs k bs (q .1) in (
-                  (λ i. record { answer = Said (q .2 i); taken = 0; sub = sub next k }) ∙ ap hearingOf (sym x),
-                  ap (λ y. y .2 .recv) (sym x),
-                  ap (λ y. y .2 .word) (sym x),
+                let x = stored.read-said owed handOn eatByte hand-one n w (at k) (owes-at k) (λ i g. refl) h (held (s .frame) l) (some-owed .3) hand-room
+                (fine-some .frame) e j m in
+                let q : hearOn (memory (sub s k) l w) bs ≡ (some (said (x .0)), 0, memory (sub next k) l′ w) = x .2 bs in (
+                  (λ i. record { answer = Said (x .1 i); taken = 0; sub = sub next k }) ∙ ap hearingOf (sym q),
+                  ap (λ y. y .2 .recv) (sym q),
+                  ap (λ y. y .2 .word) (sym q),
                 );
             fine = fine-next;
             owed = λ d. absurd (false≢true (sym d));

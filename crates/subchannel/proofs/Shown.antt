@@ -1,43 +1,42 @@
 -- A sub-channel with its buffers does what the one without a limit does: its state is that one's, in numbers and the lent buffers.
--- Good        the states that it can be in
+-- Good, Room  the states that it can be in, and buffers that pass 11
+-- Now         what is shown after a byte
 -- shown-all   a byte string
 -- in-use      what is in use does not hang on what stands behind it in the buffers
-use Prim.Native.Nat.{ℕ, suc, _+_, _-_, _≤_, _<_}
-use native.Mathlib.Nat.{sub-zero}
+use Prim.Native.Nat.{ℕ, suc, _-_, _≤_, _<_}
 use native.Mathlib.Omega.{arith}
 use mathlib.Core.Path.{_≡_, refl, sym, _∙_, ap, subst}
 use mathlib.Core.Bool.{Bool, true, false}
-use mathlib.Core.List.{List, [], _∷_, _++_, map, append-assoc}
+use mathlib.Core.List.{List, [], _∷_, _++_, map}
 use mathlib.Core.Option.{Option, some, none}
-use lib.ListN.{length, take, drop, set, length-set, length-append, take-append-drop}
-use lib.Seq.{append-snoc, take-at, drop-at, take-append-le, set-append-seam, getD-append-seam, length-take-le}
+use lib.ListN.{length, take, drop, set, length-set, length-append}
+use lib.Seq.{append-snoc, take-at, drop-at, take-append-le, set-append-seam}
 use lib.Dec.{eqb, ltb, lit<}
 use borrow.Author.Tests.{lt-ltb, le-ltb, eq-eqb, ne-eqb, ltb-true, ltb-false}
-use Rattle.base.specs.Calls.{tell, andThen, drain, rest}
+use Rattle.base.specs.Calls.{tell, drain, rest}
 use Rattle.base.specs.Choice.{pick}
-use Rattle.base.proofs.Calls.{all-append}
 use Rattle.base.proofs.Tests.{by-le}
 use Rattle.packet_spec.specs.Contents.{rawLimit}
-use Rattle.packet_spec.specs.Frame.{Told}
 use Rattle.parity.specs.Calls.{rootLimit}
-use Rattle.stream.specs.Meaning.{Reading, read, reads}
-use Rattle.stream.specs.Call.{Held, takeByte, heldOf}
-use Rattle.stream.proofs.Shown.{shown-byte, tell-end, held-use, held-st}
+use Rattle.stream.specs.Meaning.{Reading, reads}
+use Rattle.stream.specs.Call.{Held, heldOf}
+use Rattle.stream.proofs.Shown.{held-use, held-st}
 use Rattle.interleaver_spec.specs.Running.{pull}
 use Rattle.interleaver_spec.specs.declared.Back.{Back}
 use Rattle.channel_spec.specs.declared.Hunting.{Hunting}
 use Rattle.channel_spec.specs.Sender.{wordBytes}
 use Rattle.channel_spec.specs.Meaning.{Event, said, block, shift, isMarker}
-use Rattle.channel.specs.Call.{asEvent}
+use Rattle.channel_spec.proofs.Words.{mend-length}
+use Rattle.channel.proofs.Stored as stored
+use Rattle.channel.proofs.Stored.{drained}
 use Rattle.subchannel_spec.specs.Sender.{messageBytes, groupBytes}
 use Rattle.subchannel_spec.specs.Word.{condition, mend, message}
-use Rattle.subchannel_spec.specs.Meaning.{Sub, hunting, inGroup, inMark, silent, whole, worded, takes, hunt, grouping, compared, behindGroup, step, hears}
+use Rattle.subchannel_spec.specs.Meaning.{Sub, hunting, inGroup, inMark, silent, worded, takes, hunt, grouping, compared, behindGroup, step, hears}
 use Rattle.subchannel.specs.declared.lane.Lane.{Lane}
 use Rattle.subchannel.specs.Call.{Memory, memory, sub, lane, counts, huntOn, mendIn, wordOn, groupOn, compareOn, markOn}
 use Rattle.subchannel_spec.specs.Settings.{settings}
 use Rattle.subchannel.specs.Call.{behind, eatBy, inMemory, eatByte}
-use Rattle.subchannel.specs.Call.{owedBy, owed, handWith, handOn, hearAll, inUse, handedOf, lockedWith, memoryOf}
-use Rattle.subchannel.proofs.Fine.{mend-length}
+use Rattle.subchannel.specs.Call.{owedBy, owed, handOn, hearAll, inUse, handedOf, lockedWith, memoryOf}
 use Rattle.subchannel.proofs.Cutting.{hand-one}
 
 -- a group that is begun is not whole, marker bytes are not four yet, a word is at most whole
@@ -46,11 +45,6 @@ Good (hunting f) = Unit {0}
 Good (inGroup f n k w q) = (n < groupBytes) × (length w ≤ wordBytes)
 Good (inMark f n k w q) = (n < 4) × (length w ≤ wordBytes)
 Good (silent f k) = Unit {0}
-
-tell-said : {S T : Type 0} (o : Option Told) (x : List Told × S) (t : T)
-    → tell (asEvent o) (map said (x .0), t) ≡ (map said (tell o x .0), t)
-tell-said none x t = refl
-tell-said (some a) x t = refl
 
 -- where nothing is owed: a byte string ..
 abbrev R : List ℕ → Memory → List Event × Memory
@@ -67,41 +61,6 @@ module _ (r d : ℕ) (hr : r ≤ rootLimit) where
     abbrev whole-at : ℕ → Held → List ℕ → Memory
     whole-at n h l = lockedWith r d f (counts g m wordBytes n) k h l
 
-    -- the message bytes v, behind those handed on, u, are handed on
-    abbrev Drained : List ℕ → List ℕ → List ℕ → Reading → List ℕ → List ℕ → Type 0
-    Drained v u z q j i =
-        drain owed handOn eatByte (length v) (whole-at (length u) (heldOf q j) (u ++ (v ++ z))) (R [])
-        ≡ (map said (reads q v .0), whole-at (messageBytes r) (heldOf (reads q v .1) i) (u ++ (v ++ z)))
-
-    drained-one : (x : ℕ) (v u z : List ℕ) (q : Reading) (j m i : List ℕ) → takeByte (heldOf q j) x ≡ (read q x .0, heldOf (read q x .1) m)
-        → Drained v (u ++ x ∷ []) z (read q x .1) m i → Drained (x ∷ v) u z q j i
-    drained-one x v u z q j m i p e =
-        let S : Memory = whole-at (length u) (heldOf q j) (u ++ (x ∷ v ++ z)) in
-        let E : Memory → List Event × Memory = λ c. drain owed handOn eatByte (length v) c (R []) in
-        let n : suc (length u) ≡ length (u ++ x ∷ []) = omega (arith, length-append u (x ∷ [])) in
-        let l : u ++ (x ∷ v ++ z) ≡ (u ++ x ∷ []) ++ (v ++ z) = sym (append-snoc u x (v ++ z)) in
-        let t : reads q (x ∷ v) .1 ≡ reads (read q x .1) v .1 = tell-end (read q x .0) (reads (read q x .1) v) in
-        ap (λ y. tell (handWith y S .0) (E (handWith y S .1))) (ap (takeByte (heldOf q j)) (getD-append-seam u x (v ++ z) 0) ∙ p)
-        ∙ ap (tell (asEvent (read q x .0)))
-        ((λ a. E (whole-at (n a) (heldOf (read q x .1) m) (l a)))
-        ∙ e
-        ∙ (λ a. (map said (reads (read q x .1) v .0), whole-at (messageBytes r) (heldOf (reads (read q x .1) v .1) i) (sym l a))))
-        ∙ tell-said (read q x .0) (reads (read q x .1) v) _
-        ∙ (λ a. (map said (reads q (x ∷ v) .0), whole-at (messageBytes r) (heldOf (sym t a) i) (u ++ (x ∷ v ++ z))))
-
-    shown-drain : (v u z : List ℕ) (q : Reading) (j : List ℕ) → rawLimit ≤ length (heldOf q j .recv) → length u + length v ≡ messageBytes r
-        → (i : List ℕ) × Drained v u z q j i × (rawLimit ≤ length (heldOf (reads q v .1) i .recv))
-    shown-drain [] u z q j h e =
-        let n : length u ≡ messageBytes r = omega arith in
-        (j, (λ a. ([], whole-at (n a) (heldOf q j) (u ++ z))), h)
-    shown-drain (x ∷ v) u z q j h e =
-        let s = shown-byte q j x h in
-        let t = shown-drain v (u ++ x ∷ []) z (read q x .1) (s .0) (s .2) (omega (arith, e, length-append u (x ∷ []))) in (
-          t .0,
-          drained-one x v u z q j (s .0) (t .0) (s .1) (t .1),
-          subst (λ y. rawLimit ≤ length (heldOf y (t .0) .recv)) (sym (tell-end (read q x .0) (reads (read q x .1) v))) (t .2),
-        )
-
     -- what a whole word owes
     whole-owed : (w : List ℕ) (q : Reading) (j l : List ℕ) → length w ≡ wordBytes → rawLimit ≤ length (heldOf q j .recv)
         → (i : List ℕ)
@@ -109,16 +68,8 @@ module _ (r d : ℕ) (hr : r ≤ rootLimit) where
         ≡ (map said (reads q (message r w) .0), whole-at (messageBytes r) (heldOf (reads q (message r w) .1) i) (mend r w ++ l)))
         × (rawLimit ≤ length (heldOf (reads q (message r w) .1) i .recv))
     whole-owed w q j l e h =
-        let n : length (message r w) ≡ messageBytes r = length-take-le (messageBytes r) (mend r w) (omega (arith, mend-length r w)) in
-        let p : mend r w ++ l ≡ message r w ++ (drop (messageBytes r) (mend r w) ++ l) =
-        ap (λ y. y ++ l) (sym (take-append-drop (messageBytes r) (mend r w))) ∙ append-assoc (message r w) (drop (messageBytes r) (mend r w)) l in
-        let s = shown-drain (message r w) [] (drop (messageBytes r) (mend r w) ++ l) q j h (omega arith) in (
-          s .0,
-          (λ a. drain owed handOn eatByte ((sub-zero (messageBytes r) ∙ sym n) a) (whole-at 0 (heldOf q j) (p a)) (R []))
-              ∙ s .1
-              ∙ (λ a. (map said (reads q (message r w) .0), whole-at (messageBytes r) (heldOf (reads q (message r w) .1) (s .0)) (sym p a))),
-          s .2,
-        )
+        drained owed handOn eatByte hand-one (messageBytes r) (mend r w ++ l) (λ n h. whole-at n h (mend r w ++ l)) (λ n h. refl) (λ n h. refl)
+        (mend r w) l q j refl (omega (arith, mend-length r w)) h
 
   -- both buffers pass 11
   abbrev pub Room : Sub → List ℕ → List ℕ → Type 0
@@ -141,7 +92,7 @@ module _ (r d : ℕ) (hr : r ≤ rootLimit) where
 
   -- what is shown after a byte: x are the answers and the memory, y those of the one without a limit
   abbrev pub Now : List Event × Memory → List Event × Sub → Type 0
-  Now x y = (j : List ℕ) × (l : List ℕ) × (x ≡ (y .0, memoryOf r d (y .1) j l)) × Good (y .1) × Room (y .1) j l
+  Now = stored.Now (memoryOf r d) Good Room
 
   now-hunt : (t : Bool) (f g : Hunting) (j l : List ℕ) → rawLimit ≤ length j → wordBytes ≤ length l
       → Now (D (memory (sub (huntOn t g (memoryOf r d (hunting f) j l .st .lane)) (memoryOf r d (hunting f) j l .st .back)) j l)) ([], hunt t g)
@@ -208,7 +159,7 @@ module _ (r d : ℕ) (hr : r ≤ rootLimit) where
           (λ a. tell (some (block (condition r (t a)))) (D (lockedWith r d f (counts (suc n) 0 wordBytes 0) k (heldOf q j) (i a))))
               ∙ ap (tell (some (block (condition r w)))) (x .1)
               ∙ (λ a. (
-                whole r w q .0,
+                worded false r w q .0,
                 lockedWith r d f (counts (suc n) 0 (sym c a) (sym p a)) k (heldOf (reads q (message r w) .1) (x .0)) (mend r w ++ l),
               )),
           omega arith,
@@ -291,24 +242,9 @@ module _ (r d : ℕ) (hr : r ≤ rootLimit) where
   shown-step (inMark f n k w q) j l b g h = now-mark (ltb (suc n) 4) f (shift f b) n k w q j l refl (g .1) (h .0) (h .1)
   shown-step (silent f k) j l b g h = (j, l, refl, tt, h)
 
-  all-rest : (a : Sub) (j l bs : List ℕ) → Good a → hearAll (memoryOf r d a j l) bs ≡ R bs (memoryOf r d a j l)
-  all-rest a j l bs g = ap (λ n. drain owed handOn eatByte n (memoryOf r d a j l) (R bs)) (none-owed a j l g)
-
   -- a byte string
   pub shown-all : (bs : List ℕ) (a : Sub) (j l : List ℕ) → Good a → Room a j l → Now (hearAll (memoryOf r d a j l) bs) (hears r d a bs)
-  shown-all [] a j l g h = (j, l, all-rest a j l [] g, g, h)
-  shown-all (b ∷ bs) a j l g h =
-      let s = shown-step a j l b g h in
-      let t = shown-all bs (step r d a b .1) (s .0) (s .1) (s .3) (s .4) in
-      let e : hearAll (memoryOf r d a j l) (b ∷ []) ≡ (step r d a b .0, memoryOf r d (step r d a b .1) (s .0) (s .1)) = all-rest a j l (b ∷ []) g ∙ s .2 in (
-        t .0,
-        t .1,
-        all-append owed handOn eatByte hand-one (memoryOf r d a j l) (b ∷ []) bs
-            ∙ (λ i. andThen (e i) (λ c. hearAll c bs))
-            ∙ (λ i. (step r d a b .0 ++ t .2 i .0, t .2 i .1)),
-        t .3,
-        t .4,
-      )
+  shown-all = stored.shown-bytes (memoryOf r d) Good Room owed handOn eatByte hand-one (step r d) none-owed shown-step
 
   locked-use : (f : Hunting) (g m : ℕ) (k : Back) (w : List ℕ) (q : Reading) (j l : List ℕ)
       → inUse (lockedWith r d f (counts g m (length w) (handedOf r w)) k (heldOf q j) (w ++ l))

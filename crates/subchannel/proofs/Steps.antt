@@ -5,6 +5,7 @@
 -- marks-more, marks-on, marks-lost        a byte behind a group
 -- mended-told                             what repair finds of a word, and leaves of it
 -- words-more, words-whole                 a byte of a word
+-- again-full, last-full                   .. behind a whole one, and the last
 -- eats-..                                 one new byte
 -- second-fails, within-parity    tests in a row
 use Prim.Native.Nat.{ℕ, suc, _+_, _-_, _≤_, _<_}

@@ -1,15 +1,21 @@
 -- One sub-channel as it is called (request W7): its state and its two lent buffers go in and come back, and one call gives at most one answer.
--- Memory                 state, receive buffer and word buffer
--- toldSub                just told its settings
+-- Memory, memory         state, receive buffer and word buffer
+-- sub, lane, counts      .. of its parts; heldIn: the frame reader in it
+-- freshSub, toldSub, untold   at first; just told its settings; not told
+-- telling, tellingOf     .. as it is told: 30, 32
+-- moved, counted, handing, handed   with other counts, last four bytes, frame reader
+-- huntOn, wordAt, mendIn, wordOn, groupOn, compareOn, markOn   one new byte, by where it stands
+-- Given, behind, grouped, eatBy, inMemory   .. and what it gives
+-- owedBy, owes, owed, handWith   message bytes that are not handed on yet
 -- eat, eatByte, handOn   one new byte; one stored message byte handed on
 -- hearAll                what a byte string means: its answers, and state and buffers behind it
--- sound, roomy           what 10 and 11 ask
--- hearCall, HearingIs    one call, and that the code's results are those
+-- soundCounts, soundLane, sound   what 10 asks
+-- hearOn, hearBy, hearCall   one call; hearingOf, HearingIs: that the code's results are those
 -- EveryCut               a byte string, cut in every way
 -- Fine                   states and buffers that pass 10 and 11
 -- ThereEvent             that a delivered payload stands in the receive buffer
 -- inUse                  the final state that counts
--- memoryOf               the state of the receiver without a limit, in numbers and the buffers
+-- handedOf, lockedWith, memoryOf   the state of the receiver without a limit, in numbers and the buffers
 use Prim.Native.Nat.{ℕ, suc, _-_, _≤_}
 use mathlib.Core.Path.{_≡_}
 use mathlib.Core.Bool.{Bool, true, false, _&&_, not}
@@ -40,6 +46,9 @@ use Rattle.subchannel.specs.declared.counts.Counts.{Counts}
 use Rattle.subchannel.specs.declared.lane.Lane.{Lane}
 use Rattle.subchannel.specs.declared.sub.Sub.{Sub}
 use Rattle.subchannel.specs.declared.sub.Hearing.{Hearing}
+use Rattle.subchannel.specs.declared.sub.Telling.{Telling}
+use Rattle.subchannel_spec.specs.declared.Configured.{Configured}
+use Rattle.subchannel_spec.specs.declared.Configured.the-variants.{Done, Refused}
 
 -- state, receive buffer and word buffer
 pub record Memory : Type 0 where
@@ -61,9 +70,25 @@ lane s l o f n h = record { settings = s; locked = l; lost = o; hunting = f; cou
 abbrev pub counts : ℕ → ℕ → ℕ → ℕ → Counts
 counts g m w n = record { group = g; marker = m; word = w; handed = n }
 
--- just told: hunting with four bytes of zero, waiting for a flag, counts zero, the interleaver at row zero
+-- with settings: hunting with four bytes of zero, waiting for a flag, counts zero, the interleaver at row zero
+abbrev pub freshSub : Settings → Sub
+freshSub s = sub (lane s false false zeros (counts 0 0 0 0) fresh) freshBack
+
+-- just told
 abbrev pub toldSub : ℕ → ℕ → Sub
-toldSub r d = sub (lane (settings true r d) false false zeros (counts 0 0 0 0) fresh) freshBack
+toldSub r d = freshSub (settings true r d)
+
+-- not told
+abbrev pub untold : Sub
+untold = freshSub (settings false 0 0)
+
+-- "30 and 32 on configuring": R above 64, depth above 64. Where they are refused it is not told
+abbrev pub telling : ℕ → ℕ → Configured × Sub
+telling r d = pick (ltb rootLimit r) (Refused 30, untold) (pick (ltb depthLimit d) (Refused 32, untold) (Done, toldSub r d))
+
+-- the code's result of it
+abbrev pub tellingOf : Configured × Sub → Telling
+tellingOf x = record { answer = x .0; sub = x .1 }
 
 -- the frame reader in it
 abbrev pub heldIn : Memory → Held

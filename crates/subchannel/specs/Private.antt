@@ -1,9 +1,10 @@
 -- What private functions alone are promised by.
+-- isSome, orZero      an answer, a byte: whether there is one
 -- TurnedIs            a received byte through the interleaver
 -- stepOf, WordIs      a step that does not touch the cells; a byte of a word
 -- Able                what a new byte asks of the state and of the word buffer
 -- EatenIs             one new byte
--- HandedIs            the rest of a stored word
+-- HandedBy, HandedIs  the rest of a stored word
 -- spare, BytesIs      the bytes of a piece, whatever the receive buffer holds
 -- Going, GoesOn       on the way through them: no answer yet
 -- Fills, filled       bytes that only fill a word, and the lane behind them

@@ -1,19 +1,10 @@
 //! The interleaver's receiving side byte by byte, its cells lent: a call takes a byte at a time, and the cells are too many to move with each.
 ghost use mathlib.Core.Path.{_≡_};
-ghost use mathlib.Core.Bool.{true, false};
-ghost use Prim.Native.Nat.{_*_, _≤_, _<_};
-ghost use Rattle.interleaver_spec.specs.Places.{width, cell};
-ghost use Rattle.interleaver_spec.specs.Running.{depthLimit, size, next, matrix, back, pull, beyond};
+ghost use mathlib.Core.Bool.{false};
+ghost use Prim.Native.Nat.{_≤_};
+ghost use Rattle.interleaver_spec.specs.Running.{depthLimit, matrix, back, pull, beyond};
 ghost use Rattle.subchannel.specs.Private.{TurnedIs};
-
-// The cells of the largest interleaver, 64 rows of 255.
-pub(crate) const CELLS: usize = 64 * ROW;
-
-// The columns of a row.
-const ROW: usize = 255;
-
-// From output to output the column moves on by so many, around 255.
-const STEP: usize = 53;
+use interleaver::Matrix;
 
 // What a received byte brings.
 pub(crate) struct Turned {
@@ -26,40 +17,9 @@ pub(crate) struct Turned {
     pub place: usize,
 }
 
-// Whether a place is none of the N cells.
-pub(crate) fn is_beyond(depth: usize, place: usize) -> bool
-    ensures { λ r. ⌜ r ≡ beyond depth place ⌝ }
-{
-    if depth < 2 {
-        return false;
-    }
-    depth <= place / ROW
-}
-
-// The cell that the output of a place is read from.
-fn cell(depth: usize, place: usize) -> usize
-    requires { ⌜ (0 < depth) × (depth ≤ depthLimit) × (place < depthLimit * width) ⌝ }
-    ensures { λ r. ⌜ (r ≡ cell depth place) × (r < depthLimit * width) ⌝ }
-{
-    let row = (place - (ROW - 1) * (place / ROW)) % depth;
-    let column = STEP * place % ROW;
-    row * ROW + column
-}
-
-// The place behind one, around N.
-fn next(depth: usize, place: usize) -> usize
-    requires { ⌜ (depth ≤ depthLimit) × (place < size depth) ⌝ }
-    ensures { λ r. ⌜ (r ≡ next depth place) × (r < size depth) ⌝ }
-{
-    if place + 1 < ROW * depth {
-        return place + 1;
-    }
-    0
-}
-
 // One received byte: stored in its cell, and the one N - 1 before it brought once there is one.
 pub(crate) fn turn(
-    cells: &mut [u8; CELLS],
+    cells: &mut [u8; Matrix::CELLS],
     again: bool,
     place: usize,
     depth: usize,
@@ -76,9 +36,10 @@ pub(crate) fn turn(
             place,
         };
     }
-    let k = cell(depth, place);
+    let step = interleaver::step(depth, place);
+    let k = step.cell;
     cells[k] = byte;
-    let behind = next(depth, place);
+    let behind = step.next;
     if again {
         return Turned {
             brought: true,
@@ -87,7 +48,7 @@ pub(crate) fn turn(
             place: behind,
         };
     }
-    if place + 1 == ROW * depth {
+    if place + 1 == Matrix::ROW * depth {
         return Turned {
             brought: true,
             byte: cells[behind],

@@ -8,6 +8,7 @@ use crate::cells;
 use crate::counts::Counts;
 use crate::lane::Lane;
 use crate::sub::Sub;
+use interleaver::Matrix;
 
 // How many of the bytes that are left only fill the word: not its last one, and none before every byte brings one.
 pub(crate) fn plain(lane: Lane, again: bool, left: usize) -> usize
@@ -68,7 +69,7 @@ pub(crate) fn fill(
     lane: Lane,
     again: bool,
     first: usize,
-    cells: &mut [u8; cells::CELLS],
+    cells: &mut [u8; Matrix::CELLS],
     word: &mut [u8],
     piece: &[u8],
     from: usize,

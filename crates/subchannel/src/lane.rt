@@ -29,6 +29,7 @@ use crate::sub::Sub;
 use crate::word;
 use channel::Answer;
 use channel::Hunting;
+use interleaver::Matrix;
 use stream::FrameReader;
 use stream::Heard;
 use subchannel_spec::Settings;
@@ -233,7 +234,7 @@ impl Lane {
         self,
         again: bool,
         place: usize,
-        cells: &mut [u8; cells::CELLS],
+        cells: &mut [u8; Matrix::CELLS],
         word: &mut [u8],
         b: u8,
     ) -> Eaten
@@ -269,7 +270,7 @@ impl Lane {
         self,
         again: bool,
         place: usize,
-        cells: &mut [u8; cells::CELLS],
+        cells: &mut [u8; Matrix::CELLS],
         word: &mut [u8],
         b: u8,
     ) -> Eaten

@@ -10,4 +10,6 @@ pub use counts::Counts;
 pub use lane::Lane;
 pub use sub::Hearing;
 pub use sub::Sub;
+pub use sub::Telling;
+pub use subchannel_spec::Configured;
 pub use subchannel_spec::Settings;

@@ -3,9 +3,9 @@ ghost use mathlib.Core.Path.{_≡_};
 ghost use mathlib.Core.Bool.{true, false};
 ghost use Rattle.channel.specs.Call.{roomy};
 ghost use Rattle.interleaver_spec.specs.Running.{matrix, back};
-ghost use Rattle.subchannel.specs.Call.{Fine, memory, sub, toldSub, owes, sound, hearOn, hearCall, HearingIs};
+ghost use Rattle.subchannel.specs.Call.{Fine, memory, sub, freshSub, untold, telling, tellingOf, owes, sound, hearOn, hearCall};
+ghost use Rattle.subchannel.specs.Call.{HearingIs};
 ghost use Rattle.subchannel.specs.Private.{spare, BytesIs};
-use crate::cells;
 use crate::counts::Counts;
 use crate::fill;
 use crate::lane::Lane;
@@ -17,6 +17,8 @@ use interleaver::Back;
 use interleaver::Matrix;
 use packet::Judged;
 use stream::FrameReader;
+use subchannel_spec::Configured;
+use subchannel_spec::Group;
 use subchannel_spec::Settings;
 
 /// The state of one sub-channel.
@@ -24,6 +26,12 @@ pub struct Sub {
     pub lane: Lane,
     /// The interleaver's receiving side.
     pub back: Back,
+}
+
+/// The result of telling a sub-channel its settings.
+pub struct Telling {
+    pub answer: Configured,
+    pub sub: Sub,
 }
 
 /// The result of a call.
@@ -41,38 +49,64 @@ impl Sub {
     /// Bytes of a word, and those that the word buffer needs.
     pub const WORD: usize = Receiver::WORD;
 
-    /// Bytes of a group: four words.
-    pub const GROUP: usize = 4 * Self::WORD;
+    /// Bytes of a group's words.
+    pub const GROUP: usize = Group::BYTES;
 
-    /// The most parity bytes of a word.
-    pub const PARITY: usize = Settings::PARITY;
-
-    /// The greatest depth.
-    pub const DEPTH: usize = Settings::DEPTH;
-
-    /// Just told its settings: hunting, waiting for a flag, the first marked block at row zero.
-    pub fn told(parity: usize, depth: usize) -> Self
-        ensures { λ r. ⌜ r ≡ toldSub parity depth ⌝ }
+    // With settings: hunting, waiting for a flag, the first marked block at row zero.
+    fn with(settings: Settings) -> Self
+        ensures { λ r. ⌜ r ≡ freshSub settings ⌝ }
     {
         Sub {
             lane: Lane {
-                settings: Settings {
-                    told: true,
-                    parity,
-                    depth,
-                },
+                settings,
                 locked: false,
                 lost: false,
-                hunting: Hunting {
-                    a: 0,
-                    b: 0,
-                    c: 0,
-                    d: 0,
-                },
+                hunting: Hunting::fresh(),
                 counts: Counts::zero(),
                 frame: FrameReader::fresh(),
             },
             back: interleaver::fresh_back(),
+        }
+    }
+
+    /// A sub-channel that is not told its settings.
+    pub fn untold() -> Self
+        ensures { λ r. ⌜ r ≡ untold ⌝ }
+    {
+        Sub::with(Settings {
+            told: false,
+            parity: 0,
+            depth: 0,
+        })
+    }
+
+    // Settings refused.
+    fn refused(number: u8) -> Telling
+        ensures { λ r. ⌜ r ≡ tellingOf (Configured.Refused number, untold) ⌝ }
+    {
+        Telling {
+            answer: Configured::Refused(number),
+            sub: Sub::untold(),
+        }
+    }
+
+    /// A sub-channel that is just told its settings; where they are refused, one that is not told.
+    pub fn told(parity: usize, depth: usize) -> Telling
+        ensures { λ r. ⌜ r ≡ tellingOf (telling parity depth) ⌝ }
+    {
+        if Settings::PARITY < parity {
+            return Sub::refused(Refusal::ROOTS);
+        }
+        if Settings::DEPTH < depth {
+            return Sub::refused(Refusal::DEPTH);
+        }
+        Telling {
+            answer: Configured::Done,
+            sub: Sub::with(Settings {
+                told: true,
+                parity,
+                depth,
+            }),
         }
     }
 
@@ -85,7 +119,7 @@ impl Sub {
         let settings = lane.settings;
         let matrix = back.matrix;
         if lane.sound() {
-            return !cells::is_beyond(settings.depth, matrix.place);
+            return !interleaver::is_beyond(settings.depth, matrix.place);
         }
         false
     }
@@ -95,7 +129,7 @@ impl Sub {
         lane: Lane,
         passed: bool,
         first: usize,
-        from: [u8; cells::CELLS],
+        from: [u8; Matrix::CELLS],
         word: &mut [u8],
         piece: &[u8],
     ) -> Hearing

@@ -1,4 +1,6 @@
 -- Each public function's promise determines its result, and what the lent output then holds; a refused call leaves the output as it was.
+-- send-determined, send-group-determined, count-determined
+-- sending-keeps   a refused call leaves the output
 use Prim.Native.Nat.{ℕ}
 use mathlib.Core.Path.{refl}
 use mathlib.Core.List.{List}

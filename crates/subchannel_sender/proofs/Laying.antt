@@ -1,7 +1,7 @@
 -- What is sent, word by word and group by group.
--- message-long, word-long     a message, a word: their bytes
--- words-more, words-flags     words one after the other; behind the stream's last byte they are words of flags
+-- message-long, word-long, message-full, message-part   a message, a word: their bytes
 -- all-words                   the words that are sent are the next ones of the stream, as many as there are
+-- filledMessages, groups-count, four-long, push-long   how many messages and groups, and how long
 -- group-next                  a group: the marker, and then its bytes through the interleaver
 use Prim.Native.Nat.{ℕ, zero, suc, _+_, _-_, _*_, _/_, _≤_}
 use native.Mathlib.Nat.{suc-mul, sub-zero, suc-sub-suc, le-of-suc-le-suc}
@@ -13,9 +13,9 @@ use lib.Seq.{take-at, drop-at, take-append-le, drop-append-le, length-take-le}
 use Rattle.base.specs.Calls.{joined, run}
 use Rattle.base.specs.Written.{copied}
 use Rattle.base.proofs.Calls.{run-append}
-use Rattle.base.proofs.Lists.{over}
+use Rattle.base.proofs.Lists.{over, drop-same, map-same}
 use Rattle.base.proofs.Tests.{by-le}
-use Rattle.base.proofs.Writing.{copied-fits}
+use Rattle.base.proofs.Writing.{copied-fits, copied-over}
 use Rattle.packet_spec.specs.Escape.{flag}
 use Rattle.word_spec.specs.Word.{remainder}
 use Rattle.word_spec.proofs.Division.{length-remainder}
@@ -27,19 +27,10 @@ use Rattle.interleaver_spec.proofs.Pushing.{sent-length}
 use Rattle.channel_spec.specs.Sender.{marker, wordBytes}
 use Rattle.subchannel_spec.specs.Sender.{messageBytes, groupWords, groupBytes, wordOf, missing, filled, cutUp, messagesOf}
 use Rattle.subchannel_spec.specs.Sender.{flagWord, closingWords, completing, pushed, wordsOf, grouped}
-use Rattle.subchannel_spec.proofs.Streaming.{filled-multiple}
+use Rattle.channel_spec.proofs.Messages.{filled-multiple}
 use Rattle.subchannel_sender.specs.Sending.{messageOf, wordsFrom}
 
 -- copying that fills all there is
-pub copied-over : (bs dst : List ℕ) → length dst ≤ length bs → copied bs dst ≡ take (length dst) bs
-unfolding copied
-copied-over bs dst h = ap (λ (l : List ℕ). take (length dst) bs ++ l) (over dst (length bs) h) ∙ append-nil (take (length dst) bs)
-
-pub drop-flags : (n k : ℕ) → n ≤ k → drop n (replicate k flag) ≡ replicate (k - n) flag
-drop-flags zero k h = simp sub-zero
-drop-flags (suc n) zero h = absurd (omega arith)
-drop-flags (suc n) (suc k) h = simp suc-sub-suc (drop-flags n k (le-of-suc-le-suc h))
-
 module _ (r : ℕ) where
   abbrev m : ℕ
   m = messageBytes r
@@ -51,7 +42,7 @@ module _ (r : ℕ) where
 
   pub message-part : (bs : List ℕ) → length bs ≤ m → messageOf r bs ≡ bs ++ replicate (m - length bs) flag
   message-part bs h =
-      copied-fits bs (replicate m flag) (omega (arith, length-replicate m flag)) ∙ ap (λ l. bs ++ l) (drop-flags (length bs) m h)
+      copied-fits bs (replicate m flag) (omega (arith, length-replicate m flag)) ∙ ap (λ l. bs ++ l) (drop-same flag (length bs) m)
 
   pub message-long : (bs : List ℕ) → length (messageOf r bs) ≡ m
   message-long bs =
@@ -86,7 +77,7 @@ module _ (r : ℕ) where
       (λ h.
       let g : ℕ = m - length bs in
       let p : replicate f flag ≡ replicate g flag ++ replicate (f - g) flag =
-      sym (take-append-drop g (replicate f flag)) ∙ (λ i. take-flags g f (omega arith) i ++ drop-flags g f (omega arith) i) in
+      sym (take-append-drop g (replicate f flag)) ∙ (λ i. take-flags g f (omega arith) i ++ drop-same flag g f i) in
       let x : bs ++ replicate f flag ≡ messageOf r bs ++ replicate (f - g) flag =
       ap (λ l. bs ++ l) p ∙ sym (append-assoc bs (replicate g flag) (replicate (f - g) flag)) ∙ ap (λ l. l ++ replicate (f - g) flag)
       (sym (message-part bs (omega arith))) in
@@ -112,10 +103,6 @@ module _ (r : ℕ) where
   words-long : (n : ℕ) (bs : List ℕ) → length (wordsFrom r n bs) ≡ n
   words-long zero bs = refl
   words-long (suc n) bs = ap suc (words-long n (drop m bs))
-
-map-replicate : {A B : Type 0} (f : A → B) (n : ℕ) (x : A) → map f (replicate n x) ≡ replicate n (f x)
-map-replicate f zero x = refl
-map-replicate f (suc n) x = ap (λ l. f x ∷ l) (map-replicate f n x)
 
 -- ---- the words that are sent
 module _ (r d : ℕ) (hr : r ≤ rootLimit) (bs : List ℕ) where
@@ -155,7 +142,7 @@ module _ (r d : ℕ) (hr : r ≤ rootLimit) (bs : List ℕ) where
       (λ i. (map (wordOf r) (stream-messages i) ++ replicate (closingWords d) (flagWord r)) ++ replicate (completing (pushed-count i)) (flagWord r))
       ∙ append-assoc ws (replicate (closingWords d) (flagWord r)) (replicate more (flagWord r))
       ∙ ap (λ l. ws ++ l) (replicate-append-replicate (closingWords d) more (flagWord r) ∙ sym
-      (map-replicate (wordOf r) (closingWords d + more) (replicate (messageBytes r) flag)))
+      (map-same (wordOf r) (closingWords d + more) (replicate (messageBytes r) flag)))
       ∙ sym (map-append (wordOf r) (messages r q bs) (replicate (closingWords d + more) (replicate (messageBytes r) flag)))
       ∙ ap (map (wordOf r)) (sym (messages-more r q (closingWords d + more) bs (omega (arith, whole))))
       ∙ sym (words-are r (q + (closingWords d + more)) bs)

@@ -1,7 +1,7 @@
 -- Sending group by group.
 -- group-long                                    a group's bytes
--- group-state, -roots, -depth, -short, -wrote   what the call answers and leaves
--- count-roots, -depth, -are                     what the count answers
+-- group-state, group-roots, group-depth, group-short, group-wrote   what the call answers and leaves
+-- count-roots, count-depth, count-are           what the count answers
 -- group-goes, group-placed                      a call with room writes the next group, and behind it the place is one of the N cells again
 -- groups-sent                                   the groups of a stream, call by call, are what is sent
 -- sent-long                                     so many groups

@@ -3,10 +3,14 @@
 -- word-put                         a word: the message and its parity
 -- messages-even, messages-over     how many messages, by the rest
 -- groups-flat, groups-deep         how many groups, by the depth
--- words-first, -next, -done        the loop over a group's words
+-- half                             a bound of a count
+-- sets-all, sets-copied            stores one after the other; further: the stream behind so many bytes more
+-- WordsLeft, words-first, words-room, words-next, words-done   the loop over a group's words
 -- group-put                        one group: the marker, and its bytes through the interleaver
--- groups-first, -turn, -done       the loop over groups
--- send-roots, -depth, -short, -fits   what the call answers and leaves
+-- push-placed, group-as            a push stays among the cells; a group of the same bytes
+-- groups-long                      so many groups
+-- GroupsLeft, groups-first, groups-room, groups-next, groups-turn, groups-done   the loop over groups
+-- send-roots, send-depth, send-short, send-fits, sent-is   what the call answers and leaves
 use Prim.Native.Nat.{ℕ, zero, suc, _+_, _-_, _*_, _/_, _%_, _≤_, _<_, min}
 use native.Mathlib.Nat.{suc-mul, mod-lt, mod-self, mod-eq-of-lt, mod-add-div', mul-div-cancel, mul-le-mul-left, sub-zero}
 use native.Mathlib.Omega.{arith}
@@ -26,10 +30,10 @@ use Rattle.base.specs.declared.Written.the-variants.{Wrote}
 use Rattle.base.specs.Calls.{joined, run, tell}
 use Rattle.base.specs.Private.{Laid}
 use Rattle.base.proofs.Laid.{laid-then, laid-copied}
-use Rattle.base.proofs.Lists.{over}
+use Rattle.base.proofs.Lists.{over, drop-same}
 use Rattle.base.proofs.Parts.{tail-is}
 use Rattle.base.proofs.Tests.{by-le, and-false}
-use Rattle.base.proofs.Writing.{copied-fits, write-fits, write-short}
+use Rattle.base.proofs.Writing.{copied-fits, copied-over, write-fits, write-short}
 use Rattle.packet_spec.specs.Escape.{flag}
 use Rattle.word_spec.specs.Word.{remainder}
 use Rattle.word_spec.proofs.Division.{length-remainder}
@@ -44,7 +48,7 @@ use Rattle.subchannel_spec.specs.Sender.{sent as sent-stream}
 use Rattle.subchannel_spec.proofs.Received.{joined-append}
 use Rattle.subchannel_sender.specs.Sending.{sending, messageOf, wordsFrom}
 use Rattle.subchannel_sender.specs.Private.{groupLength, groupsFrom, GroupIs}
-use Rattle.subchannel_sender.proofs.Laying.{copied-over, drop-flags, message-long, word-long, four-long, push-long, group-next}
+use Rattle.subchannel_sender.proofs.Laying.{message-long, word-long, four-long, push-long, group-next}
 use Rattle.subchannel_sender.proofs.Laying.{filledMessages, groups-count, all-words}
 
 -- the next message stands at the start of an array of a word
@@ -68,10 +72,10 @@ message-is m n bs h e f =
     (let y : m - length bs + (wordBytes - m) ≡ wordBytes - length bs = omega arith in y)) in
     ap (take m) (f ∙ ap (λ x. copied x (replicate wordBytes flag)) t ∙ copied-fits bs (replicate wordBytes flag)
     (omega (arith, length-replicate wordBytes flag))
-    ∙ ap (λ l. bs ++ l) (drop-flags (length bs) wordBytes (omega arith) ∙ s) ∙ sym
+    ∙ ap (λ l. bs ++ l) (drop-same flag (length bs) wordBytes ∙ s) ∙ sym
     (append-assoc bs (replicate (m - length bs) flag) (replicate (wordBytes - m) flag)))
     ∙ take-at (bs ++ replicate (m - length bs) flag) (replicate (wordBytes - m) flag) m a
-    ∙ sym (copied-fits bs (replicate m flag) (omega (arith, length-replicate m flag)) ∙ ap (λ l. bs ++ l) (drop-flags (length bs) m (omega arith))))
+    ∙ sym (copied-fits bs (replicate m flag) (omega (arith, length-replicate m flag)) ∙ ap (λ l. bs ++ l) (drop-same flag (length bs) m)))
 
 -- the message x and its parity, one behind the other
 word-laid : (r : ℕ) (x o : List ℕ) {o₁ z : List ℕ} {w : Written} → r ≤ rootLimit → length x ≡ messageBytes r → wordBytes ≤ length o

@@ -1,4 +1,5 @@
 -- What private functions alone are promised by.
+-- groupLength      bytes of a group with its marker
 -- groupsFrom       the next g groups of a stream
 -- GroupIs          one group
 use Prim.Native.Nat.{ℕ, _+_, _*_}

@@ -2,6 +2,7 @@
 -- sending                       a whole stream
 -- messageOf, wordsFrom          the next message of a stream, and its next n words
 -- groupNext                     the next group of it
+-- groupStream, groupWritten     bytes of four messages; a group written, what is taken for it, and the cells
 -- groupSending                  the call that sends one
 -- groupCount, counting          how many groups a stream has, and the call that says so
 -- groupsBy                      what so many calls write, one behind the other

@@ -14,36 +14,10 @@ ghost use Rattle.subchannel_sender.specs.Sending.{sending, messageOf, wo
 ghost use Rattle.subchannel_sender.specs.Private.{groupLength, groupsFrom, GroupIs};
 use base::Refusal;
 use base::Written;
-use channel_spec::Block;
-use channel_spec::Hunting;
 use interleaver::Matrix;
 use packet::Packet;
-
-/// A group: the marker, and four words behind it.
-pub struct Group;
-
-impl Group {
-    /// What stands before each group.
-    pub const MARKER: [u8; 4] = Hunting::MARKER;
-
-    /// Bytes of a word.
-    pub const WORD: usize = Block::WORD;
-
-    /// Its words.
-    pub const WORDS: usize = 4;
-
-    /// Bytes of its words.
-    pub const BYTES: usize = Self::WORDS * Self::WORD;
-
-    /// Its bytes, the marker among them.
-    pub const LENGTH: usize = 4 + Self::BYTES;
-
-    /// The most parity bytes of a word.
-    pub const PARITY: usize = 64;
-
-    /// The greatest depth.
-    pub const DEPTH: usize = 64;
-}
+pub use subchannel_spec::Group;
+use subchannel_spec::Settings;
 
 /// How many groups a stream has.
 pub enum Counted {
@@ -59,9 +33,6 @@ pub struct Sent {
     pub taken: usize,
     pub matrix: Matrix,
 }
-
-// The columns of the interleaver's rows.
-const ROW: usize = 255;
 
 // The next m bytes of a stream, or those that are left and flags; and flags behind them.
 fn message_of(m: usize, stream: &[u8]) -> [u8; Group::WORD]
@@ -157,10 +128,10 @@ fn put_groups(parity: usize, depth: usize, groups: usize, stream: &[u8], out: &m
 pub fn send(parity: usize, depth: usize, stream: &[u8], out: &mut [u8]) -> Written
     ensures { λ w. ⌜ outcome w (now (out .exit)) ≡ sending parity depth (now (stream .entry)) (now (out .entry)) ⌝ }
 {
-    if Group::PARITY < parity {
+    if Settings::PARITY < parity {
         return Written::Refused(Refusal::ROOTS);
     }
-    if Group::DEPTH < depth {
+    if Settings::DEPTH < depth {
         return Written::Refused(Refusal::DEPTH);
     }
     let words = messages_of(Group::WORD - parity, stream.len());
@@ -176,24 +147,14 @@ pub fn send(parity: usize, depth: usize, stream: &[u8], out: &mut [u8]) -> Writt
 pub fn count(parity: usize, depth: usize, bytes: usize) -> Counted
     ensures { λ r. ⌜ r ≡ counting parity depth bytes ⌝ }
 {
-    if Group::PARITY < parity {
+    if Settings::PARITY < parity {
         return Counted::Refused(Refusal::ROOTS);
     }
-    if Group::DEPTH < depth {
+    if Settings::DEPTH < depth {
         return Counted::Refused(Refusal::DEPTH);
     }
     let words = messages_of(Group::WORD - parity, bytes);
     Counted::Groups(groups_of(words, depth))
-}
-
-// Whether a place is none of the N cells.
-fn is_beyond(depth: usize, place: usize) -> bool
-    ensures { λ r. ⌜ r ≡ beyond depth place ⌝ }
-{
-    if depth < 2 {
-        return false;
-    }
-    depth <= place / ROW
 }
 
 // A refused call: the state as it was, and no byte taken.
@@ -218,13 +179,13 @@ pub fn send_group(
     ensures { λ r. ⌜ (outcome (r .written) (now (out .exit)), r .taken, r .matrix) ≡
         groupSending parity depth matrix (now (stream .entry)) (now (out .entry)) ⌝ }
 {
-    if is_beyond(depth, matrix.place) {
+    if interleaver::is_beyond(depth, matrix.place) {
         return unsent(matrix, Refusal::STATE);
     }
-    if Group::PARITY < parity {
+    if Settings::PARITY < parity {
         return unsent(matrix, Refusal::ROOTS);
     }
-    if Group::DEPTH < depth {
+    if Settings::DEPTH < depth {
         return unsent(matrix, Refusal::DEPTH);
     }
     if out.len() < Group::LENGTH {

@@ -1,5 +1,4 @@
 -- Depth 0 and 1: a run of words, one or more, altered at will, and no marker. So a block may be one word or a group of four.
--- give-append, carried-append   words one after the other: their answers, and the bytes that they carry
 -- groups-begin                  where the marker first appears
 -- flat-received                 the answers of any words in whole groups
 -- earlier-same                  the answers of the earlier words stay the same
@@ -8,43 +7,31 @@
 use Prim.Native.Nat.{ℕ, suc, _+_, _*_, _/_, _≤_, _<_}
 use native.Mathlib.Omega.{arith}
 use mathlib.Core.Path.{_≡_, refl, sym, _∙_, ap, subst}
-use mathlib.Core.List.{List, [], _∷_, _++_, map, append-assoc, append-nil, map-append}
+use mathlib.Core.List.{List, [], _∷_, _++_, map, append-nil}
 use lib.ListN.{length, take, drop, replicate, length-append}
-use lib.Seq.{append-snoc}
 use borrow.Author.Tests.{lt-ltb}
 use Rattle.base.specs.Bytes.{Each, Bytes}
 use Rattle.base.specs.Calls.{joined, run}
 use Rattle.base.specs.Choice.{pick}
 use Rattle.base.proofs.Bytes.{each-append-left, each-append-right, each-append}
-use Rattle.base.proofs.Calls.{run-append}
 use Rattle.packet_spec.specs.Contents.{Packet}
 use Rattle.packet_spec.specs.Escape.{flag}
 use Rattle.packet_spec.specs.Sender.{Accepted}
 use Rattle.parity.specs.Calls.{rootLimit}
-use Rattle.stream.specs.Meaning.{Reading, waiting, read, reads}
+use Rattle.stream.specs.Meaning.{waiting, reads}
 use Rattle.stream.specs.Sender.{stream, delivered, openedFrom}
-use Rattle.stream.proofs.Streaming.{synchronised, from-flag}
 use Rattle.interleaver_spec.specs.Running.{fresh, push}
-use Rattle.channel_spec.specs.Meaning.{Event, frames, blocks, losses, IsWord, FirstMarker}
+use Rattle.channel_spec.specs.Word.{condition, carried, IsWord}
+use Rattle.channel_spec.specs.Given.{Event, frames, blocks, losses, wordsGive}
+use Rattle.channel_spec.specs.Meaning.{FirstMarker}
 use Rattle.channel_spec.specs.declared.Condition.the-variants.{Clean as clean}
-use Rattle.channel_spec.proofs.Streaming.{first-marker, stream-bytes}
+use Rattle.channel_spec.proofs.Messages.{IsClean, stream-bytes}
+use Rattle.channel_spec.proofs.Given.{give-append, words-stay, words-exact}
+use Rattle.channel_spec.proofs.Marker.{first-marker}
 use Rattle.subchannel_spec.specs.Sender.{groupWords, groupBytes, flagWord, grouped, marked, wordsOf, sent}
-use Rattle.subchannel_spec.specs.Word.{condition, message, carried}
-use Rattle.subchannel_spec.specs.Meaning.{whole, answers, wordsGive}
+use Rattle.subchannel_spec.specs.Meaning.{answers}
 use Rattle.subchannel_spec.proofs.Received.{received}
-use Rattle.subchannel_spec.proofs.Streaming.{IsClean, all-clean, frames-given, blocks-given, losses-given}
 use Rattle.subchannel_spec.proofs.Streaming.{answered, answered-each, answered-clean, carries, in-turn, groups}
-
-module _ (r : ℕ) where
-  pub give-append : (us vs : List (List ℕ)) (q : Reading) → wordsGive r (us ++ vs) q .0 ≡ wordsGive r us q .0 ++ wordsGive r vs (wordsGive r us q .1) .0
-  give-append [] vs q = refl
-  give-append (u ∷ us) vs q =
-      ap (λ l. whole r u q .0 ++ l) (give-append us vs (whole r u q .2))
-      ∙ sym (append-assoc (whole r u q .0) (wordsGive r us (whole r u q .2) .0) (wordsGive r vs (wordsGive r us (whole r u q .2) .1) .0))
-
-  pub carried-append : (us vs : List (List ℕ)) → carried r (us ++ vs) ≡ carried r us ++ carried r vs
-  carried-append [] vs = refl
-  carried-append (u ∷ us) vs = ap (λ l. message r u ++ l) (carried-append us vs) ∙ sym (append-assoc (message r u) (carried r us) (carried r vs))
 
 -- where the marker first appears, whatever the groups' bytes are
 pub groups-begin : (g h : ℕ) (xs bs stray : List ℕ) → FirstMarker stray (grouped (suc g) xs) → FirstMarker stray (grouped (suc h) bs)
@@ -123,19 +110,7 @@ module _ (r d : ℕ) (hr : r ≤ rootLimit) (flat : d < 2) (stray : List ℕ) (p
       ≡ replicate (length earlier) clean ++ (map (condition r) vs ++ replicate (length later) clean))
       × (losses (answers r d (stray ++ marked d altered)) ≡ 0)
   others-stay =
-      let before = each-append-left (IsClean r) earlier (us ++ later) clean-each in
-      let behind = each-append-right (IsClean r) us later (each-append-right (IsClean r) earlier (us ++ later) clean-each) in (
-        ap blocks now-answers ∙ blocks-given r altered waiting ∙ map-append (condition r) earlier (vs ++ later)
-            ∙ ap (λ l. map (condition r) earlier ++ l) (map-append (condition r) vs later)
-            ∙ (λ i. all-clean r earlier before i ++ (map (condition r) vs ++ all-clean r later behind i)),
-        ap losses now-answers ∙ losses-given r altered waiting,
-      )
-
-  split-at : (x : List (List ℕ)) (pre post : List ℕ) → carried r later ≡ pre ++ flag ∷ post
-      → carried r (earlier ++ (x ++ later)) ≡ (carried r (earlier ++ x) ++ pre) ++ flag ∷ post
-  split-at x pre post e =
-      ap (carried r) (sym (append-assoc earlier x later)) ∙ carried-append r (earlier ++ x) later
-      ∙ ap (λ l. carried r (earlier ++ x) ++ l) e ∙ sym (append-assoc (carried r (earlier ++ x)) pre (flag ∷ post))
+      let s = words-stay r earlier us vs later clean-each in (ap blocks now-answers ∙ s .0, ap losses now-answers ∙ s .1)
 
   -- `pre` are the message bytes of the later words before the flag
   pub later-exact : (pre post : List ℕ) → carried r later ≡ pre ++ flag ∷ post
@@ -145,9 +120,4 @@ module _ (r d : ℕ) (hr : r ≤ rootLimit) (flat : d < 2) (stray : List ℕ) (p
       let k = carries r d hr (stream ps) (stream-bytes ps a) in
       let c : carried r (earlier ++ (us ++ later)) ≡ stream ps ++ replicate (k .0) flag =
       ap (carried r) (sym one ∙ all-answered r d hr flat (stream ps) (stream-bytes ps a)) ∙ k .1 in
-      ap frames now-answers ∙ frames-given r altered waiting
-      ∙ ap (λ l. reads waiting l .0) (split-at vs pre post e ∙ sym (append-snoc (carried r (earlier ++ vs) ++ pre) flag post))
-      ∙ ap (λ x. x .0) (run-append read waiting ((carried r (earlier ++ vs) ++ pre) ++ flag ∷ []) post)
-      ∙ ap (λ l. reads waiting ((carried r (earlier ++ vs) ++ pre) ++ flag ∷ []) .0 ++ l)
-      (ap (λ q. reads q post .0) (synchronised waiting (carried r (earlier ++ vs) ++ pre))
-      ∙ ap (λ x. x .0) (from-flag ps a (k .0) (carried r (earlier ++ us) ++ pre) post (sym c ∙ split-at us pre post e)))
+      ap frames now-answers ∙ words-exact r earlier us vs later ps a (k .0) c pre post e

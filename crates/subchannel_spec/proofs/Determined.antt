@@ -1,4 +1,5 @@
 -- The public function's promise determines its result.
+-- within-determined
 use mathlib.Core.Path.{refl}
 use Rattle.base.specs.Determined.{Determined}
 use Rattle.base.proofs.Determining.{same}

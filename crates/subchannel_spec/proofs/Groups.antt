@@ -1,8 +1,7 @@
 -- The receiver without a limit, group by group: what groups mean is what the bytes mean that they bring, word by word.
--- Taken, takesAll, takes-append   bytes of words, one after the other
+-- Taken, onward, takesAll, takes-append   bytes of words, one after the other
 -- behind                          the state behind a group
 -- group-read, groups-read         a group; groups, the marker before each
--- hears-append                    a string is heard one part after the other
 use Prim.Native.Nat.{ℕ, zero, suc, _+_, _*_, _<_}
 use native.Mathlib.Omega.{arith}
 use mathlib.Core.Path.{_≡_, refl, sym, _∙_, ap}
@@ -19,7 +18,8 @@ use Rattle.interleaver_spec.specs.Running.{pull}
 use Rattle.interleaver_spec.specs.declared.Back.{Back}
 use Rattle.channel_spec.specs.Meaning.{Event, zeros}
 use Rattle.channel_spec.specs.declared.Hunting.{Hunting}
-use Rattle.channel_spec.proofs.Streaming.{theMarker}
+use Rattle.channel_spec.proofs.Given.{hears-append}
+use Rattle.channel_spec.proofs.Marker.{theMarker}
 use Rattle.subchannel_spec.specs.Sender.{groupBytes, grouped}
 use Rattle.subchannel_spec.specs.Meaning.{Sub, inGroup, inMark, takes, grouping, step, hears}
 
@@ -46,13 +46,6 @@ takes-append r (x ∷ xs) ys w q =
 
 -- ---- groups
 module _ (r d : ℕ) where
-  pub hears-append : (s : Sub) (bs cs : List ℕ) → hears r d s (bs ++ cs) ≡ andThen (hears r d s bs) (λ t. hears r d t cs)
-  hears-append s [] cs = refl
-  hears-append s (b ∷ bs) cs =
-      let x : List Event × Sub = hears r d (step r d s b .1) bs in
-      let y : List Event × Sub = hears r d (x .1) cs in
-      ap (andThen (step r d s b)) (λ i t. hears-append t bs cs i) ∙ (λ i. (sym (append-assoc (step r d s b .0) (x .0) (y .0)) i, y .1))
-
   -- the state behind a group, by what its bytes bring
   abbrev pub behind : Hunting → List ℕ × Back → List ℕ → Reading → List Event × Sub
   behind f p w q = (takesAll r (p .0) w q .0, inMark f 0 (p .1) (takesAll r (p .0) w q .1) (takesAll r (p .0) w q .2))
@@ -103,7 +96,7 @@ module _ (r d : ℕ) where
       let p : List ℕ × Back = run (pull d) k xs in
       let t : Taken = takesAll r (p .0) w q in
       let lx : length xs ≡ groupBytes = length-take-le groupBytes bs (omega arith) in
-      hears-append (inGroup theMarker 0 k w q) xs (grouped (suc g) ys)
+      hears-append (step r d) (inGroup theMarker 0 k w q) xs (grouped (suc g) ys)
       ∙ ap (λ (y : List Event × Sub). andThen y (λ v. hears r d v (grouped (suc g) ys))) (group-read xs theMarker 0 k w q (lit< tt) (omega arith))
       ∙ ap (λ (y : List Event × Sub). (t .0 ++ y .0, y .1)) (groups-behind g ys theMarker (p .1) (t .1) (t .2) (length-drop groupBytes bs ∙ omega arith))
       ∙ sym (behind-append theMarker k xs ys w q) ∙ ap (λ l. behind theMarker (run (pull d) k l) w q) (take-append-drop groupBytes bs)

@@ -1,4 +1,3 @@
-pub mod Words
 pub mod Groups
 pub mod Received
 pub mod Streaming

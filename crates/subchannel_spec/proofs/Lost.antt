@@ -4,8 +4,7 @@
 -- lock-lost      .. behind stray bytes and whole groups of any bytes
 -- marked-on      four that are: the next group begins, and word, frame and cells stay
 use Prim.Native.Nat.{ℕ, suc, _*_}
-use native.Mathlib.Omega.{arith}
-use mathlib.Core.Path.{_≡_, refl, _∙_, ap}
+use mathlib.Core.Path.{_≡_, refl, sym, _∙_, ap}
 use mathlib.Core.Logic.{_≢_}
 use mathlib.Core.Bool.{true, false}
 use mathlib.Core.List.{List, [], _∷_, _++_}
@@ -17,10 +16,11 @@ use Rattle.interleaver_spec.specs.declared.Back.{Back}
 use Rattle.channel_spec.specs.Sender.{marker}
 use Rattle.channel_spec.specs.Meaning.{Event, lost, isMarker, FirstMarker}
 use Rattle.channel_spec.specs.declared.Hunting.{Hunting}
-use Rattle.channel_spec.proofs.Streaming.{bytesOf, theMarker, no-match}
+use Rattle.channel_spec.proofs.Given.{hears-append}
+use Rattle.channel_spec.proofs.Marker.{bytesOf, theMarker, no-match, four-are}
 use Rattle.subchannel_spec.specs.Sender.{groupBytes, grouped}
-use Rattle.subchannel_spec.specs.Meaning.{Sub, inGroup, inMark, silent, compared, hears, start, answers}
-use Rattle.subchannel_spec.proofs.Groups.{Taken, takesAll, hears-append}
+use Rattle.subchannel_spec.specs.Meaning.{Sub, inGroup, inMark, silent, compared, step, hears, start, answers}
+use Rattle.subchannel_spec.proofs.Groups.{Taken, takesAll}
 use Rattle.subchannel_spec.proofs.Received.{groups-heard}
 
 module _ (r d : ℕ) where
@@ -39,20 +39,17 @@ module _ (r d : ℕ) where
   module _ (stray rs : List ℕ) (g : ℕ) (whole : length rs ≡ suc g * groupBytes) (first : FirstMarker stray (grouped (suc g) rs)) where
     pub lock-lost : (bs cs : List ℕ) → length bs ≡ 4 → bs ≢ marker → (f : Hunting) × (k : Back)
         × (hears r d start ((stray ++ grouped (suc g) rs) ++ (bs ++ cs)) ≡ (answers r d (stray ++ grouped (suc g) rs) ++ lost ∷ [], silent f k))
-    lock-lost [] cs h n = absurd (omega arith)
-    lock-lost (x ∷ []) cs h n = absurd (omega arith)
-    lock-lost (x ∷ y ∷ []) cs h n = absurd (omega arith)
-    lock-lost (x ∷ y ∷ z ∷ []) cs h n = absurd (omega arith)
-    lock-lost (x ∷ y ∷ z ∷ t ∷ []) cs h n =
-        let f : Hunting = record { a = x; b = y; c = z; d = t } in
+    lock-lost bs cs h n =
+        let f = four-are bs h in
         let p : List ℕ × Back = run (pull d) freshBack rs in
         let u : Taken = takesAll r (p .0) [] waiting in
         let a : List Event = answers r d (stray ++ grouped (suc g) rs) in (
-          f,
+          f .0,
           p .1,
-          hears-append r d start (stray ++ grouped (suc g) rs) (bytesOf f ++ cs)
-              ∙ ap (λ (s : List Event × Sub). (a ++ hears r d (s .1) (bytesOf f ++ cs) .0, hears r d (s .1) (bytesOf f ++ cs) .1))
+          ap (λ x. hears r d start ((stray ++ grouped (suc g) rs) ++ (x ++ cs))) (sym (f .1))
+              ∙ hears-append (step r d) start (stray ++ grouped (suc g) rs) (bytesOf (f .0) ++ cs)
+              ∙ ap (λ (s : List Event × Sub). (a ++ hears r d (s .1) (bytesOf (f .0) ++ cs) .0, hears r d (s .1) (bytesOf (f .0) ++ cs) .1))
               (groups-heard r d stray rs g whole first)
-              ∙ ap (λ (v : List Event × Sub). (a ++ v .0, v .1)) (lost-silent theMarker f (p .1) (u .1) (u .2) cs (no-match (isMarker f) f refl n)),
+              ∙ ap (λ (v : List Event × Sub). (a ++ v .0, v .1))
+              (lost-silent theMarker (f .0) (p .1) (u .1) (u .2) cs (no-match (isMarker (f .0)) (f .0) refl (λ e. n (sym (f .1) ∙ e)))),
         )
-    lock-lost (x ∷ y ∷ z ∷ t ∷ v ∷ bs) cs h n = absurd (omega arith)

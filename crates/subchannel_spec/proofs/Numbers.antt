@@ -13,7 +13,7 @@ use Rattle.stream.specs.Meaning.{waiting}
 use Rattle.interleaver_spec.specs.Running.{freshBack}
 use Rattle.channel_spec.specs.Sender as channel
 use Rattle.channel_spec.specs.Meaning as received
-use Rattle.channel_spec.proofs.Streaming.{theMarker}
+use Rattle.channel_spec.proofs.Marker.{theMarker}
 use Rattle.subchannel_spec.specs.Sender.{messageBytes, groupBytes, wordOf, missing, closingWords, completing, wordsOf, grouped}
 use Rattle.subchannel_spec.specs.Word.{condition, mend, message}
 use Rattle.subchannel_spec.specs.Meaning.{inGroup, hears, start}

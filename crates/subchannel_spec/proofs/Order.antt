@@ -18,12 +18,13 @@ use Rattle.interleaver_spec.proofs.Round.{returned-length}
 use Rattle.channel_spec.specs.Sender.{wordBytes}
 use Rattle.channel_spec.specs.Meaning.{Event, FirstMarker}
 use Rattle.channel_spec.specs.declared.Hunting.{Hunting}
+use Rattle.channel_spec.proofs.Given.{hears-append}
+use Rattle.channel_spec.proofs.Messages.{cut-back, cut-lengths}
 use Rattle.subchannel_spec.specs.Sender.{groupWords, groupBytes, closingWords, grouped}
 use Rattle.subchannel_spec.specs.Word.{cameBack}
-use Rattle.subchannel_spec.specs.Meaning.{Sub, inMark, hears, start, answers, wordsGive}
-use Rattle.subchannel_spec.proofs.Groups.{takesAll, hears-append}
+use Rattle.subchannel_spec.specs.Meaning.{Sub, inMark, step, hears, start, answers, wordsGive}
+use Rattle.subchannel_spec.proofs.Groups.{takesAll}
 use Rattle.subchannel_spec.proofs.Received.{words-heard, groups-heard}
-use Rattle.subchannel_spec.proofs.Streaming.{cut-back, cut-lengths}
 use Rattle.subchannel_spec.proofs.Returned.{back-length}
 
 -- up to three bytes where a marker is read
@@ -64,7 +65,7 @@ module _ (r d : ℕ) (hd : d ≤ depthLimit) (stray rs : List ℕ) (g : ℕ) (wh
 
   pub few-given : (bs : List ℕ) → length bs < 4 → answers r d ((stray ++ grouped (suc g) rs) ++ bs) ≡ wordsGive r vs waiting .0
   few-given bs h =
-      ap (λ (x : List Event × Sub). x .0) (hears-append r d start (stray ++ grouped (suc g) rs) bs)
+      ap (λ (x : List Event × Sub). x .0) (hears-append (step r d) start (stray ++ grouped (suc g) rs) bs)
       ∙ ap (λ (x : List Event × Sub). x .0 ++ hears r d (x .1) bs .0) (groups-heard r d stray rs g whole first)
       ∙ ap (λ l. takesAll r (run (pull d) freshBack rs .0) [] waiting .0 ++ l) (few r d _ _ _ _ bs h)
       ∙ append-nil (takesAll r (run (pull d) freshBack rs .0) [] waiting .0) ∙ words-given

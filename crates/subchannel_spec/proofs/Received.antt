@@ -4,11 +4,13 @@
 -- came-back    of words us, and the closing push vs behind them: the bytes of us come back, and at most one more
 -- groups-heard groups of any bytes
 -- received     the answers are those of us
+-- joined-length, joined-append, pushed-length   bytes put together, and pushed
 use Prim.Native.Nat.{ℕ, suc, _+_, _*_, _-_, _/_, _≤_, _<_}
 use native.Mathlib.Omega.{arith}
 use mathlib.Core.Path.{_≡_, refl, sym, _∙_, ap, subst}
+use mathlib.Core.Bool.{false}
 use mathlib.Core.Logic.{_⊎_, inl, inr}
-use mathlib.Core.List.{List, [], _∷_, _++_, append-assoc, append-nil, head-eq-of-cons-eq, tail-eq-of-cons-eq}
+use mathlib.Core.List.{List, [], _∷_, _++_, append-assoc, append-nil}
 use mathlib.Core.Option.{some}
 use lib.ListN.{length, take, drop, length-append, length-drop, take-append-drop}
 use lib.Seq.{length-take-le}
@@ -19,7 +21,6 @@ use Rattle.base.specs.Calls.{joined, run}
 use Rattle.base.specs.Choice.{pick}
 use Rattle.base.proofs.Bytes.{each-append}
 use Rattle.base.proofs.Tests.{by-le}
-use Rattle.repair.proofs.Promising.{left-length}
 use Rattle.stream.specs.Meaning.{Reading, waiting}
 use Rattle.interleaver_spec.specs.Running.{depthLimit, fresh, freshBack, sent, push, pull, closingBytes}
 use Rattle.interleaver_spec.specs.declared.Matrix.{Matrix}
@@ -27,45 +28,38 @@ use Rattle.interleaver_spec.proofs.Calling.{passes, deeper}
 use Rattle.interleaver_spec.proofs.Pushing.{sent-length}
 use Rattle.interleaver_spec.proofs.Round.{there-and-back}
 use Rattle.channel_spec.specs.Sender.{marker, wordBytes}
-use Rattle.channel_spec.specs.Meaning.{Event, shift, isMarker, zeros, IsWord, FirstMarker}
-use Rattle.channel_spec.specs.declared.Hunting.{Hunting}
-use Rattle.channel_spec.proofs.Streaming.{bytesOf, theMarker, no-match, not-first}
+use Rattle.channel_spec.specs.Word.{mend}
+use Rattle.channel_spec.specs.Given.{Event, wordsGive}
+use Rattle.channel_spec.specs.Meaning.{shift, IsWord, FirstMarker}
+use Rattle.channel_spec.proofs.Words.{mend-length}
+use Rattle.channel_spec.proofs.Marker.{theMarker, found}
 use Rattle.subchannel_spec.specs.Sender.{groupWords, groupBytes, closingWords, grouped, marked}
-use Rattle.subchannel_spec.specs.Word.{mend}
-use Rattle.subchannel_spec.specs.Meaning.{Sub, hunting, inGroup, grown, whole, worded, takes, hunt, hears, start, answers, wordsGive}
+use Rattle.subchannel_spec.specs.Meaning.{Sub, hunting, inGroup, grown, worded, takes, hunt, hears, start, answers}
 use Rattle.subchannel_spec.proofs.Groups.{Taken, takesAll, onward, takes-append, behind, groups-read}
 
 -- ---- hunting
 module _ (r d : ℕ) where
-  hunted : (stray cs : List ℕ) (f : Hunting)
-      → ((xs ys : List ℕ) → bytesOf f ++ (stray ++ (marker ++ cs)) ≡ xs ++ (marker ++ ys) → 4 + length stray ≤ length xs)
-      → hears r d (hunting f) (stray ++ (marker ++ cs)) ≡ hears r d (inGroup theMarker 0 freshBack [] waiting) cs
-  hunted [] cs f h = refl
-  hunted (s ∷ stray) cs f h =
-      ap (λ t. hears r d (hunt t (shift f s)) (stray ++ (marker ++ cs)))
-      (no-match (isMarker (shift f s)) (shift f s) refl
-      (λ q. let l = h (f .a ∷ []) (stray ++ (marker ++ cs)) (ap (λ x. f .a ∷ (x ++ (stray ++ (marker ++ cs)))) q) in omega arith))
-      ∙ hunted stray cs (shift f s) (λ xs ys q. let l = h (f .a ∷ xs) ys (ap (λ x. f .a ∷ x) q) in omega arith)
-
   pub from-start : (stray cs : List ℕ) → FirstMarker stray (marker ++ cs)
       → hears r d start (stray ++ (marker ++ cs)) ≡ hears r d (inGroup theMarker 0 freshBack [] waiting) cs
-  from-start stray cs h = hunted stray cs zeros go
-    where
-      go : (xs ys : List ℕ) → bytesOf zeros ++ (stray ++ (marker ++ cs)) ≡ xs ++ (marker ++ ys) → 4 + length stray ≤ length xs
-      go [] ys e = absurd (not-first (omega arith) (head-eq-of-cons-eq e))
-      go (x ∷ []) ys e = absurd (not-first (omega arith) (head-eq-of-cons-eq (tail-eq-of-cons-eq e)))
-      go (x ∷ y ∷ []) ys e = absurd (not-first (omega arith) (head-eq-of-cons-eq (tail-eq-of-cons-eq (tail-eq-of-cons-eq e))))
-      go (x ∷ y ∷ z ∷ []) ys e = absurd (not-first (omega arith) (head-eq-of-cons-eq (tail-eq-of-cons-eq (tail-eq-of-cons-eq (tail-eq-of-cons-eq e)))))
-      go (x ∷ y ∷ z ∷ t ∷ xs) ys e =
-          let l = h xs ys (tail-eq-of-cons-eq (tail-eq-of-cons-eq (tail-eq-of-cons-eq (tail-eq-of-cons-eq e)))) in omega arith
+  from-start =
+      found (λ f. hears r d (hunting f)) (hears r d (inGroup theMarker 0 freshBack [] waiting)) (λ f b bs e. ap (λ t. hears r d (hunt t (shift f b)) bs) e)
+      (λ f bs. refl)
 
 -- ---- words
 module _ (r : ℕ) where
+  -- behind nothing, or behind a whole word, a new one begins
+  abbrev Begins : List ℕ → Type 0
+  Begins w = (w ≡ []) ⊎ (length w ≡ wordBytes)
+
+  begins : (y : ℕ) (w : List ℕ) → Begins w → grown w y ≡ y ∷ []
+  begins y w (inl e) = ap (λ x. grown x y) e
+  begins y w (inr e) = ap (λ t. pick t (w ++ y ∷ []) (y ∷ [])) (le-ltb (length w) wordBytes (omega arith))
+
   -- a byte of a word that is not whole before it
   grows : (u : List ℕ) (b : ℕ) (q : Reading) → length u < wordBytes → takes r (some b) u q ≡ worded (ltb (length (u ++ b ∷ [])) wordBytes) r (u ++ b ∷ []) q
   grows u b q h = ap (λ t. let x : List ℕ = pick t (u ++ b ∷ []) (b ∷ []) in worded (ltb (length x) wordBytes) r x q) (lt-ltb (length u) wordBytes h)
 
-  word-takes : (v u : List ℕ) (q : Reading) → length u < wordBytes → length u + length v ≡ wordBytes → takesAll r v u q ≡ whole r (u ++ v) q
+  word-takes : (v u : List ℕ) (q : Reading) → length u < wordBytes → length u + length v ≡ wordBytes → takesAll r v u q ≡ worded false r (u ++ v) q
   word-takes [] u q h e = absurd (omega arith)
   word-takes (b ∷ []) u q h e =
       let l : length (u ++ b ∷ []) ≡ length u + 1 = length-append u (b ∷ []) in
@@ -76,17 +70,9 @@ module _ (r : ℕ) where
       let l : length (u ++ b ∷ []) ≡ length u + 1 = length-append u (b ∷ []) in
       ap (λ t. onward t (takesAll r (c ∷ v)))
       (grows u b q h ∙ ap (λ t. worded t r (u ++ b ∷ []) q) (lt-ltb (length (u ++ b ∷ [])) wordBytes (omega arith)))
-      ∙ word-takes (c ∷ v) (u ++ b ∷ []) q (omega arith) (omega arith) ∙ ap (λ x. whole r x q) (append-assoc u (b ∷ []) (c ∷ v))
+      ∙ word-takes (c ∷ v) (u ++ b ∷ []) q (omega arith) (omega arith) ∙ ap (λ x. worded false r x q) (append-assoc u (b ∷ []) (c ∷ v))
 
-  -- behind nothing, or behind a whole word, a new one begins
-  abbrev Begins : List ℕ → Type 0
-  Begins w = (w ≡ []) ⊎ (length w ≡ wordBytes)
-
-  begins : (y : ℕ) (w : List ℕ) → Begins w → grown w y ≡ y ∷ []
-  begins y w (inl e) = ap (λ x. grown x y) e
-  begins y w (inr e) = ap (λ t. pick t (w ++ y ∷ []) (y ∷ [])) (le-ltb (length w) wordBytes (omega arith))
-
-  word-begins : (v w : List ℕ) (q : Reading) → IsWord v → Begins w → takesAll r v w q ≡ whole r v q
+  word-begins : (v w : List ℕ) (q : Reading) → IsWord v → Begins w → takesAll r v w q ≡ worded false r v q
   word-begins [] w q h b = let z : _≡_ {A = ℕ} 0 255 = h in absurd (omega arith)
   word-begins (y ∷ ys) w q h b =
       ap (λ x. onward (worded (ltb (length x) wordBytes) r x q) (takesAll r ys)) (begins y w b) ∙ word-takes (y ∷ ys) [] q (lit< tt) (omega arith)
@@ -101,7 +87,7 @@ module _ (r : ℕ) where
       ap (λ x. takesAll r x w q .0) (append-assoc v (joined vs) l)
       ∙ ap (λ (t : Taken). t .0) (takes-append r v (joined vs ++ l) w q)
       ∙ ap (λ (t : Taken). onward t (takesAll r (joined vs ++ l)) .0) (word-begins v w q (h .0) b)
-      ∙ ap (λ x. whole r v q .0 ++ x) (words-heard vs l (mend r v) (whole r v q .2) (h .1) (inr (left-length r v ∙ h .0)) e)
+      ∙ ap (λ x. worded false r v q .0 ++ x) (words-heard vs l (mend r v) (worded false r v q .2) (h .1) (inr (mend-length r v ∙ h .0)) e)
 
 -- ---- through the interleaver
 pub joined-length : (ws : List (List ℕ)) → Each IsWord ws → length (joined ws) ≡ wordBytes * length ws

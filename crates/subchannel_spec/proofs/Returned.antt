@@ -28,12 +28,13 @@ use Rattle.interleaver_spec.proofs.Calling.{passes}
 use Rattle.interleaver_spec.proofs.Round.{returned-told, returned-length}
 use Rattle.channel_spec.specs.Sender.{wordBytes}
 use Rattle.channel_spec.specs.Meaning.{Event, IsWord, FirstMarker}
+use Rattle.channel_spec.proofs.Messages.{cut-back, cut-lengths}
 use Rattle.subchannel_spec.specs.Sender.{groupWords, cutUp, flagWord, closingWords, wordsOf, wordsBack, grouped, sent}
 use Rattle.subchannel_spec.specs.Word.{cameBack}
 use Rattle.subchannel_spec.specs.Meaning.{Sub, answers, wordsGive}
 use Rattle.subchannel_spec.proofs.Groups.{takesAll}
 use Rattle.subchannel_spec.proofs.Received.{words-heard, came-back, groups-heard}
-use Rattle.subchannel_spec.proofs.Streaming.{cut-back, cut-lengths, answered, answered-each, closing, closing-each, in-turn, groups}
+use Rattle.subchannel_spec.proofs.Streaming.{answered, answered-each, closing, closing-each, in-turn, groups}
 use Rattle.subchannel_spec.proofs.Altered.{groups-begin}
 
 -- words, put together and cut again
@@ -119,7 +120,8 @@ module _ (r d : ℕ) (hr : r ≤ rootLimit) (hd : d ≤ depthLimit) (bs : List �
         ap (λ x. answers r d (stray ++ grouped x rs)) n
         ∙ ap (λ (x : List Event × Sub). x .0) (groups-heard r d stray rs (g .0) (let z = g .1 in omega arith) f)
         ∙ ap (λ x. takesAll r x [] waiting .0) (sym (c .1))
-        ∙ words-heard r vs (c .0) [] waiting (cut-lengths wordBytes (lit< tt) (length (wordsBack r d bs)) back k) (inl refl) (let z = c .2 in let y = l .1 in omega arith)
+        ∙ words-heard r vs (c .0) [] waiting (cut-lengths wordBytes (lit< tt) (length (wordsBack r d bs)) back k) (inl refl)
+        (let z = c .2 in let y = l .1 in omega arith)
 
   -- the words that come back of the bytes as sent
   pub unaltered : cameBack d (length (wordsBack r d bs)) (run (push d) fresh (joined (wordsOf r d bs)) .0) ≡ wordsBack r d bs

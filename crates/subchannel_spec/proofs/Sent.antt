@@ -12,19 +12,20 @@ use mathlib.Core.List.{List, _++_, map, append-nil}
 use lib.ListN.{length, take, drop, replicate}
 use lib.Dec.{lit<}
 use borrow.Author.Tests.{lt-ltb, le-ltb}
-use Rattle.base.specs.Bytes.{Each, IsByte, Bytes}
+use Rattle.base.specs.Bytes.{Each, Bytes}
 use Rattle.base.specs.Calls.{joined, run}
 use Rattle.base.specs.Choice.{pick}
-use Rattle.base.proofs.Bytes.{each-append, each-replicate}
+use Rattle.base.proofs.Bytes.{each-append}
 use Rattle.packet_spec.specs.Escape.{flag}
 use Rattle.parity.specs.Calls.{rootLimit}
 use Rattle.interleaver_spec.specs.Running.{fresh, push}
 use Rattle.channel_spec.specs.Sender.{marker, wordBytes}
 use Rattle.channel_spec.specs.Meaning.{IsWord}
-use Rattle.subchannel_spec.specs.Sender.{messageBytes, groupWords, groupBytes, wordOf, missing, filled, cutUp, messagesOf}
-use Rattle.subchannel_spec.specs.Sender.{flagWord, completing, pushed, wordsOf, grouped, sent}
+use Rattle.channel_spec.specs.Word.{messageBytes, wordOf, missing, filled, cutUp, messagesOf}
+use Rattle.channel_spec.proofs.Messages.{cut-joined, cut-lengths, m-pos, IsMessage, filled-long, messages-each}
+use Rattle.subchannel_spec.specs.Sender.{groupWords, groupBytes, flagWord, completing, pushed, wordsOf, grouped, sent}
 use Rattle.subchannel_spec.proofs.Received.{joined-length, pushed-length}
-use Rattle.subchannel_spec.proofs.Streaming.{cut-joined, cut-lengths, cut-each, m-pos, IsMessage, filled-long, answered, answered-each, closing, closing-each, in-turn, four}
+use Rattle.subchannel_spec.proofs.Streaming.{answered, answered-each, closing, closing-each, in-turn, four}
 
 -- groups, each the marker and then its part of the bytes
 grouped-is : (q : ℕ) (bs : List ℕ) → grouped q bs ≡ joined (map (λ g. marker ++ g) (cutUp groupBytes q bs))
@@ -33,14 +34,13 @@ grouped-is (suc q) bs = ap (λ l. marker ++ (take groupBytes bs ++ l)) (grouped-
 
 module _ (r d : ℕ) (hr : r ≤ rootLimit) (bs : List ℕ) (b : Bytes bs) where
   -- fewer flags than a message has bytes, none where there are whole messages
-  pub messages-whole : (k : ℕ) × (k < messageBytes r) × (joined (messagesOf r bs) ≡ bs ++ replicate k flag) × Each (IsMessage r hr) (messagesOf r bs)
+  pub messages-whole : (k : ℕ) × (k < messageBytes r) × (joined (messagesOf r bs) ≡ bs ++ replicate k flag) × Each (IsMessage r) (messagesOf r bs)
   messages-whole =
       let k : ℕ = missing (messageBytes r) (length bs) in (
         k,
         mod-lt (messageBytes r - length bs % messageBytes r) (m-pos r hr),
-        cut-joined (messageBytes r) (m-pos r hr) _ (filled r bs) (filled-long r d hr bs b),
-        cut-each (messageBytes r) (m-pos r hr) _ (filled r bs) (filled-long r d hr bs b)
-            (each-append IsByte bs (replicate k flag) b (each-replicate IsByte k flag (lit< tt))),
+        cut-joined (messageBytes r) (m-pos r hr) _ (filled r bs) (filled-long r hr bs),
+        messages-each r hr bs b,
       )
 
   -- at depth 2 or more D words of flags, else none

@@ -1,165 +1,44 @@
 -- A sub-channel's whole sent stream gives its packets, once each, in order, and nothing else, for every r and d to 64.
--- cut-joined, cut-back, -lengths, -each     a stream filled to whole messages, and cut into them
--- sent-word, sent-condition, sent-mend      a word that is sent: 255 bytes, clean, and left as it is
--- frames-given, blocks-given, losses-given  the answers of words, by kind
--- messages, answered, in-turn, carries, groups   what is sent of any bytes: the messages, the words that are answered, that they and the closing push are all
---                                           words sent, the bytes they carry, that they are whole groups
--- whole-stream                              stray bytes and then a whole sent stream
-use Prim.Native.Nat.{ℕ, zero, suc, _+_, _-_, _*_, _/_, _%_, _≤_, _<_}
-use native.Mathlib.Nat.{suc-mul, mod-lt, mod-self, mod-eq-of-lt, mod-add-div', mul-div-cancel, sub-zero}
+-- messages, messages-each                     what is sent of any bytes: the messages
+-- answered, answered-each, answered-clean     .. the words that are answered: 255 bytes each, and clean
+-- closing, closing-each, in-turn              .. the closing push; that they and it are all words sent
+-- carries, four, groups                       .. the bytes they carry; that they are whole groups
+-- whole-stream                                stray bytes and then a whole sent stream
+use Prim.Native.Nat.{ℕ, zero, suc, _+_, _-_, _*_, _/_, _≤_, _<_}
+use native.Mathlib.Nat.{suc-mul}
 use native.Mathlib.Omega.{arith}
 use mathlib.Core.Path.{_≡_, refl, sym, _∙_, ap, subst}
 use mathlib.Core.List.{List, [], _∷_, _++_, map, append-assoc, map-append}
-use lib.ListN.{length, take, drop, replicate, length-append, length-replicate, length-drop, take-append-drop, replicate-append-replicate}
-use lib.Seq.{take-at, length-take-le}
+use lib.ListN.{length, replicate, length-append, length-replicate, replicate-append-replicate}
 use lib.Dec.{lit<}
 use Rattle.base.specs.Bytes.{Each, IsByte, Bytes}
 use Rattle.base.specs.Calls.{joined}
-use Rattle.base.proofs.Bytes.{each-append, each-take, each-drop, each-replicate}
-use Rattle.base.proofs.Calls.{run-append}
-use Rattle.base.proofs.Tests.{by-eq}
+use Rattle.base.proofs.Bytes.{each-append, each-replicate}
+use Rattle.base.proofs.Lists.{map-same}
 use Rattle.packet_spec.specs.Contents.{Packet}
 use Rattle.packet_spec.specs.Escape.{flag}
 use Rattle.packet_spec.specs.Sender.{Accepted}
-use Rattle.word_spec.specs.Word.{remainder}
-use Rattle.word_spec.proofs.Division.{length-remainder}
-use Rattle.word_spec.proofs.Clean.{parity-clean}
 use Rattle.parity.specs.Calls.{rootLimit}
-use Rattle.repair.proofs.Promising.{clean-left}
-use Rattle.stream.specs.Meaning.{Reading, waiting, read, reads}
+use Rattle.stream.specs.Meaning.{waiting, reads}
 use Rattle.stream.specs.Sender.{stream, delivered}
 use Rattle.stream.proofs.Streaming.{stream-read}
 use Rattle.interleaver_spec.specs.Running.{depthLimit}
-use Rattle.channel_spec.specs.Meaning.{conditionBy, frames, blocks, losses, IsWord, FirstMarker}
+use Rattle.channel_spec.specs.Word.{messageBytes, wordOf, missing, filled, messagesOf, carried, IsWord}
+use Rattle.channel_spec.specs.Given.{frames, blocks, losses, wordsGive}
+use Rattle.channel_spec.specs.Meaning.{FirstMarker}
 use Rattle.channel_spec.specs.declared.Condition.the-variants.{Clean as clean}
-use Rattle.channel_spec.proofs.Streaming.{frames-whole, blocks-whole, losses-whole, stream-bytes}
-use Rattle.subchannel_spec.specs.Sender.{messageBytes, groupWords, wordOf, missing, filled, cutUp, messagesOf}
-use Rattle.subchannel_spec.specs.Sender.{flagWord, closingWords, completing, pushed, wordsOf, marked, sent}
-use Rattle.subchannel_spec.specs.Word.{condition, mend, message, carried}
-use Rattle.subchannel_spec.specs.Meaning.{whole, answers, wordsGive}
+use Rattle.channel_spec.proofs.Messages as over
+use Rattle.channel_spec.proofs.Messages.{cut-joined, m-pos, IsMessage, filled-long, sent-word, words-each, words-messages, IsClean, all-clean}
+use Rattle.channel_spec.proofs.Messages.{words-clean, stream-bytes}
+use Rattle.channel_spec.proofs.Given.{frames-given, blocks-given, losses-given}
+use Rattle.subchannel_spec.specs.Sender.{groupWords, flagWord, closingWords, completing, pushed, wordsOf, marked, sent}
+use Rattle.subchannel_spec.specs.Meaning.{answers}
 use Rattle.subchannel_spec.proofs.Received.{joined-append, received}
-
--- ---- whole messages, of m bytes
-module _ (m : ℕ) (pos : 0 < m) where
-  multiple : (x q : ℕ) → x ≡ q * m → x ≡ x / m * m
-  multiple x q e = e ∙ sym (ap (λ y. y / m * m) e ∙ ap (λ y. y * m) (mul-div-cancel q pos))
-
-  pub filled-multiple : (n : ℕ) → n + missing m n ≡ (n + missing m n) / m * m
-  filled-multiple n =
-      let l : n % m < m = mod-lt n pos in
-      let s : n % m + n / m * m ≡ n = mod-add-div' n m in
-      by-eq (n % m) 0
-      (λ z.
-      let e : missing m n ≡ 0 = ap (λ y. (m - y) % m) z ∙ ap (λ y. y % m) (sub-zero m) ∙ mod-self m in
-      multiple (n + missing m n) (n / m) (omega arith))
-      (λ z.
-      let e : missing m n ≡ m - n % m = mod-eq-of-lt (omega arith) in
-      let f : suc (n / m) * m ≡ n / m * m + m = suc-mul (n / m) m in
-      multiple (n + missing m n) (suc (n / m)) (omega arith))
-
-  cut-rest : (q : ℕ) (bs : List ℕ) → length bs ≡ suc q * m → (length (drop m bs) ≡ q * m) × (m ≤ length bs)
-  cut-rest q bs e = let f : suc q * m ≡ q * m + m = suc-mul q m in (length-drop m bs ∙ omega arith, omega arith)
-
-  pub cut-joined : (q : ℕ) (bs : List ℕ) → length bs ≡ q * m → joined (cutUp m q bs) ≡ bs
-  cut-joined zero [] e = refl
-  cut-joined zero (b ∷ bs) e = let z : 0 * m ≡ 0 = omega arith in absurd (omega arith)
-  cut-joined (suc q) bs e = ap (λ l. take m bs ++ l) (cut-joined q (drop m bs) (cut-rest q bs e .0)) ∙ take-append-drop m bs
-
-  -- q parts of bytes, and what is left of these
-  pub cut-back : (q : ℕ) (bs : List ℕ) → q * m ≤ length bs → (l : List ℕ) × (joined (cutUp m q bs) ++ l ≡ bs) × (length l + q * m ≡ length bs)
-  cut-back zero bs h = (bs, refl, omega arith)
-  cut-back (suc q) bs h =
-      let f : suc q * m ≡ q * m + m = suc-mul q m in
-      let n : length (drop m bs) ≡ length bs - m = length-drop m bs in
-      let x = cut-back q (drop m bs) (omega arith) in
-      let e = x .2 in (
-        x .0,
-        append-assoc (take m bs) (joined (cutUp m q (drop m bs))) (x .0) ∙ ap (λ l. take m bs ++ l) (x .1) ∙ take-append-drop m bs,
-        omega arith,
-      )
-
-  pub cut-lengths : (q : ℕ) (bs : List ℕ) → q * m ≤ length bs → Each (λ (x : List ℕ). length x ≡ m) (cutUp m q bs)
-  cut-lengths zero bs h = tt
-  cut-lengths (suc q) bs h =
-      let f : suc q * m ≡ q * m + m = suc-mul q m in
-      let n : length (drop m bs) ≡ length bs - m = length-drop m bs in
-      (length-take-le m bs (omega arith), cut-lengths q (drop m bs) (omega arith))
-
-  abbrev IsPart : List ℕ → Type 0
-  IsPart x = (length x ≡ m) × Bytes x
-
-  pub cut-each : (q : ℕ) (bs : List ℕ) → length bs ≡ q * m → Bytes bs → Each IsPart (cutUp m q bs)
-  cut-each zero bs e h = tt
-  cut-each (suc q) bs e h = (
-    (length-take-le m bs (cut-rest q bs e .1), each-take IsByte m bs h),
-    cut-each q (drop m bs) (cut-rest q bs e .0) (each-drop IsByte m bs h),
-  )
-
--- ---- words that are sent
-module _ (r : ℕ) where
-  abbrev pub IsClean : List ℕ → Type 0
-  IsClean w = condition r w ≡ clean
-
-  pub all-clean : (ws : List (List ℕ)) → Each IsClean ws → map (condition r) ws ≡ replicate (length ws) clean
-  all-clean [] i = refl
-  all-clean (w ∷ ws) i = λ j. i .0 j ∷ all-clean ws (i .1) j
-
-module _ (r : ℕ) (h : r ≤ rootLimit) where
-  pub m-pos : 0 < messageBytes r
-  m-pos = omega arith
-
-  abbrev pub IsMessage : List ℕ → Type 0
-  IsMessage x = (length x ≡ messageBytes r) × Bytes x
-
-  module _ (x : List ℕ) (i : IsMessage x) where
-    pub sent-word : IsWord (wordOf r x)
-    sent-word = length-append x (remainder r x) ∙ (let z = length-remainder r x in let y = i .0 in omega arith)
-
-    pub sent-condition : condition r (wordOf r x) ≡ clean
-    sent-condition = ap (λ y. conditionBy (y .0)) (clean-left r (wordOf r x) h sent-word (parity-clean r x (i .1)))
-
-    pub sent-mend : mend r (wordOf r x) ≡ wordOf r x
-    sent-mend = ap (λ y. y .1) (clean-left r (wordOf r x) h sent-word (parity-clean r x (i .1)))
-
-  words-each : (ms : List (List ℕ)) → Each IsMessage ms → Each IsWord (map (wordOf r) ms)
-  words-each [] i = tt
-  words-each (x ∷ ms) i = (sent-word x (i .0), words-each ms (i .1))
-
-  words-messages : (ms : List (List ℕ)) → Each IsMessage ms → carried r (map (wordOf r) ms) ≡ joined ms
-  words-messages [] i = refl
-  words-messages (x ∷ ms) i =
-      λ j. (ap (take (messageBytes r)) (sent-mend x (i .0)) ∙ take-at x (remainder r x) (messageBytes r) (i .0 .0)) j ++ words-messages ms (i .1) j
-
-  words-clean : (ms : List (List ℕ)) → Each IsMessage ms → Each (IsClean r) (map (wordOf r) ms)
-  words-clean [] i = tt
-  words-clean (x ∷ ms) i = (sent-condition x (i .0), words-clean ms (i .1))
-
--- ---- the answers of words, by kind
-module _ (r : ℕ) where
-  pub frames-given : (ws : List (List ℕ)) (q : Reading) → frames (wordsGive r ws q .0) ≡ reads q (carried r ws) .0
-  frames-given [] q = refl
-  frames-given (w ∷ ws) q =
-      frames-whole (reads q (message r w) .0) (wordsGive r ws (whole r w q .2) .0)
-      ∙ ap (λ l. reads q (message r w) .0 ++ l) (frames-given ws (whole r w q .2))
-      ∙ sym (ap (λ x. x .0) (run-append read q (message r w) (carried r ws)))
-
-  pub blocks-given : (ws : List (List ℕ)) (q : Reading) → blocks (wordsGive r ws q .0) ≡ map (condition r) ws
-  blocks-given [] q = refl
-  blocks-given (w ∷ ws) q =
-      ap (λ l. condition r w ∷ l) (blocks-whole (reads q (message r w) .0) (wordsGive r ws (whole r w q .2) .0) ∙ blocks-given ws (whole r w q .2))
-
-  pub losses-given : (ws : List (List ℕ)) (q : Reading) → losses (wordsGive r ws q .0) ≡ 0
-  losses-given [] q = refl
-  losses-given (w ∷ ws) q = losses-whole (reads q (message r w) .0) (wordsGive r ws (whole r w q .2) .0) ∙ losses-given ws (whole r w q .2)
 
 -- ---- lists of one and the same
 same-append : {A : Type 0} (x : A) (a b : ℕ) → replicate a x ++ replicate b x ≡ replicate b x ++ replicate a x
 same-append x a b =
     replicate-append-replicate a b x ∙ ap (λ n. replicate n x) (let z : a + b ≡ b + a = omega arith in z) ∙ sym (replicate-append-replicate b a x)
-
-map-replicate : {A B : Type 0} (f : A → B) (n : ℕ) (x : A) → map f (replicate n x) ≡ replicate n (f x)
-map-replicate f zero x = refl
-map-replicate f (suc n) x = ap (λ l. f x ∷ l) (map-replicate f n x)
 
 -- n messages of m flags
 joined-flags : (n m : ℕ) → joined (replicate n (replicate m flag)) ≡ replicate (n * m) flag
@@ -187,21 +66,12 @@ module _ (r d : ℕ) (hr : r ≤ rootLimit) (bs : List ℕ) (h : Bytes bs) where
   abbrev pub closing : List (List ℕ)
   closing = replicate (closingWords d) (flagWord r)
 
-  pub filled-long : length (filled r bs) ≡ length (filled r bs) / messageBytes r * messageBytes r
-  filled-long =
-      let n : ℕ = missing (messageBytes r) (length bs) in
-      let l : length (filled r bs) ≡ length bs + n = length-append bs _ ∙ ap (λ x. length bs + x) (length-replicate n flag) in
-      l ∙ filled-multiple (messageBytes r) (m-pos r hr) (length bs) ∙ ap (λ x. x / messageBytes r * messageBytes r) (sym l)
-
-  flags-message : IsMessage r hr flags
+  flags-message : IsMessage r flags
   flags-message = (length-replicate (messageBytes r) flag, each-replicate IsByte (messageBytes r) flag (lit< tt))
 
-  pub messages-each : Each (IsMessage r hr) messages
+  pub messages-each : Each (IsMessage r) messages
   messages-each =
-      each-append (IsMessage r hr) (messagesOf r bs) (replicate fill flags)
-      (cut-each (messageBytes r) (m-pos r hr) _ (filled r bs) filled-long
-      (each-append IsByte bs _ h (each-replicate IsByte (missing (messageBytes r) (length bs)) flag (lit< tt))))
-      (each-replicate (IsMessage r hr) fill flags flags-message)
+      each-append (IsMessage r) (messagesOf r bs) (replicate fill flags) (over.messages-each r hr bs h) (each-replicate (IsMessage r) fill flags flags-message)
 
   pub answered-each : Each IsWord answered
   answered-each = words-each r hr messages messages-each
@@ -218,7 +88,7 @@ module _ (r d : ℕ) (hr : r ≤ rootLimit) (bs : List ℕ) (h : Bytes bs) where
       let n : ℕ = missing (messageBytes r) (length bs) in (
         n + fill * messageBytes r,
         words-messages r hr messages messages-each ∙ joined-append (messagesOf r bs) (replicate fill flags)
-            ∙ (λ i. cut-joined (messageBytes r) (m-pos r hr) _ (filled r bs) filled-long i ++ joined-flags fill (messageBytes r) i)
+            ∙ (λ i. cut-joined (messageBytes r) (m-pos r hr) _ (filled r bs) (filled-long r hr bs) i ++ joined-flags fill (messageBytes r) i)
             ∙ append-assoc bs (replicate n flag) (replicate (fill * messageBytes r) flag)
             ∙ ap (λ l. bs ++ l) (replicate-append-replicate n (fill * messageBytes r) flag),
       )
@@ -230,7 +100,7 @@ module _ (r d : ℕ) (hr : r ≤ rootLimit) (bs : List ℕ) (h : Bytes bs) where
       append-assoc ws closing (replicate fill (flagWord r)) ∙ ap (λ l. ws ++ l) (same-append (flagWord r) (closingWords d) fill)
       ∙ sym (append-assoc ws (replicate fill (flagWord r)) closing)
       ∙ ap (λ l. l ++ closing)
-      (sym (map-append (wordOf r) (messagesOf r bs) (replicate fill flags) ∙ ap (λ l. ws ++ l) (map-replicate (wordOf r) fill flags)))
+      (sym (map-append (wordOf r) (messagesOf r bs) (replicate fill flags) ∙ ap (λ l. ws ++ l) (map-same (wordOf r) fill flags)))
 
   -- whole groups
   pub four : length (wordsOf r d bs) ≡ length (wordsOf r d bs) / groupWords * groupWords

@@ -1,26 +1,26 @@
 -- What a received byte string means on a fixed sub-channel (request W7) with r parity bytes and depth d, byte by byte, to a receiver
 -- whose memory has no limit.
 -- Sub                            its state
--- whole, takes                   a whole word, and a byte of one, if a received byte brings one
--- step, hears, start, answers    one byte, a byte string, just told, all answers of a sub-channel that was just told its settings
--- wordsGive                      the answers of whole words, in their order
+-- worded, grown, takes           a word so far, and a byte of one, if a received byte brings one
+-- hunt, grouping, compared, behindGroup, step   one byte, by where it comes
+-- hears, start, answers          a byte string, just told, all answers of a sub-channel that was just told its settings
 use Prim.Native.Nat.{ℕ, suc}
 use mathlib.Core.Bool.{Bool, true, false}
-use mathlib.Core.List.{List, [], _∷_, _++_, map}
+use mathlib.Core.List.{List, [], _∷_, _++_}
 use mathlib.Core.Option.{Option, some, none}
 use lib.Dec.{ltb}
 use lib.ListN.{length}
-use Rattle.base.specs.Calls.{andThen}
 use Rattle.base.specs.Choice.{pick}
-use Rattle.packet_spec.specs.Frame.{Told}
-use Rattle.stream.specs.Meaning.{Reading, waiting, reads}
+use Rattle.stream.specs.Meaning.{Reading, waiting}
 use Rattle.interleaver_spec.specs.Running.{freshBack, pull}
 use Rattle.interleaver_spec.specs.declared.Back.{Back}
 use Rattle.channel_spec.specs.Sender.{wordBytes}
-use Rattle.channel_spec.specs.Meaning.{Event, said, block, lost, shift, isMarker, zeros}
+use Rattle.channel_spec.specs.Meaning.{shift, isMarker, zeros}
+use Rattle.channel_spec.specs.Word.{mend}
+use Rattle.channel_spec.specs.Given.{Event, lost, eachByte, whole}
+pub use Rattle.channel_spec.specs.Given.{wordsGive}
 use Rattle.channel_spec.specs.declared.Hunting.{Hunting}
 use Rattle.subchannel_spec.specs.Sender.{groupBytes}
-use Rattle.subchannel_spec.specs.Word.{condition, mend, message}
 
 -- hunting; in a group, with its bytes so far; behind one, with the marker bytes so far; lock lost. Each with the last four bytes, and but
 -- for hunting with the interleaver's cells. In and behind a group: the bytes of the word so far, 255 where it was whole and none has come
@@ -31,14 +31,10 @@ pub data Sub : Type 0 where
   inMark : Hunting → ℕ → Back → List ℕ → Reading → Sub
   silent : Hunting → Back → Sub
 
--- a whole word: the block's answer, and then those of its message bytes
-abbrev pub whole : ℕ → List ℕ → Reading → List Event × List ℕ × Reading
-whole r w q = (block (condition r w) ∷ map said (reads q (message r w) .0), mend r w, reads q (message r w) .1)
-
--- by: is the word not whole yet
+-- by: is the word not whole yet. A whole one gives the block's answer, and then those of its message bytes
 abbrev pub worded : Bool → ℕ → List ℕ → Reading → List Event × List ℕ × Reading
 worded true r w q = ([], w, q)
-worded false r w q = whole r w q
+worded false r w q = (whole r w q .0, mend r w, whole r w q .1)
 
 -- a word's byte: behind a whole word a new one begins
 abbrev pub grown : List ℕ → ℕ → List ℕ
@@ -81,8 +77,7 @@ step r d (silent f k) b = ([], silent f k)
 
 -- a byte string: its answers, and the state behind it
 abbrev pub hears : ℕ → ℕ → Sub → List ℕ → List Event × Sub
-hears r d s [] = ([], s)
-hears r d s (b ∷ bs) = andThen (step r d s b) (λ t. hears r d t bs)
+hears r d = eachByte (step r d)
 
 -- just told: hunting with four bytes of zero
 abbrev pub start : Sub
@@ -91,10 +86,3 @@ start = hunting zeros
 -- all answers
 abbrev pub answers : ℕ → ℕ → List ℕ → List Event
 answers r d bs = hears r d start bs .0
-
--- what words give, one after the other, and the frame reader behind them: each a block answer, and then the answers of its message bytes
-abbrev pub wordsGive : ℕ → List (List ℕ) → Reading → List Event × Reading
-wordsGive r [] q = ([], q)
-wordsGive r (w ∷ ws) q =
-    let x : List Told × Reading = reads q (message r w) in
-    (block (condition r w) ∷ (map said (x .0) ++ wordsGive r ws (x .1) .0), wordsGive r ws (x .1) .1)

@@ -1,26 +1,21 @@
 -- A fixed sub-channel's sender (request W7), with r parity bytes and depth d: "its own stream, filled with flags to whole messages, the
--- marker before every four words, words interleaved before marking".
--- messageBytes, wordOf     the message bytes of a word, and a word
--- filled, messagesOf       the stream filled with flags, and cut into messages
+-- marker before every four words, words interleaved before marking". Words and messages with r parity bytes are those of channel_spec's Word.
+-- groupWords, groupBytes   words behind a marker, and their bytes
 -- flagWord                 a word of flags
 -- closingWords, completing   how many of them the closing push is made of, and how many complete the last group
--- wordsOf                  all words: those of the stream, the closing push, those that complete the last group
+-- pushed, wordsOf          the words of the stream and the closing push; all words: with those that complete the last group
 -- wordsBack                those of them that come back: the closing push stays in the interleaver
 -- grouped, marked, sent    groups, each with the marker before it; words and a stream as they are sent
-use Prim.Native.Nat.{ℕ, zero, suc, _*_, _-_, _/_, _%_}
-use mathlib.Core.List.{List, [], _∷_, _++_, map}
+use Prim.Native.Nat.{ℕ, zero, suc, _*_, _-_, _/_}
+use mathlib.Core.List.{List, [], _++_, map}
 use lib.Dec.{ltb}
 use lib.ListN.{length, take, drop, replicate}
 use Rattle.base.specs.Calls.{joined, run}
 use Rattle.base.specs.Choice.{pick}
 use Rattle.packet_spec.specs.Escape.{flag}
-use Rattle.word_spec.specs.Word.{remainder}
 use Rattle.interleaver_spec.specs.Running.{fresh, push}
 use Rattle.channel_spec.specs.Sender.{marker, wordBytes}
-
--- message bytes of a word
-abbrev pub messageBytes : ℕ → ℕ
-messageBytes r = wordBytes - r
+pub use Rattle.channel_spec.specs.Word.{messageBytes, wordOf, missing, filled, cutUp, messagesOf}
 
 -- words behind a marker
 abbrev pub groupWords : ℕ
@@ -29,27 +24,6 @@ groupWords = 4
 -- bytes behind a marker
 abbrev pub groupBytes : ℕ
 groupBytes = groupWords * wordBytes
-
--- a message with its parity behind it
-abbrev pub wordOf : ℕ → List ℕ → List ℕ
-wordOf r m = m ++ remainder r m
-
--- how many are missing to a multiple of m, none where n is one
-abbrev pub missing : ℕ → ℕ → ℕ
-missing m n = (m - n % m) % m
-
--- "filled with flags to whole messages"
-abbrev pub filled : ℕ → List ℕ → List ℕ
-filled r bs = bs ++ replicate (missing (messageBytes r) (length bs)) flag
-
--- cut into q parts of m bytes
-abbrev pub cutUp : ℕ → ℕ → List ℕ → List (List ℕ)
-cutUp m zero bs = []
-cutUp m (suc q) bs = take m bs ∷ cutUp m q (drop m bs)
-
--- the messages of a stream
-abbrev pub messagesOf : ℕ → List ℕ → List (List ℕ)
-messagesOf r bs = cutUp (messageBytes r) (length (filled r bs) / messageBytes r) (filled r bs)
 
 -- a word of flags
 abbrev pub flagWord : ℕ → List ℕ

@@ -1,6 +1,8 @@
 -- A byte of a payload, by its place.
--- in-audio, in-fixed, in-gap, in-opportunistic, in-delimiter, before-delimiter   where it stands
--- marked-none, marked-some                                                      the delimiter stands only before opportunistic data
+-- in-audio, in-fixed, in-gap, in-none, in-opportunistic, in-delimiter, before-delimiter   where it stands
+-- marked-none, marked-some     the delimiter stands only before opportunistic data; length-some: what both take
+-- begin-fits, length-laid      how much room they have; how long the payload is
+-- bits-any                     a bit of bytes is a bit of a byte, or 0 behind them
 use mathlib.Core.Path.{_≡_, refl, sym, ap, _∙_}
 use mathlib.Core.List.{List, [], _++_}
 use Prim.Native.Nat.{ℕ, zero, suc, _+_, _-_, _/_, _%_, _≤_, _<_}

@@ -1,4 +1,5 @@
 -- Three parts stored one behind the other.
+-- three            the parts
 -- delivered        what they leave
 -- deliver-short    and where there is no room for them
 use mathlib.Core.Path.{_≡_, sym, ap, ap₂, _∙_}

@@ -3,7 +3,7 @@
 -- bits-at    a bit of bytes is a bit of a byte
 -- bits-over  behind them there is none
 -- zeros-at   zeros behind bits change none
--- eight-at   eight bits, one by one
+-- eight-at   eight bits, one by one; byte-at: as a byte
 use mathlib.Core.Path.{_≡_, refl, sym, ap, _∙_}
 use mathlib.Core.List.{List, [], _∷_, _++_}
 use Prim.Native.Nat.{ℕ, zero, suc, _+_, _-_, _*_, _/_, _%_, _^_, _≤_, _<_}

@@ -1,8 +1,8 @@
 -- The tests of a unit's contents, as the code makes them.
 -- no-audio, no-fixed, plain-room, no-room, marked-room   whether the parts are more than the payload
 -- length-marked             what opportunistic data take with their delimiter
--- zeros-is                  whether a delimiter is zeros, byte by byte
--- hidden-none, hidden-not, hidden-zeros   refusal 54
+-- zeros-is, zeros-0, zeros-1, zeros-2, zeros-3, zeros-4   whether a delimiter is zeros, byte by byte
+-- hidden-none, hidden-not, hidden-zeros   refusal 54; gap-fits: what it reckons with is not below 0
 use mathlib.Core.Path.{_≡_, refl, sym, ap, _∙_}
 use mathlib.Core.Bool.{Bool, true, false, _&&_}
 use mathlib.Core.List.{List, [], _∷_, _++_}

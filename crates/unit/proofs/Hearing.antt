@@ -1,9 +1,12 @@
 -- What the reader's code finds, as the definitions have it.
 -- reach                                     the header bits of an accepted length stand within its bits
+-- Lent, Onward                              what the code has found: a whole unit; the bit is not before the header
+-- heads-few, step-some                      how many there are, and that they stand apart
+-- payload-low, table-low                    the numbers of an accepted length are low enough to reckon with
 -- payload-before, payload-once, payload-gap   a payload bit
--- byte-of                                   a payload byte
--- hear-none, hear-more, hear-done           the loop that reads the header
--- named-24, named-23, named-22              the sequence named
+-- byte-reach, byte-of                       a payload byte
+-- SoFar, hear-none, hear-more, hear-done    the loop that reads the header; low, at-low: its numbers
+-- named-24, named-23, named-22, is-22       the sequence named
 use mathlib.Core.Path.{_≡_, refl, sym, ap, ap₂, _∙_}
 use mathlib.Core.Bool.{false}
 use mathlib.Core.List.{List}
@@ -34,38 +37,53 @@ reach l u fit h =
     rw (← e) (reaches (start l) (step l - 1) (heads l - 1) (length (bits u))
     (omega (arith, turn (start l) (heads l) (step l) l k (omega (arith, few l .0)) (fits l k), spans l k, length-bits u)))
 
-module _ (l : ℕ) (u : List ℕ) (t : ℕ) (fit : unfit l ≡ false) (h : lent l ≤ length u) {first : ℕ} (ef : first ≡ start l) where
-  pub payload-before : t < first → getD (bits u) t 0 ≡ getD (unwoven (start l) (step l - 1) (heads l) (bits u)) t 0
-  payload-before k = sym (at-start (start l) (step l - 1) (heads l) (bits u) t (reach l u fit h) (omega arith))
+-- u has a whole unit of l bits, whose header begins behind `first` bits; t is a bit of its payload
+pub record Lent (l : ℕ) (u : List ℕ) (t first : ℕ) : Type 0 where
+  pub fit : unfit l ≡ false
+  pub long : lent l ≤ length u
+  pub begin : first ≡ start l
 
-  module _ (k : first ≤ t) {n s : ℕ} (en : n ≡ heads l) (es : s ≡ step l) where
+-- bit t is not before the n header bits, which are s bits apart
+pub record Onward (l : ℕ) (u : List ℕ) (t first n s : ℕ) : Type 0 where
+  pub on : Lent l u t first
+  pub past : first ≤ t
+  pub many : n ≡ heads l
+  pub apart : s ≡ step l
+
+module _ {l : ℕ} {u : List ℕ} {t first : ℕ} where
+  pub payload-before : Lent l u t first → t < first → getD (bits u) t 0 ≡ getD (unwoven (start l) (step l - 1) (heads l) (bits u)) t 0
+  payload-before k h = sym (at-start (start l) (step l - 1) (heads l) (bits u) t (reach l u (k .fit) (k .long)) (omega (arith, k .begin)))
+
+  module _ {n s : ℕ} (k : Onward l u t first n s) where
     is : start l + (t - start l) ≡ t
-    is = omega arith
+    is = omega (arith, k .past, k .on .begin)
+
+    reached : Reach (start l) (step l - 1) (heads l) (length (bits u))
+    reached = reach l u (k .on .fit) (k .on .long)
 
     pub heads-few : n ≤ 24
-    heads-few = omega (arith, few l .1)
+    heads-few = omega (arith, few l .1, k .many)
 
     pub step-some : 1 ≤ s
-    step-some = omega (arith, accepted l fit .1)
+    step-some = omega (arith, accepted l (k .on .fit) .1, k .apart)
 
     pub payload-once : s - 1 ≡ 0 → getD (bits u) (t + n) 0 ≡ getD (unwoven (start l) (step l - 1) (heads l) (bits u)) t 0
     payload-once z =
-        let g : step l - 1 ≡ 0 = ap (λ (x : ℕ). x - 1) (sym es) ∙ z in
-        let r : Reach (start l) 0 (heads l) (length (bits u)) = rw g at (reach l u fit h) in
-        let i : t + n ≡ start l + (t - start l) + heads l = omega arith in
+        let g : step l - 1 ≡ 0 = ap (λ (x : ℕ). x - 1) (sym (k .apart)) ∙ z in
+        let r : Reach (start l) 0 (heads l) (length (bits u)) = rw g at reached in
+        let i : t + n ≡ start l + (t - start l) + heads l = omega (arith, is, k .many) in
         ap (λ (x : ℕ). getD (bits u) x 0) i ∙ sym (at-once (start l) (heads l) (bits u) (t - start l) r)
         ∙ ap₂ (λ (x y : ℕ). getD (unwoven (start l) x (heads l) (bits u)) y 0) (sym g) is
 
     pub payload-gap : (s - 1 ≡ 0 → ⊥) → {m : ℕ} → m ≡ min n ((t - first) / (s - 1) + 1)
         → getD (bits u) (t + m) 0 ≡ getD (unwoven (start l) (step l - 1) (heads l) (bits u)) t 0
     payload-gap z {m} em =
-        let g : s - 1 ≡ step l - 1 = ap (λ (x : ℕ). x - 1) es in
+        let g : s - 1 ≡ step l - 1 = ap (λ (x : ℕ). x - 1) (k .apart) in
         let p : 0 < step l - 1 = pos-of-ne-zero (λ e. z (g ∙ e)) in
         let f : m ≡ min (heads l) ((t - start l) / (step l - 1) + 1) =
-        em ∙ ap₂ (λ (x y : ℕ). min x (y + 1)) en (ap₂ (λ (x y : ℕ). (t - x) / y) ef g) in
+        em ∙ ap₂ (λ (x y : ℕ). min x (y + 1)) (k .many) (ap₂ (λ (x y : ℕ). (t - x) / y) (k .on .begin) g) in
         let i : t + m ≡ start l + (t - start l) + min (heads l) ((t - start l) / (step l - 1) + 1) = ap₂ _+_ (sym is) f in
-        ap (λ (x : ℕ). getD (bits u) x 0) i
-        ∙ sym (at-gap (step l - 1) p (start l) (heads l) (bits u) (t - start l) (reach l u fit h))
+        ap (λ (x : ℕ). getD (bits u) x 0) i ∙ sym (at-gap (step l - 1) p (start l) (heads l) (bits u) (t - start l) reached)
         ∙ ap (λ (y : ℕ). getD (unwoven (start l) (step l - 1) (heads l) (bits u)) y 0) is
 
 pack-at : (n : ℕ) (u : List ℕ) (j : ℕ) → j < n → number 0 (take 8 (drop (j * 8) u)) ≡ getD (pack n u) j 0

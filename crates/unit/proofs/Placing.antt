@@ -1,7 +1,11 @@
 -- A bit of a unit, by its place: as the code has it.
 -- unit-before, unit-heading, unit-between, unit-behind   a bit before, of, between and behind the header bits
 -- header-at                                              a header bit, by its number
+-- Held, Onward                                           what the code has found: the parts fit; the bit is not before the header
+-- bit-before, bit-heading, bit-between, bit-behind       the same of the payload that is laid out
+-- step-some, behind-fits, heading-fits, between-fits     what the code reckons with is not below 0
 -- length-bits-unit                                       there are eight to a byte
+-- spread-none, spread-more, spread-done, byte-within     the loop over the bytes
 use mathlib.Core.Path.{_≡_, refl, sym, ap, ap₂, subst, _∙_}
 use mathlib.Core.Bool.{false}
 use mathlib.Core.List.{List, [], _∷_, _++_}
@@ -78,55 +82,81 @@ under x s h n =
     let c : 0 < x % s = pos-of-ne-zero n in
     omega arith
 
-module _ (l cw : ℕ) (d audio opp fixed : List ℕ) (fit : unfit l ≡ false) (fill : filled d audio opp fixed ≤ payload l) (i : ℕ) where
-  -- the payload
-  abbrev pub laid : List ℕ
-  laid = laidOut (payload l) d audio opp fixed
+-- a unit of l bits holds its parts; its payload has n bytes, and its header begins behind `first` bits
+pub record Held (l cw : ℕ) (d audio opp fixed : List ℕ) (i n first : ℕ) : Type 0 where
+  pub fit : unfit l ≡ false
+  pub fill : filled d audio opp fixed ≤ payload l
+  pub all : n ≡ payload l
+  pub begin : first ≡ start l
 
-  some : 0 < step l
-  some = accepted l fit .1
+-- bit i is not before the m header bits, which are s bits apart
+pub record Onward (l cw : ℕ) (d audio opp fixed : List ℕ) (i n first s m : ℕ) : Type 0 where
+  pub on : Held l cw d audio opp fixed i n first
+  pub past : first ≤ i
+  pub apart : s ≡ step l
+  pub many : m ≡ heads l
 
-  pub step-some : {s : ℕ} → s ≡ step l → 0 < s
-  step-some e = omega (arith, some)
+module _ {l cw : ℕ} {d audio opp fixed : List ℕ} {i n first : ℕ} where
+  module _ (k : Held l cw d audio opp fixed i n first) where
+    -- the payload
+    abbrev laid : List ℕ
+    laid = laidOut (payload l) d audio opp fixed
 
-  module _ {n first : ℕ} (en : n ≡ payload l) (ef : first ≡ start l) where
+    some : 0 < step l
+    some = accepted l (k .fit) .1
+
+    length-of : length laid ≡ payload l
+    length-of = length-laid (payload l) d audio opp fixed (k .fill)
+
     same : (t : ℕ) → getD (bits (laidOut n d audio opp fixed)) t 0 ≡ getD (bits laid) t 0
-    same t = ap (λ (m : ℕ). getD (bits (laidOut m d audio opp fixed)) t 0) en
+    same t = ap (λ (m : ℕ). getD (bits (laidOut m d audio opp fixed)) t 0) (k .all)
 
-    pub bit-before : i < first → getD (bits (laidOut n d audio opp fixed)) i 0 ≡ getD (unitBits l cw laid) i 0
-    bit-before h = same i ∙ unit-before l cw laid some (length-laid (payload l) d audio opp fixed fill) i (omega arith)
+    pub bit-before : i < first → getD (bits (laidOut n d audio opp fixed)) i 0 ≡ getD (unitBits l cw (laidOut (payload l) d audio opp fixed)) i 0
+    bit-before h = same i ∙ unit-before l cw laid some length-of i (omega (arith, k .begin))
 
-    module _ (h : first ≤ i) {s m : ℕ} (es : s ≡ step l) (em : m ≡ heads l) where
-      is-place : (i - first) / s ≡ (i - start l) / step l
-      is-place = ap₂ (λ (x y : ℕ). (i - x) / y) ef es
+  module _ {s m : ℕ} (k : Onward l cw d audio opp fixed i n first s m) where
+    abbrev body : List ℕ
+    body = laidOut (payload l) d audio opp fixed
 
-      is-rest : (i - first) % s ≡ (i - start l) % step l
-      is-rest = ap₂ (λ (x y : ℕ). (i - x) % y) ef es
+    from-start : start l ≤ i
+    from-start = omega (arith, k .past, k .on .begin)
 
-      pub behind-fits : m ≤ (i - first) / s → m ≤ i
-      behind-fits q = omega (arith, div-le-self (i - first) s)
+    is-place : (i - first) / s ≡ (i - start l) / step l
+    is-place = ap₂ (λ (x y : ℕ). (i - x) / y) (k .on .begin) (k .apart)
 
-      pub bit-behind : m ≤ (i - first) / s → getD (bits (laidOut n d audio opp fixed)) (i - m) 0 ≡ getD (unitBits l cw laid) i 0
-      bit-behind q =
-          same (i - m) ∙ ap (λ (x : ℕ). getD (bits laid) (i - x) 0) em
-          ∙ unit-behind l cw laid some (length-laid (payload l) d audio opp fixed fill) i (omega arith) (omega (arith, is-place))
+    is-rest : (i - first) % s ≡ (i - start l) % step l
+    is-rest = ap₂ (λ (x y : ℕ). (i - x) % y) (k .on .begin) (k .apart)
 
-      module _ (q : (i - first) / s < m) where
-        pub heading-fits : (i - first) / s < 24
-        heading-fits = omega (arith, few l .1)
+    pub step-some : 0 < s
+    step-some = omega (arith, k .apart, some (k .on))
 
-        pub bit-heading : (i - first) % s ≡ 0 → getD (digits 24 cw) ((i - first) / s) 0 ≡ getD (unitBits l cw laid) i 0
-        bit-heading r =
-            ap (λ (x : ℕ). getD (digits 24 cw) x 0) is-place
-            ∙ unit-heading l cw laid some (length-laid (payload l) d audio opp fixed fill) i (omega arith) (omega (arith, is-place)) (sym is-rest ∙ r)
+    pub behind-fits : m ≤ (i - first) / s → m ≤ i
+    behind-fits q = omega (arith, div-le-self (i - first) s)
 
-        pub between-fits : ((i - first) % s ≡ 0 → ⊥) → (i - first) / s + 1 ≤ i
-        between-fits r = omega (arith, under (i - first) s (step-some es) r)
+    pub bit-behind : m ≤ (i - first) / s → getD (bits (laidOut n d audio opp fixed)) (i - m) 0 ≡ getD (unitBits l cw body) i 0
+    bit-behind q =
+        same (k .on) (i - m) ∙ ap (λ (x : ℕ). getD (bits body) (i - x) 0) (k .many)
+        ∙ unit-behind l cw body (some (k .on)) (length-of (k .on)) i from-start (omega (arith, is-place, k .many))
 
-        pub bit-between : ((i - first) % s ≡ 0 → ⊥) → getD (bits (laidOut n d audio opp fixed)) (i - ((i - first) / s + 1)) 0 ≡ getD (unitBits l cw laid) i 0
-        bit-between r =
-            same (i - ((i - first) / s + 1)) ∙ ap (λ (x : ℕ). getD (bits laid) (i - (x + 1)) 0) is-place
-            ∙ unit-between l cw laid some (length-laid (payload l) d audio opp fixed fill) i (omega arith) (omega (arith, is-place)) (λ e. r (is-rest ∙ e))
+    module _ (q : (i - first) / s < m) where
+      few-before : (i - start l) / step l < heads l
+      few-before = omega (arith, is-place, k .many)
+
+      pub heading-fits : (i - first) / s < 24
+      heading-fits = omega (arith, few l .1, k .many)
+
+      pub bit-heading : (i - first) % s ≡ 0 → getD (digits 24 cw) ((i - first) / s) 0 ≡ getD (unitBits l cw body) i 0
+      bit-heading r =
+          ap (λ (x : ℕ). getD (digits 24 cw) x 0) is-place
+          ∙ unit-heading l cw body (some (k .on)) (length-of (k .on)) i from-start few-before (sym is-rest ∙ r)
+
+      pub between-fits : ((i - first) % s ≡ 0 → ⊥) → (i - first) / s + 1 ≤ i
+      between-fits r = omega (arith, under (i - first) s step-some r)
+
+      pub bit-between : ((i - first) % s ≡ 0 → ⊥) → getD (bits (laidOut n d audio opp fixed)) (i - ((i - first) / s + 1)) 0 ≡ getD (unitBits l cw body) i 0
+      bit-between r =
+          same (k .on) (i - ((i - first) / s + 1)) ∙ ap (λ (x : ℕ). getD (bits body) (i - (x + 1)) 0) is-place
+          ∙ unit-between l cw body (some (k .on)) (length-of (k .on)) i from-start few-before (λ e. r (is-rest ∙ e))
 
 -- ---- the bytes of a unit, one more
 pack-more : (n : ℕ) (u : List ℕ) → pack (suc n) u ≡ pack n u ++ number 0 (take 8 (drop (n * 8) u)) ∷ []

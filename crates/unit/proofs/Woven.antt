@@ -1,4 +1,5 @@
 -- A bit of woven bits, by its place.
+-- At                         x bits behind the place of the first header bit
 -- before                     a bit before the first header bit
 -- heading, between, behind   from there on (`placed`): a header bit; a bit between two of them; a bit behind all
 use mathlib.Core.Path.{_≡_, refl, sym, ap, subst, _∙_}

@@ -1,6 +1,11 @@
--- The ways through a call that writes a unit, with what the code has found so far.
+-- The ways through a call that writes a unit. What the code has found so far is a record over the one before it, of the call's length, delimiter, parts and
+-- output.
+-- Fit              the length is a unit's
+-- Mixed            cw is the sequence of the parts
+-- Roomy            the payload has n bytes, and the parts fit into it
+-- Seen             the delimiter is not found earlier than it is written
+-- roomy, is-seen, short, fills, asks                                     how the next is made; the length is low; what `hidden` and `spread` ask
 -- refuse-length, refuse-mix, refuse-room, refuse-hidden, refuse-output   each refusal
--- fills                                                                  the parts fit
 -- wrote                                                                  the unit is written
 use mathlib.Core.Path.{_≡_, sym, ap, ap₂, _∙_}
 use mathlib.Core.Bool.{Bool, true, false}
@@ -21,68 +26,91 @@ use Rattle.unit.proofs.Filling.{length-marked}
 use Rattle.unit_spec.proofs.Carrying.{length-unit}
 use Rattle.unit_spec.proofs.Ways.{mixed, whole, written-is}
 
-module _ (l : ℕ) (d audio opp fixed out : List ℕ) (five : length d ≡ 5) {u : Bool} (eu : u ≡ unfit l) where
-  pub refuse-length : u ≡ true → refused 50 out ≡ written l d audio opp fixed out
+pub record Fit (l : ℕ) (d audio opp fixed out : List ℕ) : Type 0 where
+  pub fit : unfit l ≡ false
+  pub five : length d ≡ 5
+
+pub record Mixed (l : ℕ) (d audio opp fixed out : List ℕ) (cw : ℕ) : Type 0 where
+  pub on : Fit l d audio opp fixed out
+  pub mix : cw ≡ sequence (length audio) (length fixed) (length opp)
+  pub some : cw ≡ 0 → ⊥
+
+pub record Roomy (l : ℕ) (d audio opp fixed out : List ℕ) (cw n : ℕ) : Type 0 where
+  pub on : Mixed l d audio opp fixed out cw
+  pub all : n ≡ payload l
+  pub room : filled d audio opp fixed ≤ payload l
+
+pub record Seen (l : ℕ) (d audio opp fixed out : List ℕ) (cw n : ℕ) : Type 0 where
+  pub on : Roomy l d audio opp fixed out cw n
+  pub seen : hidden d (payload l - filled d audio opp fixed) opp ≡ false
+
+pub refuse-length : (l : ℕ) (d audio opp fixed out : List ℕ) {u : Bool} → u ≡ unfit l → u ≡ true → refused 50 out ≡ written l d audio opp fixed out
+unfolding written
+refuse-length l d audio opp fixed out eu e = simp (sym eu ∙ e)
+
+module _ {l : ℕ} {d audio opp fixed out : List ℕ} where
+  pub refuse-mix : Fit l d audio opp fixed out → {cw : ℕ} → cw ≡ sequence (length audio) (length fixed) (length opp) → cw ≡ 0
+      → refused 51 out ≡ written l d audio opp fixed out
   unfolding written
-  refuse-length e = simp (sym eu ∙ e)
+  refuse-mix k ec e = simp (k .fit, eq-eqb (sequence (length audio) (length fixed) (length opp)) 0 (sym ec ∙ e))
 
-  module _ (k : u ≡ false) {cw : ℕ} (ec : cw ≡ sequence (length audio) (length fixed) (length opp)) where
-    fit : unfit l ≡ false
-    fit = sym eu ∙ k
+  module _ {cw : ℕ} (k : Mixed l d audio opp fixed out cw) where
+    mixes : mixed l d audio opp fixed ≡ 0 → ⊥
+    mixes e = k .some (k .mix ∙ e)
 
-    pub refuse-mix : cw ≡ 0 → refused 51 out ≡ written l d audio opp fixed out
-    unfolding written
-    refuse-mix e = simp (fit, eq-eqb (sequence (length audio) (length fixed) (length opp)) 0 (sym ec ∙ e))
-
-    module _ (c : cw ≡ 0 → ⊥) {n : ℕ} (en : n ≡ payload l) {v : Bool}
-        (ev : v ≡ ltb n (length audio + pick (eqb (length opp) 0) 0 (5 + length opp) + length fixed)) where
-      mixes : mixed l d audio opp fixed ≡ 0 → ⊥
-      mixes e = c (ec ∙ e)
-
+    module _ {n : ℕ} {v : Bool} (en : n ≡ payload l) (ev : v ≡ ltb n (length audio + pick (eqb (length opp) 0) 0 (5 + length opp) + length fixed)) where
       same : v ≡ ltb (payload l) (filled d audio opp fixed)
-      same = ev ∙ ap₂ (λ (x y : ℕ). ltb x (length audio + y + length fixed)) en (sym (length-marked d opp five))
+      same = ev ∙ ap₂ (λ (x y : ℕ). ltb x (length audio + y + length fixed)) en (sym (length-marked d opp (k .on .five)))
 
       pub refuse-room : v ≡ true → refused 53 out ≡ written l d audio opp fixed out
       unfolding written
-      refuse-room e = simp (fit, ne-eqb (mixed l d audio opp fixed) 0 mixes, sym same ∙ e)
+      refuse-room e = simp (k .on .fit, ne-eqb (mixed l d audio opp fixed) 0 mixes, sym same ∙ e)
 
-      module _ (w : v ≡ false) where
-        room : filled d audio opp fixed ≤ payload l
-        room = ltb-false _ _ (sym same ∙ w)
+      pub roomy : v ≡ false → Roomy l d audio opp fixed out cw n
+      roomy w = record { on = k; all = en; room = ltb-false _ _ (sym same ∙ w) }
 
-        pub fills : filled d audio opp fixed ≤ n
-        fills = omega (arith, room)
+  module _ {cw n : ℕ} (k : Roomy l d audio opp fixed out cw n) where
+    pub fills : filled d audio opp fixed ≤ n
+    fills = omega (arith, k .all, k .room)
 
-        module _ {h : Bool} (eh : h ≡ hidden d (n - filled d audio opp fixed) opp) where
-          there : h ≡ hidden d (payload l - filled d audio opp fixed) opp
-          there = eh ∙ ap (λ (x : ℕ). hidden d (x - filled d audio opp fixed) opp) en
+    module _ {h : Bool} (eh : h ≡ hidden d (n - filled d audio opp fixed) opp) where
+      there : h ≡ hidden d (payload l - filled d audio opp fixed) opp
+      there = eh ∙ ap (λ (x : ℕ). hidden d (x - filled d audio opp fixed) opp) (k .all)
 
-          pub refuse-hidden : h ≡ true → refused 54 out ≡ written l d audio opp fixed out
-          unfolding written
-          refuse-hidden e = simp (fit, ne-eqb (mixed l d audio opp fixed) 0 mixes, le-ltb (payload l) (filled d audio opp fixed) room, sym there ∙ e)
+      pub refuse-hidden : h ≡ true → refused 54 out ≡ written l d audio opp fixed out
+      unfolding written
+      refuse-hidden e =
+          simp (k .on .on .fit, ne-eqb (mixed l d audio opp fixed) 0 (mixes (k .on)), le-ltb (payload l) (filled d audio opp fixed) (k .room), sym there ∙ e)
 
-          module _ (s : h ≡ false) where
-            pub short : l ≤ 146176
-            short = accepted l fit .0
+      pub is-seen : h ≡ false → Seen l d audio opp fixed out cw n
+      is-seen s = record { on = k; seen = sym there ∙ s }
 
-            is : written l d audio opp fixed out ≡ write (whole l d audio opp fixed) out
-            is = written-is l d audio opp fixed out (record { fit = fit; mixes = mixes; room = room; seen = sym there ∙ s })
+  module _ {cw n : ℕ} (k : Seen l d audio opp fixed out cw n) where
+    fit : unfit l ≡ false
+    fit = k .on .on .on .fit
 
-            length-whole : length (whole l d audio opp fixed) ≡ lent l
-            length-whole = length-unit l (mixed l d audio opp fixed) (laidOut (payload l) d audio opp fixed)
+    pub short : l ≤ 146176
+    short = accepted l fit .0
 
-            -- what `spread` asks
-            pub asks : {m : ℕ} → m ≡ lent l → m ≤ 18272 → {k : ℕ} → m ≤ k
-                → (unfit l ≡ false) × (filled d audio opp fixed ≤ payload l) × (m ≡ lent l) × (m ≤ 18272) × (m ≤ k)
-            asks e b r = (fit, room, e, b, r)
+    is : written l d audio opp fixed out ≡ write (whole l d audio opp fixed) out
+    is = written-is l d audio opp fixed out (record { fit = fit; mixes = mixes (k .on .on); room = k .on .room; seen = k .seen })
 
-            module _ {m : ℕ} (em : m ≡ lent l) where
-              pub refuse-output : length out < m → refused 23 out ≡ written l d audio opp fixed out
-              refuse-output r = sym (is ∙ write-short (whole l d audio opp fixed) out (omega (arith, length-whole)))
+    length-whole : length (whole l d audio opp fixed) ≡ lent l
+    length-whole = length-unit l (mixed l d audio opp fixed) (laidOut (payload l) d audio opp fixed)
 
-              pub wrote : m ≤ length out → {after : List ℕ} → after ≡ unit l cw (laidOut (payload l) d audio opp fixed) ++ drop m out
-                  → outcome (Wrote m) after ≡ written l d audio opp fixed out
-              wrote r {after} e =
-                  ap (outcome (Wrote m)) (e ∙ ap₂ (λ (x y : ℕ). unit l x (laidOut (payload l) d audio opp fixed) ++ drop y out) ec (em ∙ sym length-whole))
-                  ∙ ap (λ (x : ℕ). outcome (Wrote x) (whole l d audio opp fixed ++ drop (length (whole l d audio opp fixed)) out)) (em ∙ sym length-whole)
-                  ∙ sym (is ∙ simp (le-ltb (length out) (length (whole l d audio opp fixed)) (omega (arith, length-whole))))
+    -- what `spread` asks
+    pub asks : {m : ℕ} → m ≡ lent l → m ≤ 18272 → {k : ℕ} → m ≤ k
+        → (unfit l ≡ false) × (filled d audio opp fixed ≤ payload l) × (m ≡ lent l) × (m ≤ 18272) × (m ≤ k)
+    asks e b r = (fit, k .on .room, e, b, r)
+
+    module _ {m : ℕ} (em : m ≡ lent l) where
+      pub refuse-output : length out < m → refused 23 out ≡ written l d audio opp fixed out
+      refuse-output r = sym (is ∙ write-short (whole l d audio opp fixed) out (omega (arith, length-whole)))
+
+      pub wrote : m ≤ length out → {after : List ℕ} → after ≡ unit l cw (laidOut (payload l) d audio opp fixed) ++ drop m out
+          → outcome (Wrote m) after ≡ written l d audio opp fixed out
+      wrote r {after} e =
+          ap (outcome (Wrote m))
+          (e ∙ ap₂ (λ (x y : ℕ). unit l x (laidOut (payload l) d audio opp fixed) ++ drop y out) (k .on .on .mix) (em ∙ sym length-whole))
+          ∙ ap (λ (x : ℕ). outcome (Wrote x) (whole l d audio opp fixed ++ drop (length (whole l d audio opp fixed)) out)) (em ∙ sym length-whole)
+          ∙ sym (is ∙ simp (le-ltb (length out) (length (whole l d audio opp fixed)) (omega (arith, length-whole))))

@@ -5,8 +5,8 @@
 //! Of a file the first 65,536 bytes are read: no unit holds as many, so the answer is that of the whole file. A number counts up to
 //! 1,000,000,000,000: whatever is above is above every length.
 use base::Written;
+use console::is_argument;
 use console::say;
-use libc::STDOUT_FILENO;
 
 // Whether a file could be read, and how many bytes it gave.
 struct Got {
@@ -41,13 +41,6 @@ fn main() {
         return;
     }
     usage();
-}
-
-// Whether an argument is this one.
-fn is_argument(i: usize, text: &[u8]) -> bool {
-    let mut space = io::buffer();
-    let n = os::arg(i, &mut space);
-    check::same(&space[..n], text)
 }
 
 fn usage() {
@@ -100,21 +93,7 @@ fn write_parts(
         &fixed[0..base::least(f, fixed.len())],
         &mut out,
     );
-    put(written, &out);
-}
-
-// What was written, to standard output.
-fn put(written: Written, out: &[u8]) {
-    match written {
-        Written::Wrote(n) => print(&out[0..base::least(n, out.len())]),
-        Written::Refused(number) => refuse(number),
-    }
-}
-
-fn print(bytes: &[u8]) {
-    if !io::write_all(STDOUT_FILENO, bytes) {
-        say(b"unit: cannot write standard output\n");
-    }
+    console::put(b"unit", written, &out);
 }
 
 // A unit read.

@@ -1,6 +1,6 @@
 -- Lists of bits.
 -- length-digits, length-bits, length-pack, length-weave   how long they are
--- each-digits, each-bits, each-weave                      each of them is 0 or 1
+-- IsBit, each-digits, each-bits, each-weave               each of them is 0 or 1
 -- bits-pack                                               bits as bytes, and as bits again
 use mathlib.Core.Path.{_≡_, refl, sym, ap, ap₂, _∙_}
 use mathlib.Core.List.{List, [], _∷_, _++_, append-nil}

@@ -1,4 +1,6 @@
 -- A unit carries its header and its payload.
+-- holds, spans     its bytes hold its header bits and its payload bytes, and its length
+-- hs, ps, length-hs, length-ps, room    the header bits, the others, and that these have room for those
 -- length-unit      a unit takes as many bytes as its length says
 -- woven            its bits are header bits woven into those of the payload, and zeros
 -- header-unit      its header bits are those of its sequence

@@ -1,6 +1,6 @@
 -- Worked examples: what the definitions say of small units of each kind, computed; the values are those of a program written apart.
 -- gives, says, examples   units written and read, and each refusal
--- places                  table 5-4: a length from each row, and those that stations use
+-- shape, places           table 5-4: a length from each row, and those that stations use
 use mathlib.Core.Path.{_≡_, refl}
 use mathlib.Core.List.{List, [], _∷_, _++_, map}
 use Prim.Native.Nat.{ℕ, suc}

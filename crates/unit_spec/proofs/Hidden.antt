@@ -1,7 +1,7 @@
 -- Refusal 54 on writing, said shortly: the delimiter is zeros, and a gap of zeros stands before it.
 -- hidden-is       exactly then would the reader find it earlier than written
 -- zeros-are       zeros are zeros
--- opened-seen     else the reader finds what was written
+-- Seen, seen-of, opened-seen     else the reader finds what was written
 use mathlib.Core.Path.{_≡_, refl, sym, ap, _∙_}
 use mathlib.Core.Bool.{Bool, true, false, false≢true}
 use mathlib.Core.List.{List, [], _∷_, _++_, append-assoc}

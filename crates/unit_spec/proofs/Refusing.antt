@@ -188,7 +188,7 @@ unfolding named isHeader
 named-not n h = choice-some h _ _ _ _ _
 
 -- a fact of the sequence named, from a fact of each
-pub by-name : (P : ℕ → Type 0) (n h : ℕ) → P 0 → P cw0 → P cw1 → P cw2 → P cw3 → P cw4 → P (named n h)
+by-name : (P : ℕ → Type 0) (n h : ℕ) → P 0 → P cw0 → P cw1 → P cw2 → P cw3 → P cw4 → P (named n h)
 unfolding named
 by-name P n h z p0 p1 p2 p3 p4 = go (isHeader n h cw0) (isHeader n h cw1) (isHeader n h cw2) (isHeader n h cw3) (isHeader n h cw4)
   where

@@ -1,9 +1,10 @@
 -- Table 5-4 by its six rows.
+-- pick-same  a choice that makes no difference
 -- by-row     a fact of header bits, start and step, from a fact of each row
 -- fits       a length that is accepted has room for its header bits
 -- few        there are 22 to 24 of them
 -- room-of    .. so they stand among the payload bits
--- spaced     the lengths that have a header spacing: from 144, 303 or 289 bits on
+-- least, spaced   the lengths that have a header spacing: from 144, 303 or 289 bits on
 use mathlib.Core.Path.{_≡_, refl, sym}
 use mathlib.Core.Bool.{Bool, true, false, false≢true}
 use mathlib.Core.Logic.{_↔_}

@@ -1,6 +1,6 @@
 -- The header sequences of table 5-3.
--- mix             the sequence by what there is none of: audio, fixed, opportunistic data
--- mix-told        its first 24, 23 or 22 bits name it, and it announces what it was chosen for
+-- mix, sequence-mix   the sequence by what there is none of: audio, fixed, opportunistic data
+-- Named, mix-told     its first 24, 23 or 22 bits name it, and it announces what it was chosen for
 -- told, announces, same-mix   the same of the sequence of three lengths
 -- reserved        CW5 to CW7 are named by none of their first 24, 23 or 22 bits
 use mathlib.Core.Path.{_≡_, refl, sym, ap, _∙_}

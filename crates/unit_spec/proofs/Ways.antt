@@ -1,6 +1,7 @@
 -- The ways through the two definitions, by the tests that lead there.
+-- mixed, whole                    the sequence, and the unit
 -- Writes, written-is, writes      where a unit is written; what is then written; and that it is so where the answer is Wrote
--- no-name, .., read-found         what a payload is read as
+-- no-name, wrong-told, wrong-fit, not-found, read-plain, read-found   what a payload is read as
 -- bad-length, bad-unit, read-is   .. and a unit
 use mathlib.Core.Path.{_≡_, refl}
 use mathlib.Core.Bool.{Bool, true, false}

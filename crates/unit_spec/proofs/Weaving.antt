@@ -46,7 +46,8 @@ unfolding unwoven weave
 unwoven-weave until gap [] p r = refl
 unwoven-weave until gap (h ∷ hs) p r =
     let e = front until h p (weave gap gap hs (drop until p)) (r .0) in
-    ap₂ _++_ (e .2) (ap (unwoven gap gap (length hs)) (e .1) ∙ unwoven-weave gap gap hs (drop until p) (rw (length-drop until p) (r .1))) ∙ take-append-drop until p
+    ap₂ _++_ (e .2) (ap (unwoven gap gap (length hs)) (e .1) ∙ unwoven-weave gap gap hs (drop until p) (rw (length-drop until p) (r .1)))
+    ∙ take-append-drop until p
 
 -- room for suc k header bits
 pub room-fits : (until gap k n : ℕ) → until + k * gap ≤ n → Room until gap (suc k) n

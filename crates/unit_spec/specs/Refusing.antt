@@ -1,4 +1,5 @@
 -- What the two calls refuse for, as the request says it.
+-- noAudio, noFixed               a sequence without a part
 -- Unfit, NoMix                   50 and 51
 -- Early, EarlyShort              54 on writing, and when that is
 -- Unnamed, Disagree, Unmarked    52, 53 and 54 on reading

@@ -1,9 +1,9 @@
 -- Tables 5-3 and 5-4 of source document 003. A unit has L bits.
 -- most, mostBytes    the longest unit, in bits, and its bytes
--- cw0 to cw4         the header sequences of table 5-3 that are not reserved, h0 being the highest of their 24 bits
+-- cw0, cw1, cw2, cw3, cw4   the header sequences of table 5-3 that are not reserved, h0 being the highest of their 24 bits
 -- sequence           the sequence of a mix of content, by the lengths of its parts; 0 where the table has none
 -- announced          whether a sequence announces opportunistic data
--- heads              how many header bits a unit has
+-- byRow, heads       by the length's remainder of 8; how many header bits a unit has
 -- start, step        bits before the first header bit; from one header bit to the next. Step 0 is a spacing below zero
 -- payload, lent      bytes of payload; bytes that a unit takes
 -- unfit              50: the length, or its header spacing

@@ -1,7 +1,8 @@
 -- Clean words, for every number of roots.
 -- roots-clean, clean-roots   a word is clean exactly where it is zero at each of the r roots
+-- zeros                      n bytes that are zero at n roots are zeros
 -- parity-clean               a message with its parity behind it is clean
--- unique, clean-is           and with no other r bytes behind it
+-- clean-is                   and with no other r bytes behind it
 use mathlib.Core.Path.{_≡_, refl, sym, ap, ap₂, _∙_}
 use mathlib.Core.Bool.{true}
 use mathlib.Core.List.{List, [], _∷_, _++_}
@@ -35,7 +36,8 @@ unfolding clean
 clean-roots zero w e j h k = absurd (omega arith)
 clean-roots (suc r) w e j h k =
     let p = and-parts (eqb (eval w (pow alpha (suc r))) 0) (clean r w) e in
-    ⊎-elim (λ (q : j ≡ suc r). ap (λ (i : ℕ). eval w (pow alpha i)) q ∙ eqb-true _ 0 (p .0)) (λ (l : j < suc r). clean-roots r w (p .1) j h (le-of-suc-le-suc l)) (eq-or-lt-of-le k)
+    ⊎-elim (λ (q : j ≡ suc r). ap (λ (i : ℕ). eval w (pow alpha i)) q ∙ eqb-true _ 0 (p .0))
+    (λ (l : j < suc r). clean-roots r w (p .1) j h (le-of-suc-le-suc l)) (eq-or-lt-of-le k)
 
 pub parity-clean : (r : ℕ) (m : List ℕ) → Bytes m → clean r (m ++ remainder r m) ≡ true
 parity-clean r m b =
@@ -93,7 +95,8 @@ zeros zero k [] l b h = refl
 zeros zero k (c ∷ p) l b h = absurd (omega arith)
 zeros (suc n) k [] l b h = absurd (omega arith)
 zeros (suc n) k (c ∷ p) l b h =
-    scan-zero a c p (zeros n (omega arith) (scan a c p) (length-scan a c p ∙ same) (bytes-scan a c p (b .0) (b .1)) others ∙ ap (λ (x : ℕ). replicate x 0) (sym same)) last
+    scan-zero a c p (zeros n (omega arith) (scan a c p) (length-scan a c p ∙ same) (bytes-scan a c p (b .0) (b .1)) others
+    ∙ ap (λ (x : ℕ). replicate x 0) (sym same)) last
     ∙ ap (λ (x : ℕ). replicate (suc x) 0) same
   where
     a : ℕ
@@ -111,7 +114,8 @@ zeros (suc n) k (c ∷ p) l b h =
     others : (j : ℕ) → 0 < j → j ≤ n → horner (pow alpha j) 0 (scan a c p) ≡ 0
     others j i q =
         cancel (add (pow alpha j) a) _ (pos-of-ne-zero (apart j q)) (add-byte _ _ (pow-lt alpha j) (pow-lt alpha (suc n)))
-        (horner-lt (pow alpha j) 0 (scan a c p) (omega arith) (bytes-scan a c p (b .0) (b .1))) (scan-root a (pow alpha j) c p last (sym (horner-first (pow alpha j) c p) ∙ h j i (omega arith)))
+        (horner-lt (pow alpha j) 0 (scan a c p) (omega arith) (bytes-scan a c p (b .0) (b .1)))
+        (scan-root a (pow alpha j) c p last (sym (horner-first (pow alpha j) c p) ∙ h j i (omega arith)))
 
 -- ---- one parity only
 module _ (r : ℕ) (k : r < 255) (m p q : List ℕ) (bp : Bytes p) (bq : Bytes q) (lp : length p ≡ r) (lq : length q ≡ r) where
@@ -121,10 +125,11 @@ module _ (r : ℕ) (k : r < 255) (m p q : List ℕ) (bp : Bytes p) (bq : Bytes q
       ap (λ (t : ℕ). horner a t (onto p q)) (sym (add-self (horner a 0 m))) ∙ horner-add a (horner a 0 m) (horner a 0 m) p q (lp ∙ sym lq)
       ∙ ap₂ add (sym (horner-append a 0 m p) ∙ hp) (sym (horner-append a 0 m q) ∙ hq) ∙ add-self 0
 
-  pub unique : clean r (m ++ p) ≡ true → clean r (m ++ q) ≡ true → p ≡ q
+  unique : clean r (m ++ p) ≡ true → clean r (m ++ q) ≡ true → p ≡ q
   unique hp hq =
       onto-zero p q (lp ∙ sym lq)
-      (zeros r k (onto p q) (length-onto p q ∙ lq) (bytes-onto p q bp bq) (λ j h l. same-value (pow alpha j) (clean-roots r (m ++ p) hp j h l) (clean-roots r (m ++ q) hq j h l))
+      (zeros r k (onto p q) (length-onto p q ∙ lq) (bytes-onto p q bp bq)
+      (λ j h l. same-value (pow alpha j) (clean-roots r (m ++ p) hp j h l) (clean-roots r (m ++ q) hq j h l))
       ∙ ap (λ (x : ℕ). replicate x 0) (sym lq))
 
 -- a word is clean exactly where its last r bytes are the parity of the others

@@ -1,7 +1,9 @@
 -- Long division, by any g behind a leading 1.
--- length-.., bytes-..   lengths; results are bytes
+-- divide-step, quotient   one step of it, and the quotient
+-- length-divide, length-quotient, length-remainder                 lengths
+-- bytes-divide, bytes-quotient, bytes-remainder, bytes-digits      results are bytes
 -- divide-whole          the division identity: quotient times divisor plus what is left is the dividend
--- parity-whole          message times x^r is quotient times generator plus parity
+-- digits, parity-whole  message times x^r is quotient times generator plus parity
 -- word-multiple         a message with its parity behind it is the quotient times the generator
 use mathlib.Core.Path.{_≡_, refl, sym, ap, ap₂, _∙_}
 use mathlib.Core.List.{List, [], _∷_, _++_}
@@ -13,7 +15,8 @@ use Rattle.base.proofs.Bytes.{each-append, each-replicate}
 use Rattle.field.proofs.Sum.{add-zero}
 use Rattle.field.proofs.Product.{mul-one}
 use Rattle.word_spec.specs.Word.{scale, onto, generator, divide, remainder}
-use Rattle.word_spec.proofs.Sums.{length-scale, length-onto, bytes-scale, bytes-onto, onto-assoc, onto-comm, onto-twice, onto-append, onto-zeros, zeros-onto, product, length-product}
+use Rattle.word_spec.proofs.Sums.{length-scale, length-onto, bytes-scale, bytes-onto, onto-assoc, onto-comm}
+use Rattle.word_spec.proofs.Sums.{onto-twice, onto-append, onto-zeros, zeros-onto, product, length-product}
 use Rattle.word_spec.proofs.Generator.{length-generator, generator-monic}
 
 pub divide-step : (n c : ℕ) (g p : List ℕ) → divide (suc n) (1 ∷ g) (c ∷ p) ≡ divide n (1 ∷ g) (onto (scale c g) p)
@@ -99,7 +102,8 @@ module _ (r : ℕ) (m : List ℕ) (b : Bytes m) where
 
   length-digits : length digits ≡ length m
   unfolding digits
-  length-digits = rw (generator-monic r) (length-quotient (length m) (drop 1 (generator r)) (m ++ replicate r 0) (omega (arith, length-append m (replicate r 0))))
+  length-digits = rw (generator-monic r)
+      (length-quotient (length m) (drop 1 (generator r)) (m ++ replicate r 0) (omega (arith, length-append m (replicate r 0))))
 
   pub bytes-digits : Bytes digits
   unfolding digits
@@ -122,4 +126,11 @@ module _ (r : ℕ) (m : List ℕ) (b : Bytes m) where
       same : length left ≡ length (product digits (generator r))
       same =
           length-append (replicate (length m) 0) (remainder r m)
-          ∙ omega (arith, length-replicate {A = ℕ} (length m) 0, length-remainder r m, length-digits, length-generator r, length-product digits (generator r) (omega (arith, length-generator r)))
+          ∙ omega (
+            arith,
+            length-replicate {A = ℕ} (length m) 0,
+            length-remainder r m,
+            length-digits,
+            length-generator r,
+            length-product digits (generator r) (omega (arith, length-generator r)),
+          )

@@ -1,5 +1,5 @@
 -- The generator, for every number of roots.
--- length-generator, bytes-generator   r + 1 coefficients, all bytes
+-- length-generator                    r + 1 coefficients
 -- generator-monic                     the leading one is 1
 -- generator-root                      zero at alpha^j for j = 1 to r
 -- generator-roots                     and nowhere else
@@ -31,7 +31,7 @@ unfolding generator
 length-generator zero = refl
 length-generator (suc r) = length-times-root _ (generator r) ∙ ap suc (length-generator r)
 
-pub bytes-generator : (r : ℕ) → Bytes (generator r)
+bytes-generator : (r : ℕ) → Bytes (generator r)
 unfolding generator timesRoot
 bytes-generator zero = (omega arith, tt)
 bytes-generator (suc r) =
@@ -86,7 +86,7 @@ from-root j (suc n) i h =
     ∙ ⊎-elim (λ (e : i ≡ n). rw (e, add-self, zero-mul)) (λ (l : i < n). rw (from-root j n i l, mul-zero)) (eq-or-lt-of-le (le-of-suc-le-suc h))
 
 -- a is one of the r roots
-abbrev pub Root : ℕ → ℕ → Type 0
+abbrev Root : ℕ → ℕ → Type 0
 Root r a = (j : ℕ) × (0 < j) × (j ≤ r) × (a ≡ pow alpha j)
 
 one-value : (a : ℕ) → eval (1 ∷ []) a ≡ 1
@@ -100,7 +100,8 @@ generator-only (suc r) a h e =
     let b = pow alpha (suc r) in
     ⊎-elim (λ (z : add a b ≡ 0). (suc r, omega arith, omega arith, add-eq a b z))
     (λ (p : 0 < add a b).
-    let none : eval (generator r) a ≡ 0 = cancel (add a b) _ p (add-byte a b h (pow-lt alpha (suc r))) (eval-lt a _ (bytes-generator r)) (sym (eval-times-root a b (generator r)) ∙ e) in
+    let none : eval (generator r) a ≡ 0 = cancel (add a b) _ p (add-byte a b h (pow-lt alpha (suc r))) (eval-lt a _ (bytes-generator r))
+    (sym (eval-times-root a b (generator r)) ∙ e) in
     let root = generator-only r a h none in
     (root .0, root .1, omega arith, root .3)) (eq-zero-or-pos (add a b))
 

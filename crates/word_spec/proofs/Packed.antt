@@ -1,9 +1,11 @@
 -- The bytes of a number, all at once.
+-- size, lows, ones            how many numbers n bytes have; n bytes of 7F, and n of 01
+-- low-fits, high-fits         doubling eight bytes at once keeps within them
 -- length-bytes, bytes-bytes   so many, and each a byte
 -- bytes-xor, bytes-double     sum and double of the number, byte by byte; room for the latter
 -- bytes-behind, bytes-first, bytes-head   a byte behind the others, and the first one apart
 -- bytes-both                  a number behind another
--- bytes-zero                  all are zero exactly where the number is
+-- bytes-zero, zero-append     all are zero exactly where the number is; of lists joined, where both are
 -- below-packed, above-packed  the generator of 32 roots and the product for the next 32, the leading 1 aside, as four numbers: computed
 use mathlib.Core.Path.{_≡_, refl, sym, ap, ap₂, _∙_}
 use mathlib.Core.Bool.{Bool, true, false, _&&_}
@@ -194,7 +196,8 @@ bytes-zero (suc n) x h =
     parts : eqb (x / 256) 0 && (eqb (x % 256) 0 && true) ≡ eqb x 0
     parts =
         by-eq x 0 (λ e. rw e refl)
-        (λ e. by-eq (x / 256) 0 (λ q. rw (ne-eqb (x % 256) 0 (λ z. e (omega arith)), ne-eqb x 0 e, eq-eqb (x / 256) 0 q) refl) (λ q. rw (ne-eqb (x / 256) 0 q, ne-eqb x 0 e) refl))
+        (λ e. by-eq (x / 256) 0 (λ q. rw (ne-eqb (x % 256) 0 (λ z. e (omega arith)), ne-eqb x 0 e, eq-eqb (x / 256) 0 q) refl)
+        (λ q. rw (ne-eqb (x / 256) 0 q, ne-eqb x 0 e) refl))
 
 -- ---- the generator of 32 roots
 pub below-packed : bytesOf 8 0xE81DBD328EF6E80F ++ bytesOf 8 0x2B52A4EE019E0D77 ++ bytesOf 8 0x9EE086E3D2A3326B ++ bytesOf 8 0x281B68FD18EFD82D ≡ below

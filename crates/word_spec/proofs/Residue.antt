@@ -34,7 +34,7 @@ use Rattle.word_spec.proofs.Division.{divide-step, quotient, length-div
 use Rattle.word_spec.proofs.Clean.{roots-clean, clean-roots, zeros}
 
 -- ---- a byte at a time
-pub length-fed : (g xs : List ℕ) (x : ℕ) → length xs ≡ length g → 0 < length g → length (fed g xs x) ≡ length g
+length-fed : (g xs : List ℕ) (x : ℕ) → length xs ≡ length g → 0 < length g → length (fed g xs x) ≡ length g
 unfolding fed
 length-fed g [] x l h = absurd (omega arith)
 length-fed g (c ∷ xs) x l h = length-onto (scale c g) (xs ++ x ∷ []) ∙ length-append xs (x ∷ []) ∙ omega arith
@@ -56,7 +56,7 @@ fed-divide g (c ∷ xs) (b ∷ w) l h =
     ∙ sym (divide-step (length w) c g (xs ++ b ∷ w))
 
 -- a zero that goes takes nothing away ..
-pub scale-zero : (g : List ℕ) → scale 0 g ≡ replicate (length g) 0
+scale-zero : (g : List ℕ) → scale 0 g ≡ replicate (length g) 0
 unfolding scale
 scale-zero [] = refl
 scale-zero (x ∷ g) = ap₂ _∷_ (zero-mul x) (scale-zero g)
@@ -66,7 +66,7 @@ unfolding fed
 fed-zero g xs x = ap (λ (z : List ℕ). onto z (xs ++ x ∷ [])) (scale-zero g) ∙ zeros-onto (length g) (xs ++ x ∷ [])
 
 -- .. so that the first n of k bytes are only laid down
-pub fed-begun : (g : List ℕ) (k n : ℕ) (w : List ℕ) → n ≤ k → n ≤ length w → fedAll g (replicate (k - n) 0 ++ take n w) (drop n w) ≡ fedAll g (replicate k 0) w
+fed-begun : (g : List ℕ) (k n : ℕ) (w : List ℕ) → n ≤ k → n ≤ length w → fedAll g (replicate (k - n) 0 ++ take n w) (drop n w) ≡ fedAll g (replicate k 0) w
 unfolding fedAll
 fed-begun g k zero w h l = ap (λ (xs : List ℕ). fedAll g xs w) (append-nil (replicate (k - 0) 0) ∙ ap (λ (n : ℕ). replicate n 0) (sub-zero k))
 fed-begun g k (suc n) w h l =
@@ -74,7 +74,8 @@ fed-begun g k (suc n) w h l =
     (sym (fed-begun g k n w (omega arith) (omega arith))
     ∙ ap₂ (λ (m : ℕ) (v : List ℕ). fedAll g (replicate m 0 ++ take n w) v) more (drop-cons w n 0 l)
     ∙ ap (λ (xs : List ℕ). fedAll g xs (drop (suc n) w)) (fed-zero g (replicate (k - suc n) 0 ++ take n w) (getD w n 0))
-    ∙ ap (λ (xs : List ℕ). fedAll g xs (drop (suc n) w)) (append-assoc (replicate (k - suc n) 0) (take n w) (getD w n 0 ∷ []) ∙ ap (λ (v : List ℕ). replicate (k - suc n) 0 ++ v) (sym (take-suc w n 0 l))))
+    ∙ ap (λ (xs : List ℕ). fedAll g xs (drop (suc n) w)) (append-assoc (replicate (k - suc n) 0) (take n w) (getD w n 0 ∷ [])
+    ∙ ap (λ (v : List ℕ). replicate (k - suc n) 0 ++ v) (sym (take-suc w n 0 l))))
   where
     more : k - n ≡ suc (k - suc n)
     more = omega arith
@@ -96,12 +97,12 @@ module _ (g xs w : List ℕ) (i : ℕ) {t : List ℕ} (inv : fedAll g xs (drop i
   fed-done h = ap (fedAll g xs) (sym (over w i h)) ∙ inv
 
 -- ---- sums and multiples
-pub scale-add : (a b : ℕ) (g : List ℕ) → scale (add a b) g ≡ onto (scale a g) (scale b g)
+scale-add : (a b : ℕ) (g : List ℕ) → scale (add a b) g ≡ onto (scale a g) (scale b g)
 unfolding scale onto
 scale-add a b [] = refl
 scale-add a b (x ∷ g) = ap₂ _∷_ (add-mul a b x) (scale-add a b g)
 
-pub scale-scale : (a b : ℕ) (g : List ℕ) → scale a (scale b g) ≡ scale (mul a b) g
+scale-scale : (a b : ℕ) (g : List ℕ) → scale a (scale b g) ≡ scale (mul a b) g
 unfolding scale
 scale-scale a b [] = refl
 scale-scale a b (x ∷ g) = ap₂ _∷_ (sym (mul-assoc a b x)) (scale-scale a b g)
@@ -143,7 +144,8 @@ fed-scale g (a ∷ p) c l h =
     ap₂ onto (sym (scale-scale c a g)) (sym (scale-behind c p))
     ∙ sym (scale-onto c (scale a g) (p ++ 0 ∷ []) (omega (arith, length-scale a g, length-append p (0 ∷ []))))
 
-all-sum : (g p q w : List ℕ) → length p ≡ length g → length q ≡ length g → 0 < length g → fedAll g (onto p q) w ≡ onto (fedAll g p (replicate (length w) 0)) (fedAll g q w)
+all-sum : (g p q w : List ℕ) → length p ≡ length g → length q ≡ length g → 0 < length g → fedAll g (onto p q) w ≡ onto (fedAll g p (replicate (length w) 0))
+    (fedAll g q w)
 unfolding fedAll
 all-sum g p q [] l m h = refl
 all-sum g p q (b ∷ w) l m h =
@@ -159,7 +161,7 @@ unfoldable pub spent : List ℕ → List ℕ → List ℕ → List ℕ
 spent g [] v = v
 spent g (c ∷ cs) v = spent g cs (onto (scale c (worth g (length cs))) v)
 
-pub length-worth : (g : List ℕ) (n : ℕ) → 0 < length g → length (worth g n) ≡ length g
+length-worth : (g : List ℕ) (n : ℕ) → 0 < length g → length (worth g n) ≡ length g
 unfolding worth
 length-worth g zero h = refl
 length-worth g (suc n) h = length-fed g (worth g n) 0 (length-worth g n h) h
@@ -187,7 +189,8 @@ spent-onto g (c ∷ cs) p v l h =
     w : List ℕ
     w = scale c (worth g (length cs))
 
-pub fed-leading : (g cs ys zs : List ℕ) → length cs ≡ length zs → length cs + length ys ≡ length g → 0 < length g → fedAll g (cs ++ ys) zs ≡ spent g cs (ys ++ zs)
+pub fed-leading : (g cs ys zs : List ℕ) → length cs ≡ length zs → length cs + length ys ≡ length g → 0 < length g
+    → fedAll g (cs ++ ys) zs ≡ spent g cs (ys ++ zs)
 unfolding fedAll fed spent worth
 fed-leading g [] ys [] l n h = sym (append-nil ys)
 fed-leading g [] ys (z ∷ zs) l n h = absurd (omega arith)
@@ -224,7 +227,14 @@ divide-value a n g p z b l =
 
     same : length (product q (1 ∷ g)) ≡ length (replicate n 0 ++ d)
     same =
-        omega (arith, length-product q (1 ∷ g) (omega arith), length-quotient n g p (omega arith), length-append (replicate n 0) d, length-replicate {A = ℕ} n 0, length-divide n g p (omega arith))
+        omega (
+          arith,
+          length-product q (1 ∷ g) (omega arith),
+          length-quotient n g p (omega arith),
+          length-append (replicate n 0) d,
+          length-replicate {A = ℕ} n 0,
+          length-divide n g p (omega arith),
+        )
 
 -- zeros before what is divided do nothing
 divide-zeros : (k n : ℕ) (g p : List ℕ) → divide (k + n) (1 ∷ g) (replicate k 0 ++ p) ≡ divide n (1 ∷ g) p
@@ -300,12 +310,12 @@ module _ (r : ℕ) (w : List ℕ) where
   unfolding residue
   residue-fed h = rest-fed r (generator r) w (generator-monic r) (length-generator r) h
 
-  pub length-residue : length (residue r w) ≡ r
+  length-residue : length (residue r w) ≡ r
   unfolding residue
   length-residue = length-rest r (generator r) w (generator-monic r) (length-generator r)
 
   module _ (b : Bytes w) where
-    pub bytes-residue : Bytes (residue r w)
+    bytes-residue : Bytes (residue r w)
     unfolding residue
     bytes-residue = bytes-rest r (generator r) w (generator-monic r) (length-generator r) b
 
@@ -314,7 +324,8 @@ module _ (r : ℕ) (w : List ℕ) where
     residue-value j p q = rest-value r (generator r) w (generator-monic r) (length-generator r) b (pow alpha j) (generator-root r j p q)
 
     pub residue-clean : r < 255 → isZero (residue r w) ≡ clean r w
-    residue-clean k = same-test (isZero (residue r w)) (clean r w) (λ z. roots-clean r w (λ j p q. sym (residue-value j p q) ∙ gone z j)) (λ c. ap isZero (nothing c) ∙ is-zero r)
+    residue-clean k = same-test (isZero (residue r w)) (clean r w) (λ z. roots-clean r w (λ j p q. sym (residue-value j p q) ∙ gone z j))
+        (λ c. ap isZero (nothing c) ∙ is-zero r)
       where
         gone : isZero (residue r w) ≡ true → (j : ℕ) → eval (residue r w) (pow alpha j) ≡ 0
         gone z j = ap (λ (l : List ℕ). eval l (pow alpha j)) (zero-is (residue r w) z) ∙ eval-zeros (pow alpha j) (length (residue r w))
@@ -347,7 +358,8 @@ module _ (j n : ℕ) (w : List ℕ) where
     values-behind : (k i : ℕ) → i + k ≤ n → valuesFrom (residueFrom j n w) (j + i) k ≡ valuesFrom w (j + i) k
     unfolding valuesFrom
     values-behind zero i h = refl
-    values-behind (suc k) i h = ap₂ _∷_ (from-value i (omega arith)) (subst (λ (p : ℕ). valuesFrom (residueFrom j n w) p k ≡ valuesFrom w p k) more (values-behind k (suc i) (omega arith)))
+    values-behind (suc k) i h = ap₂ _∷_ (from-value i (omega arith))
+        (subst (λ (p : ℕ). valuesFrom (residueFrom j n w) p k ≡ valuesFrom w p k) more (values-behind k (suc i) (omega arith)))
       where
         more : j + suc i ≡ suc (j + i)
         more = omega arith

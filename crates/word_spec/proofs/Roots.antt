@@ -2,7 +2,7 @@
 -- length-values, bytes-values    there are n of them, and all are bytes
 -- values-at, values-front        one of them, and the first of them
 -- values-parts                   the first k of them, and those behind
--- values-none, values-step       of no coefficient, and of one more, by a step at every point
+-- values-step                    of one coefficient more, by a step at every point
 -- values-zeros                   of zeros
 use mathlib.Core.Path.{_≡_, refl, sym, ap, ap₂, _∙_}
 use mathlib.Core.List.{List, [], _∷_, _++_}
@@ -45,9 +45,10 @@ unfolding valuesFrom
 values-parts w j zero n = ap₂ (λ (i m : ℕ). valuesFrom w i m) (sym (plus-zero j)) (zero-plus n)
 values-parts w j (suc k) n =
     ap (valuesFrom w j) (suc-plus k n)
-    ∙ ap (λ (l : List ℕ). eval w (pow alpha j) ∷ l) (values-parts w (suc j) k n ∙ ap (λ (i : ℕ). valuesFrom w (suc j) k ++ valuesFrom w i n) (suc-plus j k ∙ sym (plus-suc j k)))
+    ∙ ap (λ (l : List ℕ). eval w (pow alpha j) ∷ l)
+    (values-parts w (suc j) k n ∙ ap (λ (i : ℕ). valuesFrom w (suc j) k ++ valuesFrom w i n) (suc-plus j k ∙ sym (plus-suc j k)))
 
-pub values-none : (j n : ℕ) → replicate n 0 ≡ valuesFrom [] j n
+values-none : (j n : ℕ) → replicate n 0 ≡ valuesFrom [] j n
 unfolding valuesFrom eval horner
 values-none j zero = refl
 values-none j (suc n) = ap (λ (l : List ℕ). 0 ∷ l) (values-none (suc j) n)

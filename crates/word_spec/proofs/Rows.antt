@@ -66,7 +66,8 @@ pub summed-low : (rs : List (List ℕ)) (h : ℕ) (v : List ℕ) → summed rs (
 unfolding summed
 summed-low [] h v = refl
 summed-low (r ∷ rs) h v =
-    ap₂ (λ (b k : ℕ). onto (kept b r) (summed rs k v)) (ap (λ (m : ℕ). m % 2) two ∙ digits-mod (h / 2 % n) low) (ap (λ (m : ℕ). m / 2) two ∙ digits-div (h / 2 % n) low)
+    ap₂ (λ (b k : ℕ). onto (kept b r) (summed rs k v)) (ap (λ (m : ℕ). m % 2) two ∙ digits-mod (h / 2 % n) low)
+    (ap (λ (m : ℕ). m / 2) two ∙ digits-div (h / 2 % n) low)
     ∙ ap (onto (kept (h % 2) r)) (summed-low rs (h / 2) v)
   where
     n : ℕ
@@ -79,11 +80,13 @@ summed-low (r ∷ rs) h v =
     two = ap (λ (m : ℕ). h % m) (pow-suc 2 (length rs)) ∙ mod-mul h (one-le-pow (length rs) 2 (omega arith)) (omega arith)
 
 -- what is added to zeros can be added to anything
-pub summed-onto : (rs : List (List ℕ)) (h : ℕ) (v : List ℕ) → Each (λ (r : List ℕ). length r ≡ length v) rs → onto (summed rs h (replicate (length v) 0)) v ≡ summed rs h v
+pub summed-onto : (rs : List (List ℕ)) (h : ℕ) (v : List ℕ) → Each (λ (r : List ℕ). length r ≡ length v) rs
+    → onto (summed rs h (replicate (length v) 0)) v ≡ summed rs h v
 unfolding summed
 summed-onto [] h v e = zeros-onto (length v) v
 summed-onto (r ∷ rs) h v e =
-    onto-assoc (kept (h % 2) r) (summed rs (h / 2) zeros) v (omega (arith, length-kept (h % 2) r, length-summed rs (h / 2) zeros, length-replicate {A = ℕ} (length v) 0, e .0))
+    onto-assoc (kept (h % 2) r) (summed rs (h / 2) zeros) v
+    (omega (arith, length-kept (h % 2) r, length-summed rs (h / 2) zeros, length-replicate {A = ℕ} (length v) 0, e .0))
     ∙ ap (onto (kept (h % 2) r)) (summed-onto rs (h / 2) v (e .1))
   where
     zeros : List ℕ
@@ -108,7 +111,8 @@ summed-both [] (q ∷ qs) h v w l e = absurd (omega arith)
 summed-both (p ∷ ps) [] h v w l e = absurd (omega arith)
 summed-both (p ∷ ps) (q ∷ qs) h v w l e =
     ap₂ onto (kept-append (h % 2) p q) (summed-both ps qs (h / 2) v w (suc-inj l) (e .1))
-    ∙ onto-append (kept (h % 2) p) (kept (h % 2) q) (summed ps (h / 2) v) (summed qs (h / 2) w) (length-kept (h % 2) p ∙ e .0 ∙ sym (length-summed ps (h / 2) v))
+    ∙ onto-append (kept (h % 2) p) (kept (h % 2) q) (summed ps (h / 2) v) (summed qs (h / 2) w)
+    (length-kept (h % 2) p ∙ e .0 ∙ sym (length-summed ps (h / 2) v))
 
 -- x, twice x, four times x, .., n of them
 unfoldable pub doublings : ℕ → List ℕ → List (List ℕ)
@@ -129,7 +133,8 @@ summed-doublings : (n c : ℕ) (x v : List ℕ) → summed (doublings n x) c v �
 unfolding summed doublings shiftAdd
 summed-doublings zero c x v = sym (ap (λ (l : List ℕ). onto l v) (none-map x) ∙ zeros-onto (length x) v)
 summed-doublings (suc n) c x v =
-    ap (onto (kept (c % 2) x)) (summed-doublings n (c / 2) (map double x) v ∙ ap (λ (l : List ℕ). onto l v) (map-map (λ (y : ℕ). shiftAdd n y (c / 2)) double x))
+    ap (onto (kept (c % 2) x))
+    (summed-doublings n (c / 2) (map double x) v ∙ ap (λ (l : List ℕ). onto l v) (map-map (λ (y : ℕ). shiftAdd n y (c / 2)) double x))
     ∙ sym (onto-assoc (kept (c % 2) x) (map f x) v (omega (arith, length-kept (c % 2) x, length-map x f)))
     ∙ ap (λ (l : List ℕ). onto l v) (kept-map (c % 2) f x)
   where
@@ -164,7 +169,8 @@ bits-size : (g : List ℕ) (k : ℕ) → 2 ^ length (bitWorths g k) ≡ size k
 unfolding bitWorths size
 bits-size g zero = refl
 bits-size g (suc k) =
-    ap (λ (n : ℕ). 2 ^ n) (length-append (bitWorths g k) (doublings 8 (worth g k)) ∙ ap (λ (n : ℕ). length (bitWorths g k) + n) (length-doublings 8 (worth g k)))
+    ap (λ (n : ℕ). 2 ^ n) (length-append (bitWorths g k) (doublings 8 (worth g k))
+    ∙ ap (λ (n : ℕ). length (bitWorths g k) + n) (length-doublings 8 (worth g k)))
     ∙ pow-add 2 (length (bitWorths g k)) 8 ∙ ap (λ (s : ℕ). s * 256) (bits-size g k)
 
 pub spent-bits : (g : List ℕ) → Bytes g → (k h : ℕ) (v : List ℕ) → spent g (bytesOf k h) v ≡ summed (bitWorths g k) h v

@@ -1,7 +1,8 @@
 -- Polynomials as lists: multiples, sums and products.
--- length-.., bytes-..         lengths; results are bytes
--- onto-assoc, .., onto-zero   laws of sums
--- product                     the product of two polynomials
+-- length-scale, length-onto, length-product    lengths
+-- bytes-scale, bytes-onto                      results are bytes
+-- onto-assoc, onto-comm, onto-twice, onto-append, onto-zeros, zeros-onto, onto-zero   laws of sums
+-- product                                      the product of two polynomials
 use mathlib.Core.Path.{_≡_, refl, ap, ap₂, _∙_}
 use mathlib.Core.List.{List, [], _∷_, _++_}
 use Prim.Native.Nat.{ℕ, zero, suc, _+_, _≤_, _<_}

@@ -1,15 +1,16 @@
 -- Values of polynomials at any point: of multiples, sums and products. Repair stands on these.
--- horner-append, horner-scale, horner-add   of lists joined, multiplied, added
--- horner-lead, eval-cons                    the leading coefficient c of k + 1 counts c a^k
--- value-is                                  the value is the sum of the terms
--- horner-onto                               of a list added onto the front of a longer one
--- eval-product                              the value of a product is the product of the values
+-- horner-lt, eval-lt             values are bytes
+-- horner-append, horner-add      of lists joined, added
+-- horner-first, eval-cons        the first coefficient; the leading one c of k + 1 counts c a^k
+-- eval-scale, eval-add, eval-zeros   of a multiple, a sum, zeros
+-- value-is                       the value is the sum of the terms
+-- eval-product                   the value of a product is the product of the values
 use mathlib.Core.Path.{_≡_, refl, sym, ap, ap₂, _∙_}
 use mathlib.Core.List.{List, [], _∷_, _++_}
 use Prim.Native.Nat.{ℕ, zero, suc, _-_, _≤_, _<_}
 use native.Mathlib.Nat.{not-suc-le-zero, le-of-suc-le-suc, suc-inj, sub-zero, suc-sub-suc}
 use native.Mathlib.Omega.{arith}
-use lib.ListN.{length, getD, replicate}
+use lib.ListN.{length, replicate}
 use Rattle.base.specs.Bytes.{Bytes}
 use Rattle.field.specs.Field.{add, mul, pow, valueAt}
 use Rattle.field.proofs.Sum.{add-self, add-zero, zero-add, add-byte}
@@ -43,7 +44,7 @@ unfolding horner
 horner-append a v [] q = refl
 horner-append a v (x ∷ p) q = horner-append a (add (mul v a) x) p q
 
-pub horner-scale : (a c v : ℕ) (p : List ℕ) → horner a (mul c v) (scale c p) ≡ mul c (horner a v p)
+horner-scale : (a c v : ℕ) (p : List ℕ) → horner a (mul c v) (scale c p) ≡ mul c (horner a v p)
 unfolding horner scale
 horner-scale a c v [] = refl
 horner-scale a c v (x ∷ p) = ap (λ (t : ℕ). horner a t (scale c p)) (step-mul a c v x) ∙ horner-scale a c (add (mul v a) x) p
@@ -71,7 +72,7 @@ lead-step a u v x = simp ring
 lead-power : (a u n : ℕ) → mul (mul u a) n ≡ mul u (mul a n)
 lead-power a u n = simp ring
 
-pub horner-lead : (a u v : ℕ) (p : List ℕ) → u < 256 → horner a (add u v) p ≡ add (mul u (pow a (length p))) (horner a v p)
+horner-lead : (a u v : ℕ) (p : List ℕ) → u < 256 → horner a (add u v) p ≡ add (mul u (pow a (length p))) (horner a v p)
 unfolding horner
 horner-lead a u v [] h = ap (λ (t : ℕ). add t v) (sym (ap (mul u) (pow-zero a) ∙ mul-one u h))
 horner-lead a u v (x ∷ p) h =
@@ -82,17 +83,12 @@ pub eval-cons : (a c : ℕ) (p : List ℕ) → c < 256 → eval (c ∷ p) a ≡ 
 unfolding eval
 eval-cons a c p h = horner-first a c p ∙ ap (λ (t : ℕ). horner a t p) (sym (add-zero c)) ∙ horner-lead a c 0 p h
 
--- the members of a slice of bytes are bytes
-pub bytes-of : (xs : List ℕ) → ((i : ℕ) → getD xs i 0 < 256) → Bytes xs
-bytes-of [] h = tt
-bytes-of (x ∷ xs) h = (h 0, bytes-of xs (λ i. h (suc i)))
-
 pub value-is : (a : ℕ) (p : List ℕ) → Bytes p → eval p a ≡ valueAt a p
 unfolding valueAt eval horner
 value-is a [] b = refl
 value-is a (c ∷ p) b = eval-cons a c p (b .0) ∙ ap (add (mul c (pow a (length p)))) (value-is a p (b .1))
 
-pub horner-onto : (a u v : ℕ) (p q : List ℕ) → u < 256 → Bytes p → length p ≤ length q
+horner-onto : (a u v : ℕ) (p q : List ℕ) → u < 256 → Bytes p → length p ≤ length q
     → horner a (add u v) (onto p q) ≡ add (mul (horner a u p) (pow a (length q - length p))) (horner a v q)
 unfolding horner onto
 horner-onto a u v [] q h b l = horner-lead a u v q h ∙ ap (λ (n : ℕ). add (mul u (pow a n)) (horner a v q)) (sym (sub-zero (length q)))
@@ -102,7 +98,7 @@ horner-onto a u v (x ∷ p) (y ∷ q) h b l =
     ∙ horner-onto a (add (mul u a) x) (add (mul v a) y) p q (add-byte _ _ (mul-lt u a) (b .0)) (b .1) (le-of-suc-le-suc l)
     ∙ ap (λ (n : ℕ). add (mul (horner a u (x ∷ p)) (pow a n)) (horner a v (y ∷ q))) (sym (suc-sub-suc (length q) (length p)))
 
-pub eval-onto : (a : ℕ) (p q : List ℕ) → Bytes p → length p ≤ length q → eval (onto p q) a ≡ add (mul (eval p a) (pow a (length q - length p))) (eval q a)
+eval-onto : (a : ℕ) (p q : List ℕ) → Bytes p → length p ≤ length q → eval (onto p q) a ≡ add (mul (eval p a) (pow a (length q - length p))) (eval q a)
 unfolding eval
 eval-onto a p q b l = ap (λ (t : ℕ). horner a t (onto p q)) (sym (add-self 0)) ∙ horner-onto a 0 0 p q (omega arith) b l
 
@@ -110,7 +106,8 @@ eval-onto a p q b l = ap (λ (t : ℕ). horner a t (onto p q)) (sym (add-self 0)
 pub eval-zeros : (a n : ℕ) → eval (replicate n 0) a ≡ 0
 unfolding eval horner
 eval-zeros a zero = refl
-eval-zeros a (suc n) = ap (λ (t : ℕ). horner a (add t 0) (replicate n 0)) (zero-mul a) ∙ ap (λ (t : ℕ). horner a t (replicate n 0)) (zero-add 0) ∙ eval-zeros a n
+eval-zeros a (suc n) = ap (λ (t : ℕ). horner a (add t 0) (replicate n 0)) (zero-mul a) ∙ ap (λ (t : ℕ). horner a t (replicate n 0)) (zero-add 0)
+    ∙ eval-zeros a n
 
 -- ---- the product
 factor : (c n p q : ℕ) → add (mul (mul c q) n) (mul p q) ≡ mul (add (mul c n) p) q

@@ -1,4 +1,7 @@
 -- What long division leaves of bytes, and the divisors by which the crate `lanes` divides.
+-- residue                      what division by the generator leaves
+-- generatorFrom, residueFrom   the product for other roots that follow each other, and what division by it leaves
+-- laneRoots, nextRoot          how many roots a divisor of that crate has, and the first root of its second one
 use mathlib.Core.List.{List, [], _∷_, _++_}
 use Prim.Native.Nat.{ℕ, zero, suc, _+_}
 use lib.ListN.{length, replicate}

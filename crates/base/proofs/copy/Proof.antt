@@ -18,8 +18,7 @@ abbrev μ-loop : tie.MeasureT-loop
 
 pub copy-spec : {M : Type 1} → statement M
 copy-spec =
-    tie.close
-    (tie.spec Inv-loop μ-loop
+    tie.close (tie.spec Inv-loop μ-loop
     (search needs)
     (λ c. (refl, refl))
     (omega arith)
@@ -28,7 +27,9 @@ copy-spec =
     (omega arith)
     (λ c. (
       simp length-set (omega arith),
-      copied-next (c .before .before .loop .i) (c .before .before .before .before .before .before .args .src .now) (c .before .before .loop .dst) (c .before .before .loop .inv .1) (omega arith) (omega arith),
+      copied-next (c .before .before .loop .i) (c .before .before .before .before .before .before .args .src .now) (c .before .before .loop .dst)
+          (c .before .before .loop .inv .1) (omega arith) (omega arith),
     ))
     (λ c. c .before .loop .inv .0)
-    (λ c. copied-done (c .before .loop .i) (c .before .before .before .before .before .args .src .now) (c .before .loop .dst) (c .before .loop .inv .1) _ (c .loop-test .left) (omega arith)))
+    (λ c. copied-done (c .before .loop .i) (c .before .before .before .before .before .args .src .now) (c .before .loop .dst) (c .before .loop .inv .1) _
+    (c .loop-test .left) (omega arith)))

@@ -17,12 +17,11 @@ abbrev μ-loop : tie.MeasureT-loop
 
 pub up-to-spec : {M : Type 1} → statement M
 up-to-spec =
-    tie.close
-    (tie.spec Inv-loop μ-loop
+    tie.close (tie.spec Inv-loop μ-loop
     (λ c. omega arith)
     (search needs)
     (λ c. (count-done _ _ _ (c .before .before .before .loop .inv) (up-to-here _ _ _ (c .before .before .loop-test .taken) (c .if1 .taken)), omega arith))
-    (search needs)
-    (search needs)
+    (search needs) (search needs)
     (λ c. count-more _ _ _ (c .before .before .before .loop .inv) (c .before .before .loop-test .taken) (c .if1 .left))
-    (λ c. let e = count-done _ _ _ (c .before .loop .inv) (up-to-over _ _ _ (c .loop-test .left)) in (e, omega (arith, e, up-to-short (c .before .before .args .c) (c .before .before .args .bytes .now)))))
+    (λ c. let e = count-done _ _ _ (c .before .loop .inv) (up-to-over _ _ _ (c .loop-test .left)) in
+    (e, omega (arith, e, up-to-short (c .before .before .args .c) (c .before .before .args .bytes .now)))))

@@ -37,7 +37,8 @@ add-n : tie.Need-add-n Inv-loop μ-loop
 add-n c = omega arith
 
 returns-3 : tie.Need-returns-3 Inv-loop μ-loop
-returns-3 c = sym (c .before .before .before .before .before .loop .inv .1 ∙ digit-next _ _ _ (c .before .before .before .before .loop-test .taken) (c .before .before .if1 .left) (c .before .if2 .left) ∙ digits-over _ _ (c .if3 .taken))
+returns-3 c = sym (c .before .before .before .before .before .loop .inv .1 ∙ digit-next _ _ _ (c .before .before .before .before .loop-test .taken)
+    (c .before .before .if1 .left) (c .before .if2 .left) ∙ digits-over _ _ (c .if3 .taken))
 
 add-i : tie.Need-add-i Inv-loop μ-loop
 add-i c = omega arith
@@ -46,15 +47,18 @@ loop-less : tie.Need-loop-less Inv-loop μ-loop
 loop-less c = omega arith
 
 loop-again : tie.Need-loop-again Inv-loop μ-loop
-loop-again c = (c .if3 .left, c .before .before .before .before .before .loop .inv .1 ∙ digit-next _ _ _ (c .before .before .before .before .loop-test .taken) (c .before .before .if1 .left) (c .before .if2 .left))
+loop-again c = (
+  c .if3 .left,
+  c .before .before .before .before .before .loop .inv .1 ∙ digit-next _ _ _ (c .before .before .before .before .loop-test .taken)
+      (c .before .before .if1 .left) (c .before .if2 .left),
+)
 
 returns-4 : tie.Need-returns-4 Inv-loop μ-loop
 returns-4 c = sym (c .before .loop .inv .1 ∙ digits-end _ _ _ (c .loop-test .left) (c .before .loop .inv .0))
 
 pub digits-spec : {M : Type 1} → statement M
 digits-spec =
-    tie.close
-    (tie.spec
+    tie.close (tie.spec
     Inv-loop
     μ-loop
     loop-holds

@@ -7,8 +7,7 @@ use Rattle.bid.proofs.number.Tie as tie
 
 pub number-spec : {M : Type 1} → statement M
 number-spec =
-    tie.close
-    (tie.spec
+    tie.close (tie.spec
     (λ c. sym (number-none _ (c .if1 .taken)))
     (λ c. sym (number-long _ (c .if2 .taken)))
     (search needs)

@@ -6,28 +6,15 @@ use Rattle.bids_main.proofs.read_all.Statement.{statement}
 use Rattle.bids_main.proofs.read_all.Tie as tie
 
 abbrev Inv-loop : tie.InvT-loop
-Inv-loop recording line₀ hold₀ out₀ piece₀ stand₀ turns₀ line hold out piece stand turns =
-    (length line ≡ length line₀) × (length hold ≡ length hold₀) × (length out ≡ length out₀) × (65536 ≡ length piece)
+Inv-loop recording line₀ hold₀ out₀ stand₀ turns₀ line hold out stand turns =
+    (length line ≡ length line₀) × (length hold ≡ length hold₀) × (length out ≡ length out₀)
 
 abbrev μ-loop : tie.MeasureT-loop
-μ-loop recording line₀ hold₀ out₀ piece₀ stand₀ turns₀ line hold out piece stand turns = turns
+μ-loop recording line₀ hold₀ out₀ stand₀ turns₀ line hold out stand turns = turns
 
 pub read-all-spec : {M : Type 1} → statement M
 read-all-spec =
-    tie.close
-    (tie.spec Inv-loop μ-loop
-    (search needs)
-    (search needs)
-    (search needs)
-    (search needs)
-    (search needs)
-    (search needs)
-    (search needs)
-    (search needs)
-    (search needs)
-    (search needs)
-    (search needs)
-    (search needs)
-    (search needs)
-    (search needs)
+    tie.close (tie.spec Inv-loop μ-loop
+    (search needs) (λ c κs. search needs) (search needs) (search needs) (search needs) (search needs) (search needs) (search needs) (search needs)
+    (search needs) (search needs) (search needs)
     (search needs))

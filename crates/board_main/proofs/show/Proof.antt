@@ -1,5 +1,4 @@
 -- `board_main::show` is safe and ends: the buffers keep their lengths, and the reads that may come grow fewer.
-use native.Mathlib.Omega.{arith}
 use mathlib.Core.Path.{_≡_}
 use lib.ListN.{length}
 use borrow.Author.Needs.{needs}
@@ -9,37 +8,16 @@ use Rattle.board_main.proofs.show.Statement.{statement}
 use Rattle.board_main.proofs.show.Tie as tie
 
 abbrev Inv-loop : tie.InvT-loop
-Inv-loop recv₀ word₀ piece₀ out₀ readout₀ reads₀ t₀ recv word piece out readout reads =
+Inv-loop recv₀ word₀ piece₀ out₀ readout₀ reads₀ recv word piece out readout reads =
     (rawLimit ≡ length recv) × (wordBytes ≡ length word) × (4096 ≡ length piece) × (8192 ≡ length out)
 
 abbrev μ-loop : tie.MeasureT-loop
-μ-loop recv₀ word₀ piece₀ out₀ readout₀ reads₀ t₀ recv word piece out readout reads = reads
+μ-loop recv₀ word₀ piece₀ out₀ readout₀ reads₀ recv word piece out readout reads = reads
 
 pub show-spec : {M : Type 1} → statement M
 show-spec =
-    tie.close
-    (tie.spec Inv-loop μ-loop
-    (search needs)
-    (search needs)
-    (search needs)
-    (search needs)
-    (search needs)
-    (search needs)
-    (search needs)
-    (search needs)
-    (search needs)
-    (search needs)
-    (search needs)
-    (search needs)
-    (search needs)
-    (search needs)
-    (search needs)
-    (search needs)
-    (search needs)
-    (search needs)
-    (search needs)
-    (search needs)
-    (λ c. omega (arith, c .before .before .before .before .before .before .before .before .before .before .before .before .before .before .before .before .before .before .before .loop-test .taken))
-    (λ c. omega (arith, c .before .before .before .before .before .before .before .before .before .before .before .before .before .before .before .before .before .before .before .loop-test .taken))
-    (search needs)
+    tie.close (tie.spec Inv-loop μ-loop
+    (λ c κs. search needs) (search needs) (search needs) (λ c κs. search needs) (λ c κs. search needs) (search needs) (λ c κs. search needs)
+    (search needs) (search needs) (λ c κs. search needs) (search needs) (search needs) (search needs) (search needs) (search needs) (search needs)
+    (λ c κs. search needs) (λ c κs. search needs) (search needs) (search needs) (search needs) (search needs)
     (search needs))

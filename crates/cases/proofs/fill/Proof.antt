@@ -15,8 +15,7 @@ abbrev μ-loop : tie.MeasureT-loop
 
 pub fill-spec : {M : Type 1} → statement M
 fill-spec =
-    tie.close
-    (tie.spec Inv-loop μ-loop
+    tie.close (tie.spec Inv-loop μ-loop
     (search needs)
     (omega arith)
     (omega arith)

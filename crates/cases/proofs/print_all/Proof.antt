@@ -15,8 +15,7 @@ abbrev μ-loop : tie.MeasureT-loop
 
 pub print-all-spec : {M : Type 1} → statement M
 print-all-spec =
-    tie.close
-    (tie.spec Inv-loop μ-loop
+    tie.close (tie.spec Inv-loop μ-loop
     (omega arith)
     (search needs)
     (omega arith)

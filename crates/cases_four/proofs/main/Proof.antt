@@ -9,27 +9,15 @@ use Rattle.cases_four.proofs.main.Statement.{statement}
 use Rattle.cases_four.proofs.main.Tie as tie
 
 abbrev Inv-loop : tie.InvT-loop
-Inv-loop bytes₀ recv₀ word₀ receiver₀ left₀ bytes recv word receiver left =
+Inv-loop bytes₀ recv₀ word₀ cells₀ receiver₀ left₀ bytes recv word cells receiver left =
     (65536 ≡ length bytes) × (4 * rawLimit ≡ length recv) × (4 * wordBytes ≡ length word)
 
 abbrev μ-loop : tie.MeasureT-loop
-μ-loop bytes₀ recv₀ word₀ receiver₀ left₀ bytes recv word receiver left = left
+μ-loop bytes₀ recv₀ word₀ cells₀ receiver₀ left₀ bytes recv word cells receiver left = left
 
 pub main-spec : {M : Type 1} → statement M
 main-spec =
-    tie.close
-    (tie.spec Inv-loop μ-loop
-    (search needs)
-    (search needs)
-    (search needs)
-    (search needs)
-    (search needs)
-    (search needs)
-    (search needs)
-    (search needs)
-    (search needs)
-    (search needs)
-    (search needs)
-    (search needs)
-    (search needs)
+    tie.close (tie.spec Inv-loop μ-loop
+    (search needs) (search needs) (search needs) (search needs) (search needs) (search needs) (search needs) (search needs) (search needs)
+    (search needs) (search needs) (search needs) (search needs)
     (search needs))

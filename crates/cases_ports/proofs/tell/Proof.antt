@@ -13,19 +13,10 @@ abbrev μ-loop : tie.MeasureT-loop
 
 pub tell-spec : {M : Type 1} → statement M
 tell-spec =
-    tie.close
-    (tie.spec Inv-loop μ-loop
-    (λ c κs. search needs)
-    (λ c κs. search needs)
-    (λ c κs. search needs)
-    (λ c κs. search needs)
-    (search needs)
-    (λ c κs. search needs)
+    tie.close (tie.spec Inv-loop μ-loop
+    (λ c κs. search needs) (λ c κs. search needs) (λ c κs. search needs) (λ c κs. search needs) (search needs) (λ c κs. search needs)
     (λ c. tt)
-    (search needs)
-    (search needs)
-    (λ c κs. search needs)
-    (search needs)
+    (search needs) (search needs) (λ c κs. search needs) (search needs)
     (omega arith)
     (λ c. tt)
     (search needs))

@@ -12,12 +12,9 @@ abbrev μ-loop : tie.MeasureT-loop
 
 pub main-spec : {M : Type 1} → statement M
 main-spec =
-    tie.close
-    (tie.spec Inv-loop μ-loop
+    tie.close (tie.spec Inv-loop μ-loop
     (λ c. tt)
-    (λ c κs. search needs)
-    (search needs)
-    (search needs)
+    (λ c κs. search needs) (search needs) (search needs)
     (omega arith)
     (λ c. tt)
     (search needs))

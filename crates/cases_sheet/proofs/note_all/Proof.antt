@@ -12,13 +12,9 @@ abbrev μ-loop : tie.MeasureT-loop
 
 pub note-all-spec : {M : Type 1} → statement M
 note-all-spec =
-    tie.close
-    (tie.spec Inv-loop μ-loop
+    tie.close (tie.spec Inv-loop μ-loop
     (λ c. tt)
-    (λ c κs. search needs)
-    (λ c κs. search needs)
-    (λ c κs. search needs)
-    (search needs)
+    (λ c κs. search needs) (λ c κs. search needs) (λ c κs. search needs) (search needs)
     (omega arith)
     (λ c. tt)
     (search needs))

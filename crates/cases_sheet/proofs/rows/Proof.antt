@@ -13,14 +13,10 @@ abbrev μ-loop : tie.MeasureT-loop
 
 pub rows-spec : {M : Type 1} → statement M
 rows-spec =
-    tie.close
-    (tie.spec Inv-loop μ-loop
+    tie.close (tie.spec Inv-loop μ-loop
     (λ c κs. search needs)
     (λ c. tt)
-    (λ c κs. search needs)
-    (search needs)
-    (search needs)
-    (search needs)
+    (λ c κs. search needs) (search needs) (search needs) (search needs)
     (omega arith)
     (λ c. tt)
     (search needs))

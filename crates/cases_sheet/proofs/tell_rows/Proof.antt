@@ -13,14 +13,9 @@ abbrev μ-loop : tie.MeasureT-loop
 
 pub tell-rows-spec : {M : Type 1} → statement M
 tell-rows-spec =
-    tie.close
-    (tie.spec Inv-loop μ-loop
+    tie.close (tie.spec Inv-loop μ-loop
     (λ c. tt)
-    (search needs)
-    (search needs)
-    (λ c κs. search needs)
-    (λ c κs. search needs)
-    (search needs)
+    (search needs) (search needs) (λ c κs. search needs) (λ c κs. search needs) (search needs)
     (omega arith)
     (λ c. tt)
     (search needs))

@@ -6,13 +6,8 @@ use Rattle.channel_sender.proofs.put_next.Tie as tie
 
 pub put-next-spec : {M : Type 1} → statement M
 put-next-spec =
-    tie.close
-    (tie.spec
-    (search needs)
-    (search needs)
-    (search needs)
-    (search needs)
-    (search needs)
+    tie.close (tie.spec
+    (search needs) (search needs) (search needs) (search needs) (search needs)
     (λ c.
     let copied = c .before .before .before .before .before .before in
     let start = copied .before .before .before .before in

@@ -19,8 +19,7 @@ abbrev μ-loop : tie.MeasureT-loop
 
 pub send-spec : {M : Type 1} → statement M
 send-spec =
-    tie.close
-    (tie.spec Inv-loop μ-loop
+    tie.close (tie.spec Inv-loop μ-loop
     (search needs)
     (λ c. omega (arith, c .blocks-of .ensures .1))
     (λ c.
@@ -51,4 +50,5 @@ send-spec =
     (λ c.
     let a = c .before .before .before .before .before .before .args in
     let l = c .before .loop in
-    send-fits (a .stream .now) (a .out .now) _ (c .before .before .before .blocks-of .ensures .0) (l .i) (c .before .before .if1 .left) (omega arith) (l .inv .2)))
+    send-fits (a .stream .now) (a .out .now) _ (c .before .before .before .blocks-of .ensures .0) (l .i) (c .before .before .if1 .left) (omega arith)
+    (l .inv .2)))

@@ -4,7 +4,8 @@ use Prim.Native.Nat.{ℕ, _+_, _-_, _≤_, _<_}
 use native.Mathlib.Omega.{arith}
 use lib.ListN.{length, take, drop}
 use Rattle.fcs.specs.Private.{little}
-use Rattle.fcs.proofs.Eights.{bytes-of, little-none, little-fits, little-more}
+use Rattle.base.proofs.Bytes.{bytes-of}
+use Rattle.fcs.proofs.Eights.{little-none, little-fits, little-more}
 use Rattle.fcs.proofs.eight.Statement.{statement}
 use Rattle.fcs.proofs.eight.Tie as tie
 
@@ -16,25 +17,39 @@ abbrev μ-loop : tie.MeasureT-loop
 
 pub eight-spec : {M : Type 1} → statement M
 eight-spec =
-    tie.close
-    (tie.spec Inv-loop μ-loop
+    tie.close (tie.spec Inv-loop μ-loop
     (λ c. (omega arith, little-none (c .before .args .bytes .now) (c .before .args .at) (c .before .pre), c .before .pre, omega arith))
     (omega arith)
     (λ c.
     let a = c .before .before .before .args in
-    omega (arith, little-fits (a .bytes .now) (a .at) (c .before .loop .inv .2) (c .before .loop .i) (bytes-of (a .bytes .now) (λ i. c .before .before .shared-slice-known .given i .fits)) (c .loop-test .taken) (c .before .loop .inv .1)))
+    omega (
+      arith,
+      little-fits (a .bytes .now) (a .at) (c .before .loop .inv .2) (c .before .loop .i)
+          (bytes-of (a .bytes .now) (λ i. c .before .before .shared-slice-known .given i .fits)) (c .loop-test .taken) (c .before .loop .inv .1),
+    ))
     (omega arith)
     (omega arith)
     (λ c κs. tt)
     (λ c.
     let l = c .before .before .before in
     let a = l .before .before .args in
-    omega (arith, little-fits (a .bytes .now) (a .at) (l .loop .inv .2) (l .loop .i) (bytes-of (a .bytes .now) (λ i. l .before .shared-slice-known .given i .fits)) (c .before .before .loop-test .taken) (l .loop .inv .1), c .wide .ensures, l .before .shared-slice-known .given (a .at + (l .loop .i - 1)) .fits))
+    omega (
+      arith,
+      little-fits (a .bytes .now) (a .at) (l .loop .inv .2) (l .loop .i)
+          (bytes-of (a .bytes .now) (λ i. l .before .shared-slice-known .given i .fits)) (c .before .before .loop-test .taken) (l .loop .inv .1),
+      c .wide .ensures,
+      l .before .shared-slice-known .given (a .at + (l .loop .i - 1)) .fits,
+    ))
     (omega arith)
     (λ c.
     let l = c .before .before .before in
-    let a = l .before .before .args in
-    (omega arith, little-more (a .bytes .now) (a .at) (l .loop .inv .2) (l .loop .i) (c .before .before .loop-test .taken) (l .loop .inv .0) (l .loop .inv .1) (c .wide .ensures), l .loop .inv .2, l .loop .inv .3))
+    let a = l .before .before .args in (
+      omega arith,
+      little-more (a .bytes .now) (a .at) (l .loop .inv .2) (l .loop .i) (c .before .before .loop-test .taken) (l .loop .inv .0) (l .loop .inv .1)
+          (c .wide .ensures),
+      l .loop .inv .2,
+      l .loop .inv .3,
+    ))
     (λ c.
     let a = c .before .before .before .args in
     let e : c .before .loop .i ≡ 0 = omega arith in

@@ -8,8 +8,7 @@ use Rattle.fcs.proofs.enter.Tie as tie
 
 pub enter-spec : {M : Type 1} → statement M
 enter-spec =
-    tie.close
-    (tie.spec
+    tie.close (tie.spec
     (search needs)
     (λ c. omega (arith, folded-lt (bitXor (c .args .register) (c .args .byte))))
     (λ c. omega (arith, folded-lt (bitXor (c .args .register) (c .args .byte))))

@@ -16,12 +16,8 @@ abbrev μ-loop : tie.MeasureT-loop
 
 pub enter-each-spec : {M : Type 1} → statement M
 enter-each-spec =
-    tie.close
-    (tie.spec Inv-loop μ-loop
+    tie.close (tie.spec Inv-loop μ-loop
     (λ c. refl)
-    (search needs)
-    (search needs)
-    (search needs)
-    (search needs)
+    (search needs) (search needs) (search needs) (search needs)
     (λ c. byte-next _ _ _ (c .before .before .loop-test .taken) (c .enter .ensures) (c .before .before .before .loop .inv))
     (λ c. byte-done _ _ _ (c .loop-test .left) (c .before .loop .inv)))

@@ -9,11 +9,8 @@ use Rattle.fcs.proofs.fcs.Tie as tie
 pub fcs-spec : {M : Type 1} → statement M
 unfolding fcs
 fcs-spec =
-    tie.close
-    (tie.spec
-    (search needs)
-    (search needs)
-    (search needs)
+    tie.close (tie.spec
+    (search needs) (search needs) (search needs)
     (λ c.
     c .check .ensures
     ∙ ap (λ (r : Register). complement (r .bits))

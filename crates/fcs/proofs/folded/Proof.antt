@@ -6,7 +6,7 @@ use lib.Bits.{xor-lt}
 use lib.ListN.{length, drop}
 use borrow.Author.Needs.{needs}
 use Rattle.fcs.specs.Fcs.{register, entered}
-use Rattle.fcs.proofs.Eights.{bytes-of}
+use Rattle.base.proofs.Bytes.{bytes-of}
 use Rattle.fcs.proofs.Folding.{Fit, waiting, fit-more, folded-first, folded-next, eights-over}
 use Rattle.fcs.proofs.folded.Statement.{statement}
 use Rattle.fcs.proofs.folded.Tie as tie
@@ -20,8 +20,7 @@ abbrev μ-loop : tie.MeasureT-loop
 
 pub folded-spec : {M : Type 1} → statement M
 folded-spec =
-    tie.close
-    (tie.spec Inv-loop μ-loop
+    tie.close (tie.spec Inv-loop μ-loop
     (λ c κs. omega arith)
     (λ c κs. omega arith)
     (λ c κs. omega arith)
@@ -54,10 +53,7 @@ folded-spec =
       folded-next (l .a) (l .b) (l .c) (l .d) n (l .inv .2) (omega arith) (l .i) (a .bytes .now) bytes (c .eight5 .ensures) (l .inv .3) (omega arith),
       l .inv .4,
     ))
-    (search needs)
-    (search needs)
-    (search needs)
-    (search needs)
+    (search needs) (search needs) (search needs) (search needs)
     (λ c.
     let f = c .before .before .before in
     let l = f .before .before .loop in

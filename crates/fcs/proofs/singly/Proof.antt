@@ -5,7 +5,8 @@ use native.Mathlib.Omega.{arith}
 use lib.ListN.{length, drop}
 use borrow.Author.Needs.{needs}
 use Rattle.fcs.specs.Fcs.{register}
-use Rattle.fcs.proofs.Eights.{bytes-of, eight-next}
+use Rattle.base.proofs.Bytes.{bytes-of}
+use Rattle.fcs.proofs.Eights.{eight-next}
 use Rattle.fcs.proofs.Folding.{eights-over}
 use Rattle.fcs.proofs.singly.Statement.{statement}
 use Rattle.fcs.proofs.singly.Tie as tie
@@ -19,8 +20,7 @@ abbrev μ-loop : tie.MeasureT-loop
 
 pub singly-spec : {M : Type 1} → statement M
 singly-spec =
-    tie.close
-    (tie.spec Inv-loop μ-loop
+    tie.close (tie.spec Inv-loop μ-loop
     (λ c. (omega arith, refl, refl, omega arith))
     (omega arith)
     (λ c κs. omega arith)

@@ -8,14 +8,8 @@ use Rattle.interleaver.proofs.close.Tie as tie
 
 pub close-spec : {M : Type 1} → statement M
 close-spec =
-    tie.close
-    (tie.spec
-    (search needs)
-    (search needs)
-    (search needs)
-    (search needs)
-    (search needs)
-    (search needs)
+    tie.close (tie.spec
+    (search needs) (search needs) (search needs) (search needs) (search needs) (search needs)
     (λ c.
     let a = c .before .before .before .before .before .before .before .before .args in
     let n = c .before .before .before .before .before .before .closing-bytes in

@@ -21,17 +21,11 @@ abbrev μ-loop : tie.MeasureT-loop
 
 pub give-spec : {M : Type 1} → statement M
 give-spec =
-    tie.close
-    (tie.spec Inv-loop μ-loop
+    tie.close (tie.spec Inv-loop μ-loop
     (λ c. (search needs, omega arith, search needs, refl, refl))
-    (search needs)
-    (search needs)
-    (search needs)
-    (search needs)
+    (search needs) (search needs) (search needs) (search needs)
     (λ c. omega (arith, c .next .ensures .1))
-    (search needs)
-    (search needs)
-    (search needs)
+    (search needs) (search needs) (search needs)
     (λ c.
     let l = c .before .before .before .before .loop in
     let a = c .before .before .before .before .before .before .before .args in (

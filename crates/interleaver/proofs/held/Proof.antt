@@ -10,12 +10,10 @@ use Rattle.interleaver.proofs.held.Tie as tie
 
 pub held-spec : {M : Type 1} → statement M
 held-spec =
-    tie.close
-    (tie.spec
+    tie.close (tie.spec
     (λ c. (simp (lt-ltb _ 2 (c .if1 .taken)), omega arith))
     (λ c. (simp (le-ltb _ 2 (c .before .if1 .left), c .if2 .taken), omega arith))
-    (search needs)
-    (search needs)
+    (search needs) (search needs)
     (λ c. let a = c .before .before .args in omega (arith, below (a .depth) (a .place) (c .before .if1 .left) (c .before .before .pre .1)))
     (search needs)
     (λ c. (c .least .ensures ∙ simp (le-ltb _ 2 (c .before .before .if1 .left), c .before .if2 .left), omega (arith, c .least .ensures))))

@@ -23,15 +23,9 @@ abbrev μ-loop : tie.MeasureT-loop
 
 pub keep-spec : {M : Type 1} → statement M
 keep-spec =
-    tie.close
-    (tie.spec Inv-loop μ-loop
+    tie.close (tie.spec Inv-loop μ-loop
     (λ c. (search needs, omega arith, search needs, refl))
-    (search needs)
-    (search needs)
-    (search needs)
-    (search needs)
-    (search needs)
-    (search needs)
+    (search needs) (search needs) (search needs) (search needs) (search needs) (search needs)
     (λ c.
     let l = c .before .before .before .before .loop in
     let a = c .before .before .before .before .before .before .args in (
@@ -43,5 +37,7 @@ keep-spec =
     ))
     (λ c.
     let l = c .before .loop in
-    let a = c .before .before .before .args in
-    (ap (λ (x : List ℕ × Matrix). x .1) (left-done (taken (a .depth)) (a .bytes .now) (l .i) (matrix (l .place) (l .cells)) [] (l .inv .3) (omega arith)), l .inv .2)))
+    let a = c .before .before .before .args in (
+      ap (λ (x : List ℕ × Matrix). x .1) (left-done (taken (a .depth)) (a .bytes .now) (l .i) (matrix (l .place) (l .cells)) [] (l .inv .3) (omega arith)),
+      l .inv .2,
+    )))

@@ -14,47 +14,53 @@ use Rattle.interleaver.proofs.push.Tie as tie
 
 pub push-spec : {M : Type 1} → statement M
 push-spec =
-    tie.close
-    (tie.spec
-    (search needs)
-    (search needs)
+    tie.close (tie.spec
+    (search needs) (search needs)
     (λ c.
     let t = c .before in
     let a = t .before .before .before .before .args in
     ap (λ (r : Pushed). (outcome (r .written) (a .out .now), r .matrix)) (c .unpushed .ensures)
-    ∙ state-refused (a .depth) (a .matrix .place) (a .matrix) (run (push (a .depth)) (a .matrix) (a .bytes .now)) (a .out .now) (sym (t .before .beyond .ensures) ∙ t .if1 .taken))
+    ∙ state-refused (a .depth) (a .matrix .place) (a .matrix) (run (push (a .depth)) (a .matrix) (a .bytes .now)) (a .out .now)
+    (sym (t .before .is-beyond .ensures) ∙ t .if1 .taken))
     (search needs)
     (λ c.
     let t = c .before .before in
     let a = t .before .before .before .before .args in
     ap (λ (r : Pushed). (outcome (r .written) (a .out .now), r .matrix)) (c .unpushed2 .ensures)
-    ∙ depth-refused (a .depth) (a .matrix .place) (a .matrix) (run (push (a .depth)) (a .matrix) (a .bytes .now)) (a .out .now) (sym (t .before .beyond .ensures) ∙ t .if1 .left) (c .before .if2 .taken))
+    ∙ depth-refused (a .depth) (a .matrix .place) (a .matrix) (run (push (a .depth)) (a .matrix) (a .bytes .now)) (a .out .now)
+    (sym (t .before .is-beyond .ensures) ∙ t .if1 .left) (c .before .if2 .taken))
     (search needs)
     (λ c.
     let u = c .before .before in
     let t = u .before in
     let a = t .before .before .before .before .args in
     ap (λ (r : Pushed). (outcome (r .written) (a .out .now), r .matrix)) (c .unpushed3 .ensures)
-    ∙ short (a .depth) (a .matrix .place) (sent (a .depth)) (a .matrix) (a .bytes .now) (a .out .now) (sym (t .before .beyond .ensures) ∙ t .if1 .left) (u .if2 .left) (length (a .bytes .now))
+    ∙ short (a .depth) (a .matrix .place) (sent (a .depth)) (a .matrix) (a .bytes .now) (a .out .now) (sym (t .before .is-beyond .ensures) ∙ t .if1 .left)
+    (u .if2 .left) (length (a .bytes .now))
     (pushed-length (a .depth) (a .matrix) (a .bytes .now)) (c .before .if3 .taken))
-    (search needs)
-    (search needs)
+    (search needs) (search needs)
     (λ c.
     let s = c .before .before .before .before in
     let t = s .before .before .before in
     let a = t .before .before .before .before .args in
-    flat (a .depth) (a .matrix .place) (sent (a .depth)) (a .matrix) (a .bytes .now) (a .out .now) (sym (t .before .beyond .ensures) ∙ t .if1 .left) (s .before .before .if2 .left) (length (a .bytes .now))
+    flat (a .depth) (a .matrix .place) (sent (a .depth)) (a .matrix) (a .bytes .now) (a .out .now) (sym (t .before .is-beyond .ensures) ∙ t .if1 .left)
+    (s .before .before .if2 .left) (length (a .bytes .now))
     (pushed-length (a .depth) (a .matrix) (a .bytes .now)) (s .before .if3 .left) (s .if4 .taken) (c .before .before .copy .ensures))
     (λ c κs.
     let s = c .before .before in
     let t = s .before .before .before in
-    let a = t .before .before .before .before .args in
-    (s .if4 .left, s .before .before .if2 .left, below (a .depth) (a .matrix .place) (s .if4 .left) (sym (t .before .beyond .ensures) ∙ t .if1 .left), s .before .if3 .left))
+    let a = t .before .before .before .before .args in (
+      s .if4 .left,
+      s .before .before .if2 .left,
+      below (a .depth) (a .matrix .place) (s .if4 .left) (sym (t .before .is-beyond .ensures) ∙ t .if1 .left),
+      s .before .if3 .left,
+    ))
     (search needs)
     (λ c.
     let s = c .before .before .before .before .before in
     let t = s .before .before .before in
     let a = t .before .before .before .before .args in
-    deep (a .depth) (a .matrix .place) (sent (a .depth)) (a .matrix) (a .bytes .now) (a .out .now) (sym (t .before .beyond .ensures) ∙ t .if1 .left) (s .before .before .if2 .left) (length (a .bytes .now))
+    deep (a .depth) (a .matrix .place) (sent (a .depth)) (a .matrix) (a .bytes .now) (a .out .now) (sym (t .before .is-beyond .ensures) ∙ t .if1 .left)
+    (s .before .before .if2 .left) (length (a .bytes .now))
     (pushed-length (a .depth) (a .matrix) (a .bytes .now)) (s .before .if3 .left) (s .if4 .left)
     (c .before .before .send .ensures ∙ sent-out (a .depth) (a .bytes .now) (a .matrix) (a .out .now) (s .before .if3 .left))))

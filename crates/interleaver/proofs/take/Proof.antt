@@ -10,19 +10,15 @@ use Rattle.interleaver.proofs.take.Tie as tie
 
 pub take-spec : {M : Type 1} → statement M
 take-spec =
-    tie.close
-    (tie.spec
-    (search needs)
-    (search needs)
-    (search needs)
-    (search needs)
+    tie.close (tie.spec
+    (search needs) (search needs) (search needs) (search needs)
     (λ c.
     let s = c .before .before .before .before .before .before .before in
     let a = s .args in
-    kept-all (a .depth) (s .pre .0) (a .back) (a .bytes .now) (a .out .now) (a .kept) (s .pre .2) (s .pre .3) (omega arith) (simp sub-zero at (c .before .keep .ensures .0)))
+    kept-all (a .depth) (s .pre .0) (a .back) (a .bytes .now) (a .out .now) (a .kept) (s .pre .2) (s .pre .3) (omega arith)
+    (simp sub-zero at (c .before .keep .ensures .0)))
     (λ c. c .before .before .before .before .before .before .before .before .pre .4)
-    (search needs)
-    (search needs)
+    (search needs) (search needs)
     (λ c κs.
     let s = c .before .before .before .before .before .before .before .before .before .before in
     let a = s .args in (

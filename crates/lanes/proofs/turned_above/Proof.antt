@@ -9,8 +9,7 @@ use Rattle.lanes.proofs.turned_above.Tie as tie
 
 pub turned-above-spec : {M : Type 1} → statement M
 turned-above-spec =
-    tie.close
-    (tie.spec
+    tie.close (tie.spec
     (λ c κs. tt) (λ c κs. omega arith) (λ c κs. omega arith) (λ c κs. omega arith) (λ c κs. omega arith) (λ c κs. omega arith) (λ c κs. omega arith)
     (λ c κs. omega arith) (λ c κs. omega arith) (λ c κs. tt) (λ c κs. tt) (λ c κs. tt) (λ c κs. omega arith) (λ c κs. tt) (λ c κs. omega arith)
     (λ c κs. tt) (λ c κs. omega arith) (λ c κs. tt) (λ c κs. omega arith) (λ c κs. omega arith) (λ c κs. tt) (λ c κs. omega arith) (λ c κs. tt)
@@ -73,4 +72,5 @@ turned-above-spec =
     (group 3 _ (at-raised4 .raised4 .ensures ∙ ap (doubledBy 5) is5) is6 (at-adding4 .adding4 .ensures)
     (group 6 _ (at-raised3 .raised3 .ensures ∙ ap (doubledBy 2) is6) is7 (at-adding3 .adding3 .ensures)
     (group 1 _ (at-raised2 .raised2 .ensures ∙ ap (doubledBy 7) is6) is7 (at-adding2 .adding2 .ensures)
-    (group 4 _ (at-raised .raised .ensures ∙ ap (doubledBy 4) is7) (at-none .none .ensures) (at-adding .adding .ensures) (at-moved .moved .ensures))))))))))))))))
+    (group 4 _ (at-raised .raised .ensures ∙ ap (doubledBy 4) is7) (at-none .none .ensures) (at-adding .adding .ensures)
+    (at-moved .moved .ensures))))))))))))))))

@@ -9,8 +9,7 @@ use Rattle.lanes.proofs.worths_above.Tie as tie
 
 pub worths-above-spec : {M : Type 1} → statement M
 worths-above-spec =
-    tie.close
-    (tie.spec
+    tie.close (tie.spec
     (λ c. (
       above-packed,
       unfold bytesOf fed scale onto mul shiftAdd double add in refl,

@@ -7,16 +7,15 @@ use Rattle.office.proofs.end_line.Tie as tie
 
 pub end-line-spec : {M : Type 1} → statement M
 end-line-spec =
-    tie.close
-    (tie.spec
-    (search needs)
-    (search needs)
-    (λ c. line-asks (c .before .before .before .before .before .before .before .args .line .now) (c .before .before .before .before .before .before .before .args .held) (c .before .before .before .before .before .before .before .args .hold .now) (sym (c .before .before .before .read .ensures) ∙ c .before .port .given .1))
-    (λ c. line-asks (c .before .before .before .before .before .before .before .args .line .now) (c .before .before .before .before .before .before .before .args .held) (c .before .before .before .before .before .before .before .args .hold .now) (sym (c .before .before .before .read .ensures) ∙ c .before .port .given .1))
-    (search needs)
-    (search needs)
-    (search needs)
-    (search needs)
-    (search needs)
-    (λ c. let s = c .before .before .before .before .before .before .before .before .before .before .before .before .before .before .before in line-bid (s .args .line .now) (s .args .held) (s .args .hold .now) (s .args .out .now) (sym (c .before .before .before .before .before .before .before .before .before .before .before .read .ensures) ∙ c .before .before .before .before .before .before .before .before .before .port .given .1) (c .before .before .before .before .send .ensures))
-    (λ c. let s = c .before .before .before .before .before .before in line-none (s .args .line .now) (s .args .held) (s .args .hold .now) (s .args .out .now) (sym (c .before .before .read .ensures) ∙ c .enum-told .given .1)))
+    tie.close (tie.spec
+    (search needs) (search needs)
+    (λ c. let r = c .before .before .before in let a = r .before .before .before .before .args in
+    line-asks (a .line .now) (a .held) (a .hold .now) (sym (r .read .ensures) ∙ c .before .port .given .1))
+    (λ c. let r = c .before .before .before in let a = r .before .before .before .before .args in
+    line-asks (a .line .now) (a .held) (a .hold .now) (sym (r .read .ensures) ∙ c .before .port .given .1))
+    (search needs) (search needs) (search needs) (search needs) (search needs)
+    (λ c. let w = c .before .before .before .before in let p = w .before .before .before .before .before in let r = p .before .before in
+    let a = r .before .before .before .before .args in
+    line-bid (a .line .now) (a .held) (a .hold .now) (a .out .now) (sym (r .read .ensures) ∙ p .port .given .1) (w .send .ensures))
+    (λ c. let r = c .before .before in let a = r .before .before .before .before .args in
+    line-none (a .line .now) (a .held) (a .hold .now) (a .out .now) (sym (r .read .ensures) ∙ c .enum-told .given .1)))

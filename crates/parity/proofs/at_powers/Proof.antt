@@ -18,26 +18,23 @@ abbrev μ-loop : tie.MeasureT-loop
 
 pub at-powers-spec : {M : Type 1} → statement M
 at-powers-spec =
-    tie.close
-    (tie.spec Inv-loop μ-loop
+    tie.close (tie.spec Inv-loop μ-loop
     (search needs)
     (λ c.
     let a = c .before .before .before .args in
     let n = c .before .zeros .result in
     at-powers-done (a .j) n (a .word .now) (zeros-values (a .j) n (a .word .now) (c .before .zeros .ensures .1)) (omega arith))
-    (search needs)
-    (search needs)
+    (search needs) (search needs)
     (λ c.
     let passed = c .before .before .before in
     let a = passed .before .before .args in
     (passed .zeros .ensures .0, zeros-values (a .j) (passed .zeros .result) (a .word .now) (passed .zeros .ensures .1)))
-    (search needs)
-    (search needs)
-    (search needs)
+    (search needs) (search needs) (search needs)
     (omega arith)
     (λ c.
     let turn = c .before .before in (
       omega arith,
-      at-powers-next _ _ _ (turn .before .loop .inv .1) (turn .loop-test .taken) (turn .before .before .before .power .ensures) (turn .before .before .points .ensures) (c .step .ensures),
+      at-powers-next _ _ _ (turn .before .loop .inv .1) (turn .loop-test .taken) (turn .before .before .before .power .ensures)
+          (turn .before .before .points .ensures) (c .step .ensures),
     ))
     (λ c. at-powers-done _ _ _ (c .before .loop .inv .1) (c .loop-test .left)))

@@ -19,12 +19,9 @@ abbrev μ-loop : tie.MeasureT-loop
 
 pub points-spec : {M : Type 1} → statement M
 points-spec =
-    tie.close
-    (tie.spec Inv-loop μ-loop
+    tie.close (tie.spec Inv-loop μ-loop
     (λ c. (omega arith, refl, refl))
-    (search needs)
-    (search needs)
-    (search needs)
+    (search needs) (search needs) (search needs)
     (omega arith)
     (λ c.
     let inv = c .before .before .loop .inv in (

@@ -19,13 +19,11 @@ abbrev μ-loop : tie.MeasureT-loop
 
 pub step-spec : {M : Type 1} → statement M
 step-spec =
-    tie.close
-    (tie.spec Inv-loop μ-loop
+    tie.close (tie.spec Inv-loop μ-loop
     (λ c. (omega arith, omega arith, refl))
     (λ c. c .loop-test .taken)
     (λ c. c .loop-test .taken)
-    (search needs)
-    (search needs)
+    (search needs) (search needs)
     (λ c. c .before .before .loop-test .taken)
     (omega arith)
     (omega arith)
@@ -34,6 +32,7 @@ step-spec =
     let more = c .before .before .loop-test .taken in (
       omega arith,
       length-set (at .next) (at .lane) (c .plus .result) ∙ at .inv .1,
-      step-next _ _ (c .before .before .before .before .args .t2) _ (at .inv .2) (omega arith) (subst (λ (n : ℕ). at .lane < n) (sym (at .inv .1)) more) (c .before .times .ensures) (c .plus .ensures),
+      step-next _ _ (c .before .before .before .before .args .t2) _ (at .inv .2) (omega arith) (subst (λ (n : ℕ). at .lane < n) (sym (at .inv .1)) more)
+          (c .before .times .ensures) (c .plus .ensures),
     ))
     (λ c. step-done _ (c .before .loop .lane) (c .before .before .args .t2) _ (c .before .loop .inv .2) (omega arith)))

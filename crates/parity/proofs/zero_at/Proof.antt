@@ -17,8 +17,7 @@ abbrev μ-loop : tie.MeasureT-loop
 
 pub zero-at-spec : {M : Type 1} → statement M
 zero-at-spec =
-    tie.close
-    (tie.spec Inv-loop μ-loop
+    tie.close (tie.spec Inv-loop μ-loop
     (λ c. unfold clean in rw (c .if1 .taken) refl)
     (search needs)
     (λ c. rw (c .before .if2 .taken) (c .is-clean .ensures))

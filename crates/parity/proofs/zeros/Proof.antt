@@ -15,8 +15,7 @@ abbrev μ-loop : tie.MeasureT-loop
 
 pub zeros-spec : {M : Type 1} → statement M
 zeros-spec =
-    tie.close
-    (tie.spec Inv-loop μ-loop
+    tie.close (tie.spec Inv-loop μ-loop
     (λ c. (omega arith, refl))
     (omega arith)
     (λ c. c .before .before .before .loop .inv)

@@ -19,19 +19,22 @@ abbrev μ-loop : tie.MeasureT-loop
 
 pub distance-spec : {M : Type 1} → statement M
 distance-spec =
-    tie.close
-    (tie.spec Inv-loop μ-loop
+    tie.close (tie.spec Inv-loop μ-loop
     (λ c. (omega arith, omega arith, zero-add _))
-    (search needs)
-    (search needs)
-    (search needs)
-    (search needs)
-    (search needs)
+    (search needs) (search needs) (search needs) (search needs) (search needs)
     (λ c.
     let loop = c .before .before .before .before .loop in
     let args = c .before .before .before .before .before .args in
     ⊎-elim
-    (λ w. (omega arith, omega arith, rw (w .1) (distance-more (loop .n) (loop .i) (args .a .now) (args .b .now) (loop .inv .2) (omega arith) (omega arith) (w .0 .taken))))
-    (λ w. (omega arith, omega arith, rw (w .1) (distance-same (loop .n) (loop .i) (args .a .now) (args .b .now) (loop .inv .2) (omega arith) (omega arith) (w .0 .left))))
+    (λ w. (
+      omega arith,
+      omega arith,
+      rw (w .1) (distance-more (loop .n) (loop .i) (args .a .now) (args .b .now) (loop .inv .2) (omega arith) (omega arith) (w .0 .taken)),
+    ))
+    (λ w. (
+      omega arith,
+      omega arith,
+      rw (w .1) (distance-same (loop .n) (loop .i) (args .a .now) (args .b .now) (loop .inv .2) (omega arith) (omega arith) (w .0 .left)),
+    ))
     (c .if1 .came))
     (λ c. distance-done _ _ _ _ (c .before .loop .inv .2) (c .loop-test .left)))

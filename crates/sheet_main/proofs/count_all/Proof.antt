@@ -12,15 +12,7 @@ abbrev μ-loop : tie.MeasureT-loop
 
 pub count-all-spec : {M : Type 1} → statement M
 count-all-spec =
-    tie.close
-    (tie.spec Inv-loop μ-loop
-    (λ c κs. search needs)
-    (search needs)
-    (search needs)
-    (search needs)
-    (λ c κs. search needs)
-    (λ c κs. search needs)
-    (search needs)
-    (search needs)
+    tie.close (tie.spec Inv-loop μ-loop
+    (λ c κs. search needs) (search needs) (search needs) (search needs) (λ c κs. search needs) (λ c κs. search needs) (search needs) (search needs)
     (search needs)
     (search needs))

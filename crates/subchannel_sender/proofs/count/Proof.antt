@@ -10,13 +10,10 @@ use Rattle.subchannel_sender.proofs.count.Tie as tie
 
 pub count-spec : {M : Type 1} → statement M
 count-spec =
-    tie.close
-    (tie.spec
+    tie.close (tie.spec
     (λ c. let a = c .before .args in count-roots (a .parity) (a .depth) (a .bytes) (c .if1 .taken))
     (λ c. let a = c .before .before .args in count-depth (a .parity) (a .depth) (a .bytes) (c .before .if1 .left) (c .if2 .taken))
-    (search needs)
-    (search needs)
-    (search needs)
+    (search needs) (search needs) (search needs)
     (λ c.
     let d = c .before .before in
     let a = d .before .before .args in

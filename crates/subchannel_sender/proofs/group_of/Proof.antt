@@ -18,15 +18,12 @@ abbrev μ-loop : tie.MeasureT-loop
 
 pub group-of-spec : {M : Type 1} → statement M
 group-of-spec =
-    tie.close
-    (tie.spec Inv-loop μ-loop
+    tie.close (tie.spec Inv-loop μ-loop
     (λ c. let s = c .before in (omega arith, refl, omega arith, words-first (s .args .parity) (s .pre) (s .args .stream .now) _ refl, omega arith))
     (λ c. c .before .loop .inv .0)
-    (search needs)
-    (search needs)
+    (search needs) (search needs)
     (λ c. c .before .before .loop .inv .2)
-    (search needs)
-    (search needs)
+    (search needs) (search needs)
     (λ c κs.
     let l = c .before .before .before .loop in
     let s = c .before .before .before .before .before in

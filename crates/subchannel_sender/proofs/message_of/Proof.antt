@@ -6,14 +6,8 @@ use Rattle.subchannel_sender.proofs.message_of.Tie as tie
 
 pub message-of-spec : {M : Type 1} → statement M
 message-of-spec =
-    tie.close
-    (tie.spec
-    (search needs)
-    (search needs)
-    (search needs)
-    (search needs)
-    (search needs)
-    (search needs)
+    tie.close (tie.spec
+    (search needs) (search needs) (search needs) (search needs) (search needs) (search needs)
     (λ c.
     let l = c .before .before .before .before in
     let s = l .before .before in

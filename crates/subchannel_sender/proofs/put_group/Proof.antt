@@ -6,15 +6,8 @@ use Rattle.subchannel_sender.proofs.put_group.Tie as tie
 
 pub put-group-spec : {M : Type 1} → statement M
 put-group-spec =
-    tie.close
-    (tie.spec
-    (search needs)
-    (search needs)
-    (search needs)
-    (search needs)
-    (search needs)
-    (search needs)
-    (search needs)
+    tie.close (tie.spec
+    (search needs) (search needs) (search needs) (search needs) (search needs) (search needs) (search needs)
     (λ c.
     let p = c .before .before .before in
     let k = p .before .before .before .before in

@@ -21,8 +21,7 @@ abbrev μ-loop : tie.MeasureT-loop
 
 pub put-groups-spec : {M : Type 1} → statement M
 put-groups-spec =
-    tie.close
-    (tie.spec Inv-loop μ-loop
+    tie.close (tie.spec Inv-loop μ-loop
     (search needs)
     (λ c. let s = c .before .before .before in (
       s .pre .0,
@@ -35,8 +34,7 @@ put-groups-spec =
     ))
     (λ c. let l = c .before .loop in omega (arith, l .inv .2, l .inv .3, l .inv .5, c .loop-test .taken))
     (λ c. c .before .loop .inv .1 .within)
-    (search needs)
-    (search needs)
+    (search needs) (search needs)
     (λ c κs. c .before .before .loop .inv .0)
     (search needs)
     (λ c.
@@ -45,8 +43,7 @@ put-groups-spec =
     let a = t .before .before .before .before .before .args in
     groups-room (a .parity) (a .depth) (l .inv .0) (a .groups) (a .stream .now) (a .out .now) (l .out) (l .from) (l .i) (l .matrix) (l .inv .1)
     (t .loop-test .taken) (l .inv .3) .0)
-    (search needs)
-    (search needs)
+    (search needs) (search needs)
     (λ c κs.
     let t = c .before .before .before .before in
     let l = t .before .loop in

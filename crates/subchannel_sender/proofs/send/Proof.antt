@@ -10,14 +10,11 @@ use Rattle.subchannel_sender.proofs.send.Tie as tie
 
 pub send-spec : {M : Type 1} → statement M
 send-spec =
-    tie.close
-    (tie.spec
+    tie.close (tie.spec
     (λ c. let a = c .before .before .before .args in send-roots (a .parity) (a .depth) (a .stream .now) (a .out .now) (c .if1 .taken))
     (λ c. let a = c .before .before .before .before .args in send-depth (a .parity) (a .depth) (a .stream .now) (a .out .now) (c .before .if1 .left)
     (c .if2 .taken))
-    (search needs)
-    (search needs)
-    (search needs)
+    (search needs) (search needs) (search needs)
     (λ c.
     let g = c .before in
     let d = g .before .before in

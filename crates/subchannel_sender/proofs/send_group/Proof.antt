@@ -14,10 +14,8 @@ use Rattle.subchannel_sender.proofs.send_group.Tie as tie
 
 pub send-group-spec : {M : Type 1} → statement M
 send-group-spec =
-    tie.close
-    (tie.spec
-    (λ c κs. search needs)
-    (λ c κs. search needs)
+    tie.close (tie.spec
+    (λ c κs. search needs) (λ c κs. search needs)
     (λ c.
     let t = c .before in
     let a = t .before .before .before .before .args in
@@ -47,8 +45,7 @@ send-group-spec =
     ap (λ (s : Sent). (outcome (s .written) (a .out .now), s .taken, s .matrix)) (c .unsent4 .ensures)
     ∙ group-short (a .parity) (a .depth) (a .matrix) (a .stream .now) (a .out .now) (sym (t .before .is-beyond .ensures) ∙ t .if1 .left)
     (u .if2 .left) (v .if3 .left) (c .before .if4 .taken))
-    (λ c κs. search needs)
-    (search needs)
+    (λ c κs. search needs) (search needs)
     (λ c κs.
     let g = c .before .before in
     let w = g .before in
@@ -57,10 +54,7 @@ send-group-spec =
     let t = u .before in
     let a = t .before .before .before .before .args in
     (v .if3 .left, sym (t .before .is-beyond .ensures) ∙ t .if1 .left, ap length (g .group-of .ensures) ∙ four-long (a .parity) (u .if2 .left) _, w .if4 .left))
-    (search needs)
-    (search needs)
-    (λ c κs. search needs)
-    (search needs)
+    (search needs) (search needs) (λ c κs. search needs) (search needs)
     (λ c.
     let p = c .before .before .before in
     let g = p .before .before .before in

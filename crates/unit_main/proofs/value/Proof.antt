@@ -13,14 +13,8 @@ abbrev μ-loop : tie.MeasureT-loop
 
 pub value-spec : {M : Type 1} → statement M
 value-spec =
-    tie.close
-    (tie.spec Inv-loop μ-loop
+    tie.close (tie.spec Inv-loop μ-loop
     (λ c. tt)
-    (search needs)
-    (λ c κs. search needs)
-    (search needs)
-    (λ c κs. search needs)
-    (search needs)
-    (search needs)
+    (search needs) (λ c κs. search needs) (search needs) (λ c κs. search needs) (search needs) (search needs)
     (λ c. tt)
     (search needs))

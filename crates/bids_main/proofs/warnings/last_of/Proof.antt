@@ -14,13 +14,6 @@ abbrev μ-loop : tie.MeasureT-loop
 
 pub last-of-spec : {M : Type 1} → statement M
 last-of-spec =
-    tie.close
-    (tie.spec Inv-loop μ-loop
-    (search needs)
-    (search needs)
-    (search needs)
-    (search needs)
-    (search needs)
-    (search needs)
-    (search needs)
+    tie.close (tie.spec Inv-loop μ-loop
+    (search needs) (search needs) (search needs) (search needs) (search needs) (search needs) (search needs)
     (search needs))

@@ -13,15 +13,7 @@ abbrev μ-loop : tie.MeasureT-loop
 
 pub say-shown-spec : {M : Type 1} → statement M
 say-shown-spec =
-    tie.close
-    (tie.spec Inv-loop μ-loop
-    (λ c κs. search needs)
-    (search needs)
-    (search needs)
-    (λ c κs. search needs)
-    (search needs)
-    (λ c κs. search needs)
-    (search needs)
-    (search needs)
+    tie.close (tie.spec Inv-loop μ-loop
+    (λ c κs. search needs) (search needs) (search needs) (λ c κs. search needs) (search needs) (λ c κs. search needs) (search needs) (search needs)
     (search needs)
     (search needs))

@@ -11,14 +11,8 @@ use Rattle.capture.proofs.reader.ending.Tie as tie
 
 pub ending-spec : {M : Type 1} → statement M
 ending-spec =
-    tie.close
-    (tie.spec
-    (λ c. search needs)
-    (λ c. search needs)
-    (λ c. search needs)
-    (λ c. search needs)
-    (λ c. search needs)
-    (λ c. search needs)
+    tie.close (tie.spec
+    (λ c. search needs) (λ c. search needs) (λ c. search needs) (λ c. search needs) (λ c. search needs) (λ c. search needs)
     (λ c. sym (ap ending (c .before .before .capture .given .1) ∙ ap (λ (t : Bool). pick t Whole (Refused 61)) (ne-eqb _ 0 (c .if1 .left))))
     (λ c. search needs)
     (λ c. sym (ap ending (c .before .capture2 .given .1))))

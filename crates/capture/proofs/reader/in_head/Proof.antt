@@ -6,11 +6,8 @@ use Rattle.capture.proofs.reader.in_head.Tie as tie
 
 pub in-head-spec : {M : Type 1} → statement M
 in-head-spec =
-    tie.close
-    (tie.spec
-    (search needs)
-    (search needs)
+    tie.close (tie.spec
+    (search needs) (search needs)
     (λ c. simp (eq-eqb _ _ (c .before .if1 .taken)) (c .headed .ensures))
-    (search needs)
-    (search needs)
+    (search needs) (search needs)
     (λ c. simp (ne-eqb _ _ (c .before .if1 .left)) (c .on .ensures)))

@@ -6,14 +6,13 @@ use Rattle.capture.proofs.reader.in_header.Tie as tie
 
 pub in-header-spec : {M : Type 1} → statement M
 in-header-spec =
-    tie.close
-    (tie.spec
-    (search needs)
-    (search needs)
-    (λ c. let h = c .before .before in header-wrong (h .before .args .k) (h .before .args .b) (h .header-at .ensures) (c .before .if1 .taken) (c .said .ensures))
-    (search needs)
-    (search needs)
-    (λ c. let h = c .before .before .before in header-last (h .before .args .k) (h .before .args .b) (h .header-at .ensures) (c .before .before .if1 .left) (c .before .if2 .taken) (c .on .ensures))
-    (search needs)
-    (search needs)
-    (λ c. let h = c .before .before .before in header-more (h .before .args .k) (h .before .args .b) (h .header-at .ensures) (c .before .before .if1 .left) (c .before .if2 .left) (c .on2 .ensures)))
+    tie.close (tie.spec
+    (search needs) (search needs)
+    (λ c. let h = c .before .before in header-wrong (h .before .args .k) (h .before .args .b) (h .header-at .ensures) (c .before .if1 .taken)
+    (c .said .ensures))
+    (search needs) (search needs)
+    (λ c. let h = c .before .before .before in header-last (h .before .args .k) (h .before .args .b) (h .header-at .ensures) (c .before .before .if1 .left)
+    (c .before .if2 .taken) (c .on .ensures))
+    (search needs) (search needs)
+    (λ c. let h = c .before .before .before in header-more (h .before .args .k) (h .before .args .b) (h .header-at .ensures) (c .before .before .if1 .left)
+    (c .before .if2 .left) (c .on2 .ensures)))

@@ -8,12 +8,8 @@ use Rattle.capture.proofs.reader.is_sound.Tie as tie
 
 pub is-sound-spec : {M : Type 1} → statement M
 is-sound-spec =
-    tie.close
-    (tie.spec
-    (search needs)
-    (search needs)
-    (search needs)
-    (search needs)
+    tie.close (tie.spec
+    (search needs) (search needs) (search needs) (search needs)
     (λ c. sound-low (c .before .before .capture4 .given .1) (c .if1 .taken))
     (λ c. sym (ap sound (c .before .capture .given .1)))
     (λ c. sym (ap sound (c .before .capture2 .given .1)))

@@ -7,11 +7,8 @@ use Rattle.capture.proofs.writer.enter.Tie as tie
 
 pub enter-spec : {M : Type 1} → statement M
 enter-spec =
-    tie.close
-    (tie.spec
-    (search needs)
-    (search needs)
-    (search needs)
+    tie.close (tie.spec
+    (search needs) (search needs) (search needs)
     (λ c.
     let t = c .before .before .before in
     let a = t .before .before .before .args in
@@ -20,14 +17,13 @@ enter-spec =
     let t = c .before .before .before .before in
     let a = t .before .before .before .args in
     (omega (arith, told-most (a .packed .now) (t .told .ensures) (c .before .before .enum-told .given .1)), c .before .if1 .left))
-    (search needs)
-    (search needs)
-    (search needs)
+    (search needs) (search needs) (search needs)
     (λ c.
     let p = c .before .before in
     let t = p .before .before .before .before .before in
     let a = t .before .before .before .args in
-    enter-fits (a .number) (a .packed .now) (a .out .now) (t .told .ensures) (p .before .before .before .enum-told .given .1) (p .before .before .if1 .left) (p .put .ensures))
+    enter-fits (a .number) (a .packed .now) (a .out .now) (t .told .ensures) (p .before .before .before .enum-told .given .1) (p .before .before .if1 .left)
+    (p .put .ensures))
     (λ c.
     let t = c .before .before .before in
     let a = t .before .before .before .args in

@@ -6,17 +6,8 @@ use Rattle.capture.proofs.writer.put.Tie as tie
 
 pub put-spec : {M : Type 1} → statement M
 put-spec =
-    tie.close
-    (tie.spec
-    (search needs)
-    (search needs)
-    (search needs)
-    (search needs)
-    (search needs)
-    (search needs)
-    (search needs)
-    (search needs)
-    (search needs)
+    tie.close (tie.spec
+    (search needs) (search needs) (search needs) (search needs) (search needs) (search needs) (search needs) (search needs) (search needs)
     (λ c.
     let d = c .before .before in
     let f = d .before .before .before .before in

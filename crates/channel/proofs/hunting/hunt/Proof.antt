@@ -16,20 +16,18 @@ abbrev μ-loop : tie.MeasureT-loop
 
 pub hunt-spec : {M : Type 1} → statement M
 hunt-spec =
-    tie.close
-    (tie.spec Inv-loop μ-loop
+    tie.close (tie.spec Inv-loop μ-loop
     (λ c. latest-none _)
-    (search needs)
-    (search needs)
-    (search needs)
+    (search needs) (search needs) (search needs) (search needs)
+    (λ c.
+    let l = c .before .before .before .before .before .loop in
+    let bs = c .before .before .before .before .before .before .before .args .piece .now in
+    hunt-stop (l .hunting) bs (l .i) (l .inv) (c .before .before .before .before .loop-test .taken) (c .before .before .shift .ensures)
+    (c .before .at-marker .ensures) (c .if1 .taken))
     (search needs)
     (λ c.
     let l = c .before .before .before .before .before .loop in
     let bs = c .before .before .before .before .before .before .before .args .piece .now in
-    hunt-stop (l .hunting) bs (l .i) (l .inv) (c .before .before .before .before .loop-test .taken) (c .before .before .shift .ensures) (c .before .at-marker .ensures) (c .if1 .taken))
-    (search needs)
-    (λ c.
-    let l = c .before .before .before .before .before .loop in
-    let bs = c .before .before .before .before .before .before .before .args .piece .now in
-    hunt-next (l .hunting) bs (l .i) (l .inv) (c .before .before .before .before .loop-test .taken) (c .before .before .shift .ensures) (c .before .at-marker .ensures) (c .if1 .left))
+    hunt-next (l .hunting) bs (l .i) (l .inv) (c .before .before .before .before .loop-test .taken) (c .before .before .shift .ensures)
+    (c .before .at-marker .ensures) (c .if1 .left))
     (λ c. let l = c .before .loop in hunt-done (l .hunting) (c .before .before .before .args .piece .now) (l .i) (l .inv) (c .loop-test .left)))

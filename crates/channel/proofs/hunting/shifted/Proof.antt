@@ -16,13 +16,10 @@ abbrev μ-loop : tie.MeasureT-loop
 
 pub shifted-spec : {M : Type 1} → statement M
 shifted-spec =
-    tie.close
-    (tie.spec Inv-loop μ-loop
+    tie.close (tie.spec Inv-loop μ-loop
     (λ c. refl)
-    (search needs)
-    (search needs)
-    (search needs)
-    (search needs)
+    (search needs) (search needs) (search needs) (search needs)
     (λ c. let l = c .before .before .before .loop in
-    shifts-next (l .next) (c .before .before .before .before .before .args .bytes .now) (l .i) (c .before .before .loop-test .taken) (c .shift .ensures) (l .inv))
+    shifts-next (l .next) (c .before .before .before .before .before .args .bytes .now) (l .i) (c .before .before .loop-test .taken) (c .shift .ensures)
+    (l .inv))
     (λ c. let l = c .before .loop in shifts-done (l .next) (c .before .before .before .args .bytes .now) (l .i) (c .loop-test .left) (l .inv)))

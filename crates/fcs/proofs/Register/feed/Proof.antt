@@ -7,5 +7,4 @@ use Rattle.fcs.proofs.Register.feed.Tie as tie
 
 pub feed-spec : {M : Type 1} → statement M
 feed-spec =
-    tie.close
-    (tie.spec (search needs) (omega arith) (search needs) (λ c i. record { bits = (c .enter-each .ensures ∙ c .before .enter-eights .ensures) i }))
+    tie.close (tie.spec (search needs) (omega arith) (search needs) (λ c i. record { bits = (c .enter-each .ensures ∙ c .before .enter-eights .ensures) i }))

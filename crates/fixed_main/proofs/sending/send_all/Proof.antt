@@ -7,41 +7,17 @@ use Rattle.fixed_main.proofs.sending.send_all.Statement.{statement}
 use Rattle.fixed_main.proofs.sending.send_all.Tie as tie
 
 abbrev Inv-loop : tie.InvT-loop
-Inv-loop parity depth hold₀ out₀ matrix₀ want have₀ reads₀ t12 hold out matrix have reads =
+Inv-loop parity depth hold₀ out₀ matrix₀ want have₀ reads₀ hold out matrix have reads =
     (4096 ≡ length hold) × (1024 ≡ length out) × (want ≤ 4096) × (have ≤ want)
 
 abbrev μ-loop : tie.MeasureT-loop
-μ-loop parity depth hold₀ out₀ matrix₀ want have₀ reads₀ t12 hold out matrix have reads = reads
+μ-loop parity depth hold₀ out₀ matrix₀ want have₀ reads₀ hold out matrix have reads = reads
 
 pub send-all-spec : {M : Type 1} → statement M
 send-all-spec =
-    tie.close
-    (tie.spec Inv-loop μ-loop
-    (λ c κs. search needs)
-    (λ c κs. search needs)
-    (λ c κs. search needs)
-    (λ c κs. search needs)
-    (search needs)
-    (search needs)
-    (λ c κs. search needs)
-    (search needs)
-    (λ c κs. search needs)
-    (search needs)
-    (search needs)
-    (search needs)
-    (search needs)
-    (search needs)
-    (search needs)
-    (search needs)
-    (search needs)
-    (search needs)
-    (λ c κs. search needs)
-    (search needs)
-    (search needs)
-    (search needs)
-    (λ c κs. search needs)
-    (search needs)
-    (search needs)
-    (search needs)
-    (search needs)
+    tie.close (tie.spec Inv-loop μ-loop
+    (λ c κs. search needs) (λ c κs. search needs) (λ c κs. search needs) (λ c κs. search needs) (search needs) (search needs) (λ c κs. search needs)
+    (λ c κs. search needs) (search needs) (search needs) (search needs) (search needs) (λ c κs. search needs) (search needs) (search needs)
+    (search needs) (search needs) (λ c κs. search needs) (search needs) (search needs) (search needs) (λ c κs. search needs) (search needs)
+    (search needs) (search needs) (search needs)
     (search needs))

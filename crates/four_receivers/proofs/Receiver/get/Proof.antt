@@ -5,8 +5,7 @@ use Rattle.four_receivers.proofs.Receiver.get.Tie as tie
 
 pub get-spec : {M : Type 1} → statement M
 get-spec =
-    tie.close
-    (tie.spec
+    tie.close (tie.spec
     (λ c. get-at (c .before .before .before .before .before .args .self) (c .if1 .taken))
     (λ c. get-at (c .before .before .before .before .before .before .args .self) (c .if2 .taken))
     (λ c. get-at (c .before .before .before .before .before .before .before .args .self) (c .if3 .taken))

@@ -8,10 +8,8 @@ use Rattle.four_senders.proofs.Sender.configure.Tie as tie
 
 pub configure-spec : {M : Type 1} → statement M
 configure-spec =
-    tie.close
-    (tie.spec
-    (search needs)
-    (search needs)
+    tie.close (tie.spec
+    (search needs) (search needs)
     (λ c.
     let t = c .before in
     let a = t .before .before .args in

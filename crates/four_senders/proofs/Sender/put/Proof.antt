@@ -5,8 +5,7 @@ use Rattle.four_senders.proofs.Sender.put.Tie as tie
 
 pub put-spec : {M : Type 1} → statement M
 put-spec =
-    tie.close
-    (tie.spec
+    tie.close (tie.spec
     (λ c. let a = c .before .before .before .before .before .args in put-at (a .self) (a .told) (c .if1 .taken))
     (λ c. let a = c .before .before .before .before .before .before .args in put-at (a .self) (a .told) (c .if2 .taken))
     (λ c. let a = c .before .before .before .before .before .before .before .args in put-at (a .self) (a .told) (c .if3 .taken))

@@ -8,8 +8,7 @@ use Rattle.four_senders.proofs.Sender.send.Tie as tie
 
 pub send-spec : {M : Type 1} → statement M
 send-spec =
-    tie.close
-    (tie.spec
+    tie.close (tie.spec
     (search needs)
     (λ c. let a = c .before .before .before .before .args in
     send-unsound (a .self) (a .number) (a .stream .now) (a .out .now) (sym (c .before .sound .ensures) ∙ not-true _ (c .if1 .taken)))
@@ -19,9 +18,7 @@ send-spec =
     let a = e .before .before .before .before .args in
     send-unknown (a .self) (a .number) (a .stream .now) (a .out .now) (sym (e .before .sound .ensures) ∙ not-false _ (e .if1 .left))
     (sym (c .before .known .ensures) ∙ not-true _ (c .if2 .taken)))
-    (search needs)
-    (search needs)
-    (search needs)
+    (search needs) (search needs) (search needs)
     (λ c.
     let g = c .before .before .before .before in
     let t = g .before in

@@ -38,8 +38,7 @@ last v h k = omega arith
 
 pub chosen-spec : {M : Type 1} → statement M
 chosen-spec =
-    tie.close
-    (tie.spec (search needs) (search needs) (search needs) (search needs)
+    tie.close (tie.spec (search needs) (search needs) (search needs) (search needs)
     (λ c. sum (c .before) 0 (omega arith) (c .match .keys1))
     (λ c. sum (c .before) 1 (omega arith) (c .match .keys2))
     (λ c. sum (c .before) 2 (omega arith) (c .match .keys3))

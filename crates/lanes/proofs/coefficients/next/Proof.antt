@@ -6,8 +6,7 @@ use Rattle.lanes.proofs.coefficients.next.Tie as tie
 
 pub next-spec : {M : Type 1} → statement M
 next-spec =
-    tie.close
-    (tie.spec
+    tie.close (tie.spec
     (λ c. simp (eq-eqb _ _ (c .if1 .taken)))
     (search needs)
     (λ c. simp (ne-eqb _ _ (c .before .if1 .left)) (c .double-eight .ensures)))

@@ -6,12 +6,10 @@ use Rattle.listing.proofs.lister.put.Tie as tie
 
 pub put-spec : {M : Type 1} → statement M
 put-spec =
-    tie.close
-    (tie.spec
-    (search needs)
-    (search needs)
-    (search needs)
+    tie.close (tie.spec
+    (search needs) (search needs) (search needs) (λ c. search needs)
+    (λ c. let at-print = c .before .before .before .before .before in let s = at-print .before .before .before in
+    put-is (s .args .answer) (s .args .out .now) (s .pre) (at-print .print .ensures) _ (c .before .n .given .1))
     (λ c. search needs)
-    (λ c. put-is (c .before .before .before .before .before .before .before .before .args .answer) (c .before .before .before .before .before .before .before .before .args .out .now) (c .before .before .before .before .before .before .before .before .pre) (c .before .before .before .before .before .print .ensures) _ (c .before .n .given .1))
-    (λ c. search needs)
-    (λ c. absurd (put-not (c .before .before .before .before .before .before .before .args .answer) (c .before .before .before .before .before .before .before .args .out .now) (c .before .before .before .before .before .before .before .pre) (c .before .before .before .before .print .ensures) (c .enum-told .given .1))))
+    (λ c. let at-print = c .before .before .before .before in let s = at-print .before .before .before in
+    absurd (put-not (s .args .answer) (s .args .out .now) (s .pre) (at-print .print .ensures) (c .enum-told .given .1))))

@@ -8,19 +8,14 @@ use Rattle.office.proofs.Office.close.Tie as tie
 
 pub close-spec : {M : Type 1} → statement M
 close-spec =
-    tie.close
-    (tie.spec
-    (search needs)
-    (search needs)
-    (search needs)
-    (search needs)
-    (search needs)
-    (search needs)
-    (search needs)
-    (λ c. let s = c .before .before .before .before .before .before .before .before .before .before .before .before .before .before .before .before .before in let d = desk (s .args .self) (s .args .line .now) (s .args .hold .now) in close-as (length (s .args .out .now)) d (s .args .out .now) (none-begun d (c .before .before .before .before .before .before .before .before .before .before .before .before .if1 .taken)) (c .before .before .before .before .before .before .hear .ensures))
-    (search needs)
-    (search needs)
-    (search needs)
-    (search needs)
-    (search needs)
-    (λ c. let s = c .before .before .before .before .before .before .before .before .before .before .before .before .before .before .before .before in let d = desk (s .args .self) (s .args .line .now) (s .args .hold .now) in close-as (length (s .args .out .now)) d (s .args .out .now) (one-begun d (c .before .before .before .before .before .before .before .before .before .before .before .if1 .left)) (c .before .before .before .before .before .before .hear2 .ensures)))
+    tie.close (tie.spec
+    (search needs) (search needs) (search needs) (search needs) (search needs) (search needs) (search needs)
+    (λ c. let at-hear = c .before .before .before .before .before .before in let at-if1 = at-hear .before .before .before .before .before .before in
+    let s = at-if1 .before .before .before .before .before in
+    let d = desk (s .args .self) (s .args .line .now) (s .args .hold .now) in
+    close-as (length (s .args .out .now)) d (s .args .out .now) (none-begun d (at-if1 .if1 .taken)) (at-hear .hear .ensures))
+    (search needs) (search needs) (search needs) (search needs) (search needs)
+    (λ c. let at-hear2 = c .before .before .before .before .before .before in let at-if1 = at-hear2 .before .before .before .before .before in
+    let s = at-if1 .before .before .before .before .before in
+    let d = desk (s .args .self) (s .args .line .now) (s .args .hold .now) in
+    close-as (length (s .args .out .now)) d (s .args .out .now) (one-begun d (at-if1 .if1 .left)) (at-hear2 .hear2 .ensures)))

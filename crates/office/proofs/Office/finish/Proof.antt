@@ -10,14 +10,18 @@ use Rattle.office.proofs.Office.finish.Tie as tie
 
 pub finish-spec : {M : Type 1} → statement M
 finish-spec =
-    tie.close
-    (tie.spec
+    tie.close (tie.spec
     (search needs)
-    (λ c. let s = c .before .before .before .before in finish-unsound (s .args .self) (s .args .hold .now) (s .args .out .now) (sym (c .before .sound .ensures) ∙ not-true _ (c .if1 .taken)))
-    (λ c. let s = c .before .before .before .before .before in finish-cramped (s .args .self) (s .args .hold .now) (s .args .out .now) (sym (c .before .before .sound .ensures) ∙ not-false _ (c .before .if1 .left)) (c .if2 .taken))
-    (search needs)
-    (search needs)
-    (λ c. let s = c .before .before .before .before .before in omega (arith, sound-held (s .args .self) (sym (c .before .before .sound .ensures) ∙ not-false _ (c .before .if1 .left)), c .if2 .left))
-    (search needs)
-    (search needs)
-    (λ c. let s = c .before .before .before .before .before .before .before .before .before .before in finish-on (s .args .self) (s .args .hold .now) (s .args .out .now) (sym (c .before .before .before .before .before .before .before .sound .ensures) ∙ not-false _ (c .before .before .before .before .before .before .if1 .left)) (c .before .before .before .before .before .if2 .left) (simp sub-zero at (c .before .before .send .ensures))))
+    (λ c. let s = c .before .before .before .before in finish-unsound (s .args .self) (s .args .hold .now) (s .args .out .now)
+    (sym (c .before .sound .ensures) ∙ not-true _ (c .if1 .taken)))
+    (λ c. let s = c .before .before .before .before .before in
+    finish-cramped (s .args .self) (s .args .hold .now) (s .args .out .now) (sym (c .before .before .sound .ensures) ∙ not-false _ (c .before .if1 .left))
+    (c .if2 .taken))
+    (search needs) (search needs)
+    (λ c. let s = c .before .before .before .before .before in
+    omega (arith, sound-held (s .args .self) (sym (c .before .before .sound .ensures) ∙ not-false _ (c .before .if1 .left)), c .if2 .left))
+    (search needs) (search needs)
+    (λ c. let at-if2 = c .before .before .before .before .before in let at-if1 = at-if2 .before in let at-sound = at-if1 .before in
+    let s = at-sound .before .before .before in
+    finish-on (s .args .self) (s .args .hold .now) (s .args .out .now) (sym (at-sound .sound .ensures) ∙ not-false _ (at-if1 .if1 .left)) (at-if2 .if2 .left)
+    (simp sub-zero at (c .before .before .send .ensures))))

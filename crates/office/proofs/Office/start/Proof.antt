@@ -7,10 +7,8 @@ use Rattle.office.proofs.Office.start.Tie as tie
 
 pub start-spec : {M : Type 1} → statement M
 start-spec =
-    tie.close
-    (tie.spec
+    tie.close (tie.spec
     (λ c. start-short (c .before .before .args .hold .now) (omega (arith, c .if1 .taken)))
-    (search needs)
-    (search needs)
-    (search needs)
-    (λ c. start-copied (c .before .before .before .before .before .before .before .args .hold .now) (c .before .before .before .before .before .if1 .left) (c .before .before .copy .ensures)))
+    (search needs) (search needs) (search needs)
+    (λ c. start-copied (c .before .before .before .before .before .before .before .args .hold .now) (c .before .before .before .before .before .if1 .left)
+    (c .before .before .copy .ensures)))

@@ -1,4 +1,5 @@
--- The cycle of calls {scan_escaped, scan_plain}: the number of raw bytes left falls. Plain reading ends behind a run of bytes or hands over behind it; escaped reading takes one byte.
+-- The cycle of calls {scan_escaped, scan_plain}: the number of raw bytes left falls. Plain reading ends behind a run of bytes or hands over behind
+-- it; escaped reading takes one byte.
 use mathlib.Core.Path.{_∙_}
 use Prim.Native.Nat.{ℕ, _+_, _-_}
 use lib.ListN.{length, drop}
@@ -30,21 +31,19 @@ pub +scan-escaped+scan-plain-spec : {M : Type 1} → statement M
 unfolding wrongFrom
 +scan-escaped+scan-plain-spec =
     close μ-escaped μ-plain
-    (λ t. escaped.spec (below 1 plain-kinds.ps μ-plain plain-reads.Pre t, plain-reads.Post) (at 1 escaped-kinds.ps μ-escaped escaped-reads.Pre t) escaped-reads.Post
+    (λ t. escaped.spec (below 1 plain-kinds.ps μ-plain plain-reads.Pre t, plain-reads.Post)
+    (at 1 escaped-kinds.ps μ-escaped escaped-reads.Pre t) escaped-reads.Post
     (λ c. let a = c .before .before .args in rw (over (a .raw .now) (a .at) (omega arith)))
-    (λ c. search needs)
-    (λ c. search needs)
-    (λ c κs. search needs)
+    (λ c. search needs) (λ c. search needs) (λ c κs. search needs)
     (λ c.
     let a = c .before .before .before .before .before .before .args in
-    rw (next (a .raw .now) (a .at) (omega arith)) (simp (right-in _ (c .before .before .if2 .left) (c .before .if3 .taken)) (c .scan-plain .ensures ∙ wrong-plain (drop (a .at + 1) (a .raw .now)) _ (a .at) (λ z. absurd (omega (arith, z, c .before .if3 .taken))))))
+    rw (next (a .raw .now) (a .at) (omega arith)) (simp (right-in _ (c .before .before .if2 .left) (c .before .if3 .taken))
+    (c .scan-plain .ensures ∙ wrong-plain (drop (a .at + 1) (a .raw .now)) _ (a .at) (λ z. absurd (omega (arith, z, c .before .if3 .taken))))))
     (λ c. let a = c .before .before .before .before .args in rw (next (a .raw .now) (a .at) (omega arith)) (simp (right-low _ (c .if2 .taken))))
     (λ c. let a = c .before .before .before .before .before .args in rw (next (a .raw .now) (a .at) (omega arith)) (simp (right-high _ (c .if3 .left)))))
-    (λ t. plain.spec (up-to-reads.Asked, up-to-reads.Learnt, below 1 escaped-kinds.ps μ-escaped escaped-reads.Pre t, escaped-reads.Post) (at 1 plain-kinds.ps μ-plain plain-reads.Pre t) plain-reads.Post
-    (λ c. search needs)
-    (λ c. search needs)
-    (λ c. search needs)
-    (λ c κs. search needs)
+    (λ t. plain.spec (up-to-reads.Asked, up-to-reads.Learnt, below 1 escaped-kinds.ps μ-escaped escaped-reads.Pre t, escaped-reads.Post)
+    (at 1 plain-kinds.ps μ-plain plain-reads.Pre t) plain-reads.Post
+    (λ c. search needs) (λ c. search needs) (λ c. search needs) (λ c κs. search needs)
     (λ c.
     let a = c .before .before .before .args in
     let w = found-within (a .raw .now) (a .at) (found-is (a .raw .now) (a .at) (c .up-to .ensures .0)) (omega arith) in

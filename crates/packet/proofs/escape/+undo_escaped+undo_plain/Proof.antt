@@ -31,13 +31,10 @@ pub +undo-escaped+undo-plain-spec : {M : Type 1} → statement M
 unfolding plain escaped
 +undo-escaped+undo-plain-spec =
     close μ-e μ-p
-    (λ t. e-lts.spec (restored-reads.Asked, restored-reads.Learnt, below 1 p-kinds.ps μ-p p-reads.Pre t, p-reads.Post) (at 1 e-kinds.ps μ-e e-reads.Pre t) e-reads.Post
+    (λ t. e-lts.spec (restored-reads.Asked, restored-reads.Learnt, below 1 p-kinds.ps μ-p p-reads.Pre t, p-reads.Post)
+    (at 1 e-kinds.ps μ-e e-reads.Pre t) e-reads.Post
     (λ c. let a = c .before .before .args in rw (part-over (a .recv .now) (a .from) (a .n) (omega arith)) (laid-none (a .recv .now) (a .to)))
-    (λ c. search needs)
-    (λ c κs. search needs)
-    (λ c. search needs)
-    (λ c. search needs)
-    (λ c. search needs)
+    (λ c. search needs) (λ c κs. search needs) (λ c. search needs) (λ c. search needs) (λ c. search needs)
     (λ c κs. simp length-set (omega arith))
     (λ c. c .before .before .undo-plain .kept .0 ∙ simp length-set)
     (λ c.

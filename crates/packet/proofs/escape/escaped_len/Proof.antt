@@ -19,14 +19,10 @@ abbrev μ-loop : tie.MeasureT-loop
 
 pub escaped-len-spec : {M : Type 1} → statement M
 escaped-len-spec =
-    tie.close
-    (tie.spec Inv-loop μ-loop
-    (search needs)
-    (search needs)
-    (search needs)
+    tie.close (tie.spec Inv-loop μ-loop
+    (search needs) (search needs) (search needs)
     (λ c. omega (arith, width-most (getD (c .before .before .before .before .before .args .bytes .now) (c .before .before .before .loop .i) 0)))
-    (search needs)
-    (search needs)
+    (search needs) (search needs)
     (λ c.
     let i = c .before .before .before .loop .i in
     let bs = c .before .before .before .before .before .args .bytes .now in

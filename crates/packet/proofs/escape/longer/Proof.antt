@@ -12,8 +12,7 @@ use Rattle.packet.proofs.escape.longer.Tie as tie
 
 pub longer-spec : {M : Type 1} → statement M
 longer-spec =
-    tie.close
-    (tie.spec
+    tie.close (tie.spec
     (λ c.
     let a = c .before .before .args in
     sym (le-ltb (a .limit) (length (escape (a .bytes .now))) (omega (arith, escape-most (a .bytes .now)))))

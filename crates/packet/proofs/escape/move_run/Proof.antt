@@ -7,15 +7,8 @@ use Rattle.packet.proofs.escape.move_run.Tie as tie
 
 pub move-run-spec : {M : Type 1} → statement M
 move-run-spec =
-    tie.close
-    (tie.spec
-    (search needs)
-    (search needs)
-    (search needs)
-    (search needs)
-    (search needs)
-    (search needs)
-    (search needs)
+    tie.close (tie.spec
+    (search needs) (search needs) (search needs) (search needs) (search needs) (search needs) (search needs)
     (λ c.
     let found = c .before .before .before .before in
     let a = found .before .before .before .before .args in

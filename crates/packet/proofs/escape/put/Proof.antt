@@ -25,14 +25,16 @@ abbrev μ-loop : tie.MeasureT-loop
 
 pub put-spec : {M : Type 1} → statement M
 put-spec =
-    tie.close
-    (tie.spec Inv-loop μ-loop
+    tie.close (tie.spec Inv-loop μ-loop
     (λ c. (omega arith, refl, refl, refl))
     (search needs)
     (λ c κs.
-    omega (arith, escape-next (c .before .before .before .before .before .before .args .bytes .now) (c .before .before .before .loop .i) (c .before .before .loop-test .taken)))
-    (search needs)
-    (search needs)
+    omega (
+      arith,
+      escape-next (c .before .before .before .before .before .before .args .bytes .now) (c .before .before .before .loop .i)
+          (c .before .before .loop-test .taken),
+    ))
+    (search needs) (search needs)
     (λ c.
     let l = c .before .before .before .before .before .before .loop in
     let bs = c .before .before .before .before .before .before .before .before .before .args .bytes .now in

@@ -10,21 +10,17 @@ use Rattle.packet.proofs.escape.put_byte.Tie as tie
 
 pub put-byte-spec : {M : Type 1} → statement M
 put-byte-spec =
-    tie.close
-    (tie.spec
+    tie.close (tie.spec
     (λ c. omega (arith, ap length (escape-flag _ (c .if1 .taken))))
     (search needs)
     (λ c. simp length-set (omega (arith, ap length (escape-flag _ (c .if1 .taken)))))
-    (search needs)
-    (search needs)
+    (search needs) (search needs)
     (λ c. rw (escape-flag _ (c .if1 .taken)) (record { ends = omega arith; holds = rw add-one }))
     (λ c. omega (arith, ap length (escape-escape _ (c .if2 .taken))))
     (search needs)
     (λ c. simp length-set (omega (arith, ap length (escape-escape _ (c .if2 .taken)))))
-    (search needs)
-    (search needs)
+    (search needs) (search needs)
     (λ c. rw (escape-escape _ (c .if2 .taken)) (record { ends = omega arith; holds = rw add-one }))
     (λ c. omega (arith, ap length (escape-other _ (c .before .if1 .left) (c .if2 .left))))
-    (search needs)
-    (search needs)
+    (search needs) (search needs)
     (λ c. rw (escape-other _ (c .before .if1 .left) (c .if2 .left)) (record { ends = omega arith; holds = refl })))

@@ -18,11 +18,9 @@ wrong-there n h = simp (ne-eqb n 0 h)
 pub scan-spec : {M : Type 1} → statement M
 unfolding scan
 scan-spec =
-    tie.close
-    (tie.spec
+    tie.close (tie.spec
     (λ c. unfold wrongFrom in unfold last in rw (over (c .before .before .args .raw .now) 0 (omega arith)))
-    (search needs)
-    (search needs)
+    (search needs) (search needs)
     (λ c. simp (eq-eqb _ _ (last-at 0 (c .before .before .before .before .args .raw .now) (omega arith) ∙ c .if2 .taken)))
     (search needs)
     (λ c.

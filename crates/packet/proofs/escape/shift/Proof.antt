@@ -10,18 +10,19 @@ use Rattle.packet.proofs.escape.shift.Statement.{statement}
 use Rattle.packet.proofs.escape.shift.Tie as tie
 
 abbrev Inv-loop : tie.InvT-loop
-Inv-loop recv₀ from end to i₀ j₀ recv i j = (length recv ≡ length recv₀) × (j ≤ i) × (sets recv j (drop i (take end recv)) ≡ sets recv₀ to (drop from (take end recv₀)))
+Inv-loop recv₀ from end to i₀ j₀ recv i j = (length recv ≡ length recv₀) × (j ≤ i)
+    × (sets recv j (drop i (take end recv)) ≡ sets recv₀ to (drop from (take end recv₀)))
 
 abbrev μ-loop : tie.MeasureT-loop
 μ-loop recv₀ from end to i₀ j₀ recv i j = end - i
 
 pub shift-spec : {M : Type 1} → statement M
 shift-spec =
-    tie.close
-    (tie.spec Inv-loop μ-loop
+    tie.close (tie.spec Inv-loop μ-loop
     (λ c.
     let a = c .before .args in
-    sym (ap (λ (i : ℕ). sets (a .recv .now) i (drop (a .from) (take (a .end) (a .recv .now)))) (sym (c .if1 .taken)) ∙ shift-none (a .recv .now) (a .from) (a .end) (c .before .pre .0)))
+    sym (ap (λ (i : ℕ). sets (a .recv .now) i (drop (a .from) (take (a .end) (a .recv .now)))) (sym (c .if1 .taken))
+    ∙ shift-none (a .recv .now) (a .from) (a .end) (c .before .pre .0)))
     (λ c. (refl, omega arith, refl))
     (omega arith)
     (omega arith)

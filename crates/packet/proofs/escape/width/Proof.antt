@@ -7,8 +7,7 @@ use Rattle.packet.proofs.escape.width.Tie as tie
 
 pub width-spec : {M : Type 1} → statement M
 width-spec =
-    tie.close
-    (tie.spec
+    tie.close (tie.spec
     (λ c. sym (ap length (escape-flag _ (c .if1 .taken))))
     (λ c. sym (ap length (escape-escape _ (c .if2 .taken))))
     (λ c. sym (ap length (escape-other _ (c .before .if1 .left) (c .if2 .left)))))

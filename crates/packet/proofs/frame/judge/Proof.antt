@@ -7,12 +7,10 @@ use Rattle.packet.proofs.frame.judge.Tie as tie
 
 pub judge-spec : {M : Type 1} → statement M
 judge-spec =
-    tie.close
-    (tie.spec
+    tie.close (tie.spec
     (λ c. let a = c .before .before .args in both (judging-over (a .recv .now) (a .raw) (c .if1 .taken)))
     (λ c. let a = c .before .before .before .args in both (judging-short (a .recv .now) (a .raw) (c .before .if1 .left) (c .if2 .taken)))
-    (λ c κs. search needs)
-    (search needs)
+    (λ c κs. search needs) (search needs)
     (λ c.
     let l = c .before .before .before .before in
     let a = l .before .before .before .args in

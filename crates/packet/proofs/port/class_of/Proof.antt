@@ -7,8 +7,7 @@ use Rattle.packet.proofs.port.class_of.Tie as tie
 
 pub class-of-spec : {M : Type 1} → statement M
 class-of-spec =
-    tie.close
-    (tie.spec
+    tie.close (tie.spec
     (λ c. sym (from-5100 (c .before .args .port) (omega arith) (omega arith)))
     (λ c. sym (from-0000 (c .before .before .args .port) (omega arith)))
     (λ c. sym (from-0401 (c .before .before .before .args .port) (omega arith) (omega arith)))

@@ -11,15 +11,15 @@ use Rattle.packet.proofs.search.among.Statement.{statement}
 use Rattle.packet.proofs.search.among.Tie as tie
 
 abbrev Inv-loop : tie.InvT-loop
-Inv-loop bytes at c found₀ i₀ found i = (i ≤ 16) × (found ≡ ltb (length (upTo c (drop at bytes))) i) × (at + 16 ≤ length bytes) × (length bytes < 0x10000000000000000)
+Inv-loop bytes at c found₀ i₀ found i = (i ≤ 16) × (found ≡ ltb (length (upTo c (drop at bytes))) i) × (at + 16 ≤ length bytes)
+    × (length bytes < 0x10000000000000000)
 
 abbrev μ-loop : tie.MeasureT-loop
 μ-loop bytes at c found₀ i₀ found i = 16 - i
 
 pub among-spec : {M : Type 1} → statement M
 among-spec =
-    tie.close
-    (tie.spec Inv-loop μ-loop
+    tie.close (tie.spec Inv-loop μ-loop
     (λ c. let a = c .args in (omega arith, sym (le-ltb (length (upTo (a .c) (drop (a .at) (a .bytes .now)))) 0 (omega arith)), c .pre, omega arith))
     (omega arith)
     (omega arith)

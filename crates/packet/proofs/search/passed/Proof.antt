@@ -16,8 +16,7 @@ abbrev μ-loop : tie.MeasureT-loop
 
 pub passed-spec : {M : Type 1} → statement M
 passed-spec =
-    tie.close
-    (tie.spec Inv-loop μ-loop
+    tie.close (tie.spec Inv-loop μ-loop
     (λ c. (omega arith, omega arith, omega arith))
     (omega arith)
     (λ c κs. omega arith)

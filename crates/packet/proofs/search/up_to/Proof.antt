@@ -8,11 +8,8 @@ use Rattle.packet.proofs.search.up_to.Tie as tie
 
 pub up-to-spec : {M : Type 1} → statement M
 up-to-spec =
-    tie.close
-    (tie.spec
-    (search needs)
-    (search needs)
-    (search needs)
+    tie.close (tie.spec
+    (search needs) (search needs) (search needs)
     (omega arith)
     (search needs)
     (λ c κs. omega arith)

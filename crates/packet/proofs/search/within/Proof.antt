@@ -17,8 +17,7 @@ abbrev μ-loop : tie.MeasureT-loop
 
 pub within-spec : {M : Type 1} → statement M
 within-spec =
-    tie.close
-    (tie.spec Inv-loop μ-loop
+    tie.close (tie.spec Inv-loop μ-loop
     (λ c. let a = c .before .args in (omega arith, seen-none (a .c) (a .bytes .now) (a .at) (c .before .pre), c .before .pre, omega arith))
     (omega arith)
     (λ c. omega (arith, seen-fits (16 - c .before .loop .i) (omega arith) (c .before .loop .inv .1 .0)))
@@ -32,7 +31,8 @@ within-spec =
     (λ c.
     let l = c .before .before .before .loop in
     let a = c .before .before .before .before .before .args in
-    let seen = seen-more (a .c) (a .bytes .now) (a .at) (l .inv .2) (l .i) (16 - l .i) (omega arith) (l .inv .0) (omega arith) (c .bit .ensures .0) (l .inv .1) in
+    let seen = seen-more (a .c) (a .bytes .now) (a .at) (l .inv .2) (l .i) (16 - l .i) (omega arith) (l .inv .0) (omega arith) (c .bit .ensures .0)
+    (l .inv .1) in
     (omega arith, seen, l .inv .2, l .inv .3))
     (λ c. record { fits = omega (arith, trailing-le 16 (c .before .loop .bits)) })
     (λ c.

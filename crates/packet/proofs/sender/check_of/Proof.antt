@@ -6,12 +6,9 @@ use Rattle.packet.proofs.sender.check_of.Tie as tie
 
 pub check-of-spec : {M : Type 1} → statement M
 check-of-spec =
-    tie.close
-    (tie.spec
-    (search needs)
-    (search needs)
-    (search needs)
-    (search needs)
+    tie.close (tie.spec
+    (search needs) (search needs) (search needs) (search needs)
     (λ c.
     let a = c .before .before .before .before .before .before .args in
-    check-parts (a .opening .now) (a .payload .now) (c .before .before .before .fresh .ensures) (c .before .before .feed .ensures) (c .before .feed2 .ensures) (c .check .ensures)))
+    check-parts (a .opening .now) (a .payload .now) (c .before .before .before .fresh .ensures) (c .before .before .feed .ensures) (c .before .feed2 .ensures)
+    (c .check .ensures)))

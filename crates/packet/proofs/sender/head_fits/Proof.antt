@@ -6,8 +6,7 @@ use Rattle.packet.proofs.sender.head_fits.Tie as tie
 
 pub head-fits-spec : {M : Type 1} → statement M
 head-fits-spec =
-    tie.close
-    (tie.spec
+    tie.close (tie.spec
     (λ c. rw (eq-eqb _ _ (c .before .if1 .taken), eq-eqb _ _ (c .if2 .taken)))
     (λ c. rw (eq-eqb _ _ (c .before .if1 .taken), ne-eqb _ _ (c .if2 .left)))
     (λ c κs. search needs)

@@ -9,8 +9,7 @@ use Rattle.packet.proofs.sender.put_opening.Tie as tie
 
 pub put-opening-spec : {M : Type 1} → statement M
 put-opening-spec =
-    tie.close
-    (tie.spec
+    tie.close (tie.spec
     (λ c κs. let s = c .before .before .before in (s .pre .0, omega (arith, s .pre .1)))
     (λ c κs.
     let h = c .before .before .before .put-head in
@@ -20,9 +19,18 @@ put-opening-spec =
     let t = c .before .before .before .put-two in
     let h = c .before .before .before .before .before .before .before .put-head in
     let s = c .before .before .before .before .before .before .before .before .before .before .before in
-    omega (arith, t .ensures .ends, t .kept .0, h .ensures .ends, h .kept .0, head-most (s .args .format) (s .args .number) (s .args .key .now) (s .pre .0), s .pre .1))
+    omega (
+      arith,
+      t .ensures .ends,
+      t .kept .0,
+      h .ensures .ends,
+      h .kept .0,
+      head-most (s .args .format) (s .args .number) (s .args .key .now) (s .pre .0),
+      s .pre .1,
+    ))
     (search needs)
     (λ c.
     let a = c .before .before .before .before .before .before .before .before .before .before .before .before .before .before .args in
     laid-opening (packetOf (a .format) (a .number) (a .key .now) (a .port) (a .sequence) [])
-    (c .before .before .before .before .before .before .before .before .before .before .put-head .ensures) (c .before .before .before .before .before .before .put-two .ensures) (c .before .before .put-two2 .ensures)))
+    (c .before .before .before .before .before .before .before .before .before .before .put-head .ensures)
+    (c .before .before .before .before .before .before .put-two .ensures) (c .before .before .put-two2 .ensures)))

@@ -16,14 +16,8 @@ laid-two l b at n e = rw e (record { ends = omega arith; holds = rw add-one })
 
 pub put-two-spec : {M : Type 1} → statement M
 put-two-spec =
-    tie.close
-    (tie.spec
-    (λ c κs. search needs)
-    (search needs)
-    (search needs)
-    (search needs)
-    (search needs)
+    tie.close (tie.spec
+    (λ c κs. search needs) (search needs) (search needs) (search needs) (search needs)
     (λ c. simp length-set (omega (arith, c .before .before .pre)))
-    (search needs)
-    (search needs)
+    (search needs) (search needs)
     (λ c. let a = c .before .before .args in laid-two (a .out .now) (c .two .result) (a .at) (a .n) (c .two .ensures)))

@@ -25,7 +25,8 @@ array-copy-out-e : tie.Need-array-copy-out-e Inv-loop μ-loop
 array-copy-out-e c = search needs
 
 returns : tie.Need-returns Inv-loop μ-loop
-returns c = free-here _ _ _ (c .before .before .before .before .loop .inv .2) (c .before .before .before .loop-test .taken) (omega (arith, c .before .before .before .before .loop .inv .0)) (c .if1 .taken)
+returns c = free-here _ _ _ (c .before .before .before .before .loop .inv .2) (c .before .before .before .loop-test .taken)
+    (omega (arith, c .before .before .before .before .loop .inv .0)) (c .if1 .taken)
 
 add-i : tie.Need-add-i Inv-loop μ-loop
 add-i c = search needs
@@ -37,7 +38,8 @@ loop-again : tie.Need-loop-again Inv-loop μ-loop
 loop-again c = (
   c .before .before .before .before .loop .inv .0,
   omega arith,
-  free-on _ _ _ (c .before .before .before .before .loop .inv .2) (c .before .before .before .loop-test .taken) (omega (arith, c .before .before .before .before .loop .inv .0)) (c .if1 .left),
+  free-on _ _ _ (c .before .before .before .before .loop .inv .2) (c .before .before .before .loop-test .taken)
+      (omega (arith, c .before .before .before .before .loop .inv .0)) (c .if1 .left),
 )
 
 returns-2 : tie.Need-returns-2 Inv-loop μ-loop

@@ -34,18 +34,24 @@ repeats-requires : tie.Need-repeats-requires Inv-loop μ-loop
 repeats-requires c κs = search needs
 
 returns : tie.Need-returns Inv-loop μ-loop
-returns c = twice-here _ _ _ (c .before .before .before .before .loop-test .taken) (omega (arith, c .before .before .before .before .before .loop .inv .0)) (c .before .before .place-from .ensures) (c .before .before .before .before .before .loop .inv .2) (sym (c .before .repeats .ensures) ∙ c .if1 .taken)
+returns c = twice-here _ _ _ (c .before .before .before .before .loop-test .taken) (omega (arith, c .before .before .before .before .before .loop .inv .0))
+    (c .before .before .place-from .ensures) (c .before .before .before .before .before .loop .inv .2) (sym (c .before .repeats .ensures) ∙ c .if1 .taken)
 
 loop-less : tie.Need-loop-less Inv-loop μ-loop
 loop-less c = search needs
 
 loop-again : tie.Need-loop-again Inv-loop μ-loop
-loop-again c = (c .before .before .before .before .before .loop .inv .0, omega arith, twice-on _ _ _ (c .before .before .before .before .loop-test .taken) (omega (arith, c .before .before .before .before .before .loop .inv .0)) (c .before .before .place-from .ensures) (c .before .before .before .before .before .loop .inv .2) (sym (c .before .repeats .ensures) ∙ c .if1 .left))
+loop-again c = (
+  c .before .before .before .before .before .loop .inv .0,
+  omega arith,
+  twice-on _ _ _ (c .before .before .before .before .loop-test .taken)
+      (omega (arith, c .before .before .before .before .before .loop .inv .0)) (c .before .before .place-from .ensures)
+      (c .before .before .before .before .before .loop .inv .2) (sym (c .before .repeats .ensures) ∙ c .if1 .left),
+)
 
 returns-2 : tie.Need-returns-2 Inv-loop μ-loop
 returns-2 c = twice-end _ _ _ (c .before .loop .inv .2) (c .loop-test .left)
 
 pub is-twice-spec : {M : Type 1} → statement M
 is-twice-spec =
-    tie.close
-    (tie.spec Inv-loop μ-loop loop-holds mul-e array-copy-out-e add-next place-from-requires repeats-requires returns loop-less loop-again returns-2)
+    tie.close (tie.spec Inv-loop μ-loop loop-holds mul-e array-copy-out-e add-next place-from-requires repeats-requires returns loop-less loop-again returns-2)

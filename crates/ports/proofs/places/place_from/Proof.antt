@@ -29,7 +29,8 @@ holds-requires c κs = search needs
 
 returns : tie.Need-returns Inv-loop μ-loop
 returns c =
-    place-here _ _ _ _ (c .before .before .before .before .loop .inv .2) (c .before .before .before .loop-test .taken) (omega (arith, c .before .before .before .before .loop .inv .0))
+    place-here _ _ _ _ (c .before .before .before .before .loop .inv .2) (c .before .before .before .loop-test .taken)
+    (omega (arith, c .before .before .before .before .loop .inv .0))
     (sym (c .before .holds .ensures) ∙ c .if1 .taken)
 
 add-i : tie.Need-add-i Inv-loop μ-loop
@@ -42,7 +43,8 @@ loop-again : tie.Need-loop-again Inv-loop μ-loop
 loop-again c = (
   c .before .before .before .before .loop .inv .0,
   omega arith,
-  place-on _ _ _ _ (c .before .before .before .before .loop .inv .2) (c .before .before .before .loop-test .taken) (omega (arith, c .before .before .before .before .loop .inv .0))
+  place-on _ _ _ _ (c .before .before .before .before .loop .inv .2) (c .before .before .before .loop-test .taken)
+      (omega (arith, c .before .before .before .before .loop .inv .0))
       (sym (c .before .holds .ensures) ∙ c .if1 .left),
 )
 
@@ -51,5 +53,4 @@ returns-2 c = let e = place-end _ _ _ _ (c .before .loop .inv .2) (c .loop-test 
 
 pub place-from-spec : {M : Type 1} → statement M
 place-from-spec =
-    tie.close
-    (tie.spec Inv-loop μ-loop loop-holds mul-holds array-copy-out-holds holds-requires returns add-i loop-less loop-again returns-2)
+    tie.close (tie.spec Inv-loop μ-loop loop-holds mul-holds array-copy-out-holds holds-requires returns add-i loop-less loop-again returns-2)

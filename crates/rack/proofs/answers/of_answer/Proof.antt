@@ -7,16 +7,8 @@ use Rattle.rack.proofs.answers.of_answer.Tie as tie
 
 pub of-answer-spec : {M : Type 1} → statement M
 of-answer-spec =
-    tie.close
-    (tie.spec
-    (search needs)
-    (search needs)
-    (search needs)
-    (search needs)
-    (search needs)
-    (search needs)
-    (search needs)
-    (search needs)
+    tie.close (tie.spec
+    (search needs) (search needs) (search needs) (search needs) (search needs) (search needs) (search needs) (search needs)
     (λ c. c .bare .ensures ∙ sym (ap ofAnswer (c .before .enum-told .given .1)))
     (λ c. c .of-judged .ensures ∙ sym (ap ofAnswer (c .before .before .answer .given .1)))
     (λ c. c .of-block .ensures ∙ sym (ap ofAnswer (c .before .before .answer2 .given .1)))

@@ -6,8 +6,7 @@ use Rattle.rack.proofs.answers.of_call.Tie as tie
 
 pub of-call-spec : {M : Type 1} → statement M
 of-call-spec =
-    tie.close
-    (tie.spec
+    tie.close (tie.spec
     (search needs)
     (λ c. simp (eq-eqb _ _ (c .if1 .taken)))
     (search needs)

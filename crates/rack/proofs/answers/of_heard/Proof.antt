@@ -7,11 +7,7 @@ use Rattle.rack.proofs.answers.of_heard.Tie as tie
 
 pub of-heard-spec : {M : Type 1} → statement M
 of-heard-spec =
-    tie.close
-    (tie.spec
-    (search needs)
-    (search needs)
-    (search needs)
-    (search needs)
+    tie.close (tie.spec
+    (search needs) (search needs) (search needs) (search needs)
     (λ c. c .bare .ensures ∙ sym (ap ofHeard (c .before .enum-told .given .1)))
     (λ c. c .of-judged .ensures ∙ sym (ap ofHeard (c .before .before .heard .given .1))))

@@ -6,10 +6,8 @@ use Rattle.recording.proofs.spot.place_of.Tie as tie
 
 pub place-of-spec : {M : Type 1} → statement M
 place-of-spec =
-    tie.close
-    (tie.spec
-    (search needs)
-    (search needs)
+    tie.close (tie.spec
+    (search needs) (search needs)
     (λ c. left-none _ (c .if1 .taken))
     (search needs)
     (λ c. left-some _ (c .if1 .left)))

@@ -7,26 +7,11 @@ use Rattle.recording.proofs.spot.step.Tie as tie
 
 pub step-spec : {M : Type 1} → statement M
 step-spec =
-    tie.close
-    (tie.spec
-    (search needs)
-    (search needs)
+    tie.close (tie.spec
+    (search needs) (search needs)
     (λ c. mode-plain _ _ (c .before .before .enum-told .given .1) (c .before .if1 .taken) (c .on .ensures))
-    (search needs)
-    (search needs)
-    (search needs)
-    (search needs)
-    (search needs)
-    (search needs)
-    (search needs)
-    (search needs)
-    (search needs)
-    (search needs)
-    (search needs)
-    (search needs)
-    (search needs)
-    (search needs)
-    (search needs)
+    (search needs) (search needs) (search needs) (search needs) (search needs) (search needs) (search needs) (search needs) (search needs)
+    (search needs) (search needs) (search needs) (search needs) (search needs) (search needs)
     (λ c. mode-else _ _ (c .before .before .enum-told .given .1) (c .before .if1 .left) (c .wanted .ensures))
     (λ c. at-mark _ _ (c .before .enum-told2 .given .1) (c .wanted2 .ensures))
     (λ c. at-second _ _ (c .before .enum-told3 .given .1) (c .wanted3 .ensures))

@@ -6,8 +6,7 @@ use Rattle.recording.proofs.spot.wanted.Tie as tie
 
 pub wanted-spec : {M : Type 1} → statement M
 wanted-spec =
-    tie.close
-    (tie.spec
+    tie.close (tie.spec
     (search needs)
     (λ c. rw (eq-eqb _ _ (c .before .if1 .taken)) (c .on .ensures))
     (search needs)

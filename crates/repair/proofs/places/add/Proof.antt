@@ -15,15 +15,15 @@ use Rattle.repair.proofs.places.add.Tie as tie
 
 abbrev Inv-loop : tie.InvT-loop
 Inv-loop v s word₀ z x₀ k₀ i₀ word x k i =
-    (k + i ≡ length word₀) × (length word ≡ length word₀) × (x ≡ pow alpha k) × (word ≡ take i word₀ ++ onto (errors v s (length (drop i word₀))) (drop i word₀))
+    (k + i ≡ length word₀) × (length word ≡ length word₀) × (x ≡ pow alpha k)
+    × (word ≡ take i word₀ ++ onto (errors v s (length (drop i word₀))) (drop i word₀))
 
 abbrev μ-loop : tie.MeasureT-loop
 μ-loop v s word₀ z x₀ k₀ i₀ word x k i = i
 
 pub add-spec : {M : Type 1} → statement M
 add-spec =
-    tie.close
-    (tie.spec Inv-loop μ-loop
+    tie.close (tie.spec Inv-loop μ-loop
     (search needs)
     (λ c.
     let args = c .before .before .before .before .args in
@@ -48,9 +48,11 @@ add-spec =
       omega arith,
       simp length-set (loop .inv .1),
       point-next (loop .k) (loop .inv .2) (c .times .ensures),
-      add-next (args .v .now) (args .s .now) (args .word .now) (loop .k) (loop .i) (loop .word) h (loop .inv .3) (loop .inv .0) (loop .inv .2) (c .before .before .before .error-at .ensures) (c .before .plus .ensures),
+      add-next (args .v .now) (args .s .now) (args .word .now) (loop .k) (loop .i) (loop .word) h (loop .inv .3) (loop .inv .0) (loop .inv .2)
+          (c .before .before .before .error-at .ensures) (c .before .plus .ensures),
     ))
     (search needs)
     (λ c.
     let args = c .before .before .before .before .before .before .args in
-    back-done (λ t. onto (errors (args .v .now) (args .s .now) (length t)) t) (args .word .now) (c .before .loop .i) (c .before .loop .word) (c .loop-test .left) (c .before .loop .inv .3)))
+    back-done (λ t. onto (errors (args .v .now) (args .s .now) (length t)) t) (args .word .now) (c .before .loop .i) (c .before .loop .word)
+    (c .loop-test .left) (c .before .loop .inv .3)))

@@ -19,15 +19,13 @@ abbrev μ-loop : tie.MeasureT-loop
 
 pub at-places-spec : {M : Type 1} → statement M
 at-places-spec =
-    tie.close
-    (tie.spec Inv-loop μ-loop
+    tie.close (tie.spec Inv-loop μ-loop
     (search needs)
     (λ c. (omega arith, refl, places-start (take (length (c .before .before .args .v .now)) (c .turned .result))))
     (omega arith)
     (omega arith)
     (λ c. sym (length-take-le _ _ (omega arith)))
-    (search needs)
-    (search needs)
+    (search needs) (search needs)
     (omega arith)
     (omega arith)
     (omega arith)
@@ -47,4 +45,5 @@ at-places-spec =
     let loop = c .before .loop in
     let turned = c .before .before in
     let u = take (length (turned .before .before .args .v .now)) (turned .turned .result) in
-    places-done u (loop .z) (loop .k) (loop .inv .1) (loop .inv .2) (omega arith) (omega arith) ∙ ap (λ (t : List ℕ). valuesFrom t 0 256) (turned .turned .ensures)))
+    places-done u (loop .z) (loop .k) (loop .inv .1) (loop .inv .2) (omega arith) (omega arith)
+    ∙ ap (λ (t : List ℕ). valuesFrom t 0 256) (turned .turned .ensures)))

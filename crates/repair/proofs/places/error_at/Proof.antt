@@ -15,20 +15,15 @@ abbrev μ-loop : tie.MeasureT-loop
 
 pub error-at-spec : {M : Type 1} → statement M
 error-at-spec =
-    tie.close
-    (tie.spec Inv-loop μ-loop
+    tie.close (tie.spec Inv-loop μ-loop
     (λ c. let args = c .before .before .before .args in error-none (args .v .now) (args .s .now) (args .x) (c .before .before .before .pre .0) (c .if1 .taken))
     (λ c. let args = c .before .before .before .args in (omega arith, omega arith, error-start (args .v .now) (args .s .now) (args .x)))
     (omega arith)
     (omega arith)
-    (search needs)
-    (search needs)
-    (search needs)
-    (search needs)
+    (search needs) (search needs) (search needs) (search needs)
     (omega arith)
     (omega arith)
-    (search needs)
-    (search needs)
+    (search needs) (search needs)
     (omega arith)
     (λ c.
     let second = c .before .before .before in
@@ -39,14 +34,14 @@ error-at-spec =
       omega arith,
       omega arith,
       error-next (args .v .now) (args .s .now) (args .x) (loop .i) more (omega arith) (omega arith) (loop .inv .2)
-          (first .before .times .ensures) (first .plus .ensures) (second .before .times2 .ensures) (second .plus2 .ensures) (c .before .times3 .ensures) (c .plus3 .ensures),
+          (first .before .times .ensures) (first .plus .ensures) (second .before .times2 .ensures) (second .plus2 .ensures) (c .before .times3 .ensures)
+          (c .plus3 .ensures),
     ))
-    (search needs)
-    (search needs)
-    (search needs)
+    (search needs) (search needs) (search needs)
     (λ c.
     let ended = c .before .before .before in
     let loop = ended .before .loop in
     let start = ended .before .before .before .before .before in
-    error-done (start .args .v .now) (start .args .s .now) (start .args .x) (loop .i) (loop .inv .0) (omega arith) (omega arith) (start .pre .0) (ended .before .before .if1 .left) (loop .inv .2)
+    error-done (start .args .v .now) (start .args .s .now) (start .args .x) (loop .i) (loop .inv .0) (omega arith) (omega arith) (start .pre .0)
+    (ended .before .before .if1 .left) (loop .inv .2)
     (c .before .before .times4 .ensures) (c .before .inverse .ensures) (c .times5 .ensures)))

@@ -18,8 +18,7 @@ abbrev μ-loop : tie.MeasureT-loop
 
 pub turned-spec : {M : Type 1} → statement M
 turned-spec =
-    tie.close
-    (tie.spec Inv-loop μ-loop
+    tie.close (tie.spec Inv-loop μ-loop
     (λ c. (omega arith, refl, sym (ap (reverse {A = ℕ}) (drop-length (c .args .v .now)))))
     (omega arith)
     (omega arith)
@@ -32,4 +31,5 @@ turned-spec =
       simp length-set (loop .inv .1),
       turned-next (c .before .before .before .args .v .now) (loop .u) (loop .i) (loop .j) (loop .inv .2) (omega arith) (omega arith) (omega arith),
     ))
-    (λ c. turned-done (c .before .before .args .v .now) (c .before .loop .u) (c .before .loop .i) (c .before .loop .j) (c .before .loop .inv .2) (c .loop-test .left) (c .before .loop .inv .0)))
+    (λ c. turned-done (c .before .before .args .v .now) (c .before .loop .u) (c .before .loop .i) (c .before .loop .j) (c .before .loop .inv .2)
+    (c .loop-test .left) (c .before .loop .inv .0)))

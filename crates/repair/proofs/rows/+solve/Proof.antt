@@ -36,23 +36,21 @@ pub +solve-spec : {M : Type 1} → statement M
     (at 1 solve-kinds.ps μ-solve solve.Pre t)
     solve.Post
     (λ c. (omega arith, refl, solve-zero _ _ (c .if1 .taken)))
-    (search needs)
-    (search needs)
-    (search needs)
-    (search needs)
+    (search needs) (search needs) (search needs) (search needs)
     (λ c. (
       omega arith,
       refl,
-      solve-free (c .before .before .before .before .args .n) (c .before .before .before .before .args .rows .now) (c .before .before .before .if1 .left) (c .before .pivot .ensures) (c .if2 .taken),
+      solve-free (c .before .before .before .before .args .n) (c .before .before .before .before .args .rows .now) (c .before .before .before .if1 .left)
+          (c .before .pivot .ensures) (c .if2 .taken),
     ))
-    (search needs)
-    (search needs)
-    (search needs)
+    (search needs) (search needs) (search needs)
     (λ c κs. (omega arith, omega arith))
     (λ c κs. (omega (arith, c .before .solve .ensures .0), c .before .solve .ensures .1))
     (search needs)
-    (λ c. (
+    (λ c. let at-reduce = c .before .before .before .before .before in let at-normal = at-reduce .before .before in let at-if2 = at-normal .before in
+    let at-pivot = at-if2 .before in let at-if1 = at-pivot .before .before in let s = at-if1 .before in (
       omega (arith, c .extended .ensures .0, c .before .before .solve .ensures .0),
       c .extended .ensures .1,
-      solve-some (c .before .before .before .before .before .before .before .before .before .before .before .before .args .n) (c .before .before .before .before .before .before .before .before .before .before .before .before .args .rows .now) (c .before .before .before .before .before .before .before .before .before .before .before .if1 .left) (c .before .before .before .before .before .before .before .before .before .pivot .ensures) (c .before .before .before .before .before .before .before .before .if2 .left) (c .before .before .before .before .before .before .before .normal .ensures) (c .before .before .before .before .before .reduce .ensures) (c .before .before .solve .ensures .2) (c .extended .ensures .2),
+      solve-some (s .args .n) (s .args .rows .now) (at-if1 .if1 .left) (at-pivot .pivot .ensures) (at-if2 .if2 .left) (at-normal .normal .ensures)
+          (at-reduce .reduce .ensures) (c .before .before .solve .ensures .2) (c .extended .ensures .2),
     ))

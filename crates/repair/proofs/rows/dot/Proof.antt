@@ -19,17 +19,13 @@ abbrev μ-loop : tie.MeasureT-loop
 
 pub dot-spec : {M : Type 1} → statement M
 dot-spec =
-    tie.close
-    (tie.spec Inv-loop μ-loop
+    tie.close (tie.spec Inv-loop μ-loop
     (λ c. (omega arith, zero-add _))
-    (search needs)
-    (search needs)
-    (search needs)
-    (search needs)
-    (search needs)
-    (search needs)
-    (λ c.
-    let loop = c .before .before .before .before .before .loop in
-    let args = c .before .before .before .before .before .before .before .before .args in
-    (omega arith, dot-next (loop .a) (loop .i) (args .u .now) (args .row .now) (loop .inv .1) (omega arith) (omega (arith, c .before .before .before .before .before .before .before .before .pre)) (c .before .times .ensures) (c .plus .ensures)))
+    (search needs) (search needs) (search needs) (search needs) (search needs) (search needs)
+    (λ c. let at-loop = c .before .before .before .before .before in let s = at-loop .before .before .before in
+    let loop = at-loop .loop in let args = s .args in (
+      omega arith,
+      dot-next (loop .a) (loop .i) (args .u .now) (args .row .now) (loop .inv .1) (omega arith) (omega (arith, s .pre))
+          (c .before .times .ensures) (c .plus .ensures),
+    ))
     (λ c. dot-done _ _ _ _ (c .before .loop .inv .1) (c .loop-test .left)))

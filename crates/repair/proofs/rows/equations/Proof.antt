@@ -19,24 +19,16 @@ abbrev μ-loop : tie.MeasureT-loop
 
 pub equations-spec : {M : Type 1} → statement M
 equations-spec =
-    tie.close
-    (tie.spec Inv-loop μ-loop
+    tie.close (tie.spec Inv-loop μ-loop
     (λ c. (omega arith, refl, simp sub-zero))
-    (search needs)
-    (search needs)
-    (search needs)
-    (search needs)
-    (search needs)
-    (search needs)
-    (search needs)
-    (search needs)
-    (search needs)
+    (search needs) (search needs) (search needs) (search needs) (search needs) (search needs) (search needs) (search needs) (search needs)
     (search needs)
     (λ c.
     let loop = c .before .before .before .before .before .loop in
     let start = c .before .before .before .before .before .before .before in (
       omega arith,
       simp length-set (omega arith),
-      equations-next (start .args .n) (loop .i) (start .args .s .now) (loop .m) (loop .inv .2) (omega arith) (omega arith) (start .pre .0) (start .pre .1) (c .before .copy .ensures),
+      equations-next (start .args .n) (loop .i) (start .args .s .now) (loop .m) (loop .inv .2) (omega arith) (omega arith) (start .pre .0) (start .pre .1)
+          (c .before .copy .ensures),
     ))
     (λ c. equations-done _ _ _ _ (c .before .loop .inv .2) (c .before .loop .inv .0) (c .loop-test .left)))

@@ -9,14 +9,14 @@ use Rattle.repair.proofs.rows.locator.Tie as tie
 
 pub locator-spec : {M : Type 1} → statement M
 locator-spec =
-    tie.close
-    (tie.spec
-    (search needs)
-    (search needs)
-    (search needs)
-    (search needs)
+    tie.close (tie.spec
+    (search needs) (search needs) (search needs) (search needs)
     (λ c. sym (length-take-le _ (c .before .equations .result) (omega arith)))
     (search needs)
     (λ c.
-    let f = c .before .solve .ensures in
-    (omega (arith, f .0), f .1, locator-is (c .before .before .before .before .before .args .r) (c .before .before .before .before .before .args .s .now) (c .before .before .before .equations .ensures) (f .2))))
+    let f = c .before .solve .ensures in (
+      omega (arith, f .0),
+      f .1,
+      locator-is (c .before .before .before .before .before .args .r) (c .before .before .before .before .before .args .s .now)
+          (c .before .before .before .equations .ensures) (f .2),
+    )))

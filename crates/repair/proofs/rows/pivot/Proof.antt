@@ -16,14 +16,10 @@ abbrev μ-loop : tie.MeasureT-loop
 
 pub pivot-spec : {M : Type 1} → statement M
 pivot-spec =
-    tie.close
-    (tie.spec Inv-loop μ-loop
+    tie.close (tie.spec Inv-loop μ-loop
     (λ c. refl)
-    (search needs)
-    (search needs)
-    (search needs)
+    (search needs) (search needs) (search needs)
     (λ c. pivot-here _ _ (c .before .before .before .loop .inv) (c .before .before .loop-test .taken) (c .if1 .taken))
-    (search needs)
-    (search needs)
+    (search needs) (search needs)
     (λ c. pivot-next _ _ (c .before .before .before .loop .inv) (c .before .before .loop-test .taken) (c .if1 .left))
     (λ c. pivot-none _ _ (c .before .loop .inv) (c .loop-test .left)))

@@ -18,16 +18,13 @@ abbrev μ-loop : tie.MeasureT-loop
 
 pub reduce-spec : {M : Type 1} → statement M
 reduce-spec =
-    tie.close
-    (tie.spec Inv-loop μ-loop
+    tie.close (tie.spec Inv-loop μ-loop
     (λ c. (refl, refl))
-    (search needs)
-    (search needs)
-    (search needs)
-    (search needs)
-    (search needs)
-    (search needs)
-    (search needs)
-    (λ c. (simp length-set (omega arith), reduce-next _ _ _ (c .before .before .before .loop .inv .1) (c .before .before .loop-test .taken) (c .reduced .ensures)))
+    (search needs) (search needs) (search needs) (search needs) (search needs) (search needs) (search needs)
+    (λ c. (
+      simp length-set (omega arith),
+      reduce-next _ _ _ (c .before .before .before .loop .inv .1) (c .before .before .loop-test .taken)
+          (c .reduced .ensures),
+    ))
     (λ c. c .before .loop .inv .0)
     (λ c. reduce-done _ _ _ (c .before .loop .inv .1) (c .loop-test .left)))

@@ -6,7 +6,6 @@ use Rattle.sheet.proofs.Sheet.begin.Tie as tie
 
 pub begin-spec : {M : Type 1} → statement M
 begin-spec =
-    tie.close
-    (tie.spec
+    tie.close (tie.spec
     (λ c κs. search needs)
     (λ c. begin-is (c .before .args .self) (c .tidied .ensures)))

@@ -6,7 +6,6 @@ use Rattle.sheet.proofs.Sheet.fresh.Tie as tie
 
 pub fresh-spec : {M : Type 1} → statement M
 fresh-spec =
-    tie.close
-    (tie.spec
+    tie.close (tie.spec
     (λ c κs. search needs)
     (λ c. fresh-is (c .blank .ensures)))

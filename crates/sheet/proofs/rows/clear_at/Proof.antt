@@ -8,8 +8,6 @@ use Rattle.sheet.proofs.rows.clear_at.Tie as tie
 
 pub clear-at-spec : {M : Type 1} → statement M
 clear-at-spec =
-    tie.close
-    (tie.spec
-    (λ c κs. search needs)
-    (λ c κs. search needs)
+    tie.close (tie.spec
+    (λ c κs. search needs) (λ c κs. search needs)
     (λ c. c .clear .ensures ∙ ap (λ (r : Row). cleared r) (c .before .row-at .ensures)))

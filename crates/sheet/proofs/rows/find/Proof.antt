@@ -9,12 +9,19 @@ use Rattle.sheet.proofs.rows.find.Tie as tie
 
 pub find-spec : {M : Type 1} → statement M
 find-spec =
-    tie.close
-    (tie.spec
+    tie.close (tie.spec
+    (λ c κs. search needs) (λ c κs. search needs)
+    (λ c. let at-row-at = c .before .before .before in let at-place = at-row-at .before in let s = at-place .before in
+    found-old (s .args .port) (s .args .n) (take (s .args .n) (s .args .rows))
+    (length-take-le (s .args .n) (s .args .rows) (omega (arith, s .pre, at-place .place .ensures .1))) (at-place .place .ensures .0)
+    (at-row-at .row-at .ensures) (c .before .before .if1 .taken) (c .if2 .taken))
     (λ c κs. search needs)
+    (λ c. let at-row-at = c .before .before .before .before in let at-place = at-row-at .before in let s = at-place .before in
+    found-other (s .args .port) (s .args .n) (take (s .args .n) (s .args .rows))
+    (length-take-le (s .args .n) (s .args .rows) (omega (arith, s .pre, at-place .place .ensures .1))) (at-place .place .ensures .0)
+    (at-row-at .row-at .ensures) (c .before .if2 .left) (c .unfound .ensures))
     (λ c κs. search needs)
-    (λ c. found-old (c .before .before .before .before .before .args .port) (c .before .before .before .before .before .args .n) (take (c .before .before .before .before .before .args .n) (c .before .before .before .before .before .args .rows)) (length-take-le (c .before .before .before .before .before .args .n) (c .before .before .before .before .before .args .rows) (omega (arith, c .before .before .before .before .before .pre, c .before .before .before .before .place .ensures .1))) (c .before .before .before .before .place .ensures .0) (c .before .before .before .row-at .ensures) (c .before .before .if1 .taken) (c .if2 .taken))
-    (λ c κs. search needs)
-    (λ c. found-other (c .before .before .before .before .before .before .args .port) (c .before .before .before .before .before .before .args .n) (take (c .before .before .before .before .before .before .args .n) (c .before .before .before .before .before .before .args .rows)) (length-take-le (c .before .before .before .before .before .before .args .n) (c .before .before .before .before .before .before .args .rows) (omega (arith, c .before .before .before .before .before .before .pre, c .before .before .before .before .before .place .ensures .1))) (c .before .before .before .before .before .place .ensures .0) (c .before .before .before .before .row-at .ensures) (c .before .if2 .left) (c .unfound .ensures))
-    (λ c κs. search needs)
-    (λ c. found-end (c .before .before .before .before .args .port) (c .before .before .before .before .args .n) (take (c .before .before .before .before .args .n) (c .before .before .before .before .args .rows)) (length-take-le (c .before .before .before .before .args .n) (c .before .before .before .before .args .rows) (omega (arith, c .before .before .before .before .pre, c .before .before .before .place .ensures .1))) (c .before .before .before .place .ensures .0) (c .before .before .row-at .ensures) (c .before .if1 .left) (c .unfound2 .ensures)))
+    (λ c. let at-place = c .before .before .before in let s = at-place .before in
+    found-end (s .args .port) (s .args .n) (take (s .args .n) (s .args .rows))
+    (length-take-le (s .args .n) (s .args .rows) (omega (arith, s .pre, at-place .place .ensures .1))) (at-place .place .ensures .0)
+    (c .before .before .row-at .ensures) (c .before .if1 .left) (c .unfound2 .ensures)))

@@ -26,7 +26,9 @@ array-copy-out-row c = search needs
 
 returns : tie.Need-returns Inv-loop μ-loop
 returns c =
-    let e = place-here _ _ _ _ (c .before .before .before .before .loop .inv .2) (c .before .before .before .loop-test .taken) (omega (arith, c .before .before .before .before .before .pre, c .before .before .before .before .loop .inv .0)) (c .if1 .taken) in (omega (arith, e), c .before .before .before .before .loop .inv .0)
+    let e = place-here _ _ _ _ (c .before .before .before .before .loop .inv .2) (c .before .before .before .loop-test .taken)
+    (omega (arith, c .before .before .before .before .before .pre, c .before .before .before .before .loop .inv .0)) (c .if1 .taken) in
+    (omega (arith, e), c .before .before .before .before .loop .inv .0)
 
 add-i : tie.Need-add-i Inv-loop μ-loop
 add-i c = search needs
@@ -38,11 +40,13 @@ loop-again : tie.Need-loop-again Inv-loop μ-loop
 loop-again c = (
   c .before .before .before .before .loop .inv .0,
   omega arith,
-  place-on _ _ _ _ (c .before .before .before .before .loop .inv .2) (c .before .before .before .loop-test .taken) (omega (arith, c .before .before .before .before .before .pre, c .before .before .before .before .loop .inv .0)) (c .if1 .left),
+  place-on _ _ _ _ (c .before .before .before .before .loop .inv .2) (c .before .before .before .loop-test .taken)
+      (omega (arith, c .before .before .before .before .before .pre, c .before .before .before .before .loop .inv .0)) (c .if1 .left),
 )
 
 returns-2 : tie.Need-returns-2 Inv-loop μ-loop
-returns-2 c = let e = place-end _ _ _ _ (c .before .loop .inv .2) (c .loop-test .left) in (omega (arith, e, c .before .loop .inv .1, c .loop-test .left), c .before .loop .inv .0)
+returns-2 c = let e = place-end _ _ _ _ (c .before .loop .inv .2) (c .loop-test .left) in
+    (omega (arith, e, c .before .loop .inv .1, c .loop-test .left), c .before .loop .inv .0)
 
 pub place-spec : {M : Type 1} → statement M
 place-spec = tie.close (tie.spec Inv-loop μ-loop loop-holds mul-row array-copy-out-row returns add-i loop-less loop-again returns-2)

@@ -40,7 +40,8 @@ loop-less c = search needs
 loop-again : tie.Need-loop-again Inv-loop μ-loop
 loop-again c = (
   length-set (c .before .before .loop .next) (c .before .before .loop .j) _ ∙ c .before .before .loop .inv .0,
-  set-next (c .before .before .loop .next) (c .before .before .loop .j) _ _ (omega (arith, c .before .loop-test .taken, c .before .before .loop .inv .0)) (c .put-at .ensures) (c .before .before .loop .inv .1),
+  set-next (c .before .before .loop .next) (c .before .before .loop .j) _ _ (omega (arith, c .before .loop-test .taken, c .before .before .loop .inv .0))
+      (c .put-at .ensures) (c .before .before .loop .inv .1),
 )
 
 returns : tie.Need-returns Inv-loop μ-loop
@@ -48,5 +49,4 @@ returns c = tab-is 16 _ _ (c .before .loop .inv .0) (λ k l. c .before .loop .in
 
 pub put-all-spec : {M : Type 1} → statement M
 put-all-spec =
-    tie.close
-    (tie.spec Inv-loop μ-loop blank-requires loop-holds put-at-requires mul-next array-set-from-next add-j loop-less loop-again returns)
+    tie.close (tie.spec Inv-loop μ-loop blank-requires loop-holds put-at-requires mul-next array-set-from-next add-j loop-less loop-again returns)

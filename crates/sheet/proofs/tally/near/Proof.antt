@@ -7,7 +7,6 @@ use Rattle.sheet.proofs.tally.near.Tie as tie
 
 pub near-spec : {M : Type 1} → statement M
 near-spec =
-    tie.close
-    (tie.spec
+    tie.close (tie.spec
     (search needs)
     (λ c. near-is (c .args .a) (c .args .b) (omega arith)))

@@ -7,20 +7,9 @@ use Rattle.sheet.proofs.tally.one.Tie as tie
 
 pub one-spec : {M : Type 1} → statement M
 one-spec =
-    tie.close
-    (tie.spec
-    (search needs)
-    (λ c κs. search needs)
-    (search needs)
-    (λ c κs. search needs)
-    (search needs)
-    (λ c κs. search needs)
-    (search needs)
-    (λ c κs. search needs)
-    (search needs)
-    (λ c κs. search needs)
-    (search needs)
-    (λ c κs. search needs)
+    tie.close (tie.spec
+    (search needs) (λ c κs. search needs) (search needs) (λ c κs. search needs) (search needs) (λ c κs. search needs) (search needs)
+    (λ c κs. search needs) (search needs) (λ c κs. search needs) (search needs) (λ c κs. search needs)
     (λ c. one-is (c .counts .ensures) refl (c .before .enum-told .given .1))
     (λ c. one-is (c .counts2 .ensures) refl (c .before .enum-told2 .given .1))
     (λ c. one-is (c .counts3 .ensures) refl (c .before .enum-told3 .given .1))

@@ -10,17 +10,12 @@ use Rattle.stream.proofs.frame.part.Tie as tie
 
 pub part-spec : {M : Type 1} → statement M
 part-spec =
-    tie.close
-    (tie.spec
+    tie.close (tie.spec
     (search needs)
     (λ c. let a = c .before .before .args in simp (lt-ltb (length (a .recv .now)) (a .at + a .length) (omega arith)))
-    (search needs)
-    (search needs)
+    (search needs) (search needs)
     (λ c. let a = c .before .before .before .args in simp (lt-ltb (length (a .recv .now)) (a .at + a .length) (omega arith)))
-    (search needs)
-    (search needs)
-    (search needs)
-    (search needs)
+    (search needs) (search needs) (search needs) (search needs)
     (λ c.
     let a = c .before .before .before .args in
     let e : a .at + a .length - a .at ≡ a .length = omega arith in

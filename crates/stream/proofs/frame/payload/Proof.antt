@@ -8,8 +8,7 @@ use Rattle.stream.proofs.frame.payload.Tie as tie
 
 pub payload-spec : {M : Type 1} → statement M
 payload-spec =
-    tie.close
-    (tie.spec
-    (λ c κs. search needs)
-    (λ c κs. search needs)
-    (λ c. let a = c .before .before .before .args in c .part .ensures ∙ ap (λ (n : ℕ). part n (a .delivery .length) (a .recv .now)) (c .before .payload-at .ensures)))
+    tie.close (tie.spec
+    (λ c κs. search needs) (λ c κs. search needs)
+    (λ c. let a = c .before .before .before .args in c .part .ensures ∙ ap (λ (n : ℕ). part n (a .delivery .length) (a .recv .now))
+    (c .before .payload-at .ensures)))

@@ -8,14 +8,9 @@ use Rattle.stream.proofs.sender.append_as.Tie as tie
 
 pub append-as-spec : {M : Type 1} → statement M
 append-as-spec =
-    tie.close
-    (tie.spec
-    (search needs)
-    (search needs)
-    (search needs)
-    (search needs)
-    (search needs)
-    (search needs)
+    tie.close (tie.spec
+    (search needs) (search needs) (search needs) (search needs) (search needs) (search needs)
     (λ c.
     let a = c .before .before .before .before .before .before .before .before .args in
-    appended (a .at) _ (a .out .now) (c .before .before .before .before .least .ensures) (writing (packetOf (a .format) (a .number) (a .key .now) (a .port) (a .sequence) (a .payload .now))) (c .before .before .write-as .ensures)))
+    appended (a .at) _ (a .out .now) (c .before .before .before .before .least .ensures)
+    (writing (packetOf (a .format) (a .number) (a .key .now) (a .port) (a .sequence) (a .payload .now))) (c .before .before .write-as .ensures)))

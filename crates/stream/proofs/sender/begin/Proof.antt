@@ -11,9 +11,7 @@ use Rattle.stream.proofs.sender.begin.Tie as tie
 
 pub begin-spec : {M : Type 1} → statement M
 begin-spec =
-    tie.close
-    (tie.spec
+    tie.close (tie.spec
     (λ c. sym (write-short (flag ∷ []) (c .before .args .out .now) (omega arith)))
-    (search needs)
-    (search needs)
+    (search needs) (search needs)
     (λ c. begins (c .before .args .out .now) (omega arith)))

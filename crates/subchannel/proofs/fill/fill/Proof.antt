@@ -20,8 +20,7 @@ abbrev μ-loop : tie.MeasureT-loop
 
 pub fill-spec : {M : Type 1} → statement M
 fill-spec =
-    tie.close
-    (tie.spec Inv-loop μ-loop
+    tie.close (tie.spec Inv-loop μ-loop
     (λ c.
     let s = c .before .before .before .before in
     (runs-first _ _ _ _ _ _ _ _ _, omega arith, s .pre .1, s .pre .2, s .pre .0 .word, refl, s .pre .3, s .pre .4, omega arith))
@@ -40,7 +39,8 @@ fill-spec =
       runs-next (i .0) h (i .7) (c .turn .ensures),
       omega (arith, h),
       i .2,
-      turned-placed (a .lane .settings .depth) (back (a .again) (matrix (l .place) (l .cells))) (getD (a .piece .now) (a .from + l .k) 0) (c .turn .ensures) (i .3),
+      turned-placed (a .lane .settings .depth) (back (a .again) (matrix (l .place) (l .cells))) (getD (a .piece .now) (a .from + l .k) 0) (c .turn .ensures)
+          (i .3),
       i .4,
       length-set (l .word) (a .lane .counts .word + l .k) (c .turn .result .byte) ∙ i .5,
       i .6,

@@ -1,20 +1,14 @@
 -- `subchannel::word::mend` meets its contract: each return by what repair finds.
 use borrow.Author.Needs.{needs}
-use Rattle.word_spec.proofs.Values.{bytes-of}
+use Rattle.base.proofs.Bytes.{bytes-of}
 use Rattle.subchannel.proofs.Steps.{mended-told}
 use Rattle.subchannel.proofs.word.mend.Statement.{statement}
 use Rattle.subchannel.proofs.word.mend.Tie as tie
 
 pub mend-spec : {M : Type 1} → statement M
 mend-spec =
-    tie.close
-    (tie.spec
-    (search needs)
-    (search needs)
-    (search needs)
-    (search needs)
-    (search needs)
-    (search needs)
+    tie.close (tie.spec
+    (search needs) (search needs) (search needs) (search needs) (search needs) (search needs)
     (λ c.
     let r = c .before .before .before .before in
     let s = r .before .before .before in

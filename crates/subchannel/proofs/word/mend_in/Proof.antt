@@ -9,13 +9,8 @@ use Rattle.subchannel.proofs.word.mend_in.Tie as tie
 
 pub mend-in-spec : {M : Type 1} → statement M
 mend-in-spec =
-    tie.close
-    (tie.spec
-    (search needs)
-    (search needs)
-    (search needs)
-    (search needs)
-    (search needs)
+    tie.close (tie.spec
+    (search needs) (search needs) (search needs) (search needs) (search needs)
     (λ c.
     let e = c .before .before .mend .ensures in
     let w = c .before .before .before .before .before .args .word .now in

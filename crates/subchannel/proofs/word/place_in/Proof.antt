@@ -8,7 +8,6 @@ use Rattle.subchannel.proofs.word.place_in.Tie as tie
 
 pub place-in-spec : {M : Type 1} → statement M
 place-in-spec =
-    tie.close
-    (tie.spec
+    tie.close (tie.spec
     (λ c. (sym (ap (λ t. pick t (c .before .args .count) 0) (lt-ltb _ _ (c .if1 .taken))), c .if1 .taken))
     (λ c. (sym (ap (λ t. pick t (c .before .args .count) 0) (le-ltb _ _ (c .if1 .left))), omega arith)))

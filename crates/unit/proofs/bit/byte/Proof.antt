@@ -8,6 +8,5 @@ use Rattle.unit.proofs.bit.byte.Tie as tie
 pub byte-spec : {M : Type 1} → statement M
 unfolding number
 byte-spec =
-    tie.close
-    (tie.spec (search needs) (search needs) (search needs) (search needs) (search needs) (search needs) (search needs) (search needs) (search needs)
+    tie.close (tie.spec (search needs) (search needs) (search needs) (search needs) (search needs) (search needs) (search needs) (search needs) (search needs)
     (search needs) (search needs) (search needs) (search needs) (search needs) (omega arith))

@@ -10,10 +10,8 @@ use Rattle.unit.proofs.content.payload_bit.Tie as tie
 
 pub payload-bit-spec : {M : Type 1} → statement M
 payload-bit-spec =
-    tie.close
-    (tie.spec
-    (search needs)
-    (search needs)
+    tie.close (tie.spec
+    (search needs) (search needs)
     (λ c. (
       c .byte-bit .ensures .0 ∙ ap (λ (b : ℕ). getD (digits 8 b) (c .before .before .before .before .before .args .t % 8) 0) (c .before .payload-byte .ensures)
           ∙ bits-any _ _,

@@ -8,13 +8,11 @@ use Rattle.unit.proofs.content.payload_byte.Tie as tie
 
 pub payload-byte-spec : {M : Type 1} → statement M
 payload-byte-spec =
-    tie.close
-    (tie.spec
+    tie.close (tie.spec
     (search needs)
     (λ c. let s = c .before .before .before .before .before in let a = s .args in
     in-audio (a .n) (a .t2) (a .audio .now) (a .opportunistic .now) (a .fixed .now) (s .pre) (a .j) (c .before .if1 .taken))
-    (search needs)
-    (search needs)
+    (search needs) (search needs)
     (λ c.
     let s = c .before .before .before .before .before .before in
     let a = s .args in
@@ -42,8 +40,7 @@ payload-byte-spec =
     let s = c .before .before .before .before .before .before .before .before in
     let a = s .args in
     begin-fits _ _ _ (a .t2) (a .opportunistic .now) (s .pre) (c .before .before .if3 .left) (omega arith) .1)
-    (search needs)
-    (search needs)
+    (search needs) (search needs)
     (λ c.
     let s = c .before .before .before .before .before .before .before .before in
     let a = s .args in

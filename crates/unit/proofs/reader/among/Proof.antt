@@ -5,8 +5,7 @@ use Rattle.unit.proofs.reader.among.Tie as tie
 
 pub among-spec : {M : Type 1} → statement M
 among-spec =
-    tie.close
-    (tie.spec
+    tie.close (tie.spec
     (λ c. simp (eq-eqb _ _ (c .if1 .taken)))
     (λ c. simp (ne-eqb _ _ (c .before .if1 .left), eq-eqb _ _ (c .if2 .taken)))
     (λ c. simp (ne-eqb _ _ (c .before .before .if1 .left), ne-eqb _ _ (c .before .if2 .left), eq-eqb _ _ (c .if3 .taken)))

@@ -20,8 +20,7 @@ abbrev μ-loop : tie.MeasureT-loop
 
 pub find-spec : {M : Type 1} → statement M
 find-spec =
-    tie.close
-    (tie.spec Inv-loop μ-loop
+    tie.close (tie.spec Inv-loop μ-loop
     (search needs)
     (λ c.
     let a = c .before .before .args in
@@ -29,10 +28,7 @@ find-spec =
     (c .if1 .taken) refl)
     (λ c κs. let p = c .before .before .pre in (p .0, p .1, omega arith, p .4))
     (λ c. (omega arith, omega arith, omega arith, c .window .ensures, refl))
-    (search needs)
-    (λ c κs. search needs)
-    (search needs)
-    (search needs)
+    (search needs) (λ c κs. search needs) (search needs) (search needs)
     (λ c.
     let a = c .before .before .before .before .before .before .before .args in
     let l = c .before .before .before .loop in
@@ -41,8 +37,7 @@ find-spec =
     (c .before .same .ensures)) (c .if2 .taken) (l .inv .4))
     (search needs)
     (λ c κs. let p = c .before .before .before .before .before .before .before .pre in (p .0, p .1, omega arith, omega arith))
-    (λ c κs. search needs)
-    (search needs)
+    (λ c κs. search needs) (search needs)
     (omega arith)
     (λ c.
     let a = c .before .before .before .before .before .before .before .before .before .args in
@@ -53,7 +48,8 @@ find-spec =
       l .inv .2,
       c .onward .ensures ∙ window-next (payloadOf (a .size) (a .unit .now)) (l .j) (l .inv .3) (omega (arith, n)) (c .before .payload-byte .ensures),
       find-next (a .delimiter) (payloadOf (a .size) (a .unit .now)) (a .end) (l .j) (l .inv .2) (omega (arith, n))
-          (c .before .before .before .before .loop-test .taken) (window-begins (payloadOf (a .size) (a .unit .now)) (l .j) (l .inv .3) (a .delimiter) (l .inv .2)
+          (c .before .before .before .before .loop-test .taken)
+          (window-begins (payloadOf (a .size) (a .unit .now)) (l .j) (l .inv .3) (a .delimiter) (l .inv .2)
           (c .before .before .before .same .ensures)) (c .before .before .if2 .left) (l .inv .4),
     ))
     (λ c.

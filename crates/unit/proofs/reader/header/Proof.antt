@@ -14,11 +14,8 @@ abbrev μ-loop : tie.MeasureT-loop
 
 pub header-spec : {M : Type 1} → statement M
 header-spec =
-    tie.close
-    (tie.spec Inv-loop μ-loop
-    (search needs)
-    (search needs)
-    (search needs)
+    tie.close (tie.spec Inv-loop μ-loop
+    (search needs) (search needs) (search needs)
     (λ c. let s = c .before .before .before .before in hear-none (s .args .size) (s .args .unit .now) (s .pre) (c .before .before .heads .ensures)
     (c .start .ensures))
     (search needs)

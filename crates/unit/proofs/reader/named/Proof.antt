@@ -9,8 +9,7 @@ use Rattle.unit.proofs.reader.named.Tie as tie
 
 pub named-spec : {M : Type 1} → statement M
 named-spec =
-    tie.close
-    (tie.spec
+    tie.close (tie.spec
     (search needs)
     (λ c. let h = c .before .before .args .h in c .among .ensures ∙ named-24 h ∙ ap (λ (n : ℕ). named n h) (sym (c .before .if1 .taken)))
     (search needs)

@@ -7,10 +7,6 @@ use Rattle.unit.proofs.reader.onward.Tie as tie
 
 pub onward-spec : {M : Type 1} → statement M
 onward-spec =
-    tie.close
-    (tie.spec
-    (search needs)
-    (search needs)
-    (search needs)
-    (search needs)
+    tie.close (tie.spec
+    (search needs) (search needs) (search needs) (search needs)
     (λ c. five-on (c .args .t1) (c .args .b) (omega arith)))

@@ -8,8 +8,7 @@ use Rattle.unit.proofs.reader.payload_byte.Tie as tie
 
 pub payload-byte-spec : {M : Type 1} → statement M
 payload-byte-spec =
-    tie.close
-    (tie.spec
+    tie.close (tie.spec
     (λ c κs. let p = c .before .pre in (p .0, p .1, p .3, lit< tt))
     (λ c κs. let p = c .before .before .pre in (p .0, p .1, p .3, lit< tt))
     (λ c κs. let p = c .before .before .before .pre in (p .0, p .1, p .3, lit< tt))
@@ -18,24 +17,21 @@ payload-byte-spec =
     (λ c κs. let p = c .before .before .before .before .before .before .pre in (p .0, p .1, p .3, lit< tt))
     (λ c κs. let p = c .before .before .before .before .before .before .before .pre in (p .0, p .1, p .3, lit< tt))
     (λ c κs. let p = c .before .before .before .before .before .before .before .before .pre in (p .0, p .1, p .3, lit< tt))
-    (λ c κs. (
-      c .before .before .before .before .before .before .before .payload-bit .ensures .1,
-      c .before .before .before .before .before .before .payload-bit2 .ensures .1,
-      c .before .before .before .before .before .payload-bit3 .ensures .1,
-      c .before .before .before .before .payload-bit4 .ensures .1,
-      c .before .before .before .payload-bit5 .ensures .1,
-      c .before .before .payload-bit6 .ensures .1,
-      c .before .payload-bit7 .ensures .1,
+    (λ c κs. let c7 = c .before in let c6 = c7 .before in let c5 = c6 .before in let c4 = c5 .before in let c3 = c4 .before in let c2 = c3 .before in (
+      c2 .before .payload-bit .ensures .1,
+      c2 .payload-bit2 .ensures .1,
+      c3 .payload-bit3 .ensures .1,
+      c4 .payload-bit4 .ensures .1,
+      c5 .payload-bit5 .ensures .1,
+      c6 .payload-bit6 .ensures .1,
+      c7 .payload-bit7 .ensures .1,
       c .payload-bit8 .ensures .1,
     ))
     (λ c.
-    let s = c .before .before .before .before .before .before .before .before .before .before in
-    let a = s .args in
+    let c8 = c .before in let c7 = c8 .before in let c6 = c7 .before in let c5 = c6 .before in let c4 = c5 .before in let c3 = c4 .before in
+    let c2 = c3 .before in let c1 = c2 .before in let s = c1 .before .before in let a = s .args in
     c .byte .ensures
     ∙ byte-at _ _ (byte-reach (a .size) (a .unit .now) (a .j) (s .pre .0) (s .pre .1) (s .pre .2))
-    (c .before .before .before .before .before .before .before .before .payload-bit .ensures .0)
-    (c .before .before .before .before .before .before .before .payload-bit2 .ensures .0)
-    (c .before .before .before .before .before .before .payload-bit3 .ensures .0) (c .before .before .before .before .before .payload-bit4 .ensures .0)
-    (c .before .before .before .before .payload-bit5 .ensures .0) (c .before .before .before .payload-bit6 .ensures .0)
-    (c .before .before .payload-bit7 .ensures .0) (c .before .payload-bit8 .ensures .0)
+    (c1 .payload-bit .ensures .0) (c2 .payload-bit2 .ensures .0) (c3 .payload-bit3 .ensures .0) (c4 .payload-bit4 .ensures .0) (c5 .payload-bit5 .ensures .0)
+    (c6 .payload-bit6 .ensures .0) (c7 .payload-bit7 .ensures .0) (c8 .payload-bit8 .ensures .0)
     ∙ byte-of (a .size) (a .unit .now) (a .j) (s .pre .0) (s .pre .1) (s .pre .2)))

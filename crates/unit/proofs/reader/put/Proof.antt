@@ -18,14 +18,11 @@ abbrev μ-loop : tie.MeasureT-loop
 
 pub put-spec : {M : Type 1} → statement M
 put-spec =
-    tie.close
-    (tie.spec Inv-loop μ-loop
+    tie.close (tie.spec Inv-loop μ-loop
     (λ c. let a = c .before .before .args in (omega arith, refl, paste-zero (a .out .now) (a .at) (drop (a .from) (payloadOf (a .size) (a .unit .now)))))
     (search needs)
     (λ c κs. let p = c .before .before .before .before .pre in (p .0, p .1, omega arith, omega arith))
-    (search needs)
-    (search needs)
-    (search needs)
+    (search needs) (search needs) (search needs)
     (omega arith)
     (λ c.
     let a = c .before .before .before .before .before .args in

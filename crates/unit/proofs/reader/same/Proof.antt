@@ -17,11 +17,9 @@ abbrev μ-loop : tie.MeasureT-loop
 
 pub same-spec : {M : Type 1} → statement M
 same-spec =
-    tie.close
-    (tie.spec Inv-loop μ-loop
+    tie.close (tie.spec Inv-loop μ-loop
     (λ c. (omega arith, omega arith, refl))
-    (search needs)
-    (search needs)
+    (search needs) (search needs)
     (λ c. let l = c .before .before .loop in begins-not _ _ (l .k) (omega arith) (omega arith) (c .if1 .taken) (l .inv .2))
     (search needs)
     (omega arith)

@@ -8,17 +8,9 @@ use Rattle.unit.proofs.reader.window.Tie as tie
 
 pub window-spec : {M : Type 1} → statement M
 window-spec =
-    tie.close
-    (tie.spec
-    (λ c κs. search needs)
-    (search needs)
-    (λ c κs. search needs)
-    (search needs)
-    (λ c κs. search needs)
-    (search needs)
-    (λ c κs. search needs)
-    (search needs)
-    (λ c κs. search needs)
+    tie.close (tie.spec
+    (λ c κs. search needs) (search needs) (λ c κs. search needs) (search needs) (λ c κs. search needs) (search needs) (λ c κs. search needs)
+    (search needs) (λ c κs. search needs)
     (λ c.
     let a = c .before .before .before .before .before .before .args in
     window-of (payloadOf (a .size) (a .unit .now)) (a .from) (omega (arith, length-payload (a .size) (a .unit .now)))

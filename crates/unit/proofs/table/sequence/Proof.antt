@@ -7,8 +7,7 @@ use Rattle.unit.proofs.table.sequence.Tie as tie
 pub sequence-spec : {M : Type 1} → statement M
 unfolding sequence
 sequence-spec =
-    tie.close
-    (tie.spec
+    tie.close (tie.spec
     (λ c. simp (eq-eqb _ _ (c .before .before .if1 .taken), eq-eqb _ _ (c .before .if2 .taken), eq-eqb _ _ (c .if3 .taken)))
     (λ c. simp (eq-eqb _ _ (c .before .before .if1 .taken), eq-eqb _ _ (c .before .if2 .taken), ne-eqb _ _ (c .if3 .left)))
     (λ c. simp (eq-eqb _ _ (c .before .if1 .taken), ne-eqb _ _ (c .if2 .left)))

@@ -10,19 +10,16 @@ use Rattle.unit.proofs.table.step.Tie as tie
 pub step-spec : {M : Type 1} → statement M
 unfolding step
 step-spec =
-    tie.close
-    (tie.spec
+    tie.close (tie.spec
     (search needs)
     (λ c. ap (λ (n : ℕ). n / 24) (c .less .ensures) ∙ simp (lt-ltb _ _ (c .before .before .if1 .taken), eq-eqb _ _ (c .before .if2 .taken)))
-    (search needs)
-    (search needs)
+    (search needs) (search needs)
     (λ c. ap (λ (n : ℕ). n / 23 * 8) (c .less2 .ensures) ∙ simp (
       lt-ltb _ _ (c .before .before .before .if1 .taken),
       ne-eqb _ _ (c .before .before .if2 .left),
       eq-eqb _ _ (c .before .if3 .taken),
     ))
-    (search needs)
-    (search needs)
+    (search needs) (search needs)
     (λ c. ap (λ (n : ℕ). n / 22 * 8) (c .less3 .ensures) ∙ simp (
       lt-ltb _ _ (c .before .before .before .if1 .taken),
       ne-eqb _ _ (c .before .before .if2 .left),

@@ -8,11 +8,9 @@ use Rattle.unit.proofs.writer.hidden.Tie as tie
 
 pub hidden-spec : {M : Type 1} → statement M
 hidden-spec =
-    tie.close
-    (tie.spec
+    tie.close (tie.spec
     (λ c. let a = c .before .before .before .before .args in hidden-none (a .delimiter) (a .opportunistic .now) _ (c .if1 .taken))
-    (search needs)
-    (search needs)
+    (search needs) (search needs)
     (λ c. let s = c .before .before .before .before in let a = s .args in
     gap-fits (a .n) (a .delimiter) (a .audio .now) (a .opportunistic .now) (a .fixed .now) (omega arith) (s .pre) (c .if1 .left) .2)
     (λ c. let s = c .before .before .before .before .before in let a = s .args in

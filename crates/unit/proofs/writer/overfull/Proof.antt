@@ -6,8 +6,7 @@ use Rattle.unit.proofs.writer.overfull.Tie as tie
 
 pub overfull-spec : {M : Type 1} → statement M
 overfull-spec =
-    tie.close
-    (tie.spec
+    tie.close (tie.spec
     (λ c. let a = c .before .args in no-audio (a .n) (a .audio) (a .opportunistic) (a .fixed) (c .if1 .taken))
     (λ c. let a = c .before .before .args in no-fixed (a .n) (a .audio) (a .opportunistic) (a .fixed) (c .before .if1 .left) (c .if2 .taken))
     (λ c. let a = c .before .before .before .args in plain-room (a .n) (a .audio) (a .opportunistic) (a .fixed) (c .before .before .if1 .left)

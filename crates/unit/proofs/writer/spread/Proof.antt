@@ -21,13 +21,10 @@ abbrev μ-loop : tie.MeasureT-loop
 
 pub spread-spec : {M : Type 1} → statement M
 spread-spec =
-    tie.close
-    (tie.spec Inv-loop μ-loop
+    tie.close (tie.spec Inv-loop μ-loop
     (λ c. (omega arith, refl, spread-none _ _))
     (λ c κs. let p = c .before .before .before .before .before .before .pre in (p .0, p .1, omega arith, omega arith))
-    (search needs)
-    (search needs)
-    (search needs)
+    (search needs) (search needs) (search needs)
     (λ c. let l = c .before .before .loop in (
       omega arith,
       simp length-set (l .inv .1),

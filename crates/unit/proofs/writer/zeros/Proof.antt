@@ -7,8 +7,7 @@ use Rattle.unit.proofs.writer.zeros.Tie as tie
 
 pub zeros-spec : {M : Type 1} → statement M
 zeros-spec =
-    tie.close
-    (tie.spec
+    tie.close (tie.spec
     (search needs)
     (λ c. zeros-0 (c .before .args .t1) (omega arith) (c .if1 .taken))
     (search needs)

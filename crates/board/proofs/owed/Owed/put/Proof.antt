@@ -17,8 +17,7 @@ abbrev μ-loop : tie.MeasureT-loop
 
 pub put-spec : {M : Type 1} → statement M
 put-spec =
-    tie.close
-    (tie.spec
+    tie.close (tie.spec
     Inv-loop
     μ-loop
     (λ c.
@@ -30,15 +29,30 @@ put-spec =
     (λ c. put-out (c .before .before .before .loop .inv .1) (sym (c .before .owes .ensures) ∙ not-true _ (c .if1 .taken)))
     (λ c.
     let l = c .before .before .before .before .before .loop in
-    omega (arith, ltb-true (l .owed .out) (l .owed .piece .length) (sym (c .before .before .before .owes .ensures) ∙ not-false _ (c .before .before .if1 .left)), l .inv .1 .short))
+    omega (
+      arith,
+      ltb-true (l .owed .out) (l .owed .piece .length)
+          (sym (c .before .before .before .owes .ensures) ∙ not-false _ (c .before .before .if1 .left)),
+      l .inv .1 .short,
+    ))
     (λ c. c .before .before .before .before .loop-test .taken)
-    (λ c κs. (sym (c .before .before .before .owes .ensures) ∙ not-false _ (c .before .before .if1 .left), c .before .before .before .before .before .loop .inv .1 .short))
+    (λ c κs. (
+      sym (c .before .before .before .owes .ensures) ∙ not-false _ (c .before .before .if1 .left),
+      c .before .before .before .before .before .loop .inv .1 .short,
+    ))
     (λ c. omega (arith, c .before .before .before .before .before .loop-test .taken))
-    (λ c. omega (arith, c .before .before .before .before .before .loop-test .taken, length-set (c .before .before .before .before .before .before .loop .out) (c .before .before .before .before .before .before .loop .w) (getD (c .before .before .before .before .before .before .loop .owed .piece .bytes) (c .before .before .before .before .before .before .loop .owed .out) 0)))
+    (λ c. let at-loop-test = c .before .before .before .before .before in let at-loop = at-loop-test .before in
+    omega (
+      arith,
+      at-loop-test .loop-test .taken,
+      length-set (at-loop .loop .out) (at-loop .loop .w)
+          (getD (at-loop .loop .owed .piece .bytes) (at-loop .loop .owed .out) 0),
+    ))
     (λ c.
     let l = c .before .before .before .before .before .before .loop in (
       length-set (l .out) (l .w) (getD (l .owed .piece .bytes) (l .owed .out) 0) ∙ l .inv .0,
-      put-on (l .inv .1) (sym (c .before .before .before .before .owes .ensures) ∙ not-false _ (c .before .before .before .if1 .left)) (omega (arith, c .before .before .before .before .before .loop-test .taken, l .inv .0)) (omega arith) refl
+      put-on (l .inv .1) (sym (c .before .before .before .before .owes .ensures) ∙ not-false _ (c .before .before .before .if1 .left))
+          (omega (arith, c .before .before .before .before .before .loop-test .taken, l .inv .0)) (omega arith) refl
           (c .forth .ensures),
     ))
     (λ c. c .before .loop .inv .0)

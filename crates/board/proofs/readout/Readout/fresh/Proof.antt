@@ -5,11 +5,8 @@ use Rattle.board.proofs.readout.Readout.fresh.Tie as tie
 
 pub fresh-spec : {M : Type 1} → statement M
 fresh-spec =
-    tie.close
-    (tie.spec
-    (search needs)
-    (search needs)
-    (search needs)
+    tie.close (tie.spec
+    (search needs) (search needs) (search needs)
     (λ c i. record {
       bare = c .before .before .before .args .bare;
       blocks = c .before .before .before .args .blocks;

@@ -7,14 +7,18 @@ use Rattle.board.proofs.readout.Readout.sound.Tie as tie
 
 pub sound-spec : {M : Type 1} → statement M
 sound-spec =
-    tie.close
-    (tie.spec
-    (search needs)
-    (search needs)
+    tie.close (tie.spec
+    (search needs) (search needs)
     (λ c. (rw (sym (c .before .sound2 .ensures) ∙ not-true _ (c .if1 .taken)) refl, c .before .before .sound .ensures .1))
     (search needs)
-    (λ c.
-    (rw (sym (c .before .before .before .sound2 .ensures) ∙ not-false _ (c .before .before .if1 .left), sym (c .before .near .ensures) ∙ not-true _ (c .if2 .taken)) refl, c .before .before .before .before .sound .ensures .1))
+    (λ c. (
+      rw (
+        sym (c .before .before .before .sound2 .ensures) ∙ not-false _ (c .before .before .if1 .left),
+        sym (c .before .near .ensures)
+            ∙ not-true _ (c .if2 .taken),
+      ) refl,
+      c .before .before .before .before .sound .ensures .1,
+    ))
     (search needs)
     (λ c. (
       rw (

@@ -17,8 +17,7 @@ abbrev μ-loop : tie.MeasureT-loop
 
 pub read-on-spec : {M : Type 1} → statement M
 read-on-spec =
-    tie.close
-    (tie.spec Inv-loop μ-loop
+    tie.close (tie.spec Inv-loop μ-loop
     (λ c. let s = c .before .before in (going-first _ _ (record { counts = s .pre .0; room = s .pre .1 }), refl, omega arith))
     (λ c. c .before .before .loop-test .taken)
     (λ c κs. let g = c .before .before .before .loop .inv .0 in (g .fine .counts, g .fine .room))

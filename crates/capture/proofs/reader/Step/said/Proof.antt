@@ -7,7 +7,6 @@ use Rattle.capture.proofs.reader.Step.said.Tie as tie
 
 pub said-spec : {M : Type 1} → statement M
 said-spec =
-    tie.close
-    (tie.spec
+    tie.close (tie.spec
     (search needs)
     (λ c. let a = c .before .args in λ i. record { done = true; heard = Said (a .judged); capture = c .next .ensures i }))

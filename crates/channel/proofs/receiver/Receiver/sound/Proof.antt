@@ -6,9 +6,7 @@ use Rattle.channel.proofs.receiver.Receiver.sound.Tie as tie
 
 pub sound-spec : {M : Type 1} → statement M
 sound-spec =
-    tie.close
-    (tie.spec
-    (search needs)
-    (search needs)
+    tie.close (tie.spec
+    (search needs) (search needs)
     (λ c. simp (sym (c .before .before .sound .ensures) ∙ c .before .if1 .taken) (c .sound2 .ensures))
     (λ c. simp (sym (c .before .sound .ensures) ∙ c .if1 .left)))

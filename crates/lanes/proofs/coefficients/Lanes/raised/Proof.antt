@@ -15,8 +15,7 @@ abbrev μ-loop : tie.MeasureT-loop
 
 pub raised-spec : {M : Type 1} → statement M
 raised-spec =
-    tie.close
-    (tie.spec Inv-loop μ-loop
+    tie.close (tie.spec Inv-loop μ-loop
     (λ c. refl)
     (λ c κs. tt)
     (omega arith)

@@ -7,6 +7,6 @@ use Rattle.lanes.proofs.coefficients.Lanes.row.Tie as tie
 
 pub row-spec : {M : Type 1} → statement M
 row-spec =
-    tie.close
-    (tie.spec (omega arith) (omega arith) (omega arith) (omega arith) (omega arith) (omega arith) (omega arith) (omega arith) (omega arith) (omega arith)
+    tie.close (tie.spec (omega arith) (omega arith) (omega arith) (omega arith) (omega arith) (omega arith) (omega arith) (omega arith) (omega arith)
+    (omega arith)
     (omega arith) (omega arith) (λ c. unfold laid in refl))

@@ -7,12 +7,12 @@ use Rattle.listing.proofs.lister.Lister.finish.Tie as tie
 
 pub finish-spec : {M : Type 1} → statement M
 finish-spec =
-    tie.close
-    (tie.spec
-    (search needs)
-    (search needs)
-    (λ c. search needs)
-    (λ c. finish-is (c .before .before .before .before .before .before .before .before .before .before .args .self) (c .before .before .before .before .before .before .before .before .before .before .args .out .now) (sym (c .before .before .before .before .if1 .taken) ∙ c .before .before .before .before .before .may-end .ensures) (c .before .before .print-end .ensures))
-    (search needs)
-    (λ c. search needs)
-    (λ c. finish-is (c .before .before .before .before .before .before .before .before .before .before .args .self) (c .before .before .before .before .before .before .before .before .before .before .args .out .now) (sym (c .before .before .before .before .if1 .left) ∙ c .before .before .before .before .before .may-end .ensures) (c .before .before .print-wrong .ensures)))
+    tie.close (tie.spec
+    (search needs) (search needs) (λ c. search needs)
+    (λ c. let at-if1 = c .before .before .before .before in let at-may-end = at-if1 .before in
+    let s = at-may-end .before .before .before .before .before in
+    finish-is (s .args .self) (s .args .out .now) (sym (at-if1 .if1 .taken) ∙ at-may-end .may-end .ensures) (c .before .before .print-end .ensures))
+    (search needs) (λ c. search needs)
+    (λ c. let at-if1 = c .before .before .before .before in let at-may-end = at-if1 .before in
+    let s = at-may-end .before .before .before .before .before in
+    finish-is (s .args .self) (s .args .out .now) (sym (at-if1 .if1 .left) ∙ at-may-end .may-end .ensures) (c .before .before .print-wrong .ensures)))

@@ -19,11 +19,17 @@ abbrev μ-loop : tie.MeasureT-loop
 
 pub take-on-spec : {M : Type 1} → statement M
 take-on-spec =
-    tie.close
-    (tie.spec
+    tie.close (tie.spec
     Inv-loop
     μ-loop
-    (λ c. let s = c .before .before .before .before in (refl, refl, omega arith, omega arith, far-start (s .args .self) (s .args .recv .now) (s .args .word .now) (s .args .piece .now) (s .args .out .now) (s .pre .0) (s .pre .1) (s .pre .2)))
+    (λ c. let s = c .before .before .before .before in (
+      refl,
+      refl,
+      omega arith,
+      omega arith,
+      far-start (s .args .self) (s .args .recv .now) (s .args .word .now) (s .args .piece .now) (s .args .out .now)
+          (s .pre .0) (s .pre .1) (s .pre .2),
+    ))
     (λ c. omega (arith, c .before .before .loop .inv .4 .taken, c .before .before .loop .inv .4 .wrote))
     (λ c. omega (arith, c .before .before .loop .inv .4 .taken, c .before .before .loop .inv .4 .wrote))
     (λ c. omega (arith, c .before .before .loop .inv .4 .taken, c .before .before .loop .inv .4 .wrote))
@@ -31,11 +37,40 @@ take-on-spec =
     (λ c. omega (arith, c .before .before .before .loop .inv .4 .taken, c .before .before .before .loop .inv .4 .wrote))
     (λ c. omega (arith, c .before .before .before .loop .inv .4 .taken, c .before .before .before .loop .inv .4 .wrote))
     (λ c κs. far-asks (c .before .before .before .before .loop .inv .4))
-    (λ c. let h = far-within (c .before .before .before .before .before .before .before .before .before .before .before .before .before .loop .inv .4) (c .before .before .before .before .before .before .before .before .step .result) (c .before .before .before .before .before .before .before .before .step .ensures) in omega (arith, h .0, c .before .before .before .before .before .before .before .before .before .before .before .before .before .loop .inv .2))
-    (λ c. let h = far-within (c .before .before .before .before .before .before .before .before .before .before .before .before .before .before .loop .inv .4) (c .before .before .before .before .before .before .before .before .before .step .result) (c .before .before .before .before .before .before .before .before .before .step .ensures) in omega (arith, h .1, c .before .before .before .before .before .before .before .before .before .before .before .before .before .before .loop .inv .3, c .before .before .before .before .before .before .before .before .before .before .before .before .before .before .loop .inv .4 .old-length))
-    (λ c. omega (arith, c .before .before .before .before .before .before .before .before .before .before .step .kept .1 .0, c .before .before .before .before .before .before .before .before .before .before .before .before .before .before .before .loop .inv .0))
-    (λ c. omega (arith, c .before .before .before .before .before .before .before .before .before .before .step .kept .1 .1 .0, c .before .before .before .before .before .before .before .before .before .before .before .before .before .before .before .loop .inv .1))
-    (λ c. let h = far-length (c .before .before .before .before .before .before .before .before .before .before .before .before .before .before .before .loop .inv .4) (c .before .before .before .before .before .before .before .before .before .before .step .result) (c .before .before .before .before .before .before .before .before .before .before .step .ensures) in omega (arith, h))
-    (λ c. far-done (c .before .before .before .before .before .before .before .before .before .before .before .before .before .before .before .loop .inv .4) (c .before .before .before .before .before .before .before .before .before .before .step .result) (c .before .before .before .before .before .before .before .before .before .before .step .ensures) (c .if1 .taken))
-    (λ c. let p = far-on (c .before .before .before .before .before .before .before .before .before .before .before .before .before .before .before .loop .inv .4) (c .before .before .before .before .before .before .before .before .before .before .step .result) (c .before .before .before .before .before .before .before .before .before .before .step .ensures) (c .if1 .left) in let h = far-within (c .before .before .before .before .before .before .before .before .before .before .before .before .before .before .before .loop .inv .4) (c .before .before .before .before .before .before .before .before .before .before .step .result) (c .before .before .before .before .before .before .before .before .before .before .step .ensures) in omega (arith, p .1, h .1, p .0 .old-length, c .before .before .before .before .before .before .before .before .before .before .before .before .before .before .before .loop .inv .4 .old-length))
-    (λ c. let p = far-on (c .before .before .before .before .before .before .before .before .before .before .before .before .before .before .before .loop .inv .4) (c .before .before .before .before .before .before .before .before .before .before .step .result) (c .before .before .before .before .before .before .before .before .before .before .step .ensures) (c .if1 .left) in (omega (arith, c .before .before .before .before .before .before .before .before .before .before .step .kept .1 .0, c .before .before .before .before .before .before .before .before .before .before .before .before .before .before .before .loop .inv .0), omega (arith, c .before .before .before .before .before .before .before .before .before .before .step .kept .1 .1 .0, c .before .before .before .before .before .before .before .before .before .before .before .before .before .before .before .loop .inv .1), c .before .before .before .before .before .before .before .before .before .before .before .before .before .before .before .loop .inv .2, c .before .before .before .before .before .before .before .before .before .before .before .before .before .before .before .loop .inv .3, p .0)))
+    (λ c. let at-step = c .before .before .before .before .before .before .before .before in
+    let at-loop = at-step .before .before .before .before .before in
+    let h = far-within (at-loop .loop .inv .4) (at-step .step .result) (at-step .step .ensures) in omega (arith, h .0, at-loop .loop .inv .2))
+    (λ c. let at-step = c .before .before .before .before .before .before .before .before .before in
+    let at-loop = at-step .before .before .before .before .before in
+    let h = far-within (at-loop .loop .inv .4) (at-step .step .result) (at-step .step .ensures) in
+    omega (arith, h .1, at-loop .loop .inv .3, at-loop .loop .inv .4 .old-length))
+    (λ c. omega (
+      arith,
+      c .before .before .before .before .before .before .before .before .before .before .step .kept .1 .0,
+      c .before .before .before .before .before .before .before .before .before .before .before .before .before .before .before .loop .inv .0,
+    ))
+    (λ c. omega (
+      arith,
+      c .before .before .before .before .before .before .before .before .before .before .step .kept .1 .1 .0,
+      c .before .before .before .before .before .before .before .before .before .before .before .before .before .before .before .loop .inv .1,
+    ))
+    (λ c. let at-step = c .before .before .before .before .before .before .before .before .before .before in
+    let at-loop = at-step .before .before .before .before .before in
+    let h = far-length (at-loop .loop .inv .4) (at-step .step .result) (at-step .step .ensures) in omega (arith, h))
+    (λ c. let at-step = c .before .before .before .before .before .before .before .before .before .before in
+    let at-loop = at-step .before .before .before .before .before in
+    far-done (at-loop .loop .inv .4) (at-step .step .result) (at-step .step .ensures) (c .if1 .taken))
+    (λ c. let at-step = c .before .before .before .before .before .before .before .before .before .before in
+    let at-loop = at-step .before .before .before .before .before in
+    let p = far-on (at-loop .loop .inv .4) (at-step .step .result) (at-step .step .ensures) (c .if1 .left) in
+    let h = far-within (at-loop .loop .inv .4) (at-step .step .result) (at-step .step .ensures) in
+    omega (arith, p .1, h .1, p .0 .old-length, at-loop .loop .inv .4 .old-length))
+    (λ c. let at-step = c .before .before .before .before .before .before .before .before .before .before in
+    let at-loop = at-step .before .before .before .before .before in
+    let p = far-on (at-loop .loop .inv .4) (at-step .step .result) (at-step .step .ensures) (c .if1 .left) in (
+      omega (arith, at-step .step .kept .1 .0, at-loop .loop .inv .0),
+      omega (arith, at-step .step .kept .1 .1 .0, at-loop .loop .inv .1),
+      at-loop .loop .inv .2,
+      at-loop .loop .inv .3,
+      p .0,
+    )))

@@ -6,7 +6,6 @@ use Rattle.rack.proofs.answers.Numbered.bare.Tie as tie
 
 pub bare-spec : {M : Type 1} → statement M
 bare-spec =
-    tie.close
-    (tie.spec
+    tie.close (tie.spec
     (search needs)
     (λ c. bare-told (c .before .args .number) (c .none .ensures)))

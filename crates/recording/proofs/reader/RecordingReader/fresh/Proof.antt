@@ -6,8 +6,6 @@ use Rattle.recording.proofs.reader.RecordingReader.fresh.Tie as tie
 
 pub fresh-spec : {M : Type 1} → statement M
 fresh-spec =
-    tie.close
-    (tie.spec
-    (search needs)
-    (search needs)
+    tie.close (tie.spec
+    (search needs) (search needs)
     (λ c i. record { spot = c .before .fresh .ensures i; channel = false; receiver = c .fresh2 .ensures i }))

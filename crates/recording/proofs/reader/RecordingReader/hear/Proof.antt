@@ -18,22 +18,22 @@ abbrev μ-loop : tie.MeasureT-loop
 
 pub hear-spec : {M : Type 1} → statement M
 hear-spec =
-    tie.close
-    (tie.spec
+    tie.close (tie.spec
     Inv-loop
     μ-loop
-    (λ c. let s = c .before .before .before in (refl, refl, so-start (s .args .self) (s .args .recv .now) (s .args .word .now) (s .args .piece .now) (s .pre .0) (s .pre .1)))
+    (λ c. let s = c .before .before .before in
+    (refl, refl, so-start (s .args .self) (s .args .recv .now) (s .args .word .now) (s .args .piece .now) (s .pre .0) (s .pre .1)))
     (λ c. omega (arith, c .before .before .loop .inv .2 .stays .within))
     (λ c. omega (arith, c .before .before .loop .inv .2 .stays .within))
     (λ c. omega (arith, c .before .before .loop .inv .2 .stays .within))
     (λ c κs. so-asks (c .before .before .before .loop .inv .2) (c .before .before .before .before .before .before .before .pre .2))
-    (λ c. let h = so-within (c .before .before .before .before .before .before .before .before .before .before .loop .inv .2) (c .before .before .before .before .before .before .turn .result) (c .before .before .before .before .before .before .turn .ensures) in search needs)
-    (λ c. search needs)
-    (λ c. search needs)
-    (λ c. so-done (c .before .before .before .before .before .before .before .before .before .before .before .loop .inv .2) (c .before .before .before .before .before .before .before .turn .result) (c .before .before .before .before .before .before .before .turn .ensures) (c .if1 .taken))
-    (λ c.
-    let p = so-on (c .before .before .before .before .before .before .before .before .before .before .before .loop .inv .2) (c .before .before .before .before .before .before .before .turn .result) (c .before .before .before .before .before .before .before .turn .ensures) (c .if1 .left) in
-    omega (arith, p .1, p .0 .stays .within))
+    (λ c. let at-turn = c .before .before .before .before .before .before in let at-loop = at-turn .before .before .before .before in
+    let h = so-within (at-loop .loop .inv .2) (at-turn .turn .result) (at-turn .turn .ensures) in search needs)
+    (λ c. search needs) (λ c. search needs)
+    (λ c. let at-turn = c .before .before .before .before .before .before .before in let at-loop = at-turn .before .before .before .before in
+    so-done (at-loop .loop .inv .2) (at-turn .turn .result) (at-turn .turn .ensures) (c .if1 .taken))
+    (λ c. let at-turn = c .before .before .before .before .before .before .before in let at-loop = at-turn .before .before .before .before in
+    let p = so-on (at-loop .loop .inv .2) (at-turn .turn .result) (at-turn .turn .ensures) (c .if1 .left) in omega (arith, p .1, p .0 .stays .within))
     (λ c.
     let t = c .before .before .before .before .before .before .before in
     let p = so-on (t .before .before .before .before .loop .inv .2) (t .turn .result) (t .turn .ensures) (c .if1 .left) in

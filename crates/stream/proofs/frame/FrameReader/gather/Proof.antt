@@ -14,30 +14,18 @@ use Rattle.stream.proofs.frame.FrameReader.gather.Tie as tie
 
 pub gather-spec : {M : Type 1} → statement M
 gather-spec =
-    tie.close
-    (tie.spec
-    (search needs)
-    (search needs)
-    (search needs)
-    (search needs)
-    (search needs)
-    (search needs)
-    (search needs)
-    (search needs)
+    tie.close (tie.spec
+    (search needs) (search needs) (search needs) (search needs) (search needs) (search needs) (search needs) (search needs)
     (λ c.
     let stored = c .before .before .before in
     let least = stored .before .before .before in
     let opened = least .before .before in
     let a = opened .before .before .before .args in
     let e = simp sub-zero at (stored .store .ensures) in
-    let g = gather-found (a .self .raw) (a .bytes .now) (a .recv .now) _ _ (least .before .least .ensures) (least .least2 .ensures) (e .0) (c .if2 .taken) (e .1) in
+    let g = gather-found (a .self .raw) (a .bytes .now) (a .recv .now) _ _ (least .before .least .ensures) (least .least2 .ensures) (e .0) (c .if2 .taken)
+    (e .1) in
     (g .0, g .1 ∙ ap (λ (b : Bool). gatheredBy b (a .self .raw) (before (a .bytes .now)) (a .recv .now)) (sym (opened .if1 .taken))))
-    (search needs)
-    (search needs)
-    (search needs)
-    (search needs)
-    (search needs)
-    (search needs)
+    (search needs) (search needs) (search needs) (search needs) (search needs) (search needs)
     (λ c.
     let stored = c .before .before .before .before .before in
     let least = stored .before .before .before in
@@ -46,7 +34,8 @@ gather-spec =
     let e = simp sub-zero at (stored .store .ensures) in
     let n = least .least2 .result in
     let behind = ap (λ (m : ℕ). n + m) (c .up-to .ensures .0 ∙ ap (λ (x : List ℕ). length (before x)) (tail-is n (a .bytes .now))) in
-    let g = gather-none (a .self .raw) (a .bytes .now) (a .recv .now) _ _ (least .before .least .ensures) (least .least2 .ensures) (e .0) (c .before .before .if2 .left) (e .1) behind in
+    let g = gather-none (a .self .raw) (a .bytes .now) (a .recv .now) _ _ (least .before .least .ensures) (least .least2 .ensures) (e .0)
+    (c .before .before .if2 .left) (e .1) behind in
     (g .0, g .1 ∙ ap (λ (b : Bool). gatheredBy b (a .self .raw) (before (a .bytes .now)) (a .recv .now)) (sym (opened .if1 .taken))))
     (search needs)
     (λ c.

@@ -9,8 +9,7 @@ use Rattle.stream.proofs.frame.FrameReader.read.Tie as tie
 
 pub read-spec : {M : Type 1} → statement M
 read-spec =
-    tie.close
-    (tie.spec
+    tie.close (tie.spec
     (search needs)
     (λ c.
     let a = c .before .before .before .before .args in
@@ -23,4 +22,5 @@ read-spec =
     (λ c.
     let t = c .before .before .before .before in
     let a = t .before .before .before .before .before .args in
-    call-on (held (a .self) (a .recv .now)) (a .piece .now) (sym (t .before .before .sound .ensures) ∙ not-false _ (t .before .if1 .left)) (t .if2 .left) (c .before .before .read-on .ensures)))
+    call-on (held (a .self) (a .recv .now)) (a .piece .now) (sym (t .before .before .sound .ensures) ∙ not-false _ (t .before .if1 .left)) (t .if2 .left)
+    (c .before .before .read-on .ensures)))

@@ -15,19 +15,17 @@ use Rattle.stream.proofs.frame.FrameReader.read_on.Tie as tie
 
 abbrev Inv-loop : tie.InvT-loop
 Inv-loop recv₀ piece frame₀ at₀ recv frame at =
-    (at ≤ length piece) × (length recv ≡ length recv₀) × (sound frame ≡ true) × (readOn (held frame₀ recv₀) piece ≡ after at (readOn (held frame recv) (drop at piece))) × (length piece < 2 ^ 64)
+    (at ≤ length piece) × (length recv ≡ length recv₀) × (sound frame ≡ true)
+    × (readOn (held frame₀ recv₀) piece ≡ after at (readOn (held frame recv) (drop at piece))) × (length piece < 2 ^ 64)
 
 abbrev μ-loop : tie.MeasureT-loop
 μ-loop recv₀ piece frame₀ at₀ recv frame at = length piece - at
 
 pub read-on-spec : {M : Type 1} → statement M
 read-on-spec =
-    tie.close
-    (tie.spec Inv-loop μ-loop
+    tie.close (tie.spec Inv-loop μ-loop
     (λ c. (omega arith, refl, c .before .before .pre .0, after-none _, omega arith))
-    (search needs)
-    (search needs)
-    (search needs)
+    (search needs) (search needs) (search needs)
     (λ c κs.
     let l = c .before .before .before .loop in
     let p = c .before .before .before .before .before .before .args .piece .now in

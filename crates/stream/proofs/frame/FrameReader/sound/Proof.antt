@@ -7,9 +7,10 @@ use Rattle.stream.proofs.frame.FrameReader.sound.Tie as tie
 
 pub sound-spec : {M : Type 1} → statement M
 sound-spec =
-    tie.close
-    (tie.spec
+    tie.close (tie.spec
     (search needs)
     (λ c. sound-stored (c .before .before .before .args .self) (λ e. c .if1 .taken (e ∙ sym (c .before .before .least .ensures))))
-    (λ c. sound-raw (c .before .before .before .before .before .args .self) (c .before .before .if1 .left ∙ c .before .before .before .before .least .ensures) (c .if2 .taken))
-    (λ c. sound-place (c .before .before .before .before .before .before .args .self) (c .before .before .before .if1 .left ∙ c .before .before .before .before .before .least .ensures) (c .before .if2 .left)))
+    (λ c. sound-raw (c .before .before .before .before .before .args .self) (c .before .before .if1 .left ∙ c .before .before .before .before .least .ensures)
+    (c .if2 .taken))
+    (λ c. sound-place (c .before .before .before .before .before .before .args .self)
+    (c .before .before .before .if1 .left ∙ c .before .before .before .before .before .least .ensures) (c .before .if2 .left)))

@@ -13,10 +13,10 @@ use Rattle.stream.proofs.frame.FrameReader.turn.Tie as tie
 
 pub turn-spec : {M : Type 1} → statement M
 turn-spec =
-    tie.close
-    (tie.spec
+    tie.close (tie.spec
     (search needs)
-    (λ c κs. let start = c .before .before .before .before .before .before in fine-of (start .args .self) (start .args .recv .now) (start .pre .0) (start .pre .1) .raw)
+    (λ c κs. let start = c .before .before .before .before .before .before in
+    fine-of (start .args .self) (start .args .recv .now) (start .pre .0) (start .pre .1) .raw)
     (λ c κs.
     let counted = c .before .before in
     let g = counted .before .before .before in
@@ -32,15 +32,13 @@ turn-spec =
     let a = start .args in
     turn-end (held (a .self) (a .recv .now)) (fine-of (a .self) (a .recv .now) (start .pre .0) (start .pre .1)) (a .bytes .now) (start .pre .2)
     (g .gather .ensures .0) (counted .counted .ensures) (g .gather .ensures .1) (c .looked .ensures) (c .before .before .if1 .taken))
-    (search needs)
-    (search needs)
+    (search needs) (search needs)
     (λ c.
     let else = c .before .before .before .before .before .before in
     let g = else .before .before .before .before in
     let a = g .before .before .before .before .args in
     omega (arith, before-stops (a .bytes .now) (g .gather .ensures .0) (else .if1 .left)))
-    (search needs)
-    (search needs)
+    (search needs) (search needs)
     (λ c.
     let closed = c .before .before .before in
     let else = closed .before .before .before .before in
@@ -55,8 +53,7 @@ turn-spec =
     let g = else .before .before .before .before in
     let a = g .before .before .before .before .args in
     omega (arith, before-stops (a .bytes .now) (g .gather .ensures .0) (else .if1 .left)))
-    (search needs)
-    (search needs)
+    (search needs) (search needs)
     (λ c.
     let else = c .before .before .before in
     let g = else .before .before .before .before in

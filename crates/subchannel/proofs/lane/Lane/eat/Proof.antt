@@ -7,8 +7,7 @@ use Rattle.subchannel.proofs.lane.Lane.eat.Tie as tie
 
 pub eat-spec : {M : Type 1} → statement M
 eat-spec =
-    tie.close
-    (tie.spec
+    tie.close (tie.spec
     (λ c. let a = c .before .before .args in eats-lost (a .self) (a .again) (a .place) (a .cells .now) (a .word .now) (a .b) (c .if1 .taken))
     (search needs)
     (λ c.

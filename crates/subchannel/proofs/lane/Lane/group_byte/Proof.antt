@@ -7,8 +7,7 @@ use Rattle.subchannel.proofs.lane.Lane.group_byte.Tie as tie
 
 pub group-byte-spec : {M : Type 1} → statement M
 group-byte-spec =
-    tie.close
-    (tie.spec
+    tie.close (tie.spec
     (λ c κs. let p = c .before .before .before .pre in (p .0 .depth, p .2))
     (λ c κs. let p = c .before .before .before .before .before .before .pre in (p .0, p .1))
     (search needs)

@@ -7,8 +7,7 @@ use Rattle.subchannel.proofs.lane.Lane.hand_on.Tie as tie
 
 pub hand-on-spec : {M : Type 1} → statement M
 hand-on-spec =
-    tie.close
-    (tie.spec
+    tie.close (tie.spec
     (λ c κs.
     let s = c .before .before in
     let a = s .args in
@@ -50,10 +49,7 @@ hand-on-spec =
     let s = o .before .before .before .before in
     let a = s .args in
     omega (arith, taken-within (a .self) (a .recv .now) (a .word .now) (s .pre .0) (s .pre .1) (o .before .owed .ensures) (o .if1 .left) (r .read .ensures)))
-    (search needs)
-    (search needs)
-    (search needs)
-    (search needs)
+    (search needs) (search needs) (search needs) (search needs)
     (λ c.
     let r = c .before .before .before .before .before .before .before in
     let o = r .before .before .before .before .before .before .before in

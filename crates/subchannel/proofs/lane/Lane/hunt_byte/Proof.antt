@@ -6,11 +6,8 @@ use Rattle.subchannel.proofs.lane.Lane.hunt_byte.Tie as tie
 
 pub hunt-byte-spec : {M : Type 1} → statement M
 hunt-byte-spec =
-    tie.close
-    (tie.spec
-    (search needs)
-    (search needs)
-    (search needs)
+    tie.close (tie.spec
+    (search needs) (search needs) (search needs)
     (λ c.
     let t = c .before .before .before in
     let s = t .before .before in

@@ -8,10 +8,8 @@ use Rattle.subchannel.proofs.lane.Lane.kept_byte.Tie as tie
 
 pub kept-byte-spec : {M : Type 1} → statement M
 kept-byte-spec =
-    tie.close
-    (tie.spec
-    (search needs)
-    (search needs)
+    tie.close (tie.spec
+    (search needs) (search needs)
     (λ c.
     let s = c .before .before .before .before .args .self in
     let n = s .counts in

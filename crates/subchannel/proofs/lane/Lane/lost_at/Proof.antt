@@ -7,8 +7,6 @@ use Rattle.subchannel.proofs.lane.Lane.lost_at.Tie as tie
 
 pub lost-at-spec : {M : Type 1} → statement M
 lost-at-spec =
-    tie.close
-    (tie.spec
-    (search needs)
-    (search needs)
+    tie.close (tie.spec
+    (search needs) (search needs)
     (λ c i. let a = c .before .before .before .args in lane (a .self .settings) false true (a .hunting) (c .before .zero .ensures i) (c .fresh .ensures i)))

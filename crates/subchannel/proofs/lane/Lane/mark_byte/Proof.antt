@@ -6,19 +6,14 @@ use Rattle.subchannel.proofs.lane.Lane.mark_byte.Tie as tie
 
 pub mark-byte-spec : {M : Type 1} → statement M
 mark-byte-spec =
-    tie.close
-    (tie.spec
-    (search needs)
-    (search needs)
-    (search needs)
-    (search needs)
+    tie.close (tie.spec
+    (search needs) (search needs) (search needs) (search needs)
     (λ c.
     let t = c .before .before in
     let s = t .before .before in
     let a = s .before .before .before .args in
     marks-more (a .self) (a .b) (s .shift .ensures) (t .if1 .taken) (c .moved .ensures))
-    (search needs)
-    (search needs)
+    (search needs) (search needs)
     (λ c.
     let t = c .before .before .before in
     let s = t .before .before in

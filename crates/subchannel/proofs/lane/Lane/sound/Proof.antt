@@ -9,8 +9,7 @@ use Rattle.subchannel.proofs.lane.Lane.sound.Tie as tie
 
 pub sound-spec : {M : Type 1} → statement M
 sound-spec =
-    tie.close
-    (tie.spec
+    tie.close (tie.spec
     (search needs)
     (λ c. simp (sym (c .before .sound .ensures) ∙ not-true _ (c .if1 .taken)))
     (search needs)

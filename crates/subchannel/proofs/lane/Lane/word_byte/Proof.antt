@@ -9,21 +9,13 @@ use Rattle.subchannel.proofs.lane.Lane.word_byte.Tie as tie
 
 pub word-byte-spec : {M : Type 1} → statement M
 word-byte-spec =
-    tie.close
-    (tie.spec
-    (search needs)
-    (search needs)
-    (search needs)
-    (search needs)
-    (search needs)
-    (search needs)
-    (search needs)
+    tie.close (tie.spec
+    (search needs) (search needs) (search needs) (search needs) (search needs) (search needs) (search needs)
     (λ c.
     let p = c .before .before .before in
     let a = p .before .before .before .before .before .args in
     words-more (a .self) (a .y) (a .word .now) (p .place-in .ensures .0) (c .before .if1 .taken) (c .moved .ensures))
-    (λ c κs. search needs)
-    (search needs)
+    (λ c κs. search needs) (search needs)
     (λ c.
     let m = c .before .before .before in
     let p = m .before .before .before .before in

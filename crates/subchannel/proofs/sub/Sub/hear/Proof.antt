@@ -9,15 +9,12 @@ use Rattle.subchannel.proofs.sub.Sub.hear.Tie as tie
 
 pub hear-spec : {M : Type 1} → statement M
 hear-spec =
-    tie.close
-    (tie.spec
+    tie.close (tie.spec
     (search needs)
     (λ c.
     let a = c .before .before .before .before .before .args in
     call-unsound (memory (a .self) (a .recv .now) (a .word .now)) (a .piece .now) (sym (c .before .sound .ensures) ∙ not-true _ (c .if1 .taken)))
-    (search needs)
-    (search needs)
-    (search needs)
+    (search needs) (search needs) (search needs)
     (λ c.
     let e = c .before .before .before .before in
     let a = e .before .before .before .before .before .args in
@@ -27,8 +24,7 @@ hear-spec =
     let t = c .before .before in
     let e = t .before .before .before .before in
     (sym (e .before .sound .ensures) ∙ not-false _ (e .if1 .left), sym (t .before .has-room .ensures) ∙ not-false _ (t .if2 .left)))
-    (search needs)
-    (search needs)
+    (search needs) (search needs)
     (λ c.
     let h = c .before .before .before .before in
     let t = h .before .before .before in

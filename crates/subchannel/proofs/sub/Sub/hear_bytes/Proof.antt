@@ -21,8 +21,7 @@ abbrev μ-loop : tie.MeasureT-loop
 
 pub hear-bytes-spec : {M : Type 1} → statement M
 hear-bytes-spec =
-    tie.close
-    (tie.spec Inv-loop μ-loop
+    tie.close (tie.spec Inv-loop μ-loop
     (λ c. let s = c .before .before in (going-first _ _ _ (s .pre .0) (s .pre .1), refl, omega arith))
     (λ c. omega (arith, c .loop-test .taken))
     (λ c. omega (arith, c .loop-test .taken))
@@ -32,31 +31,56 @@ hear-bytes-spec =
     let g = c .before .before .before .before .loop .inv .0 in
     (p .1, g .fine .depth, g .fine .place, g .fine .room, omega (arith, p .0, c .before .before .before .loop-test .taken)))
     (λ c κs. let p = c .before .before .before .before .before .plain .ensures in (p .1 .group, p .1 .word))
-    (λ c. omega (arith, c .before .before .before .before .before .before .plain .ensures .0, c .before .before .before .before .before .before .before .loop-test .taken, c .before .before .before .before .before .before .before .before .loop .inv .2))
-    (λ c. omega (arith, c .before .before .before .before .before .before .before .before .before .plain .ensures .0, c .before .before .before .before .before .before .before .before .before .before .loop-test .taken))
+    (λ c. omega (
+      arith,
+      c .before .before .before .before .before .before .plain .ensures .0,
+      c .before .before .before .before .before .before .before .loop-test .taken,
+      c .before .before .before .before .before .before .before .before .loop .inv .2,
+    ))
+    (λ c. omega (
+      arith,
+      c .before .before .before .before .before .before .before .before .before .plain .ensures .0,
+      c .before .before .before .before .before .before .before .before .before .before .loop-test .taken,
+    ))
     (λ c κs.
     let f = c .before .before .before in
-    let g = goes-all _ (f .before .before .before .before .before .before .before .before .loop .inv .0) (f .before .before .before .fill .ensures) (f .filled .ensures) in
+    let g = goes-all _ (f .before .before .before .before .before .before .before .before .loop .inv .0) (f .before .before .before .fill .ensures)
+    (f .filled .ensures) in
     (able-of (g .fine), g .fine .place))
-    (λ c. omega (arith, c .before .before .before .before .before .before .before .before .before .before .before .before .before .plain .ensures .0, c .before .before .before .before .before .before .before .before .before .before .before .before .before .before .loop-test .taken, c .before .before .before .before .before .before .before .before .before .before .before .before .before .before .before .loop .inv .2))
+    (λ c. let at-plain = c .before .before .before .before .before .before .before .before .before .before .before .before .before in
+    let at-loop-test = at-plain .before in let at-loop = at-loop-test .before in
+    omega (arith, at-plain .plain .ensures .0, at-loop-test .loop-test .taken, at-loop .loop .inv .2))
     (λ c.
     let t = c .before .before .before .before in
-    t .eat .kept .1 .1 .1 .1 .0 ∙ t .before .before .before .before .before .before .before .fill .kept .1 .1 .1 .1 .0 ∙ t .before .before .before .before .before .before .before .before .before .before .before .before .loop .inv .1)
+    t .eat .kept .1 .1 .1 .1 .0 ∙ t .before .before .before .before .before .before .before .fill .kept .1 .1 .1 .1 .0
+    ∙ t .before .before .before .before .before .before .before .before .before .before .before .before .loop .inv .1)
     (λ c.
     let t = c .before .before .before .before in
     let f = t .before .before .before .before in
     let l = f .before .before .before .before .before .before .before .before in
     going-end (goes-all _ (l .loop .inv .0) (f .before .before .before .fill .ensures) (f .filled .ensures))
-    (omega (arith, f .before .before .before .before .before .before .plain .ensures .0, f .before .before .before .before .before .before .before .loop-test .taken)) (t .eat .ensures) (c .if1 .taken))
+    (omega (
+      arith,
+      f .before .before .before .before .before .before .plain .ensures .0,
+      f .before .before .before .before .before .before .before .loop-test .taken,
+    )) (t .eat .ensures) (c .if1 .taken))
     (λ c.
     let f = c .before .before .before .before .before .before .before .before in
-    omega (arith, f .before .before .before .before .before .before .plain .ensures .0, f .before .before .before .before .before .before .before .loop-test .taken))
+    omega (
+      arith,
+      f .before .before .before .before .before .before .plain .ensures .0,
+      f .before .before .before .before .before .before .before .loop-test .taken,
+    ))
     (λ c.
     let t = c .before .before .before .before in
     let f = t .before .before .before .before in
     let l = f .before .before .before .before .before .before .before .before in (
       going-next (goes-all _ (l .loop .inv .0) (f .before .before .before .fill .ensures) (f .filled .ensures))
-          (omega (arith, f .before .before .before .before .before .before .plain .ensures .0, f .before .before .before .before .before .before .before .loop-test .taken)) (t .eat .ensures) (c .if1 .left),
+          (omega (
+            arith,
+            f .before .before .before .before .before .before .plain .ensures .0,
+            f .before .before .before .before .before .before .before .loop-test .taken,
+          )) (t .eat .ensures) (c .if1 .left),
       t .eat .kept .1 .1 .1 .1 .0 ∙ f .before .before .before .fill .kept .1 .1 .1 .1 .0 ∙ l .loop .inv .1,
       l .loop .inv .2,
     ))

@@ -8,9 +8,7 @@ use Rattle.subchannel.proofs.sub.Sub.sound.Tie as tie
 
 pub sound-spec : {M : Type 1} → statement M
 sound-spec =
-    tie.close
-    (tie.spec
-    (search needs)
-    (search needs)
+    tie.close (tie.spec
+    (search needs) (search needs)
     (λ c. one-and (sym (c .before .before .sound .ensures) ∙ c .before .if1 .taken) (ap not (c .is-beyond .ensures)))
     (λ c. simp (sym (c .before .sound .ensures) ∙ c .if1 .left)))

@@ -1,0 +1,4 @@
+pub mod Short
+pub mod Writing
+pub mod Counting
+pub mod Determined

@@ -1,0 +1,4 @@
+pub mod Taking
+pub mod Cutting
+pub mod Within
+pub mod Determined
