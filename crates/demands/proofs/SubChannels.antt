@@ -35,7 +35,7 @@ use mathlib.Core.Logic.{_≢_, _⊎_}
 use mathlib.Core.List.{List, [], _∷_, _++_, map, append-nil}
 use mathlib.Core.Option.{Option, some}
 use lib.Dec.{ltb}
-use lib.ListN.{length, take, getD, replicate}
+use lib.ListN.{length, take, getD, set, replicate, length-set}
 use lib.Seq.{take-all}
 use borrow.Author.Tests.{lt-ltb, le-ltb, ltb-true}
 use Rattle.base.specs.Bytes.{Each, Bytes}
@@ -83,7 +83,7 @@ use Rattle.subchannel_spec.specs.declared.Configured.the-variants.{Done, Refuse
 use Rattle.four_receivers.specs.declared.Receiver as code
 use Rattle.four_receivers.specs.declared.Configuring.{Configuring}
 use Rattle.four_receivers.specs.declared.Hearing.{Hearing}
-use Rattle.four_receivers.specs.Call.{Receiver, whole, ConfiguringIs, FourIs}
+use Rattle.four_receivers.specs.Call.{Receiver, whole, laid as cells-in, ConfiguringIs, FourIs}
 use Rattle.four_receivers.specs.Call.{freshReceiver, Memories, memoryAt, exchanged, callOn, Scheduled, ofOne, get, configuring, hearFour}
 use Rattle.four_receivers.proofs.Calling as made
 use Rattle.four_receivers.proofs.Ending as ending
@@ -503,15 +503,27 @@ module _ (s : code.Receiver) (cs : List (List ℕ)) where
       let q = subst (λ y. FourIs cs y x left l k) (number-hear-keeps-all (whole s cs) n recv word bs m e) h in
       (q .0, q .1 ∙ sym (made.laid-same s cs), q .2, q .3)
 
-  -- .. and with four cells lent, what comes back of a call, refused or not, put together is the state behind it, with which the next call starts
+  four-left : (t : Receiver) {left : List (List ℕ)} → length cs ≡ 4 → left ≡ cells-in cs t → length left ≡ 4
+  four-left t four e =
+      let one : List (List ℕ) = set cs 0 (t .a .back .matrix .cells) in
+      let two : List (List ℕ) = set one 1 (t .b .back .matrix .cells) in
+      let three : List (List ℕ) = set two 2 (t .c .back .matrix .cells) in
+      ap length e ∙ length-set three 3 (t .d .back .matrix .cells) ∙ length-set two 2 (t .c .back .matrix .cells)
+      ∙ length-set one 1 (t .b .back .matrix .cells) ∙ length-set cs 0 (t .a .back .matrix .cells) ∙ four
+
+  -- .. and with four cells lent, what comes back of a call, refused or not, put together is the state behind it, with which the next call starts;
+  -- four they are again
   pub configure-puts-together : length cs ≡ 4 → (n r d : ℕ) {x : Configuring} {left : List (List ℕ)}
-      → ConfiguringIs cs (configuring (whole s cs) n r d) x left → whole (x .receiver) left ≡ configuring (whole s cs) n r d .1
-  configure-puts-together four n r d h = (λ i. whole (h .0 i .receiver) (h .1 i)) ∙ made.carried (configuring (whole s cs) n r d .1) cs four
+      → ConfiguringIs cs (configuring (whole s cs) n r d) x left
+      → (whole (x .receiver) left ≡ configuring (whole s cs) n r d .1) × (length left ≡ 4)
+  configure-puts-together four n r d h =
+      let t : Receiver = configuring (whole s cs) n r d .1 in ((λ i. whole (h .0 i .receiver) (h .1 i)) ∙ made.carried t cs four, four-left t four (h .1))
 
   pub number-hear-puts-together : length cs ≡ 4 → (n : ℕ) (recv word bs : List ℕ) {x : Hearing} {left : List (List ℕ)} {l k : List ℕ}
-      → FourIs cs (hearFour (whole s cs) n recv word bs) x left l k → whole (x .receiver) left ≡ hearFour (whole s cs) n recv word bs .2
+      → FourIs cs (hearFour (whole s cs) n recv word bs) x left l k
+      → (whole (x .receiver) left ≡ hearFour (whole s cs) n recv word bs .2) × (length left ≡ 4)
   number-hear-puts-together four n recv word bs h =
-      (λ i. whole (h .0 i .receiver) (h .1 i)) ∙ made.carried (hearFour (whole s cs) n recv word bs .2) cs four
+      let t : Receiver = hearFour (whole s cs) n recv word bs .2 in ((λ i. whole (h .0 i .receiver) (h .1 i)) ∙ made.carried t cs four, four-left t four (h .1))
 
 -- .. one that was refused is not told
 pub sub-told-keeps : (r d m : ℕ) → ByConfigure (telling r d) m → telling r d ≡ (Refused m, untold)
