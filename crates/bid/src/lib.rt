@@ -1,4 +1,5 @@
 //! A line of the office's input, `PORT SEQUENCE TEXT`, read.
+#![tactic(auto)]
 ghost use Rattle.std.specs.Prelude.{◌≡◌};
 ghost use Rattle.bid.specs.Line.{number, number_from, reading};
 

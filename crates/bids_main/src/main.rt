@@ -3,6 +3,7 @@
 //! is not sent is named on standard error. Where the input cannot be read further, that is said there, a line that is begun is not sent, and those
 //! before it are; where the output cannot be written, it is said and nothing more is read. Of a line that is sent, what the yards will make of it is
 //! said there too, as a warning (src/warnings.rt).
+#![tactic(auto)]
 mod naming;
 mod output;
 mod warnings;

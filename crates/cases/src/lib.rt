@@ -5,6 +5,7 @@
 //! A case: what is asked (a letter), a number (8 bytes), how many bytes are lent as output and how many follow (2 bytes each), and those that
 //! follow. An answer: what is told, in numbers (8 bytes each), and all bytes of the output. Numbers stand low byte first; the output is lent
 //! filled with 0xA5; a refusal n is told as 65,536 + n.
+#![tactic(auto)]
 mod cut;
 
 use base::Written;

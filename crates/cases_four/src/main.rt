@@ -4,6 +4,7 @@
 //! Asked for (hearing.rt): n all anew, buffers filled with 0xA5; c a sub-channel configured (its number, R, depth); h a piece handed in until
 //! more is wanted (its number, how much of its receive buffer and of its word buffer is lent); x its numbers set; v its numbers, its two
 //! buffers, and its cells, as many as there is room for.
+#![tactic(auto)]
 mod hearing;
 
 use cases::Case;

@@ -7,6 +7,7 @@
 //! number's low two 16 bits; p a sub-channel of four configured (its number, R, depth in the number's low three), w a whole stream sent on the one that
 //! the number says (four.rt); V the place of the sender (number 0) or of the receiving side (1), with the cells in the output and, of the latter,
 //! whether its first pass is over behind them.
+#![tactic(auto)]
 mod four;
 
 use interleaver::{Back, Matrix, Pulled, Pushed};

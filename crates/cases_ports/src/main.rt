@@ -3,6 +3,7 @@
 //! A case: N, a packet noted, or F, a port forgotten; port and sequence, low byte first; 16 places: held, port, last. An answer: four bytes, low
 //! byte first, of what is told: 0 first or forgotten, 1 in order, 2 repeated, 3 late, 0x10000 and how many are missing, 0x1000000 and the
 //! number of a refusal; and the 16 places then.
+#![tactic(auto)]
 use ports::{Entry, Forgot, Noted, Ports};
 
 const CASE: usize = 85;

@@ -1,6 +1,7 @@
 //! Answers cases of Layer 2 units. crates/cases has the form of a case and of an answer; the number is a unit's length in bits, and a number is told.
 //! Asked for: U a unit written, of the bytes that follow: the delimiter, how many bytes are audio and how many opportunistic data (2 bytes each),
 //! those, and the fixed data; u a unit read: the delimiter, the told lengths of audio and fixed data (8 bytes each), and the unit.
+#![tactic(auto)]
 
 fn main() {
     let mut bytes = io::large_buffer();

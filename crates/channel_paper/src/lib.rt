@@ -1,1 +1,2 @@
 //! That the opportunistic channel means what the papers say: equations with `paper`.
+#![tactic(auto)]

@@ -1,6 +1,7 @@
 //! A fixed sub-channel as a program. `fixed send R DEPTH`: the stream on standard input, sent; its groups go to standard output, each as soon
 //! as its bytes are in, the closing push behind them. `fixed list R DEPTH`: received bytes on standard input; a line of each answer goes to
 //! standard output as it comes, the totals behind them. Where something fails it says so on standard error and stops.
+#![tactic(auto)]
 mod listing;
 mod sending;
 

@@ -1,6 +1,7 @@
 //! The interleaver as a program, `interleave push|pull DEPTH`: bytes from standard input, through the cells, to standard output; `push` is the
 //! sender and ends with the closing push, `pull` the receiving side. Each piece goes on as it comes. Where something fails it says so on
 //! standard error and stops.
+#![tactic(auto)]
 use console::say;
 use interleaver::{Back, Matrix, Pulled, Pushed};
 use libc::STDIN_FILENO;

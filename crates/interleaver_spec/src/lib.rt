@@ -1,5 +1,6 @@
 //! No code: the interleaver's matrix, what calls on either side answer and leave, and the laws of places, of the round trip and of cutting.
 //! `interleaver` makes these calls. Read specs/.
+#![tactic(auto)]
 
 /// The sender's side: the place whose turn it is, and the cells, up to 64 rows of 255.
 #[derive(Drop)]

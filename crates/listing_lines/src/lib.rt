@@ -1,4 +1,5 @@
 //! The lines of a listing, written, and its totals.
+#![tactic(auto)]
 ghost use Rattle.std.specs.Prelude.{◌≡◌};
 ghost use Rattle.base.specs.Written.{outcome, write};
 ghost use Rattle.text.specs.Put.{Puts};

@@ -1,4 +1,5 @@
 //! A recording taken apart: where it stands, and what is counted of it. What a listing prints is defined in specs/.
+#![tactic(auto)]
 
 /// What the next byte of a recording is.
 #[derive(Drop)]

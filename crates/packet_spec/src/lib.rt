@@ -1,5 +1,6 @@
 //! No code: what frames and packets are, the answers to them, and the laws of escaping, judging and the round trip. `packet` reads and
 //! writes them. Read specs/.
+#![tactic(auto)]
 
 /// The classes of ports.
 #[derive(Drop)]

@@ -1,6 +1,7 @@
 //! Sends the packets of the capture on standard input again: on standard output a recording of their plain stream, the first flag in a record of
 //! its own and each packet in one. Bytes are read as they come, and a packet's record is out before the next are read. Where the capture is
 //! refused, or something fails, it says so on standard error and stops; what came before is there.
+#![tactic(auto)]
 use base::{Refusal, Written};
 use capture::{CaptureReader, Ended};
 use console::say;

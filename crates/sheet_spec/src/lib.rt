@@ -1,4 +1,5 @@
 //! A line of the monthly reception sheet, as it is kept. What the sheet says is defined in specs/.
+#![tactic(auto)]
 
 /// A port's numbers.
 #[derive(Drop)]

@@ -1,4 +1,5 @@
 //! The plain stream: the sender's calls, and the frame reader, at most one answer a call.
+#![tactic(auto)]
 mod frame;
 mod sender;
 

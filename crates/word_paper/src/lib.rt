@@ -1,1 +1,2 @@
 //! That field, words and their repair mean what the papers say: equations with `paper`.
+#![tactic(auto)]
