@@ -70,4 +70,4 @@ chosen_spec =
     (λ c. sum c.before 28 (omega arith) c.in-28.is)
     (λ c. sum c.before 29 (omega arith) c.in-29.is)
     (λ c. sum c.before 30 (omega arith) c.in-30.is)
-    (λ c. sum c.before 31 (omega arith) (last _ c.before.before.before.before.before.requires (passed 31 _ c.in_default))))
+    (λ c. sum c.before 31 (omega arith) (last _ c.requires (passed 31 _ c.in_default.in_default-own.rest))))
