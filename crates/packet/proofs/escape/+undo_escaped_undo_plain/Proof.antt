@@ -57,7 +57,7 @@ unfolding plain escaped
     (λ c.
     let a = c.before.before.before.before.before.before.args in
     let h = c.before.before.before.move_run-k.ensures in
-    undo-ends a.recv.now _ a.n a.from a.to _ h (omega arith) c.if-from-n.true)
+    undo-ends a.recv.now _ a.n a.from a.to _ h (omega arith) c.if-at-n.true)
     (λ c.
     let a = c.before.before.before.before.before.before.before.args in
     let h = c.before.before.before.before.move_run-k.ensures in

@@ -12,4 +12,4 @@ move_run_spec =
     (λ c.
     let found = c.before.before.before.before in
     let a = found.args in
-    run_moved a.recv.now a.n a.from found.up_to_lem.ensures.0 (omega arith) (omega arith) a.to c.shift.ensures))
+    run_moved a.recv.now a.n a.from found.up_to-k.ensures.0 (omega arith) (omega arith) a.to c.shift.ensures))

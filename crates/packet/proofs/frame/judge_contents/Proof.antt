@@ -16,12 +16,10 @@ judge_contents_spec =
     (λ c. simp length-take (omega arith))
     (λ c κs. search rules) (λ c κs. search rules)
     (λ c.
-    let f = c.before.before in
-    ap judged (sym (judge-check _ f.if-n-lt8.false (λ e. c.if-fcs-pair_at.true (f.fcs.ensures ∙ e ∙ sym c.pair_at.ensures)))))
+    ap judged (sym (judge-check _ c.if-n-lt8.false (λ e. c.if-fcs-pair_at.true (c.fcs.ensures ∙ e ∙ sym c.pair_at.ensures)))))
     (λ c. simp length-take (omega arith))
     (λ c κs. simp length-take (omega arith))
     (λ c.
-    let f = c.before.before.before.before in
     c.judge_body.ensures
-    ∙ ap judged (sym (judge-body _ f.if-n-lt8.false
-    (sym f.fcs.ensures ∙ c.if-fcs-pair_at.false ∙ c.pair_at.ensures)))))
+    ∙ ap judged (sym (judge-body _ c.if-n-lt8.false
+    (sym c.fcs.ensures ∙ c.if-fcs-pair_at.false ∙ c.pair_at.ensures)))))
