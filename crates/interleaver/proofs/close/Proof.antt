@@ -12,5 +12,5 @@ close_spec =
     (search rules) (search rules) (search rules) (search rules) (search rules) (search rules)
     (λ c.
     let a = c.before.before.before.before.before.before.before.before.args in
-    let n = c.before.before.before.before.before.before.closing-bytes in
-    simp sub-zero at c.before.before.push.ensures ∙ closes a.depth a.matrix a.out.now _ n.ensures.0 n.ensures.1))
+    let n = c.before.before.before.before.before.before.closing_bytes-n in
+    simp sub-zero at c.before.before.push.ensures ∙ closes a.depth a.matrix a.out-1.now _ n.ensures.0 n.ensures.1))
