@@ -1,7 +1,7 @@
 -- A lent table as a value, and back.
 -- set_past                  nothing is put behind the end
 -- whole                     the places gathered are the table
--- free-.., note-..         the decisions, way by way; freed-.., noted-.. as the functions come to them
+-- free-.., note-..          the decisions, way by way; freed-.., noted-.. as the functions come to them
 -- freeing-is, noting-is     the decision on the value, put, is what the two calls are to answer and leave; frees-lent, notes-lent as the functions
 --                           come to them
 -- freeing-in, noting-in     .. of a table by value; frees-in, notes-in as the functions come to them
@@ -199,7 +199,8 @@ module _ (es g : List Entry) (all : length es ≤ 16 → take (length es) g ≡ 
         unfolding forgetting
         frees-held h =
             ap (λ (d : Freeing). Freed d es) (sym (free-held t port few (ap twice (all few) ∙ once) (omega (arith, at, h)))) ∙
-            ap (λ (k : ℕ). Freed (record { forgot = Forgotten; place = k; entry = record { held = false; port = port; last = (get_or g k freed).last } }) es) at ∙
+            ap (λ (k : ℕ). Freed (record { forgot = Forgotten; place = k; entry = record { held = false; port = port; last = (get_or g k freed).last } }) es)
+            at ∙
             ap (λ (e : Entry). Freed (record { forgot = Forgotten; place = place_of port es; entry = record { held = false; port = port; last = e.last } }) es)
             (each (place_of port es) (omega (arith, h, few))) ∙
             rw (le-ltb 16 (length es) few, once, lt-ltb (place_of port es) (length es) h) refl
@@ -282,7 +283,8 @@ pub noting-is : (es : List Entry) (port sequence : ℕ) → Put (noting_of (tabl
 noting-is es port sequence = notes es (gathered es) (whole es) (gathered-at es) port sequence
 
 module _ (es : List Entry) {t : Table} {z : List Entry} (et : t ≡ table_of es) where
-  pub frees-lent : (port : ℕ) {d : Freeing} → d ≡ freeing_of t port → z ≡ set es d.place d.entry → ◌≡◌ {A = Forgot × List Entry} (d.forgot, z) (forgetting es port)
+  pub frees-lent : (port : ℕ) {d : Freeing} → d ≡ freeing_of t port → z ≡ set es d.place d.entry
+      → ◌≡◌ {A = Forgot × List Entry} (d.forgot, z) (forgetting es port)
   frees-lent port {d} ed ez = (λ i. (d.forgot, ez i)) ∙ ap (λ (c : Freeing). Freed c es) (ed ∙ ap (λ (u : Table). freeing_of u port) et) ∙ freeing-is es port
 
   pub notes-lent : (port sequence : ℕ) {d : Noting} → d ≡ noting_of t port sequence → z ≡ set es d.place d.entry

@@ -1,3 +1,4 @@
+-- `ports::decide_forget` meets its contract.
 use Rattle.std.proofs.Common.{◌∙◌}
 use Rattle.ports.proofs.Tables.{free-over, freed-twice, freed-held, freed-away}
 use Rattle.ports.proofs.decide_forget.Goals as goal

@@ -1,3 +1,4 @@
+-- `ports::decide_note` meets its contract.
 use Rattle.std.proofs.Common.{◌∙◌}
 use Rattle.ports.proofs.Tables.{note-over, noted-twice, noted-held, noted-new, noted-full}
 use Rattle.ports.proofs.decide_note.Goals as goal

@@ -1,3 +1,4 @@
+-- `ports::forget` meets its contract.
 use Rattle.ports.proofs.Tables.{frees-lent}
 use Rattle.ports.proofs.forget.Goals as goal
 

@@ -1,3 +1,4 @@
+-- `ports::note` meets its contract.
 use Rattle.ports.proofs.Tables.{notes-lent}
 use Rattle.ports.proofs.note.Goals as goal
 

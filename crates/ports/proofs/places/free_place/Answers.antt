@@ -1,3 +1,4 @@
+-- `ports::free_place` meets its contract.
 use Rattle.std.proofs.Common.{arith}
 use Rattle.ports.proofs.Finding.{free-here, free_on, free-end}
 use Rattle.ports.proofs.places.free_place.Goals as goal

@@ -1,3 +1,4 @@
+-- `ports::is_twice` meets its contract.
 use Rattle.std.proofs.Common.{arith, sym, ◌∙◌}
 use Rattle.ports.proofs.Finding.{twice-here, twice-on, twice-end}
 use Rattle.ports.proofs.places.is_twice.Goals as goal

@@ -1,3 +1,4 @@
+-- `ports::place_from` meets its contract.
 use Rattle.std.proofs.Common.{arith, sym, ◌∙◌}
 use Rattle.ports.proofs.Finding.{place_here, place-on, place_end}
 use Rattle.ports.proofs.places.place_from.Goals as goal

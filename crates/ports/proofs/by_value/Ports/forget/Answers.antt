@@ -1,3 +1,4 @@
+-- `ports::Ports::forget` meets its contract.
 use Rattle.ports.proofs.Tables.{frees-in}
 use Rattle.ports.proofs.by_value.Ports.forget.Goals as goal
 

@@ -1,3 +1,4 @@
+-- `ports::Ports::note` meets its contract.
 use Rattle.ports.proofs.Tables.{notes-in}
 use Rattle.ports.proofs.by_value.Ports.note.Goals as goal
 
