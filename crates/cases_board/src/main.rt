@@ -1,5 +1,6 @@
 //! Answers cases, each a stream or a recording (b), read out by calls (reading.rt). crates/cases has the form of a case and of an answer.
 #![tactic(auto)]
+
 mod reading;
 
 fn main() {

@@ -1,6 +1,7 @@
 //! Answers cases, each a single call; crates/cases_stream has those that ask for many, and crates/cases_interleaver those of the interleaver.
 //! crates/cases has the form of a case and of an answer; what is told is a number (two of a closed frame).
 #![tactic(auto)]
+
 use fcs::Register;
 use packet::{Class, Judged};
 use parity::Checked;

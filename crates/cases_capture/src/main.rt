@@ -1,6 +1,7 @@
 //! Answers cases, each a capture (r), read in pieces (reading.rt), or a single call: a header (f) or a record (e) written, a packet's bytes fetched
 //! (d). crates/cases has the form of a case and of an answer.
 #![tactic(auto)]
+
 mod reading;
 
 use base::Written;

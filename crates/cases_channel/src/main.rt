@@ -1,5 +1,6 @@
 //! Answers cases, each an opportunistic channel (O), heard in pieces (hearing.rt). crates/cases has the form of a case and of an answer.
 #![tactic(auto)]
+
 mod hearing;
 
 fn main() {

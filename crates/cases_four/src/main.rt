@@ -5,6 +5,7 @@
 //! more is wanted (its number, how much of its receive buffer and of its word buffer is lent); x its numbers set; v its numbers, its two
 //! buffers, and its cells, as many as there is room for.
 #![tactic(auto)]
+
 mod hearing;
 
 use cases::Case;

@@ -1,6 +1,7 @@
 //! What the comparison programs share of frames (crates/cases has the rest): a frame's state and a delivery in the number of a case, and what is
 //! told of a judged frame. Only programs stand on this crate.
 #![tactic(auto)]
+
 use base::Refusal;
 use packet::{Delivery, Judged};
 use stream::FrameReader;

@@ -8,6 +8,7 @@
 //! the number says (four.rt); V the place of the sender (number 0) or of the receiving side (1), with the cells in the output and, of the latter,
 //! whether its first pass is over behind them.
 #![tactic(auto)]
+
 mod four;
 
 use interleaver::{Back, Matrix, Pulled, Pushed};

@@ -5,6 +5,7 @@
 //! well. An answer: what becomes of the recording: 0 it counts, 1 it is wrong, 65,536 and the number of a refusal; how many rows the sheet then has;
 //! and for each of 16 places its row, and its line with its length before it, or 65,536 and the number of a refusal.
 #![tactic(auto)]
+
 use base::Written;
 use ports_spec::Range;
 use sheet::{Counted, Draft, Sheet};

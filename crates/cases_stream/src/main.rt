@@ -1,5 +1,6 @@
 //! Answers cases, each a plain stream (S), read in pieces (reading.rt). crates/cases has the form of a case and of an answer.
 #![tactic(auto)]
+
 mod reading;
 
 fn main() {

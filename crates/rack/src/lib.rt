@@ -2,6 +2,7 @@
 //! stream read, the opportunistic channel heard. A slice is a pointer and a length; a receiver's state is an array of numbers that the
 //! caller lends. Each function hands its arguments on to the crate that does the work, and tells the answer by a number.
 #![tactic(auto)]
+
 mod answers;
 mod hearing;
 mod reading;
