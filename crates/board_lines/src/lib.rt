@@ -17,7 +17,7 @@ use ports::Noted;
 use text::{put_item, put_text};
 
 /// A piece of a text: the first so many bytes.
-#[derive(Drop)]
+#[derive(Clone, Copy)]
 pub struct Piece {
     pub bytes: [u8; Line::LONGEST],
     pub length: usize,

@@ -8,7 +8,7 @@ use packet_spec::Judged;
 use parity::Word;
 
 /// Hunting: the last four bytes, the oldest first.
-#[derive(Drop)]
+#[derive(Clone, Copy)]
 pub struct Hunting {
     pub a: u8,
     pub b: u8,
@@ -17,7 +17,7 @@ pub struct Hunting {
 }
 
 /// How a whole word came in.
-#[derive(Drop)]
+#[derive(Clone, Copy)]
 pub enum Condition {
     Clean,
     /// So many bytes were put right.
@@ -27,7 +27,7 @@ pub enum Condition {
 }
 
 /// What a call answers.
-#[derive(Drop)]
+#[derive(Clone, Copy)]
 pub enum Answer {
     /// More is wanted.
     More,
@@ -39,7 +39,7 @@ pub enum Answer {
 }
 
 /// A block: the marker, and a word behind it.
-#[derive(Drop)]
+#[derive(Clone, Copy)]
 pub struct Block;
 
 impl Block {

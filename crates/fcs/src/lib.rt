@@ -5,7 +5,7 @@ ghost use Rattle.fcs.specs.Fcs.{complement, entered, register, fcs, fresh, fed};
 ghost use Rattle.fcs.specs.Private.{little, behind};
 
 /// The check's register, for bytes that lie in several places.
-#[derive(Drop)]
+#[derive(Clone, Copy)]
 pub struct Register {
     pub bits: u16,
 }

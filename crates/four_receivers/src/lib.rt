@@ -12,7 +12,7 @@ use packet::Judged;
 use subchannel::{Configured, Lane, Sub};
 
 /// A sub-channel's state but for its cells.
-#[derive(Drop)]
+#[derive(Clone, Copy)]
 pub struct Seat {
     pub lane: Lane,
     /// Whether the interleaver's first pass is over.
@@ -22,7 +22,7 @@ pub struct Seat {
 }
 
 /// The receiver's state but for the cells.
-#[derive(Drop)]
+#[derive(Clone, Copy)]
 pub struct Receiver {
     pub a: Seat,
     pub b: Seat,
@@ -31,14 +31,14 @@ pub struct Receiver {
 }
 
 /// The result of configuring.
-#[derive(Drop)]
+#[derive(Clone, Copy)]
 pub struct Configuring {
     pub answer: Configured,
     pub receiver: Receiver,
 }
 
 /// The result of a call.
-#[derive(Drop)]
+#[derive(Clone, Copy)]
 pub struct Hearing {
     pub answer: Answer,
     /// Bytes of the piece taken.

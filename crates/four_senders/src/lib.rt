@@ -9,7 +9,7 @@ use base::{Refusal, Written};
 use subchannel_spec::{Configured, Settings};
 
 /// What the four sub-channels are told.
-#[derive(Drop)]
+#[derive(Clone, Copy)]
 pub struct Sender {
     pub a: Settings,
     pub b: Settings,
@@ -18,7 +18,7 @@ pub struct Sender {
 }
 
 /// The result of configuring.
-#[derive(Drop)]
+#[derive(Clone, Copy)]
 pub struct Configuring {
     pub answer: Configured,
     pub sender: Sender,

@@ -13,14 +13,14 @@ use base::{Refusal, Written};
 pub use interleaver_spec::{Back, Matrix, Step};
 
 /// What a push answers.
-#[derive(Drop)]
+#[derive(Clone, Copy)]
 pub struct Pushed {
     pub written: Written,
     pub matrix: Matrix,
 }
 
 /// What a pull answers.
-#[derive(Drop)]
+#[derive(Clone, Copy)]
 pub struct Pulled {
     pub written: Written,
     pub back: Back,

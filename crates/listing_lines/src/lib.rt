@@ -16,7 +16,7 @@ mod totals;
 pub use totals::Totals;
 
 /// Lines.
-#[derive(Drop)]
+#[derive(Clone, Copy)]
 pub struct Line;
 
 impl Line {

@@ -9,7 +9,7 @@ ghost use Rattle.parity.specs.Calls.{word_bytes, root_limit, at_powers, at_roots
 use base::{Refusal, Written};
 
 /// What the check of a word finds.
-#[derive(Drop)]
+#[derive(Clone, Copy)]
 pub enum Checked {
     Clean,
     Damaged,
@@ -18,7 +18,7 @@ pub enum Checked {
 }
 
 /// A word: a message, and its parity behind it.
-#[derive(Drop)]
+#[derive(Clone, Copy)]
 pub struct Word;
 
 impl Word {

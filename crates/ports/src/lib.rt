@@ -20,14 +20,14 @@ pub use distance::rule;
 pub use ports_spec::{Entry, Forgot, Noted};
 
 // A lent table, as a value: its length and its first 16 places.
-#[derive(Drop)]
+#[derive(Clone, Copy)]
 struct Table {
     places: usize,
     entries: [Entry; 16],
 }
 
 // What to answer and what to put where; a place behind the end puts nothing.
-#[derive(Drop)]
+#[derive(Clone, Copy)]
 struct Freeing {
     forgot: Forgot,
     place: usize,
@@ -35,7 +35,7 @@ struct Freeing {
 }
 
 // What to answer and what to put where; a place behind the end puts nothing.
-#[derive(Drop)]
+#[derive(Clone, Copy)]
 struct Noting {
     noted: Noted,
     place: usize,

@@ -5,7 +5,7 @@ ghost use Rattle.std.specs.Prelude.{◌≡◌};
 ghost use Rattle.ports_spec.specs.Range.{every_port, inside};
 
 /// A place of the table.
-#[derive(Drop)]
+#[derive(Clone, Copy)]
 pub struct Entry {
     pub held: bool,
     pub port: u16,
@@ -13,7 +13,7 @@ pub struct Entry {
 }
 
 /// What a delivered packet is to its port.
-#[derive(Drop)]
+#[derive(Clone, Copy)]
 pub enum Noted {
     First,
     InOrder,
@@ -26,7 +26,7 @@ pub enum Noted {
 }
 
 /// What becomes of a port to forget.
-#[derive(Drop)]
+#[derive(Clone, Copy)]
 pub enum Forgot {
     Forgotten,
     /// Refused, by this number of the paper.
@@ -34,7 +34,7 @@ pub enum Forgot {
 }
 
 /// Ports from the first to the last; none where the first is greater.
-#[derive(Drop)]
+#[derive(Clone, Copy)]
 pub struct Range {
     pub first: u16,
     pub last: u16,

@@ -11,7 +11,7 @@ mod places;
 mod rows;
 
 /// What repair finds of a word.
-#[derive(Drop)]
+#[derive(Clone, Copy)]
 pub enum Mended {
     Clean,
     /// So many places are changed.

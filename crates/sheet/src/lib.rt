@@ -16,14 +16,14 @@ mod rows;
 mod tally;
 
 /// The sheet: the first so many rows, a port each, in rising order.
-#[derive(Drop)]
+#[derive(Clone, Copy)]
 pub struct Sheet {
     pub ports: usize,
     pub rows: [Row; 16],
 }
 
 /// The sheet while a recording is counted.
-#[derive(Drop)]
+#[derive(Clone, Copy)]
 pub struct Draft {
     /// As it was.
     pub before: Sheet,
@@ -36,7 +36,7 @@ pub struct Draft {
 }
 
 /// What becomes of a recording.
-#[derive(Drop)]
+#[derive(Clone, Copy)]
 pub enum Counted {
     Counts,
     /// It does not end as a recording.
@@ -46,7 +46,7 @@ pub enum Counted {
 }
 
 /// What becomes of a recording, and the sheet then.
-#[derive(Drop)]
+#[derive(Clone, Copy)]
 pub struct Closed {
     pub counted: Counted,
     pub sheet: Sheet,

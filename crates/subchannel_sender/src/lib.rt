@@ -18,7 +18,7 @@ pub use subchannel_spec::Group;
 use subchannel_spec::Settings;
 
 /// How many groups a stream has.
-#[derive(Drop)]
+#[derive(Clone, Copy)]
 pub enum Counted {
     Groups(usize),
     /// The call is refused, by this number of the paper.
@@ -26,7 +26,7 @@ pub enum Counted {
 }
 
 /// The result of sending a group.
-#[derive(Drop)]
+#[derive(Clone, Copy)]
 pub struct Sent {
     pub written: Written,
     /// Bytes of the stream taken.

@@ -9,7 +9,7 @@ use interleaver_spec::Matrix;
 use parity::Word;
 
 /// A group: the marker, and four words behind it.
-#[derive(Drop)]
+#[derive(Clone, Copy)]
 pub struct Group;
 
 impl Group {
@@ -30,7 +30,7 @@ impl Group {
 }
 
 /// What a sub-channel is told.
-#[derive(Drop)]
+#[derive(Clone, Copy)]
 pub struct Settings {
     pub told: bool,
     /// Parity bytes of a word.
@@ -40,7 +40,7 @@ pub struct Settings {
 }
 
 /// What configuring answers.
-#[derive(Drop)]
+#[derive(Clone, Copy)]
 pub enum Configured {
     Done,
     /// The call is refused, by this number of the paper.
