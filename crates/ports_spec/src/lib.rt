@@ -5,7 +5,7 @@ ghost use Rattle.std.specs.Prelude.{◌≡◌};
 ghost use Rattle.ports_spec.specs.Range.{every_port, inside};
 
 /// A place of the table.
-#[derive(Drop)]
+#[derive(Clone, Copy)]
 pub struct Entry {
     pub held: bool,
     pub port: u16,
