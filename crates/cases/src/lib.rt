@@ -6,6 +6,7 @@
 //! follow. An answer: what is told, in numbers (8 bytes each), and all bytes of the output. Numbers stand low byte first; the output is lent
 //! filled with 0xA5; a refusal n is told as 65,536 + n.
 #![tactic(auto)]
+
 mod cut;
 
 use base::Written;

@@ -4,6 +4,7 @@
 //! byte first, of what is told: 0 first or forgotten, 1 in order, 2 repeated, 3 late, 0x10000 and how many are missing, 0x1000000 and the
 //! number of a refusal; and the 16 places then.
 #![tactic(auto)]
+
 use ports::{Entry, Forgot, Noted, Ports};
 use std::io;
 use std::io::{BufReader, BufWriter, Read, Write};
