@@ -1,11 +1,12 @@
 //! What several crates share: the answer of a call that writes, the copying of bytes, the bytes before the first of a kind.
 #![tactic(auto)]
+
 ghost use Rattle.std.specs.Prelude.{◌≡◌, ◌≤◌, min, length};
 ghost use Rattle.base.specs.Written.{copied};
 ghost use Rattle.base.specs.UpTo.{up_to};
 
 /// What a call that writes answers.
-#[derive(Drop)]
+#[derive(Clone, Copy)]
 pub enum Written {
     /// So many bytes are written.
     Wrote(usize),
@@ -14,7 +15,7 @@ pub enum Written {
 }
 
 /// The refusals of the paper and of its requests, by number; 9 and 33 are not used.
-#[derive(Drop)]
+#[derive(Clone, Copy)]
 pub struct Refusal;
 
 impl Refusal {

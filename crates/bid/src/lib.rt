@@ -1,12 +1,13 @@
 //! A line of the office's input, `PORT SEQUENCE TEXT`, read.
 #![tactic(auto)]
+
 ghost use Rattle.std.specs.Prelude.{◌≡◌};
 ghost use Rattle.bid.specs.Line.{number, number_from, reading};
 
 use packet::Packet;
 
 /// What a line is read as.
-#[derive(Drop)]
+#[derive(Clone, Copy)]
 pub enum Found {
     /// A bid, whose text begins at `from`.
     Bid {
@@ -19,7 +20,7 @@ pub enum Found {
 }
 
 /// Lines.
-#[derive(Drop)]
+#[derive(Clone, Copy)]
 pub struct Line;
 
 impl Line {

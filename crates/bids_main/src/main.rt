@@ -4,6 +4,7 @@
 //! before it are; where the output cannot be written, it is said and nothing more is read. Of a line that is sent, what the yards will make of it is
 //! said there too, as a warning (src/warnings.rt).
 #![tactic(auto)]
+
 mod naming;
 mod output;
 mod warnings;

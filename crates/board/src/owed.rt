@@ -9,7 +9,7 @@ use listing_lines::Line;
 use packet::Delivery;
 
 /// Text that is owed: the rest of a piece, and behind it perhaps a packet's text and the line feed that ends it.
-#[derive(Drop)]
+#[derive(Clone, Copy)]
 pub struct Owed {
     pub piece: Piece,
     /// Bytes of the piece that are out.
@@ -23,7 +23,7 @@ pub struct Owed {
 }
 
 // What is owed behind a part that is written.
-#[derive(Drop)]
+#[derive(Clone, Copy)]
 pub(crate) struct Put {
     pub owed: Owed,
     pub written: usize,

@@ -23,7 +23,7 @@ use ports_spec::Range;
 use recording::{Hearing, RecordingReader};
 
 /// A board.
-#[derive(Drop)]
+#[derive(Clone, Copy)]
 pub struct Readout {
     /// The bytes of an opportunistic channel come in as they are, and not those of a recording.
     pub bare: bool,
@@ -37,7 +37,7 @@ pub struct Readout {
 }
 
 /// What a call wants next.
-#[derive(Drop)]
+#[derive(Clone, Copy)]
 pub enum Wants {
     /// More bytes: all are taken, and all that they show is written.
     More,
@@ -48,7 +48,7 @@ pub enum Wants {
 }
 
 /// The result of a call.
-#[derive(Drop)]
+#[derive(Clone, Copy)]
 pub struct Took {
     pub wants: Wants,
     /// Bytes of the piece taken.

@@ -1,5 +1,6 @@
 //! The lines of the board, written in pieces: by value, so that a piece can be written in parts.
 #![tactic(auto)]
+
 ghost use Rattle.std.specs.Prelude.{◌≡◌, true, ◌<◌, [], ◌∷◌};
 ghost use Rattle.text.specs.Put.{Puts};
 ghost use Rattle.bid.specs.Line.{feed};
@@ -17,7 +18,7 @@ use ports::Noted;
 use text::{put_item, put_text};
 
 /// A piece of a text: the first so many bytes.
-#[derive(Drop)]
+#[derive(Clone, Copy)]
 pub struct Piece {
     pub bytes: [u8; Line::LONGEST],
     pub length: usize,

@@ -3,6 +3,7 @@
 //! ports from FIRST to LAST alone. Bytes are read as they come, and what they show is out before the next are read. Where something fails it says
 //! so on standard error and stops; where the input is no whole recording, it says so behind the last line.
 #![tactic(auto)]
+
 ghost use Rattle.std.specs.Prelude.{◌≤◌, length};
 
 use board::{Readout, Wants};

@@ -16,7 +16,7 @@ use packet::{Judged, Packet};
 use stream::Heard;
 
 /// How far a capture is read.
-#[derive(Drop)]
+#[derive(Clone, Copy)]
 pub enum CaptureReader {
     /// So many bytes of the header are right.
     Header(usize),
@@ -29,7 +29,7 @@ pub enum CaptureReader {
 }
 
 /// The result of a call.
-#[derive(Drop)]
+#[derive(Clone, Copy)]
 pub struct Read {
     pub heard: Heard,
     /// Bytes of the piece taken.
@@ -38,7 +38,7 @@ pub struct Read {
 }
 
 /// What the end of the file says.
-#[derive(Drop)]
+#[derive(Clone, Copy)]
 pub enum Ended {
     /// The file ends behind its header or behind a record.
     Whole,
@@ -47,7 +47,7 @@ pub enum Ended {
 }
 
 // What a byte gives.
-#[derive(Drop)]
+#[derive(Clone, Copy)]
 struct Step {
     // There is an answer.
     done: bool,

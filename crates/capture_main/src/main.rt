@@ -2,6 +2,7 @@
 //! they come, and a packet's record is out before the next are read. Where something fails, or the recording does not end as one, it says so on
 //! standard error; behind a wrong byte it reads no more.
 #![tactic(auto)]
+
 use capture::CaptureReader;
 use channel::Receiver;
 use console::say;

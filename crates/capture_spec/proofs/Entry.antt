@@ -22,7 +22,7 @@ use Rattle.packet_spec.specs.Contents.{Packet, packed, plainly, keyed, key_at, k
 use Rattle.packet_spec.specs.Escape.{escape}
 use Rattle.packet_spec.specs.Frame.{Told, packet, refusal, broken, judge_body, judge_contents}
 use Rattle.packet_spec.specs.Sender.{Accepted}
-use Rattle.packet_spec.proofs.Judging.{key_fits, body-ways}
+use Rattle.packet_spec.proofs.Judging.{key_fits_lem, body-ways}
 use Rattle.packet_spec.proofs.Round.{escape-least, packed-length, judge-contents}
 use Rattle.packet_spec.proofs.Only.{body-only}
 use Rattle.capture_spec.specs.Meaning.{or_none, entry, entry_limit}
@@ -87,7 +87,7 @@ body-most bs p =
     (λ e. absurd (packet-not e)) (λ e. absurd (packet-not e)) (λ e. absurd (packet-not e)) (λ e. absurd (packet-not e))
     (λ g b s e. omega (arith, s, escape-least (plainly bs).payload, length-drop 1 bs, length-drop 4 (drop 1 bs)))
     (λ g f b s e.
-    let k = key_fits bs f in
+    let k = key_fits_lem bs f in
     let at = key_at + key_length bs in
     omega (arith, k.1, s, escape-least (keyed bs).payload, length-drop at bs, length-drop 4 (drop at bs)))
 

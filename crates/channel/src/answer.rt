@@ -6,7 +6,7 @@ use crate::receiver::Receiver;
 use channel_spec::Answer;
 
 /// The result of a call.
-#[derive(Drop)]
+#[derive(Clone, Copy)]
 pub struct Hearing {
     pub answer: Answer,
     /// Bytes of the piece taken.
@@ -15,7 +15,7 @@ pub struct Hearing {
 }
 
 // What a phase of a call gives.
-#[derive(Drop)]
+#[derive(Clone, Copy)]
 pub(crate) struct Phase {
     // It ends the call.
     pub done: bool,

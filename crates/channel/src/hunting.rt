@@ -5,7 +5,7 @@ ghost use Rattle.channel.specs.Private.{shifts, hunted};
 use channel_spec::Hunting;
 
 // What hunting finds.
-#[derive(Drop)]
+#[derive(Clone, Copy)]
 pub(crate) struct Found {
     pub found: bool,
     // Bytes taken, the marker's last one among them.

@@ -6,7 +6,7 @@ ghost use Rattle.channel.specs.Call.{counts, sound_lock};
 use channel_spec::Block;
 
 /// Locked: bytes of a word, message bytes of it handed on, bytes of the next marker.
-#[derive(Drop)]
+#[derive(Clone, Copy)]
 pub struct Locked {
     pub word: usize,
     pub handed: usize,

@@ -24,7 +24,7 @@ use packet::Judged;
 use stream::{FrameReader, Heard};
 
 /// The receiver's state.
-#[derive(Drop)]
+#[derive(Clone, Copy)]
 pub struct Receiver {
     pub locked: bool,
     pub hunting: Hunting,

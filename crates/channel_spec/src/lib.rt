@@ -1,6 +1,7 @@
 //! What the opportunistic channel's bytes mean, as they are sent and as they are received without a limit, and the laws of whole streams and
 //! of altered blocks. Of code the types that it names, and the four hunted bytes; `channel_sender` sends, `channel` receives. Read specs/.
 #![tactic(auto)]
+
 ghost use Rattle.std.specs.Prelude.{◌≡◌};
 ghost use Rattle.channel_spec.specs.Meaning.{shift, is_marker, zeros};
 
@@ -8,7 +9,7 @@ use packet_spec::Judged;
 use parity::Word;
 
 /// Hunting: the last four bytes, the oldest first.
-#[derive(Drop)]
+#[derive(Clone, Copy)]
 pub struct Hunting {
     pub a: u8,
     pub b: u8,
@@ -17,7 +18,7 @@ pub struct Hunting {
 }
 
 /// How a whole word came in.
-#[derive(Drop)]
+#[derive(Clone, Copy)]
 pub enum Condition {
     Clean,
     /// So many bytes were put right.
@@ -27,7 +28,7 @@ pub enum Condition {
 }
 
 /// What a call answers.
-#[derive(Drop)]
+#[derive(Clone, Copy)]
 pub enum Answer {
     /// More is wanted.
     More,
@@ -39,7 +40,7 @@ pub enum Answer {
 }
 
 /// A block: the marker, and a word behind it.
-#[derive(Drop)]
+#[derive(Clone, Copy)]
 pub struct Block;
 
 impl Block {

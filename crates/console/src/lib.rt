@@ -2,6 +2,7 @@
 //! its number and in words. No contract can speak of what is read or written, so this promises nothing of it, and only programs stand on it; tests/
 //! compares what is said. docs/REFUSALS.md has each number with its cause and what to do.
 #![tactic(auto)]
+
 ghost use Rattle.std.specs.Prelude.{◌≤◌};
 
 use base::{Refusal, Written};

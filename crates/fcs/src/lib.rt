@@ -1,11 +1,12 @@
 //! The check of a frame: the 16-bit FCS of RFC 1662.
 #![tactic(auto)]
+
 ghost use Rattle.std.specs.Prelude.{◌≡◌, ◌+◌, ◌≤◌, length, take, drop};
 ghost use Rattle.fcs.specs.Fcs.{complement, entered, register, fcs, fresh, fed};
 ghost use Rattle.fcs.specs.Private.{little, behind};
 
 /// The check's register, for bytes that lie in several places.
-#[derive(Drop)]
+#[derive(Clone, Copy)]
 pub struct Register {
     pub bits: u16,
 }

@@ -2,6 +2,7 @@
 //! as its bytes are in, the closing push behind them. `fixed list R DEPTH`: received bytes on standard input; a line of each answer goes to
 //! standard output as it comes, the totals behind them. Where something fails it says so on standard error and stops.
 #![tactic(auto)]
+
 mod listing;
 mod sending;
 

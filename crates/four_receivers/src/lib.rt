@@ -1,5 +1,6 @@
 //! One to four fixed sub-channels: the receiver. What is small of its state goes by value, the interleavers' cells are lent: they are 64 KiB.
 #![tactic(auto)]
+
 ghost use Rattle.std.specs.Prelude.{◌≡◌, []};
 ghost use Rattle.four_receivers.specs.Call.{seated, seat, whole, seats, fresh_receiver, get, put, sound_four, known};
 ghost use Rattle.four_receivers.specs.Call.{configuring, ConfiguringIs, hear_four, FourIs};
@@ -12,7 +13,7 @@ use packet::Judged;
 use subchannel::{Configured, Lane, Sub};
 
 /// A sub-channel's state but for its cells.
-#[derive(Drop)]
+#[derive(Clone, Copy)]
 pub struct Seat {
     pub lane: Lane,
     /// Whether the interleaver's first pass is over.
@@ -22,7 +23,7 @@ pub struct Seat {
 }
 
 /// The receiver's state but for the cells.
-#[derive(Drop)]
+#[derive(Clone, Copy)]
 pub struct Receiver {
     pub a: Seat,
     pub b: Seat,
@@ -31,14 +32,14 @@ pub struct Receiver {
 }
 
 /// The result of configuring.
-#[derive(Drop)]
+#[derive(Clone, Copy)]
 pub struct Configuring {
     pub answer: Configured,
     pub receiver: Receiver,
 }
 
 /// The result of a call.
-#[derive(Drop)]
+#[derive(Clone, Copy)]
 pub struct Hearing {
     pub answer: Answer,
     /// Bytes of the piece taken.

@@ -1,5 +1,6 @@
 //! One to four fixed sub-channels: the sender.
 #![tactic(auto)]
+
 ghost use Rattle.std.specs.Prelude.{◌≡◌};
 ghost use Rattle.base.specs.Written.{outcome};
 ghost use Rattle.subchannel_spec.specs.Settings.{settings};
@@ -9,7 +10,7 @@ use base::{Refusal, Written};
 use subchannel_spec::{Configured, Settings};
 
 /// What the four sub-channels are told.
-#[derive(Drop)]
+#[derive(Clone, Copy)]
 pub struct Sender {
     pub a: Settings,
     pub b: Settings,
@@ -18,7 +19,7 @@ pub struct Sender {
 }
 
 /// The result of configuring.
-#[derive(Drop)]
+#[derive(Clone, Copy)]
 pub struct Configuring {
     pub answer: Configured,
     pub sender: Sender,

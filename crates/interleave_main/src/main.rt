@@ -2,6 +2,7 @@
 //! sender and ends with the closing push, `pull` the receiving side. Each piece goes on as it comes. Where something fails it says so on
 //! standard error and stops.
 #![tactic(auto)]
+
 use console::say;
 use interleaver::{Back, Matrix, Pulled, Pushed};
 use libc::STDIN_FILENO;

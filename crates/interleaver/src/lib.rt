@@ -1,5 +1,6 @@
 //! The byte interleaver, running: each write is followed at once by a read.
 #![tactic(auto)]
+
 ghost use Rattle.std.specs.Prelude.{◌≡◌, false, ◌+◌, ◌*◌, ◌≤◌, ◌<◌, length};
 ghost use Rattle.base.specs.Calls.{run};
 ghost use Rattle.base.specs.Written.{outcome};
@@ -13,14 +14,14 @@ use base::{Refusal, Written};
 pub use interleaver_spec::{Back, Matrix, Step};
 
 /// What a push answers.
-#[derive(Drop)]
+#[derive(Clone, Copy)]
 pub struct Pushed {
     pub written: Written,
     pub matrix: Matrix,
 }
 
 /// What a pull answers.
-#[derive(Drop)]
+#[derive(Clone, Copy)]
 pub struct Pulled {
     pub written: Written,
     pub back: Back,

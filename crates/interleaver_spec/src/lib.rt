@@ -3,7 +3,7 @@
 #![tactic(auto)]
 
 /// The sender's side: the place whose turn it is, and the cells, up to 64 rows of 255.
-#[derive(Drop)]
+#[derive(Clone, Copy)]
 pub struct Matrix {
     pub place: usize,
     pub cells: [u8; Matrix::CELLS],
@@ -19,14 +19,14 @@ impl Matrix {
 }
 
 /// Of a place: the cell that its output is read from, and the place behind it.
-#[derive(Drop)]
+#[derive(Clone, Copy)]
 pub struct Step {
     pub cell: usize,
     pub next: usize,
 }
 
 /// The receiving side: whether its first pass is over, its place and cells.
-#[derive(Drop)]
+#[derive(Clone, Copy)]
 pub struct Back {
     pub again: bool,
     pub matrix: Matrix,

@@ -14,14 +14,14 @@ use listing_lines::{Line, Totals};
 use recording::RecordingReader;
 
 /// A recording that is being listed.
-#[derive(Drop)]
+#[derive(Clone, Copy)]
 pub struct Lister {
     pub tape: RecordingReader,
     pub totals: Totals,
 }
 
 /// What a call wants next.
-#[derive(Drop)]
+#[derive(Clone, Copy)]
 pub enum Wants {
     /// More bytes: all are taken, and no answer is owed.
     More,
@@ -32,7 +32,7 @@ pub enum Wants {
 }
 
 /// The result of a call.
-#[derive(Drop)]
+#[derive(Clone, Copy)]
 pub struct Took {
     pub wants: Wants,
     /// Bytes of the piece taken.
@@ -43,7 +43,7 @@ pub struct Took {
 }
 
 // What a step of a call gives: one line at most.
-#[derive(Drop)]
+#[derive(Clone, Copy)]
 struct Step {
     // It ends the call.
     done: bool,

@@ -9,7 +9,7 @@ use listing_spec::Total;
 use packet::Judged;
 
 /// Totals; none passes 2^64 - 1.
-#[derive(Drop)]
+#[derive(Clone, Copy)]
 pub struct Totals {
     pub packets: u64,
     pub refused: u64,

@@ -1,6 +1,7 @@
 //! Lists the recording on standard input, on standard output. Where one of them fails it says so on standard error and stops,
 //! without a last line. Where the last line is `X`, it stands on standard error too. Behind a wrong byte it reads no more.
 #![tactic(auto)]
+
 ghost use Rattle.std.specs.Prelude.{◌≤◌, length};
 
 use channel::Receiver;

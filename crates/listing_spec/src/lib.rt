@@ -2,7 +2,7 @@
 #![tactic(auto)]
 
 /// What the next byte of a recording is.
-#[derive(Drop)]
+#[derive(Clone, Copy)]
 pub enum Place {
     /// The byte that says which stream it is.
     Mode,
@@ -20,7 +20,7 @@ pub enum Place {
     Wrong,
 }
 
-#[derive(Drop)]
+#[derive(Clone, Copy)]
 pub struct Spot {
     pub place: Place,
     /// Bytes of the recording, up to the first wrong one.
@@ -30,7 +30,7 @@ pub struct Spot {
 }
 
 /// The total that an answer counts in.
-#[derive(Drop)]
+#[derive(Clone, Copy)]
 pub enum Total {
     Packets,
     Refusals,

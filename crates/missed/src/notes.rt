@@ -12,7 +12,7 @@ use ports_spec::Range;
 use recording::{Found, RecordingReader};
 
 /// A recording whose packets of a range of ports are noted.
-#[derive(Drop)]
+#[derive(Clone, Copy)]
 pub struct Notes {
     pub tape: RecordingReader,
     pub ports: Ports,
@@ -20,7 +20,7 @@ pub struct Notes {
 }
 
 /// What a call wants next.
-#[derive(Drop)]
+#[derive(Clone, Copy)]
 pub enum Wants {
     /// More bytes: all are taken, and no line is owed.
     More,
@@ -31,7 +31,7 @@ pub enum Wants {
 }
 
 /// The result of a call.
-#[derive(Drop)]
+#[derive(Clone, Copy)]
 pub struct Took {
     pub wants: Wants,
     /// Bytes of the piece taken.

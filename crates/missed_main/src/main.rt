@@ -2,6 +2,7 @@
 //! a line of it on standard output: its port, its sequence number, and what it is to that port. Where something fails, or the recording does not end
 //! as one, it says so on standard error; behind a wrong byte it reads no more.
 #![tactic(auto)]
+
 use channel::Receiver;
 use console::{LAST_PORT, say};
 use libc::STDIN_FILENO;

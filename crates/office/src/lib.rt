@@ -1,5 +1,6 @@
 //! The office's sender: lines of bids in, marked blocks out, any cutting of the input, in constant memory.
 #![tactic(auto)]
+
 ghost use Rattle.std.specs.Prelude.{◌≡◌, true, ◌+◌, ◌-◌, ◌≤◌, min, length, take};
 ghost use Rattle.std.proofs.lemmas.List.Edits.{sets};
 ghost use Rattle.base.specs.Written.{outcome};
@@ -17,7 +18,7 @@ use channel_spec::Block;
 use packet::Packet;
 
 /// The sender's state.
-#[derive(Drop)]
+#[derive(Clone, Copy)]
 pub struct Office {
     /// Lines ended.
     pub lines: u64,
@@ -28,7 +29,7 @@ pub struct Office {
 }
 
 /// What the start answers.
-#[derive(Drop)]
+#[derive(Clone, Copy)]
 pub enum Started {
     /// One flag is held.
     Ready(Office),
@@ -37,7 +38,7 @@ pub enum Started {
 }
 
 /// What a call answers; the line's number is then `lines` of the state.
-#[derive(Drop)]
+#[derive(Clone, Copy)]
 pub enum Answer {
     /// More is wanted.
     More,
@@ -50,7 +51,7 @@ pub enum Answer {
 }
 
 /// The result of a call.
-#[derive(Drop)]
+#[derive(Clone, Copy)]
 pub struct Hearing {
     pub answer: Answer,
     /// Bytes of the piece taken.
@@ -59,7 +60,7 @@ pub struct Hearing {
 }
 
 // What a line's end gives.
-#[derive(Drop)]
+#[derive(Clone, Copy)]
 struct Ended {
     answer: Answer,
     // Stream bytes held then.

@@ -8,7 +8,7 @@ use base::Refusal;
 use packet_spec::{Delivery, Escapes, Judged};
 
 /// The numbers of packets and frames.
-#[derive(Drop)]
+#[derive(Clone, Copy)]
 pub struct Packet;
 
 impl Packet {

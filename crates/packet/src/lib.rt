@@ -1,5 +1,6 @@
 //! Packets: one closed frame judged, one packet written, and the classes of ports.
 #![tactic(auto)]
+
 mod escape;
 mod frame;
 mod port;

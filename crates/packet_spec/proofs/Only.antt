@@ -24,7 +24,7 @@ use Rattle.packet_spec.specs.Frame.{Told, packet, refusal, broken, kept, judge_b
 use Rattle.packet_spec.specs.Sender.{head_fits, Accepted}
 use Rattle.packet_spec.specs.declared.Escapes.{Escapes}
 use Rattle.packet_spec.specs.declared.Escapes.TheVariants.{Right, Unfinished, Wrong}
-use Rattle.packet_spec.proofs.Judging.{key_fits, body-ways}
+use Rattle.packet_spec.proofs.Judging.{key_fits_lem, body-ways}
 
 -- two bytes are those of their number
 two-pair : (x y : ℕ) → x < 256 → y < 256 → two (pair x y) ≡ x ∷ y ∷ []
@@ -103,7 +103,7 @@ only-keyed (b ∷ k ∷ n ∷ l) h e (low, high, long) f s =
 pub body-only : (bs : List ℕ) → Bytes bs → 6 ≤ length bs → (p : Packet) → judge_body bs ≡ packet p → (packed p ≡ bs) × Accepted p
 body-only bs h n p e =
     subst (λ (t : Told). Only t bs) e
-    (body-ways bs (λ (t : Told). Only t bs) tt tt tt tt (only-plain bs h n) (λ f k. only-keyed bs h f (key_fits bs k)))
+    (body-ways bs (λ (t : Told). Only t bs) tt tt tt tt (only-plain bs h n) (λ f k. only-keyed bs h f (key_fits_lem bs k)))
 
 -- ---- with the check
 last-two : (bs : List ℕ) → Bytes bs → 2 ≤ length bs → two (pair_at bs (length bs - 2)) ≡ drop (length bs - 2) bs

@@ -3,7 +3,7 @@
 #![tactic(auto)]
 
 /// The classes of ports.
-#[derive(Drop)]
+#[derive(Clone, Copy)]
 pub enum Class {
     System,
     Applications,
@@ -15,7 +15,7 @@ pub enum Class {
 }
 
 /// What the escapes of raw bytes are.
-#[derive(Drop)]
+#[derive(Clone, Copy)]
 pub enum Escapes {
     Right,
     /// The last raw byte is 7D.
@@ -25,7 +25,7 @@ pub enum Escapes {
 }
 
 /// A packet as it is told of; its key and its payload are parts of the receive buffer.
-#[derive(Drop)]
+#[derive(Clone, Copy)]
 pub struct Delivery {
     pub format: u8,
     /// The key's number; 0 in format 0x21.
@@ -39,7 +39,7 @@ pub struct Delivery {
 }
 
 /// What a closed frame is judged to be.
-#[derive(Drop)]
+#[derive(Clone, Copy)]
 pub enum Judged {
     Packet(Delivery),
     /// Refused, by this number of the paper.

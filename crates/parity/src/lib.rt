@@ -1,5 +1,6 @@
 //! Parity words of 255 bytes: parity made, a word's values at its roots, and a word checked.
 #![tactic(auto)]
+
 ghost use Rattle.std.specs.Prelude.{◌≡◌, ◌∷◌, ◌++◌, ◌+◌, ◌-◌, ◌≤◌, length, take, drop, replicate};
 ghost use Rattle.base.specs.Written.{copied, outcome};
 ghost use Rattle.word_spec.specs.Word.{values_from, clean, scale, onto, generator, divide, remainder};
@@ -9,7 +10,7 @@ ghost use Rattle.parity.specs.Calls.{word_bytes, root_limit, at_powers, at_roots
 use base::{Refusal, Written};
 
 /// What the check of a word finds.
-#[derive(Drop)]
+#[derive(Clone, Copy)]
 pub enum Checked {
     Clean,
     Damaged,
@@ -18,7 +19,7 @@ pub enum Checked {
 }
 
 /// A word: a message, and its parity behind it.
-#[derive(Drop)]
+#[derive(Clone, Copy)]
 pub struct Word;
 
 impl Word {

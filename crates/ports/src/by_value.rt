@@ -7,20 +7,20 @@ use crate::places::is_twice;
 use crate::{Entry, Forgot, Noted, Table, decide_forget, decide_note};
 
 /// A table of 16 places, by value.
-#[derive(Drop)]
+#[derive(Clone, Copy)]
 pub struct Ports {
     pub entries: [Entry; 16],
 }
 
 /// What is noted, and the table then.
-#[derive(Drop)]
+#[derive(Clone, Copy)]
 pub struct NotedIn {
     pub noted: Noted,
     pub ports: Ports,
 }
 
 /// What is forgotten, and the table then.
-#[derive(Drop)]
+#[derive(Clone, Copy)]
 pub struct ForgotIn {
     pub forgot: Forgot,
     pub ports: Ports,

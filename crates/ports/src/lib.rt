@@ -1,5 +1,6 @@
 //! Which bids did we miss (request W1): a small table of ports, each with its last sequence number.
 #![tactic(auto)]
+
 ghost use Rattle.std.specs.Prelude.{◌≡◌, List, get_or, set};
 ghost use Rattle.ports_spec.specs.Ports.{freed, noting, forgetting};
 ghost use Rattle.ports.specs.Private.{table_of, freeing_of, noting_of, unfreed, unnoted};
@@ -20,14 +21,14 @@ pub use distance::rule;
 pub use ports_spec::{Entry, Forgot, Noted};
 
 // A lent table, as a value: its length and its first 16 places.
-#[derive(Drop)]
+#[derive(Clone, Copy)]
 struct Table {
     places: usize,
     entries: [Entry; 16],
 }
 
 // What to answer and what to put where; a place behind the end puts nothing.
-#[derive(Drop)]
+#[derive(Clone, Copy)]
 struct Freeing {
     forgot: Forgot,
     place: usize,
@@ -35,7 +36,7 @@ struct Freeing {
 }
 
 // What to answer and what to put where; a place behind the end puts nothing.
-#[derive(Drop)]
+#[derive(Clone, Copy)]
 struct Noting {
     noted: Noted,
     place: usize,

@@ -1,6 +1,7 @@
 //! What a packet's sequence number is to the last one of its port (request W1), a small table of ports, and the laws of both; a range of ports.
 //! Of code the types that it names, and the range's two functions; `ports` keeps such tables. Read specs/.
 #![tactic(auto)]
+
 ghost use Rattle.std.specs.Prelude.{◌≡◌};
 ghost use Rattle.ports_spec.specs.Range.{every_port, inside};
 
@@ -13,7 +14,7 @@ pub struct Entry {
 }
 
 /// What a delivered packet is to its port.
-#[derive(Drop)]
+#[derive(Clone, Copy)]
 pub enum Noted {
     First,
     InOrder,
@@ -26,7 +27,7 @@ pub enum Noted {
 }
 
 /// What becomes of a port to forget.
-#[derive(Drop)]
+#[derive(Clone, Copy)]
 pub enum Forgot {
     Forgotten,
     /// Refused, by this number of the paper.
@@ -34,7 +35,7 @@ pub enum Forgot {
 }
 
 /// Ports from the first to the last; none where the first is greater.
-#[derive(Drop)]
+#[derive(Clone, Copy)]
 pub struct Range {
     pub first: u16,
     pub last: u16,

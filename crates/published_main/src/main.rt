@@ -1,6 +1,7 @@
 //! Published values, computed by the proved code; the file stdout beside src/ has them as published. Where they cannot be written it says so on standard
 //! error and stops.
 #![tactic(auto)]
+
 use fcs::Register;
 use libc::{STDERR_FILENO, STDOUT_FILENO};
 

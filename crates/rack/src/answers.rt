@@ -10,7 +10,7 @@ use packet::{Delivery, Judged};
 use stream::{FrameReader, Heard};
 
 // The numbers of answers; those below are the paper's, and 0 is "more wanted".
-#[derive(Drop)]
+#[derive(Clone, Copy)]
 pub(crate) struct Number;
 
 impl Number {
@@ -29,7 +29,7 @@ impl Number {
 }
 
 // An answer by its number, and what it tells besides; zeros where it tells nothing.
-#[derive(Drop)]
+#[derive(Clone, Copy)]
 pub(crate) struct Numbered {
     pub number: usize,
     pub delivery: Delivery,

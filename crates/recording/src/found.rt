@@ -6,7 +6,7 @@ use channel::Answer;
 use packet::{Delivery, Judged};
 
 /// What is found.
-#[derive(Drop)]
+#[derive(Clone, Copy)]
 pub enum Found {
     /// More bytes are wanted: all are taken, and no packet is owed.
     More,

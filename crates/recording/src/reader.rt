@@ -21,7 +21,7 @@ use packet::Judged;
 use stream::Heard;
 
 /// Where a recording stands, which stream it is, and the receiver; of a plain stream the receiver's frame reader hears.
-#[derive(Drop)]
+#[derive(Clone, Copy)]
 pub struct RecordingReader {
     pub spot: Spot,
     pub channel: bool,
@@ -29,7 +29,7 @@ pub struct RecordingReader {
 }
 
 /// What a call on a recording's bytes gives.
-#[derive(Drop)]
+#[derive(Clone, Copy)]
 pub struct Hearing {
     pub answer: Answer,
     /// Bytes of the piece taken.
@@ -38,7 +38,7 @@ pub struct Hearing {
 }
 
 /// What a call for a recording's next packet gives.
-#[derive(Drop)]
+#[derive(Clone, Copy)]
 pub struct NextPacket {
     pub found: Found,
     /// Bytes of the piece taken.
@@ -47,7 +47,7 @@ pub struct NextPacket {
 }
 
 // What a turn of a call gives.
-#[derive(Drop)]
+#[derive(Clone, Copy)]
 struct Turn {
     // It ends the call.
     done: bool,

@@ -9,7 +9,7 @@ ghost use Rattle.recording.specs.Private.{left_at, run_of, on_to, skipped};
 use listing_spec::{Place, Spot};
 
 /// The fixed numbers of a recording.
-#[derive(Drop)]
+#[derive(Clone, Copy)]
 pub(crate) struct Bytes;
 
 impl Bytes {

@@ -4,7 +4,7 @@ ghost use Rattle.parity.specs.Calls.{root_limit};
 ghost use Rattle.repair.specs.Way.{dot, windows, pivot, normal, reduced, extended, solve, locator};
 
 // A solution: the first n numbers of v. There is none where n is 0.
-#[derive(Drop)]
+#[derive(Clone, Copy)]
 pub struct Found {
     pub n: usize,
     pub v: [u8; 33],

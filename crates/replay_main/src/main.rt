@@ -2,6 +2,7 @@
 //! its own and each packet in one. Bytes are read as they come, and a packet's record is out before the next are read. Where the capture is
 //! refused, or something fails, it says so on standard error and stops; what came before is there.
 #![tactic(auto)]
+
 use base::{Refusal, Written};
 use capture::{CaptureReader, Ended};
 use console::say;

@@ -1,5 +1,6 @@
 //! The monthly reception sheet (request W13): a line for each port, counted from the delivered packets of many recordings.
 #![tactic(auto)]
+
 ghost use Rattle.std.specs.Prelude.{◌≡◌};
 ghost use Rattle.base.specs.Written.{outcome};
 ghost use Rattle.sheet.specs.Call.{fresh_sheet, tidied, beginning, adding, noting, closing, printing};
@@ -16,14 +17,14 @@ mod rows;
 mod tally;
 
 /// The sheet: the first so many rows, a port each, in rising order.
-#[derive(Drop)]
+#[derive(Clone, Copy)]
 pub struct Sheet {
     pub ports: usize,
     pub rows: [Row; 16],
 }
 
 /// The sheet while a recording is counted.
-#[derive(Drop)]
+#[derive(Clone, Copy)]
 pub struct Draft {
     /// As it was.
     pub before: Sheet,
@@ -36,7 +37,7 @@ pub struct Draft {
 }
 
 /// What becomes of a recording.
-#[derive(Drop)]
+#[derive(Clone, Copy)]
 pub enum Counted {
     Counts,
     /// It does not end as a recording.
@@ -46,7 +47,7 @@ pub enum Counted {
 }
 
 /// What becomes of a recording, and the sheet then.
-#[derive(Drop)]
+#[derive(Clone, Copy)]
 pub struct Closed {
     pub counted: Counted,
     pub sheet: Sheet,

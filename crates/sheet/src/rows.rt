@@ -9,7 +9,7 @@ use crate::tally::{blank, clear};
 use sheet_spec::Row;
 
 /// Where a packet's row stands or is to stand, whether it is new, the row before it, and how many rows there are then.
-#[derive(Drop)]
+#[derive(Clone, Copy)]
 pub(crate) struct Found {
     pub at: usize,
     pub new: bool,

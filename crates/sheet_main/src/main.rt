@@ -2,6 +2,7 @@
 //! prints a line for each port on standard output. On standard error it says which recordings do not count, and why; with `progress` also which one
 //! it is at. Behind a wrong byte of a recording it reads no more of it.
 #![tactic(auto)]
+
 use channel::Receiver;
 use console::{LAST_PORT, say};
 use ports_spec::Range;

@@ -2,7 +2,7 @@
 #![tactic(auto)]
 
 /// A port's numbers.
-#[derive(Drop)]
+#[derive(Clone, Copy)]
 pub struct Tally {
     /// Packets delivered.
     pub delivered: u64,
@@ -14,7 +14,7 @@ pub struct Tally {
 }
 
 /// A port's line, and what the recording that is being counted has said of the port.
-#[derive(Drop)]
+#[derive(Clone, Copy)]
 pub struct Row {
     pub port: u16,
     pub tally: Tally,

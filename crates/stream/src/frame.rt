@@ -10,7 +10,7 @@ use base::Refusal;
 use packet::{Delivery, Judged, Packet};
 
 /// The reader's state.
-#[derive(Drop)]
+#[derive(Clone, Copy)]
 pub struct FrameReader {
     /// A flag was seen.
     pub opened: bool,
@@ -23,7 +23,7 @@ pub struct FrameReader {
 }
 
 /// What a call answers.
-#[derive(Drop)]
+#[derive(Clone, Copy)]
 pub enum Heard {
     /// More is wanted.
     More,
@@ -32,7 +32,7 @@ pub enum Heard {
 }
 
 /// The result of a call.
-#[derive(Drop)]
+#[derive(Clone, Copy)]
 pub struct Read {
     pub heard: Heard,
     /// Bytes of the piece taken.
@@ -41,7 +41,7 @@ pub struct Read {
 }
 
 // What a run of bytes and the flag behind it give.
-#[derive(Drop)]
+#[derive(Clone, Copy)]
 struct Turn {
     // The flag gave an answer.
     done: bool,

@@ -6,7 +6,7 @@ ghost use Rattle.subchannel.specs.Private.{TurnedIs};
 use interleaver::Matrix;
 
 // What a received byte brings.
-#[derive(Drop)]
+#[derive(Clone, Copy)]
 pub(crate) struct Turned {
     pub brought: bool,
     // The byte that it brings, else 0.

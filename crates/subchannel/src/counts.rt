@@ -5,7 +5,7 @@ ghost use Rattle.subchannel.specs.Call.{counts, sound_counts};
 use crate::sub::Sub;
 
 /// Bytes of the group, bytes of the next marker; bytes in the word buffer, message bytes of it handed on.
-#[derive(Drop)]
+#[derive(Clone, Copy)]
 pub struct Counts {
     pub group: usize,
     pub marker: usize,

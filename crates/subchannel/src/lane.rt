@@ -30,7 +30,7 @@ use stream::{FrameReader, Heard};
 use subchannel_spec::Settings;
 
 /// The state but for the cells.
-#[derive(Drop)]
+#[derive(Clone, Copy)]
 pub struct Lane {
     pub settings: Settings,
     pub locked: bool,
@@ -42,7 +42,7 @@ pub struct Lane {
 }
 
 // What a step gives that does not touch the cells.
-#[derive(Drop)]
+#[derive(Clone, Copy)]
 pub(crate) struct Step {
     // It ends the call.
     pub done: bool,
@@ -51,7 +51,7 @@ pub(crate) struct Step {
 }
 
 // What one new byte gives: all but the cells.
-#[derive(Drop)]
+#[derive(Clone, Copy)]
 pub(crate) struct Eaten {
     // It ends the call.
     pub done: bool,

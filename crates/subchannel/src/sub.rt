@@ -17,7 +17,7 @@ use stream::FrameReader;
 use subchannel_spec::{Configured, Group, Settings};
 
 /// The state of one sub-channel.
-#[derive(Drop)]
+#[derive(Clone, Copy)]
 pub struct Sub {
     pub lane: Lane,
     /// The interleaver's receiving side.
@@ -25,14 +25,14 @@ pub struct Sub {
 }
 
 /// The result of telling a sub-channel its settings.
-#[derive(Drop)]
+#[derive(Clone, Copy)]
 pub struct Telling {
     pub answer: Configured,
     pub sub: Sub,
 }
 
 /// The result of a call.
-#[derive(Drop)]
+#[derive(Clone, Copy)]
 pub struct Hearing {
     pub answer: Answer,
     /// Bytes of the piece taken.

@@ -1,5 +1,6 @@
 //! The sender of a fixed sub-channel: words in groups of four, interleaved, and the marker before each group.
 #![tactic(auto)]
+
 ghost use Rattle.std.specs.Prelude.{◌≡◌, false, ◌+◌, ◌*◌, ◌≤◌, ◌/◌, length, take, replicate};
 ghost use Rattle.base.specs.Calls.{joined};
 ghost use Rattle.base.specs.Written.{outcome, copied};
@@ -18,7 +19,7 @@ pub use subchannel_spec::Group;
 use subchannel_spec::Settings;
 
 /// How many groups a stream has.
-#[derive(Drop)]
+#[derive(Clone, Copy)]
 pub enum Counted {
     Groups(usize),
     /// The call is refused, by this number of the paper.
@@ -26,7 +27,7 @@ pub enum Counted {
 }
 
 /// The result of sending a group.
-#[derive(Drop)]
+#[derive(Clone, Copy)]
 pub struct Sent {
     pub written: Written,
     /// Bytes of the stream taken.

@@ -1,6 +1,7 @@
 //! What fixed sub-channels send and what they make of received bytes, and the laws of both. Of code the types that it names, and whether settings
 //! are within their limits. Read specs/.
 #![tactic(auto)]
+
 ghost use Rattle.std.specs.Prelude.{◌≡◌};
 ghost use Rattle.subchannel_spec.specs.Settings.{within};
 
@@ -9,7 +10,7 @@ use interleaver_spec::Matrix;
 use parity::Word;
 
 /// A group: the marker, and four words behind it.
-#[derive(Drop)]
+#[derive(Clone, Copy)]
 pub struct Group;
 
 impl Group {
@@ -30,7 +31,7 @@ impl Group {
 }
 
 /// What a sub-channel is told.
-#[derive(Drop)]
+#[derive(Clone, Copy)]
 pub struct Settings {
     pub told: bool,
     /// Parity bytes of a word.
@@ -40,7 +41,7 @@ pub struct Settings {
 }
 
 /// What configuring answers.
-#[derive(Drop)]
+#[derive(Clone, Copy)]
 pub enum Configured {
     Done,
     /// The call is refused, by this number of the paper.

@@ -14,7 +14,7 @@ use borrow.Author.Tests.{eq-eqb, ne_eqb, lt-ltb, le-ltb}
 use Rattle.base.specs.Choice.{pick}
 use Rattle.base.proofs.Tests.{by_le}
 use Rattle.unit_spec.specs.Unit.{marked, filled, hidden, zeros}
-use Rattle.unit_spec.proofs.Hidden.{hidden-is}
+use Rattle.unit_spec.proofs.Hiding.{hidden-is}
 use Rattle.unit.proofs.Contents.{length_some}
 
 pub no-audio : (n a o f : ℕ) → n < a → true ≡ ltb n (a + pick (eqb o 0) 0 (5 + o) + f)

@@ -3,7 +3,7 @@ ghost use Rattle.std.specs.Prelude.{◌≡◌, true, ◌-◌, ◌≤◌, ◌<◌
 ghost use Rattle.unit_spec.specs.Tables.{most, most_bytes, sequence, heads, start, step, payload, lent, unfit};
 
 // Lengths of units, in bits.
-#[derive(Drop)]
+#[derive(Clone, Copy)]
 struct Length;
 
 impl Length {
@@ -14,7 +14,7 @@ impl Length {
 }
 
 /// The header sequences of table 5-3 that are not reserved.
-#[derive(Drop)]
+#[derive(Clone, Copy)]
 pub struct Header;
 
 impl Header {

@@ -5,6 +5,7 @@
 //! Of a file the first 65,536 bytes are read: no unit holds as many, so the answer is that of the whole file. A number counts up to
 //! 1,000,000,000,000: whatever is above is above every length.
 #![tactic(auto)]
+
 use base::Written;
 use console::{is_argument, say};
 

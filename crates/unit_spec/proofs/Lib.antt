@@ -4,7 +4,7 @@ pub mod Packing
 pub mod Delimiter
 pub mod Rows
 pub mod Bits
-pub mod Hidden
+pub mod Hiding
 pub mod Sequences
 pub mod Carrying
 pub mod Ways

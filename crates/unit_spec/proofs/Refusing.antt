@@ -28,7 +28,7 @@ use Rattle.unit_spec.specs.Tables.{most, cw0, cw1, cw2, cw3, cw4, sequence, anno
 use Rattle.unit_spec.specs.Unit.{begins, opened, hidden, zeros}
 use Rattle.unit_spec.specs.Reading.{is_header, named}
 use Rattle.unit_spec.specs.Refusing.{Unfit, NoMix, Early, EarlyShort, no_audio, no_fixed, Disagree, Unmarked}
-use Rattle.unit_spec.proofs.Hidden.{zeros-are, hidden-is}
+use Rattle.unit_spec.proofs.Hiding.{zeros-are, hidden-is}
 use Rattle.unit_spec.proofs.Sequences.{mix, sequence-mix}
 
 -- ---- 50

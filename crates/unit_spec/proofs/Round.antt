@@ -20,7 +20,7 @@ use Rattle.unit_spec.specs.Unit.{opened, marked, filled, laid_out, written}
 use Rattle.unit_spec.specs.Reading.{named, middle, read_parts, read_unit}
 use Rattle.unit_spec.proofs.Rows.{accepted}
 use Rattle.unit_spec.proofs.Sequences.{told, announces, same-mix}
-use Rattle.unit_spec.proofs.Hidden.{opened-seen, seen_of}
+use Rattle.unit_spec.proofs.Hiding.{opened-seen, seen_of}
 use Rattle.unit_spec.proofs.Carrying.{length-unit, header-unit, payload-unit}
 use Rattle.unit_spec.proofs.Ways.{mixed, whole, Writes, written_is, writes, read_plain, read_found, read_is}
 

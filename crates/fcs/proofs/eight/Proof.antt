@@ -9,23 +9,23 @@ use Rattle.fcs.proofs.Eights.{little-none, little-fits, little-more}
 use Rattle.fcs.proofs.eight.Statement.{statement}
 use Rattle.fcs.proofs.eight.Tie as tie
 
-abbrev invariant-loop : tie.invariant-loop
-invariant-loop bytes at n₀ i₀ n i = (i ≤ 8) × (n ≡ little (drop i (take 8 (drop at bytes)))) × (at + 8 ≤ length bytes) × (length bytes < 0x10000000000000000)
+abbrev invariant-loop-i : tie.invariant-loop-i
+invariant-loop-i bytes at n₀ i₀ n i = (i ≤ 8) × (n ≡ little (drop i (take 8 (drop at bytes)))) × (at + 8 ≤ length bytes) × (length bytes < 0x10000000000000000)
 
-abbrev decreases-loop : tie.decreases-loop
-decreases-loop bytes at n₀ i₀ n i = i
+abbrev decreases-loop-i : tie.decreases-loop-i
+decreases-loop-i bytes at n₀ i₀ n i = i
 
 pub eight_spec : {M : Type 1} → statement M
 eight_spec =
-    tie.close (tie.spec invariant-loop decreases-loop
+    tie.close (tie.spec invariant-loop-i decreases-loop-i
     (λ c. (omega arith, little-none c.before.args.bytes.now c.before.args.at c.before.requires, c.before.requires, omega arith))
     (omega arith)
     (λ c.
     let a = c.before.before.before.args in
     omega (
       arith,
-      little-fits a.bytes.now a.at c.before.loop.invariant.2 c.before.loop.i
-          (bytes_of a.bytes.now (λ i. (c.before.before.shared-slice-known.given i).fits)) c.loop-test.true c.before.loop.invariant.1,
+      little-fits a.bytes.now a.at c.before.loop-i.invariant.2 c.before.loop-i.i
+          (bytes_of a.bytes.now (λ i. (c.before.before.shared_slice_known-1.given i).fits)) c.loop-i-test.true c.before.loop-i.invariant.1,
     ))
     (omega arith)
     (omega arith)
@@ -35,22 +35,22 @@ eight_spec =
     let a = l.before.before.args in
     omega (
       arith,
-      little-fits a.bytes.now a.at l.loop.invariant.2 l.loop.i
-          (bytes_of a.bytes.now (λ i. (l.before.shared-slice-known.given i).fits)) c.before.before.loop-test.true l.loop.invariant.1,
+      little-fits a.bytes.now a.at l.loop-i.invariant.2 l.loop-i.i
+          (bytes_of a.bytes.now (λ i. (l.before.shared_slice_known-1.given i).fits)) c.before.before.loop-i-test.true l.loop-i.invariant.1,
       c.wide.ensures,
-      (l.before.shared-slice-known.given (a.at + (l.loop.i - 1))).fits,
+      (l.before.shared_slice_known-1.given (a.at + (l.loop-i.i - 1))).fits,
     ))
     (omega arith)
     (λ c.
     let l = c.before.before.before in
     let a = l.before.before.args in (
       omega arith,
-      little-more a.bytes.now a.at l.loop.invariant.2 l.loop.i c.before.before.loop-test.true l.loop.invariant.0 l.loop.invariant.1
+      little-more a.bytes.now a.at l.loop-i.invariant.2 l.loop-i.i c.before.before.loop-i-test.true l.loop-i.invariant.0 l.loop-i.invariant.1
           c.wide.ensures,
-      l.loop.invariant.2,
-      l.loop.invariant.3,
+      l.loop-i.invariant.2,
+      l.loop-i.invariant.3,
     ))
     (λ c.
     let a = c.before.before.before.args in
-    let e : c.before.loop.i ≡ 0 = omega arith in
-    c.before.loop.invariant.1 ∙ ap (λ (i : ℕ). little (drop i (take 8 (drop a.at a.bytes.now)))) e))
+    let e : c.before.loop-i.i ≡ 0 = omega arith in
+    c.before.loop-i.invariant.1 ∙ ap (λ (i : ℕ). little (drop i (take 8 (drop a.at a.bytes.now)))) e))

@@ -11,16 +11,16 @@ use Rattle.fcs.proofs.Folding.{eights-over}
 use Rattle.fcs.proofs.singly.Statement.{statement}
 use Rattle.fcs.proofs.singly.Tie as tie
 
-abbrev invariant-loop : tie.invariant-loop
-invariant-loop bits bytes after₀ i₀ after i =
+abbrev invariant-loop-i : tie.invariant-loop-i
+invariant-loop-i bits bytes after₀ i₀ after i =
     (i ≤ length bytes) × (i % 8 ≡ 0) × (register after (drop i bytes) ≡ register bits bytes) × (length bytes < 0x10000000000000000)
 
-abbrev decreases-loop : tie.decreases-loop
-decreases-loop bits bytes after₀ i₀ after i = length bytes - i
+abbrev decreases-loop-i : tie.decreases-loop-i
+decreases-loop-i bits bytes after₀ i₀ after i = length bytes - i
 
 pub singly_spec : {M : Type 1} → statement M
 singly_spec =
-    tie.close (tie.spec invariant-loop decreases-loop
+    tie.close (tie.spec invariant-loop-i decreases-loop-i
     (λ c. (omega arith, refl, refl, omega arith))
     (omega arith)
     (λ c κs. omega arith)
@@ -30,14 +30,14 @@ singly_spec =
     (λ c.
     let l = c.before.before.before in
     let a = l.before.before.args in
-    let bytes = bytes_of a.bytes.now (λ i. (l.before.shared-slice-known.given i).fits) in (
+    let bytes = bytes_of a.bytes.now (λ i. (l.before.shared_slice_known-1.given i).fits) in (
       omega arith,
       omega arith,
-      eight-next l.loop.i l.loop.after a.bytes.now bytes c.before.eight.ensures c.enter-eight.ensures l.loop.invariant.2 (omega arith),
-      l.loop.invariant.3,
+      eight-next l.loop-i.i l.loop-i.after a.bytes.now bytes c.before.eight.ensures c.enter_eight-after.ensures l.loop-i.invariant.2 (omega arith),
+      l.loop-i.invariant.3,
     ))
     (λ c.
-    let l = c.before.loop in
+    let l = c.before.loop-i in
     let a = c.before.before.before.args in
     let end = eights-over l.i (length a.bytes.now) l.invariant.1 l.invariant.0 (omega arith) in
     ap (λ (j : ℕ). register l.after (drop j a.bytes.now)) (sym end) ∙ l.invariant.2))

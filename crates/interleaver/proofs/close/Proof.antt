@@ -11,6 +11,6 @@ close_spec =
     tie.close (tie.spec
     (search rules) (search rules) (search rules) (search rules) (search rules) (search rules)
     (λ c.
-    let a = c.before.before.before.before.before.before.before.before.args in
-    let n = c.before.before.before.before.before.before.closing-bytes in
-    simp sub-zero at c.before.before.push.ensures ∙ closes a.depth a.matrix a.out.now _ n.ensures.0 n.ensures.1))
+    let a = c.args in
+    let n = c.closing_bytes-n in
+    simp sub-zero at c.push.ensures ∙ closes a.depth a.matrix a.out.now _ n.ensures.0 n.ensures.1))

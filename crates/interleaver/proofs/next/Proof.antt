@@ -12,5 +12,5 @@ pub next_spec : {M : Type 1} → statement M
 next_spec =
     tie.close (tie.spec
     (search rules) (search rules) (search rules)
-    (λ c. (sym (mod-eq_of_lt c.if1.true), c.if1.true))
+    (λ c. (sym (mod-eq_of_lt c.if-place-depth.true), c.if-place-depth.true))
     (λ c. let a = c.before.args in (sym (ap (λ (x : ℕ). x % size a.depth) (omega arith) ∙ mod_self (size a.depth)), omega arith)))

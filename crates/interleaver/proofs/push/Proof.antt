@@ -21,46 +21,46 @@ push_spec =
     let a = t.before.before.before.before.args in
     ap (λ (r : Pushed). (outcome r.written a.out.now, r.matrix)) c.unpushed.ensures
     ∙ state-refused a.depth a.matrix.place a.matrix (run (push a.depth) a.matrix a.bytes.now) a.out.now
-    (sym t.before.is-beyond.ensures ∙ t.if1.true))
+    (sym t.before.is_beyond.ensures ∙ t.if-is_beyond.true))
     (search rules)
     (λ c.
     let t = c.before.before in
     let a = t.before.before.before.before.args in
-    ap (λ (r : Pushed). (outcome r.written a.out.now, r.matrix)) c.unpushed2.ensures
+    ap (λ (r : Pushed). (outcome r.written a.out.now, r.matrix)) c.unpushed-then-depth-gt-DEEPEST.ensures
     ∙ depth-refused a.depth a.matrix.place a.matrix (run (push a.depth) a.matrix a.bytes.now) a.out.now
-    (sym t.before.is-beyond.ensures ∙ t.if1.false) c.before.if2.true)
+    (sym t.before.is_beyond.ensures ∙ t.if-is_beyond.false) c.before.if-depth-gt-DEEPEST.true)
     (search rules)
     (λ c.
     let u = c.before.before in
     let t = u.before in
     let a = t.before.before.before.before.args in
-    ap (λ (r : Pushed). (outcome r.written a.out.now, r.matrix)) c.unpushed3.ensures
-    ∙ short a.depth a.matrix.place (sent a.depth) a.matrix a.bytes.now a.out.now (sym t.before.is-beyond.ensures ∙ t.if1.false)
-    u.if2.false (length a.bytes.now)
-    (pushed-length a.depth a.matrix a.bytes.now) c.before.if3.true)
+    ap (λ (r : Pushed). (outcome r.written a.out.now, r.matrix)) c.unpushed-then-out-bytes.ensures
+    ∙ short a.depth a.matrix.place (sent a.depth) a.matrix a.bytes.now a.out.now (sym t.before.is_beyond.ensures ∙ t.if-is_beyond.false)
+    u.if-depth-gt-DEEPEST.false (length a.bytes.now)
+    (pushed-length a.depth a.matrix a.bytes.now) c.before.if-out-bytes.true)
     (search rules) (search rules)
     (λ c.
     let s = c.before.before.before.before in
     let t = s.before.before.before in
     let a = t.before.before.before.before.args in
-    flat a.depth a.matrix.place (sent a.depth) a.matrix a.bytes.now a.out.now (sym t.before.is-beyond.ensures ∙ t.if1.false)
-    s.before.before.if2.false (length a.bytes.now)
-    (pushed-length a.depth a.matrix a.bytes.now) s.before.if3.false s.if4.true c.before.before.copy.ensures)
+    flat a.depth a.matrix.place (sent a.depth) a.matrix a.bytes.now a.out.now (sym t.before.is_beyond.ensures ∙ t.if-is_beyond.false)
+    s.before.before.if-depth-gt-DEEPEST.false (length a.bytes.now)
+    (pushed-length a.depth a.matrix a.bytes.now) s.before.if-out-bytes.false s.if-depth-lt2.true c.before.before.copy.ensures)
     (λ c κs.
     let s = c.before.before in
     let t = s.before.before.before in
     let a = t.before.before.before.before.args in (
-      s.if4.false,
-      s.before.before.if2.false,
-      below a.depth a.matrix.place s.if4.false (sym t.before.is-beyond.ensures ∙ t.if1.false),
-      s.before.if3.false,
+      s.if-depth-lt2.false,
+      s.before.before.if-depth-gt-DEEPEST.false,
+      below a.depth a.matrix.place s.if-depth-lt2.false (sym t.before.is_beyond.ensures ∙ t.if-is_beyond.false),
+      s.before.if-out-bytes.false,
     ))
     (search rules)
     (λ c.
     let s = c.before.before.before.before.before in
     let t = s.before.before.before in
     let a = t.before.before.before.before.args in
-    deep a.depth a.matrix.place (sent a.depth) a.matrix a.bytes.now a.out.now (sym t.before.is-beyond.ensures ∙ t.if1.false)
-    s.before.before.if2.false (length a.bytes.now)
-    (pushed-length a.depth a.matrix a.bytes.now) s.before.if3.false s.if4.false
-    (c.before.before.send.ensures ∙ sent-out a.depth a.bytes.now a.matrix a.out.now s.before.if3.false)))
+    deep a.depth a.matrix.place (sent a.depth) a.matrix a.bytes.now a.out.now (sym t.before.is_beyond.ensures ∙ t.if-is_beyond.false)
+    s.before.before.if-depth-gt-DEEPEST.false (length a.bytes.now)
+    (pushed-length a.depth a.matrix a.bytes.now) s.before.if-out-bytes.false s.if-depth-lt2.false
+    (c.before.before.send-behind.ensures ∙ sent-out a.depth a.bytes.now a.matrix a.out.now s.before.if-out-bytes.false)))

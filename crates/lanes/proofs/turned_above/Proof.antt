@@ -51,26 +51,26 @@ turned_above_spec =
     let at_row = at-row2.before in
     let made = at_row.before in
     let start = made.before in
-    let is0 = at_row.row.ensures ∙ worths-are made.worths-above.result above made.worths-above.ensures 0 (omega arith) in
-    let is1 = at-row2.row2.ensures ∙ worths-are made.worths-above.result above made.worths-above.ensures 1 (omega arith) in
-    let is2 = at-row3.row3.ensures ∙ worths-are made.worths-above.result above made.worths-above.ensures 2 (omega arith) in
-    let is3 = at-row4.row4.ensures ∙ worths-are made.worths-above.result above made.worths-above.ensures 3 (omega arith) in
-    let is4 = at-row5.row5.ensures ∙ worths-are made.worths-above.result above made.worths-above.ensures 4 (omega arith) in
-    let is5 = at-row6.row6.ensures ∙ worths-are made.worths-above.result above made.worths-above.ensures 5 (omega arith) in
-    let is6 = at-row7.row7.ensures ∙ worths-are made.worths-above.result above made.worths-above.ensures 6 (omega arith) in
-    let is7 = at-row8.row8.ensures ∙ worths-are made.worths-above.result above made.worths-above.ensures 7 (omega arith) in
-    turn_is above at_row.row.result start.args.l start.args.x is0
-    (group 8 _ is0 is1 c.adding13.ensures
-    (group 3 _ (at-raised11.raised11.ensures ∙ ap (doubled_by 5) is0) is1 at-adding12.adding12.ensures
-    (group 6 _ (at-raised10.raised10.ensures ∙ ap (doubled_by 2) is1) is2 at-adding11.adding11.ensures
-    (group 1 _ (at-raised9.raised9.ensures ∙ ap (doubled_by 7) is1) is2 at-adding10.adding10.ensures
-    (group 4 _ (at-raised8.raised8.ensures ∙ ap (doubled_by 4) is2) is3 at-adding9.adding9.ensures
-    (group 7 _ (at-raised7.raised7.ensures ∙ ap (doubled_by 1) is3) is4 at-adding8.adding8.ensures
-    (group 2 _ (at-raised6.raised6.ensures ∙ ap (doubled_by 6) is3) is4 at-adding7.adding7.ensures
-    (group 5 _ (at-raised5.raised5.ensures ∙ ap (doubled_by 3) is4) is5 at-adding6.adding6.ensures
-    (group 8 _ is5 is6 at-adding5.adding5.ensures
-    (group 3 _ (at-raised4.raised4.ensures ∙ ap (doubled_by 5) is5) is6 at-adding4.adding4.ensures
-    (group 6 _ (at-raised3.raised3.ensures ∙ ap (doubled_by 2) is6) is7 at-adding3.adding3.ensures
-    (group 1 _ (at-raised2.raised2.ensures ∙ ap (doubled_by 7) is6) is7 at-adding2.adding2.ensures
-    (group 4 _ (at-raised.raised.ensures ∙ ap (doubled_by 4) is7) at_none.none.ensures at-adding.adding.ensures
-    at_moved.moved.ensures)))))))))))))))
+    let is0 = at_row.row-w0.ensures ∙ worths-are made.worths_above-w.result above made.worths_above-w.ensures 0 (omega arith) in
+    let is1 = at-row2.row-w1.ensures ∙ worths-are made.worths_above-w.result above made.worths_above-w.ensures 1 (omega arith) in
+    let is2 = at-row3.row-w2.ensures ∙ worths-are made.worths_above-w.result above made.worths_above-w.ensures 2 (omega arith) in
+    let is3 = at-row4.row-w3.ensures ∙ worths-are made.worths_above-w.result above made.worths_above-w.ensures 3 (omega arith) in
+    let is4 = at-row5.row-w4.ensures ∙ worths-are made.worths_above-w.result above made.worths_above-w.ensures 4 (omega arith) in
+    let is5 = at-row6.row-w5.ensures ∙ worths-are made.worths_above-w.result above made.worths_above-w.ensures 5 (omega arith) in
+    let is6 = at-row7.row-w6.ensures ∙ worths-are made.worths_above-w.result above made.worths_above-w.ensures 6 (omega arith) in
+    let is7 = at-row8.row-w7.ensures ∙ worths-are made.worths_above-w.result above made.worths_above-w.ensures 7 (omega arith) in
+    turn_is above at_row.row-w0.result start.args.l start.args.x is0
+    (group 8 _ is0 is1 c.adding-r-13.ensures
+    (group 3 _ (at-raised11.raised-11.ensures ∙ ap (doubled_by 5) is0) is1 at-adding12.adding-r-12.ensures
+    (group 6 _ (at-raised10.raised-10.ensures ∙ ap (doubled_by 2) is1) is2 at-adding11.adding-r-11.ensures
+    (group 1 _ (at-raised9.raised-9.ensures ∙ ap (doubled_by 7) is1) is2 at-adding10.adding-r-10.ensures
+    (group 4 _ (at-raised8.raised-8.ensures ∙ ap (doubled_by 4) is2) is3 at-adding9.adding-r-9.ensures
+    (group 7 _ (at-raised7.raised-7.ensures ∙ ap (doubled_by 1) is3) is4 at-adding8.adding-r-8.ensures
+    (group 2 _ (at-raised6.raised-6.ensures ∙ ap (doubled_by 6) is3) is4 at-adding7.adding-r-7.ensures
+    (group 5 _ (at-raised5.raised-5.ensures ∙ ap (doubled_by 3) is4) is5 at-adding6.adding-r-6.ensures
+    (group 8 _ is5 is6 at-adding5.adding-r-5.ensures
+    (group 3 _ (at-raised4.raised-4.ensures ∙ ap (doubled_by 5) is5) is6 at-adding4.adding-r-4.ensures
+    (group 6 _ (at-raised3.raised-3.ensures ∙ ap (doubled_by 2) is6) is7 at-adding3.adding-r-3.ensures
+    (group 1 _ (at-raised2.raised-2.ensures ∙ ap (doubled_by 7) is6) is7 at-adding2.adding-r-2.ensures
+    (group 4 _ (at-raised.raised.ensures ∙ ap (doubled_by 4) is7) at_none.none-none.ensures at-adding.adding-r.ensures
+    at_moved.moved-r.ensures)))))))))))))))

@@ -13,13 +13,13 @@ pub at_all_spec : {M : Type 1} → statement M
 at_all_spec =
     tie.close (tie.spec
     (search rules) (search rules) (search rules) (search rules) (search rules) (search rules) (search rules)
-    (λ c. sym (length-take-le lane_roots c.before.before.before.before.at-powers.result (omega arith)))
+    (λ c. sym (length-take-le lane_roots c.before.before.before.before.at_powers-low.result (omega arith)))
     (search rules) (search rules)
     (λ c.
     let lent = c.before.before.before in
     let high = lent.before in
     let low = high.before.before.before in
     let start = low.before.before.before in
-    both-are _ (bytes_of start.before.args.word.now (λ i. (start.shared-slice-known.given i).fits)) low.before.before.left.ensures
-    low.at-powers.ensures
-    high.before.before.left-above.ensures high.at-powers2.ensures c.before.copy.ensures))
+    both-are _ (bytes_of start.before.args.word.now (λ i. (start.shared_slice_known-1.given i).fits)) low.before.before.left-left.ensures
+    low.at_powers-low.ensures
+    high.before.before.left_above-above.ensures high.at_powers-v.ensures c.before.copy.ensures))

@@ -12,7 +12,7 @@ at_first_spec =
     (search rules) (search rules) (search rules)
     (λ c.
     let start = c.before.before.before.before in
-    first-left _ _ (bytes_of start.before.args.word.now (λ i. (start.shared-slice-known.given i).fits)) c.before.before.before.if1.true
-    c.before.before.left.ensures c.at-powers.ensures)
+    first-left _ _ (bytes_of start.before.args.word.now (λ i. (start.shared_slice_known-1.given i).fits)) c.before.before.before.if-r-le-ROOTS.true
+    c.before.before.left-left.ensures c.at_powers.ensures)
     (search rules)
     (λ c. first-all _ _ (omega arith) c.at_all.ensures))

@@ -11,22 +11,22 @@ use Rattle.parity.proofs.points.Statement.{statement}
 use Rattle.parity.proofs.points.Tie as tie
 use Rattle.parity.specs.Calls.{root_limit}
 
-abbrev invariant-loop : tie.invariant-loop
-invariant-loop first p₀ x₀ j₀ p x j = (j ≤ root_limit) × (length p ≡ root_limit) × (take j p ++ points x (root_limit - j) ≡ points first root_limit)
+abbrev invariant-loop-j : tie.invariant-loop-j
+invariant-loop-j first p₀ x₀ j₀ p x j = (j ≤ root_limit) × (length p ≡ root_limit) × (take j p ++ points x (root_limit - j) ≡ points first root_limit)
 
-abbrev decreases-loop : tie.decreases-loop
-decreases-loop first p₀ x₀ j₀ p x j = root_limit - j
+abbrev decreases-loop-j : tie.decreases-loop-j
+decreases-loop-j first p₀ x₀ j₀ p x j = root_limit - j
 
 pub points_spec : {M : Type 1} → statement M
 points_spec =
-    tie.close (tie.spec invariant-loop decreases-loop
+    tie.close (tie.spec invariant-loop-j decreases-loop-j
     (λ c. (omega arith, refl, refl))
     (search rules) (search rules) (search rules)
     (omega arith)
     (λ c.
-    let inv = c.before.before.loop.invariant in (
+    let inv = c.before.before.loop-j.invariant in (
       omega arith,
       simp length-set inv.1,
-      points-next _ _ _ inv.1 inv.2 c.before.loop-test.true c.times.ensures,
+      points-next _ _ _ inv.1 inv.2 c.before.loop-j-test.true c.times-x.ensures,
     ))
-    (λ c. points-done _ _ _ c.before.loop.invariant.1 c.before.loop.invariant.2 c.loop-test.false))
+    (λ c. points-done _ _ _ c.before.loop-j.invariant.1 c.before.loop-j.invariant.2 c.loop-j-test.false))

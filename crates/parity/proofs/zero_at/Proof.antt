@@ -9,26 +9,26 @@ use Rattle.parity.proofs.Loops.{clean-next, clean-fails, clean-done}
 use Rattle.parity.proofs.zero_at.Statement.{statement}
 use Rattle.parity.proofs.zero_at.Tie as tie
 
-abbrev invariant-loop : tie.invariant-loop
-invariant-loop r word v j₀ j = (j ≤ r) × (clean j word ≡ true)
+abbrev invariant-loop-j : tie.invariant-loop-j
+invariant-loop-j r word v j₀ j = (j ≤ r) × (clean j word ≡ true)
 
-abbrev decreases-loop : tie.decreases-loop
-decreases-loop r word v j₀ j = r - j
+abbrev decreases-loop-j : tie.decreases-loop-j
+decreases-loop-j r word v j₀ j = r - j
 
 pub zero_at_spec : {M : Type 1} → statement M
 zero_at_spec =
-    tie.close (tie.spec invariant-loop decreases-loop
-    (λ c. unfold clean in rw c.if1.true refl)
+    tie.close (tie.spec invariant-loop-j decreases-loop-j
+    (λ c. unfold clean in rw c.if-r-eq0.true refl)
     (search rules)
-    (λ c. rw c.before.if2.true c.is-clean.ensures)
+    (λ c. rw c.before.if-r-eq-ROOTS.true c.is_clean.ensures)
     (search rules)
     (λ c. unfold clean in (omega arith, refl))
     (omega arith)
-    (λ c. clean-fails _ _ _ _ c.before.before.before.at_first.ensures (omega arith) c.if3.true)
+    (λ c. clean-fails _ _ _ _ c.before.before.before.at_first-v.ensures (omega arith) c.if-v-j-ne0.true)
     (omega arith)
     (omega arith)
     (λ c. (
       omega arith,
-      clean-next _ _ _ _ c.before.before.before.at_first.ensures (omega arith) c.if3.false c.before.before.loop.invariant.1,
+      clean-next _ _ _ _ c.before.before.before.at_first-v.ensures (omega arith) c.if-v-j-ne0.false c.before.before.loop-j.invariant.1,
     ))
-    (λ c. clean-done _ _ _ c.before.loop.invariant.0 (omega arith) c.before.loop.invariant.1))
+    (λ c. clean-done _ _ _ c.before.loop-j.invariant.0 (omega arith) c.before.loop-j.invariant.1))

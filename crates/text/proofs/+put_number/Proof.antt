@@ -31,10 +31,10 @@ pub +put_number_spec : {M : Type 1} → statement M
     (put_number_at t)
     put-number.Post
     (search rules) (search rules) (search rules) (λ c. search rules)
-    (λ c. number-last _ c.before.before.before.before.if1.true c.before.before.put_byte.ensures)
+    (λ c. number-last _ c.before.before.before.before.if-n-lt10.true c.before.before.put_byte.ensures)
     (λ c κs. (omega arith, tt))
     (search rules) (search rules) (search rules) (λ c. search rules)
     (λ c.
     let d = c.before.before in
-    number_more _ (omega arith) d.before.before.before.before.before.before.if1.false
-    d.before.before.before.before.put-number.ensures d.put-byte2.ensures)
+    number_more _ (omega arith) d.before.before.before.before.before.before.if-n-lt10.false
+    d.before.before.before.before.put_number-end.ensures d.put_byte-2.ensures)

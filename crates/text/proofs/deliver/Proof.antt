@@ -8,8 +8,8 @@ pub deliver_spec : {M : Type 1} → statement M
 deliver_spec =
     tie.close (tie.spec
     (λ c κs. search rules)
-    (λ c. delivered-short _ _ _ c.before.least.ensures c.if1.true)
+    (λ c. delivered-short _ _ _ c.before.least-length.ensures c.if-out-length.true)
     (search rules) (search rules) (search rules) (λ c κs. search rules) (λ c. search rules)
     (λ c.
     let e = c.before.before.before.before.before in
-    delivered _ _ _ e.before.least.ensures e.if1.false c.before.before.copy.ensures))
+    delivered _ _ _ e.before.least-length.ensures e.if-out-length.false c.before.before.copy.ensures))

@@ -8,5 +8,5 @@ pub put_byte_spec : {M : Type 1} → statement M
 put_byte_spec =
     tie.close (tie.spec
     (search rules) (search rules) (search rules)
-    (λ c. put-room _ _ _ c.if1.true)
-    (λ c. put-over _ _ _ c.if1.false))
+    (λ c. put-room _ _ _ c.if-at-text.true)
+    (λ c. put-over _ _ _ c.if-at-text.false))

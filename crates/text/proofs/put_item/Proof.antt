@@ -8,4 +8,4 @@ pub put_item_spec : {M : Type 1} → statement M
 put_item_spec =
     tie.close (tie.spec
     (search rules) (search rules) (λ c. search rules)
-    (λ c. put_then c.before.before.before.before.before.before.put-number.ensures c.before.before.put_byte.ensures))
+    (λ c. put_then c.before.before.before.before.before.before.put_number-end.ensures c.before.before.put_byte.ensures))

@@ -8,32 +8,32 @@ pub take_spec : {M : Type 1} → statement M
 take_spec =
     tie.close (tie.spec
     (search rules)
-    (λ c κs. let s = c.before.before.before.before in sound-header s.requires.0 c.before.capture.given.1)
+    (λ c κs. let s = c.before.before.before.before in sound-header s.requires.0 c.before.in-Header.is)
     (search rules) (search rules)
     (λ c κs.
     let k = c.before.before.before in
     let m = k.before.before.before in
     let s = m.before.before.before in
-    (sound-head s.requires.0 m.capture2.given.1, room-set s.args.store.now _ _ k.keep.ensures s.requires.1))
+    (sound-head s.requires.0 m.in-Head.is, room-set s.args.store.now _ _ k.keep.ensures s.requires.1))
     (search rules) (search rules)
     (λ c κs.
     let k = c.before.before.before in
     let m = k.before.before.before in
     let s = m.before.before.before in
-    (sound-record s.requires.0 m.capture3.given.1, room-set s.args.store.now _ _ k.keep2.ensures s.requires.1))
+    (sound-record s.requires.0 m.in-Record.is, room-set s.args.store.now _ _ k.keep-in-Record.ensures s.requires.1))
     (search rules) (search rules)
     (λ c. let a = c.before.before.before.before.before.args in
-    as-header a.store.now a.b c.before.before.capture.given.1 c.in-header.ensures)
+    as-header a.store.now a.b c.before.before.in-Header.is c.in_header.ensures)
     (search rules)
     (λ c.
     let k = c.before.before.before.before in
     let m = k.before.before.before in
     let a = m.before.before.before.args in
-    as-head a.store.now a.b m.capture2.given.1 k.keep.ensures c.in_head.ensures)
+    as-head a.store.now a.b m.in-Head.is k.keep.ensures c.in_head.ensures)
     (search rules)
     (λ c.
     let k = c.before.before.before.before in
     let m = k.before.before.before in
     let a = m.before.before.before.args in
-    as-record a.store.now a.b m.capture3.given.1 k.keep2.ensures c.in-record.ensures)
-    (λ c. let a = c.before.before.before.before.before.args in as-behind a.store.now a.b c.before.before.capture4.given.1 c.on.ensures))
+    as-record a.store.now a.b m.in-Record.is k.keep-in-Record.ensures c.in_record.ensures)
+    (λ c. let a = c.before.before.before.before.before.args in as-behind a.store.now a.b c.before.before.in-Behind.is c.on.ensures))

@@ -12,23 +12,23 @@ enter_spec =
     (λ c.
     let t = c.before.before.before in
     let a = t.before.before.before.args in
-    enter-short a.number a.packed.now a.out.now t.told.ensures c.before.enum_told.given.1 c.if1.true)
+    enter-short a.number a.packed.now a.out.now t.told.ensures c.before.in-Packet.is c.if-out-n.true)
     (λ c κs.
     let t = c.before.before.before.before in
     let a = t.before.before.before.args in
-    (omega (arith, told-most a.packed.now t.told.ensures c.before.before.enum_told.given.1), c.before.if1.false))
+    (omega (arith, told-most a.packed.now t.told.ensures c.before.before.in-Packet.is), c.before.if-out-n.false))
     (search rules) (search rules) (search rules)
     (λ c.
     let p = c.before.before in
     let t = p.before.before.before.before.before in
     let a = t.before.before.before.args in
-    enter-fits a.number a.packed.now a.out.now t.told.ensures p.before.before.before.enum_told.given.1 p.before.before.if1.false
+    enter-fits a.number a.packed.now a.out.now t.told.ensures p.before.before.before.in-Packet.is p.before.before.if-out-n.false
     p.put.ensures)
     (λ c.
     let t = c.before.before.before in
     let a = t.before.before.before.args in
-    enter-none a.number a.packed.now a.out.now t.told.ensures c.before.number.given.1)
+    enter-none a.number a.packed.now a.out.now t.told.ensures c.before.in-Refused.is)
     (λ c.
     let t = c.before.before in
     let a = t.before.before.before.args in
-    enter-broken a.number a.packed.now a.out.now t.told.ensures c.enum-told2.given.1))
+    enter-broken a.number a.packed.now a.out.now t.told.ensures c.in-Broken.is))

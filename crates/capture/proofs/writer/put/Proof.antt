@@ -13,4 +13,4 @@ put_spec =
     let f = d.before.before.before.before in
     let h = f.before.before.before in
     let s = h.before.before.before in
-    record-put s.args.number s.args.bytes.now s.args.out.now s.requires.1 h.head.ensures f.copy.ensures d.copy2.ensures))
+    record-put s.args.number s.args.bytes.now s.args.out.now s.requires.1 h.head-head.ensures f.copy.ensures d.copy-2.ensures))

@@ -7,4 +7,4 @@ use Rattle.fcs.proofs.Register.feed.Tie as tie
 
 pub feed_spec : {M : Type 1} → statement M
 feed_spec =
-    tie.close (tie.spec (search rules) (omega arith) (search rules) (λ c i. record { bits = (c.enter-each.ensures ∙ c.before.enter-eights.ensures) i }))
+    tie.close (tie.spec (search rules) (omega arith) (search rules) (λ c i. record { bits = (c.enter_each.ensures ∙ c.before.enter_eights-bits.ensures) i }))

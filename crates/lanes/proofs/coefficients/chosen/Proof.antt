@@ -13,7 +13,7 @@ use Rattle.lanes.proofs.coefficients.chosen.Lts as lts
 use Rattle.lanes.proofs.coefficients.chosen.Statement.{statement}
 use Rattle.lanes.proofs.coefficients.chosen.Tie as tie
 
-module _ (c : lts.After-next4 (next-reads.Asked, next-reads.Learnt) reads.Pre reads.Post) where
+module _ (c : lts.After-next-e (next-reads.Asked, next-reads.Learnt) reads.Pre reads.Post) where
   abbrev v : ℕ
   v = c.before.before.before.before.args.v
 
@@ -27,11 +27,11 @@ module _ (c : lts.After-next4 (next-reads.Asked, next-reads.Learnt) reads.Pre re
   y = c.before.before.before.before.args.y
 
   sum : (i : ℕ) → i < 32 → v ≡ i
-      → bytes_of 8 (get_or (sums a c.before.before.before.next.result c.before.before.next2.result c.before.next3.result c.next4.result) i 0)
+      → bytes_of 8 (get_or (sums a c.before.before.before.next-b.result c.before.before.next-c.result c.before.next-d.result c.next-e.result) i 0)
       ≡ summed (five n (bytes_of 8 a) (bytes_of 8 y)) v (replicate 8 0)
   sum i h e =
-      sum_is n a c.before.before.before.next.result c.before.before.next2.result c.before.next3.result c.next4.result y
-      c.before.before.before.next.ensures c.before.before.next2.ensures c.before.next3.ensures c.next4.ensures i v h e
+      sum_is n a c.before.before.before.next-b.result c.before.before.next-c.result c.before.next-d.result c.next-e.result y
+      c.before.before.before.next-b.ensures c.before.before.next-c.ensures c.before.next-d.ensures c.next-e.ensures i v h e
 
 last : (v : ℕ) → v < 32 → 31 ≤ v → v ≡ 31
 last v h k = omega arith
@@ -39,35 +39,35 @@ last v h k = omega arith
 pub chosen_spec : {M : Type 1} → statement M
 chosen_spec =
     tie.close (tie.spec (search rules) (search rules) (search rules) (search rules)
-    (λ c. sum c.before 0 (omega arith) c.match.keys1)
-    (λ c. sum c.before 1 (omega arith) c.match.keys2)
-    (λ c. sum c.before 2 (omega arith) c.match.keys3)
-    (λ c. sum c.before 3 (omega arith) c.match.keys4)
-    (λ c. sum c.before 4 (omega arith) c.match.keys5)
-    (λ c. sum c.before 5 (omega arith) c.match.keys6)
-    (λ c. sum c.before 6 (omega arith) c.match.keys7)
-    (λ c. sum c.before 7 (omega arith) c.match.keys8)
-    (λ c. sum c.before 8 (omega arith) c.match.keys9)
-    (λ c. sum c.before 9 (omega arith) c.match.keys10)
-    (λ c. sum c.before 10 (omega arith) c.match.keys11)
-    (λ c. sum c.before 11 (omega arith) c.match.keys12)
-    (λ c. sum c.before 12 (omega arith) c.match.keys13)
-    (λ c. sum c.before 13 (omega arith) c.match.keys14)
-    (λ c. sum c.before 14 (omega arith) c.match.keys15)
-    (λ c. sum c.before 15 (omega arith) c.match.keys16)
-    (λ c. sum c.before 16 (omega arith) c.match.keys17)
-    (λ c. sum c.before 17 (omega arith) c.match.keys18)
-    (λ c. sum c.before 18 (omega arith) c.match.keys19)
-    (λ c. sum c.before 19 (omega arith) c.match.keys20)
-    (λ c. sum c.before 20 (omega arith) c.match.keys21)
-    (λ c. sum c.before 21 (omega arith) c.match.keys22)
-    (λ c. sum c.before 22 (omega arith) c.match.keys23)
-    (λ c. sum c.before 23 (omega arith) c.match.keys24)
-    (λ c. sum c.before 24 (omega arith) c.match.keys25)
-    (λ c. sum c.before 25 (omega arith) c.match.keys26)
-    (λ c. sum c.before 26 (omega arith) c.match.keys27)
-    (λ c. sum c.before 27 (omega arith) c.match.keys28)
-    (λ c. sum c.before 28 (omega arith) c.match.keys29)
-    (λ c. sum c.before 29 (omega arith) c.match.keys30)
-    (λ c. sum c.before 30 (omega arith) c.match.keys31)
-    (λ c. sum c.before 31 (omega arith) (last _ c.before.before.before.before.before.requires (passed 31 _ c.match.rest))))
+    (λ c. sum c.before 0 (omega arith) c.in-0.is)
+    (λ c. sum c.before 1 (omega arith) c.in-1.is)
+    (λ c. sum c.before 2 (omega arith) c.in-2.is)
+    (λ c. sum c.before 3 (omega arith) c.in-3.is)
+    (λ c. sum c.before 4 (omega arith) c.in-4.is)
+    (λ c. sum c.before 5 (omega arith) c.in-5.is)
+    (λ c. sum c.before 6 (omega arith) c.in-6.is)
+    (λ c. sum c.before 7 (omega arith) c.in-7.is)
+    (λ c. sum c.before 8 (omega arith) c.in-8.is)
+    (λ c. sum c.before 9 (omega arith) c.in-9.is)
+    (λ c. sum c.before 10 (omega arith) c.in-10.is)
+    (λ c. sum c.before 11 (omega arith) c.in-11.is)
+    (λ c. sum c.before 12 (omega arith) c.in-12.is)
+    (λ c. sum c.before 13 (omega arith) c.in-13.is)
+    (λ c. sum c.before 14 (omega arith) c.in-14.is)
+    (λ c. sum c.before 15 (omega arith) c.in-15.is)
+    (λ c. sum c.before 16 (omega arith) c.in-16.is)
+    (λ c. sum c.before 17 (omega arith) c.in-17.is)
+    (λ c. sum c.before 18 (omega arith) c.in-18.is)
+    (λ c. sum c.before 19 (omega arith) c.in-19.is)
+    (λ c. sum c.before 20 (omega arith) c.in-20.is)
+    (λ c. sum c.before 21 (omega arith) c.in-21.is)
+    (λ c. sum c.before 22 (omega arith) c.in-22.is)
+    (λ c. sum c.before 23 (omega arith) c.in-23.is)
+    (λ c. sum c.before 24 (omega arith) c.in-24.is)
+    (λ c. sum c.before 25 (omega arith) c.in-25.is)
+    (λ c. sum c.before 26 (omega arith) c.in-26.is)
+    (λ c. sum c.before 27 (omega arith) c.in-27.is)
+    (λ c. sum c.before 28 (omega arith) c.in-28.is)
+    (λ c. sum c.before 29 (omega arith) c.in-29.is)
+    (λ c. sum c.before 30 (omega arith) c.in-30.is)
+    (λ c. sum c.before 31 (omega arith) (last _ c.requires (passed 31 _ c.in_default.in_default-own.rest))))

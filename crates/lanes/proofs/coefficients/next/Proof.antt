@@ -7,6 +7,6 @@ use Rattle.lanes.proofs.coefficients.next.Tie as tie
 pub next_spec : {M : Type 1} → statement M
 next_spec =
     tie.close (tie.spec
-    (λ c. simp (eq-eqb _ _ c.if1.true))
+    (λ c. simp (eq-eqb _ _ c.if-n-k.true))
     (search rules)
-    (λ c. simp (ne_eqb _ _ c.before.if1.false) c.double-eight.ensures))
+    (λ c. simp (ne_eqb _ _ c.before.if-n-k.false) c.double_eight.ensures))

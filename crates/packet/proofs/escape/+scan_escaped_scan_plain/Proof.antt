@@ -33,34 +33,34 @@ unfolding wrong_from
     close μ_escaped μ_plain
     (λ t. escaped.spec (below 1 plain-kinds.ps μ_plain plain-reads.Pre t, plain-reads.Post)
     (at 1 escaped-kinds.ps μ_escaped escaped-reads.Pre t) escaped-reads.Post
-    (λ c. let a = c.before.before.args in rw (over a.raw.now a.at (omega arith)))
+    (λ c. let a = c.args in rw (over a.raw.now a.at (omega arith)))
     (λ c. search rules) (λ c. search rules) (λ c κs. search rules)
     (λ c.
-    let a = c.before.before.before.before.before.before.args in
-    rw (next a.raw.now a.at (omega arith)) (simp (right-in _ c.before.before.if2.false c.before.if3.true)
-    (c.scan-plain.ensures ∙ wrong-plain (drop (a.at + 1) a.raw.now) _ a.at (λ z. absurd (omega (arith, z, c.before.if3.true))))))
-    (λ c. let a = c.before.before.before.before.args in rw (next a.raw.now a.at (omega arith)) (simp (right-low _ c.if2.true)))
-    (λ c. let a = c.before.before.before.before.before.args in rw (next a.raw.now a.at (omega arith)) (simp (right-high _ c.if3.false))))
+    let a = c.args in
+    rw (next a.raw.now a.at (omega arith)) (simp (right-in _ c.in-94.if-b-lt93-own.false c.in-94.if-b-lt95-own.true)
+    (c.scan_plain.ensures ∙ wrong-plain (drop (a.at + 1) a.raw.now) _ a.at (λ z. absurd (omega (arith, z, c.in-94.if-b-lt95-own.true))))))
+    (λ c. let a = c.args in rw (next a.raw.now a.at (omega arith)) (simp (right-low _ c.in_default.if-b-lt93-own.true)))
+    (λ c. let a = c.args in rw (next a.raw.now a.at (omega arith)) (simp (right-high _ c.in_default.if-b-lt95-own.false))))
     (λ t. plain.spec (up-to-reads.Asked, up-to-reads.Learnt, below 1 escaped-kinds.ps μ_escaped escaped-reads.Pre t, escaped-reads.Post)
     (at 1 plain-kinds.ps μ_plain plain-reads.Pre t) plain-reads.Post
     (λ c. search rules) (λ c. search rules) (λ c. search rules) (λ c κs. search rules)
     (λ c.
-    let a = c.before.before.before.args in
-    let w = found_within a.raw.now a.at (found-is a.raw.now a.at c.up_to_lem.ensures.0) (omega arith) in
+    let a = c.args in
+    let w = found_within a.raw.now a.at (found-is a.raw.now a.at c.up_to.ensures.0) (omega arith) in
     omega (arith, w))
     (λ c.
-    let a = c.before.before.before.before.args in
-    scan-ends a.raw.now a.at (found-is a.raw.now a.at c.before.up_to_lem.ensures.0) c.if1.true)
+    let a = c.args in
+    scan-ends a.raw.now a.at (found-is a.raw.now a.at c.up_to.ensures.0) c.if-i-raw.true)
     (λ c.
-    let a = c.before.before.before.before.args in
-    let w = found_within a.raw.now a.at (found-is a.raw.now a.at c.before.up_to_lem.ensures.0) (omega arith) in
+    let a = c.args in
+    let w = found_within a.raw.now a.at (found-is a.raw.now a.at c.up_to.ensures.0) (omega arith) in
     omega (arith, w))
     (λ c κs.
-    let a = c.before.before.before.before.args in
-    let w = found_within a.raw.now a.at (found-is a.raw.now a.at c.before.up_to_lem.ensures.0) (omega arith) in
+    let a = c.args in
+    let w = found_within a.raw.now a.at (found-is a.raw.now a.at c.up_to.ensures.0) (omega arith) in
     omega (arith, w))
     (λ c.
-    let a = c.before.before.before.before.before.args in
-    let e = found-is a.raw.now a.at c.before.before.up_to_lem.ensures.0 in
+    let a = c.args in
+    let e = found-is a.raw.now a.at c.up_to.ensures.0 in
     let w = found_within a.raw.now a.at e (omega arith) in
-    scan-hands a.raw.now a.at e (omega (arith, w)) c.scan-escaped.ensures))
+    scan-hands a.raw.now a.at e (omega (arith, w)) c.scan_escaped.ensures))

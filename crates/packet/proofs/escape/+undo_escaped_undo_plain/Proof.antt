@@ -36,40 +36,40 @@ unfolding plain escaped
     (λ c. let a = c.before.before.args in rw (part-over a.recv.now a.from a.n (omega arith)) (laid_none a.recv.now a.to))
     (λ c. search rules) (λ c κs. search rules) (λ c. search rules) (λ c. search rules) (λ c. search rules)
     (λ c κs. simp length-set (omega arith))
-    (λ c. c.before.before.undo-plain.auto.0 ∙ simp length-set)
+    (λ c. c.before.before.undo_plain.auto.recv ∙ simp length-set)
     (λ c.
     let a = c.before.before.before.before.before.before.before.before.args in
     let l = a.recv.now in
     rw (part-next l a.from a.n (omega arith) (omega arith))
-    (rw (← c.before.before.before.before.restored.ensures)
-    (laid_more _ (rw (part-set l (a.from + 1) a.n a.to _ (omega arith) (omega arith)) at c.before.before.undo-plain.ensures)))))
+    (rw (← c.before.before.before.before.restored-b.ensures)
+    (laid_more _ (rw (part-set l (a.from + 1) a.n a.to _ (omega arith) (omega arith)) at c.before.before.undo_plain.ensures)))))
     (λ t. p-lts.spec (move-reads.Asked, move-reads.Learnt, below 1 e-kinds.ps μ_e e-reads.Pre t, e-reads.Post) (at 1 p-kinds.ps μ_p p-reads.Pre t) p-reads.Post
     (λ c κs. search rules)
     (λ c.
     let a = c.before.before.before.before.before.args in
-    let h = c.before.before.move-run.ensures in
+    let h = c.before.before.move_run-k.ensures in
     omega (arith, moved-within a.recv.now _ a.n a.from a.to _ h (omega arith) (omega arith)))
     (λ c.
     let a = c.before.before.before.before.before.args in
-    let h = c.before.before.move-run.ensures in
+    let h = c.before.before.move_run-k.ensures in
     omega (arith, moved-within a.recv.now _ a.n a.from a.to _ h (omega arith) (omega arith)))
-    (λ c. c.before.before.before.move-run.auto.0)
+    (λ c. c.before.before.before.move_run-k.auto.recv)
     (λ c.
     let a = c.before.before.before.before.before.before.args in
-    let h = c.before.before.before.move-run.ensures in
-    undo-ends a.recv.now _ a.n a.from a.to _ h (omega arith) c.if1.true)
+    let h = c.before.before.before.move_run-k.ensures in
+    undo-ends a.recv.now _ a.n a.from a.to _ h (omega arith) c.if-at-n.true)
     (λ c.
     let a = c.before.before.before.before.before.before.before.args in
-    let h = c.before.before.before.before.move-run.ensures in
+    let h = c.before.before.before.before.move_run-k.ensures in
     omega (arith, moved-within a.recv.now _ a.n a.from a.to _ h (omega arith) (omega arith)))
     (λ c κs.
     let a = c.before.before.before.before.before.before.before.args in
-    let m = c.before.before.before.before.move-run in
+    let m = c.before.before.before.before.move_run-k in
     let h = m.ensures in
-    omega (arith, m.auto.0, moved-within a.recv.now _ a.n a.from a.to _ h (omega arith) (omega arith)))
-    (λ c. c.before.before.undo-escaped.auto.0 ∙ c.before.before.before.before.before.before.before.move-run.auto.0)
+    omega (arith, m.auto.recv, moved-within a.recv.now _ a.n a.from a.to _ h (omega arith) (omega arith)))
+    (λ c. c.before.before.undo_escaped.auto.recv ∙ c.before.before.before.before.before.before.before.move_run-k.auto.recv)
     (λ c.
     let a = c.before.before.before.before.before.before.before.before.before.before.args in
-    let h = c.before.before.before.before.before.before.before.move-run.ensures in
+    let h = c.before.before.before.before.before.before.before.move_run-k.ensures in
     let w = moved-within a.recv.now _ a.n a.from a.to _ h (omega arith) (omega arith) in
-    undo-hands a.recv.now _ a.n a.from a.to _ h (omega arith) (omega (arith, w)) (omega arith) c.before.before.undo-escaped.ensures))
+    undo-hands a.recv.now _ a.n a.from a.to _ h (omega arith) (omega (arith, w)) (omega arith) c.before.before.undo_escaped.ensures))

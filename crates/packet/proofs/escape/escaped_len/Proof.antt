@@ -11,22 +11,22 @@ use native.Mathlib.Omega.{arith}
 use Rattle.packet.proofs.escape.escaped_len.Statement.{statement}
 use Rattle.packet.proofs.escape.escaped_len.Tie as tie
 
-abbrev invariant-loop : tie.invariant-loop
-invariant-loop bytes n₀ i₀ n i = (i ≤ length bytes) × (n ≤ 2 * i) × (n + length (escape (drop i bytes)) ≡ length (escape bytes))
+abbrev invariant-loop-i : tie.invariant-loop-i
+invariant-loop-i bytes n₀ i₀ n i = (i ≤ length bytes) × (n ≤ 2 * i) × (n + length (escape (drop i bytes)) ≡ length (escape bytes))
 
-abbrev decreases-loop : tie.decreases-loop
-decreases-loop bytes n₀ i₀ n i = length bytes - i
+abbrev decreases-loop-i : tie.decreases-loop-i
+decreases-loop-i bytes n₀ i₀ n i = length bytes - i
 
 pub escaped_len_spec : {M : Type 1} → statement M
 escaped_len_spec =
-    tie.close (tie.spec invariant-loop decreases-loop
+    tie.close (tie.spec invariant-loop-i decreases-loop-i
     (search rules) (search rules) (search rules)
-    (λ c. omega (arith, width-most (get_or c.before.before.before.before.before.args.bytes.now c.before.before.before.loop.i 0)))
+    (λ c. omega (arith, width-most (get_or c.before.before.before.before.before.args.bytes.now c.before.before.before.loop-i.i 0)))
     (search rules) (search rules)
     (λ c.
-    let i = c.before.before.before.loop.i in
+    let i = c.before.before.before.loop-i.i in
     let bs = c.before.before.before.before.before.args.bytes.now in
     omega (arith, width-most (get_or bs i 0), escape-next bs i (search rules)))
     (λ c.
     unfold escape in
-    omega (arith, ap (λ (x : List ℕ). length (escape x)) (over c.before.before.before.args.bytes.now c.before.loop.i (omega arith)))))
+    omega (arith, ap (λ (x : List ℕ). length (escape x)) (over c.before.before.before.args.bytes.now c.before.loop-i.i (omega arith)))))

@@ -17,4 +17,4 @@ longer_spec =
     let a = c.before.before.args in
     sym (le-ltb a.limit (length (escape a.bytes.now)) (omega (arith, escape-most a.bytes.now))))
     (search rules)
-    (λ c. ap (ltb c.before.before.before.args.limit) c.escaped-len.ensures))
+    (λ c. ap (ltb c.before.before.before.args.limit) c.escaped_len.ensures))

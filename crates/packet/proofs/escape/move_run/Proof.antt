@@ -11,5 +11,5 @@ move_run_spec =
     (search rules) (search rules) (search rules) (search rules) (search rules) (search rules) (search rules)
     (λ c.
     let found = c.before.before.before.before in
-    let a = found.before.before.before.before.args in
-    run_moved a.recv.now a.n a.from found.up_to_lem.ensures.0 (omega arith) (omega arith) a.to c.before.before.shift.ensures))
+    let a = found.args in
+    run_moved a.recv.now a.n a.from found.up_to-k.ensures.0 (omega arith) (omega arith) a.to c.shift.ensures))

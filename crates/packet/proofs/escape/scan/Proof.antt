@@ -21,14 +21,14 @@ scan_spec =
     tie.close (tie.spec
     (λ c. unfold wrong_from in unfold last in rw (over c.before.before.args.raw.now 0 (omega arith)))
     (search rules) (search rules)
-    (λ c. simp (eq-eqb _ _ (last-at 0 c.before.before.before.before.args.raw.now (omega arith) ∙ c.if2.true)))
+    (λ c. simp (eq-eqb _ _ (last-at 0 c.before.before.before.before.args.raw.now (omega arith) ∙ c.if-raw-n-eq125.true)))
     (search rules)
     (λ c.
     let l = c.before.before.before.before.before.before.args.raw.now in
-    simp (ne_eqb (last 0 l) 0x7D (λ e. c.before.before.if2.false (sym (last-at 0 l (omega arith)) ∙ e)))
-    (ap scanned_by (sym c.if3.true ∙ c.before.scan-plain.ensures)))
+    simp (ne_eqb (last 0 l) 0x7D (λ e. c.before.before.if-raw-n-eq125.false (sym (last-at 0 l (omega arith)) ∙ e)))
+    (ap scanned_by (sym c.if-place-eq0.true ∙ c.before.scan_plain-place.ensures)))
     (λ c.
     let l = c.before.before.before.before.before.before.args.raw.now in
-    let w = c.before.scan-plain.ensures in
-    simp (ne_eqb (last 0 l) 0x7D (λ e. c.before.before.if2.false (sym (last-at 0 l (omega arith)) ∙ e)))
-    (wrong-there c.before.scan-plain.result c.if3.false ∙ ap scanned_by w)))
+    let w = c.before.scan_plain-place.ensures in
+    simp (ne_eqb (last 0 l) 0x7D (λ e. c.before.before.if-raw-n-eq125.false (sym (last-at 0 l (omega arith)) ∙ e)))
+    (wrong-there c.before.scan_plain-place.result c.if-place-eq0.false ∙ ap scanned_by w)))

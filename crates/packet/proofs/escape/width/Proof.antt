@@ -8,6 +8,6 @@ use Rattle.packet.proofs.escape.width.Tie as tie
 pub width_spec : {M : Type 1} → statement M
 width_spec =
     tie.close (tie.spec
-    (λ c. sym (ap length (escape-flag _ c.if1.true)))
-    (λ c. sym (ap length (escape-escape _ c.if2.true)))
-    (λ c. sym (ap length (escape-other _ c.before.if1.false c.if2.false))))
+    (λ c. sym (ap length (escape-flag _ c.if-b-eq126.true)))
+    (λ c. sym (ap length (escape-escape _ c.if-b-eq125.true)))
+    (λ c. sym (ap length (escape-other _ c.before.if-b-eq126.false c.if-b-eq125.false))))

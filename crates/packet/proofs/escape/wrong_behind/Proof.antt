@@ -10,16 +10,16 @@ use Rattle.packet.proofs.escape.wrong_behind.Tie as tie
 pub wrong_behind_spec : {M : Type 1} → statement M
 wrong_behind_spec =
     tie.close (tie.spec
-    (λ c. let a = c.before.before.args in unfold wrong_from in rw (over a.raw.now a.from c.if1.true))
+    (λ c. let a = c.before.before.args in unfold wrong_from in rw (over a.raw.now a.from c.if-raw-from.true))
     (λ c κs. search rules)
     (λ c.
     let a = c.before.before.before.before.args in
-    c.scan-plain.ensures ∙ at-start a.raw.now a.from c.before.if2.true)
+    c.scan_plain.ensures ∙ at-start a.raw.now a.from c.before.if-from-eq0.true)
     (search rules) (search rules) (λ c κs. search rules)
     (λ c.
     let a = c.before.before.before.before.before.before.args in
-    c.scan-escaped.ensures ∙ behind-escape a.raw.now a.from c.before.before.before.if2.false c.before.if3.true)
+    c.scan_escaped.ensures ∙ behind-escape a.raw.now a.from c.before.before.before.if-from-eq0.false c.before.if-raw-from-eq125.true)
     (λ c κs. search rules)
     (λ c.
     let a = c.before.before.before.before.before.before.args in
-    c.scan-plain2.ensures ∙ behind-other a.raw.now a.from c.before.before.before.if2.false c.before.if3.false))
+    c.scan_plain-2.ensures ∙ behind-other a.raw.now a.from c.before.before.before.if-from-eq0.false c.before.if-raw-from-eq125.false))

@@ -16,29 +16,27 @@ pub close_spec : {M : Type 1} → statement M
 unfolding closed_by
 close_spec =
     tie.close (tie.spec
-    (λ c. let a = c.before.before.args in both (closed-over a.recv.now a.raw c.if1.true))
+    (λ c. let a = c.args in both (closed-over a.recv.now a.raw c.if-raw-gt-RAW.true))
     (search rules) (search rules)
     (λ c. simp length-take (omega arith))
     (search rules) (search rules) (search rules) (search rules) (search rules)
-    (λ c. let l = c.before.before.before.before.before.before.before.before in let u = c.before.before.undo-plain in
-    laid-within u.ensures (plain-room l.before.before.before.args.recv.now l.least.result) u.auto.0)
-    (λ c. let l = c.before.before.before.before.before.before.before.before.before in let u = c.before.before.before.undo-plain in
-    sym (length-take-le _ _ (laid-within u.ensures (plain-room l.before.before.before.args.recv.now l.least.result) u.auto.0)))
+    (λ c. let u = c.undo_plain-n in
+    laid-within u.ensures (plain-room c.args.recv.now c.least-stored.result) u.auto.recv)
+    (λ c. let u = c.undo_plain-n in
+    sym (length-take-le _ _ (laid-within u.ensures (plain-room c.args.recv.now c.least-stored.result) u.auto.recv)))
     (search rules) (search rules)
-    (λ c. let l = c.before.before.before.before in let a = l.before.before.before.args in
-    both (closed-stored a.recv.now a.raw l.before.if1.false l.least.ensures _
-    (sym c.before.before.scan.ensures ∙ c.enum_told.given.1)))
+    (λ c. let a = c.args in
+    both (closed-stored a.recv.now a.raw c.if-raw-gt-RAW.false c.least-stored.ensures _
+    (sym c.scan.ensures ∙ c.in-Unfinished.is)))
     (search rules)
-    (λ c. let l = c.before.before.before.before.before in let a = l.before.before.before.args in
-    both (closed-stored a.recv.now a.raw l.before.if1.false l.least.ensures _
-    (sym c.before.before.before.scan.ensures ∙ c.before.place.given.1)))
+    (λ c. let a = c.args in
+    both (closed-stored a.recv.now a.raw c.if-raw-gt-RAW.false c.least-stored.ensures _
+    (sym c.scan.ensures ∙ c.in-Wrong.is)))
     (search rules)
     (λ c.
-    let scanned = c.before.before.before.before.before.before.before.before in
-    let l = scanned.before.before in
-    let a = l.before.before.before.args in
-    let u = c.before.before.before.before.undo-plain.ensures in
-    let r = plain-room a.recv.now l.least.result in
-    let j = both (closed-stored a.recv.now a.raw l.before.if1.false l.least.ensures _
-    (sym scanned.scan.ensures ∙ c.before.before.before.before.before.before.enum-told2.given.1)) in
-    (c.judge-contents.ensures ∙ ap (λ (x : List ℕ). judged (judge_contents x)) (laid-take u r) ∙ j.0, laid-start u r ∙ j.1)))
+    let a = c.args in
+    let u = c.undo_plain-n.ensures in
+    let r = plain-room a.recv.now c.least-stored.result in
+    let j = both (closed-stored a.recv.now a.raw c.if-raw-gt-RAW.false c.least-stored.ensures _
+    (sym c.scan.ensures ∙ c.in-Right.is)) in
+    (c.judge_contents.ensures ∙ ap (λ (x : List ℕ). judged (judge_contents x)) (laid-take u r) ∙ j.0, laid-start u r ∙ j.1)))

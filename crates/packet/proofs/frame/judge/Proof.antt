@@ -8,11 +8,11 @@ use Rattle.packet.proofs.frame.judge.Tie as tie
 pub judge_spec : {M : Type 1} → statement M
 judge_spec =
     tie.close (tie.spec
-    (λ c. let a = c.before.before.args in both (judging-over a.recv.now a.raw c.if1.true))
-    (λ c. let a = c.before.before.before.args in both (judging-short a.recv.now a.raw c.before.if1.false c.if2.true))
+    (λ c. let a = c.before.before.args in both (judging-over a.recv.now a.raw c.if-raw-gt-OVER.true))
+    (λ c. let a = c.before.before.before.args in both (judging-short a.recv.now a.raw c.before.if-raw-gt-OVER.false c.if-recv-lt-RAW.true))
     (λ c κs. search rules) (search rules)
     (λ c.
     let l = c.before.before.before.before in
     let a = l.before.before.before.args in
-    let j = both (judging-is a.recv.now a.raw l.before.if1.false l.if2.false) in
+    let j = both (judging-is a.recv.now a.raw l.before.if-raw-gt-OVER.false l.if-recv-lt-RAW.false) in
     (c.before.before.close.ensures.0 ∙ j.0, c.before.before.close.ensures.1 ∙ j.1)))

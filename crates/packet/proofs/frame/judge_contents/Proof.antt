@@ -11,17 +11,15 @@ use Rattle.packet.proofs.frame.judge_contents.Tie as tie
 pub judge_contents_spec : {M : Type 1} → statement M
 judge_contents_spec =
     tie.close (tie.spec
-    (λ c. ap judged (sym (judge-short _ c.if1.true)))
+    (λ c. ap judged (sym (judge-short _ c.if-n-lt8.true)))
     (search rules)
     (λ c. simp length-take (omega arith))
     (λ c κs. search rules) (λ c κs. search rules)
     (λ c.
-    let f = c.before.before in
-    ap judged (sym (judge-check _ f.before.before.if1.false (λ e. c.if2.true (f.fcs.ensures ∙ e ∙ sym c.before.pair-at.ensures)))))
+    ap judged (sym (judge-check _ c.if-n-lt8.false (λ e. c.if-fcs-pair_at.true (c.fcs.ensures ∙ e ∙ sym c.pair_at.ensures)))))
     (λ c. simp length-take (omega arith))
     (λ c κs. simp length-take (omega arith))
     (λ c.
-    let f = c.before.before.before.before in
-    c.judge-body.ensures
-    ∙ ap judged (sym (judge-body _ f.before.before.if1.false
-    (sym f.fcs.ensures ∙ c.before.before.if2.false ∙ c.before.before.before.pair-at.ensures)))))
+    c.judge_body.ensures
+    ∙ ap judged (sym (judge-body _ c.if-n-lt8.false
+    (sym c.fcs.ensures ∙ c.if-fcs-pair_at.false ∙ c.pair_at.ensures)))))

@@ -13,19 +13,19 @@ judge_packet_spec =
     (λ c.
     let b = c.before in
     let a = b.before.before.before.before.args in
-    rest-port a.format a.number a.key.now a.rest.now b.before.pair-at.ensures b.barred.ensures c.if1.true)
+    rest-port a.format a.number a.key.now a.rest.now b.before.pair_at-port.ensures b.barred.ensures c.if-barred.true)
     (search rules) (search rules) (search rules) (λ c κs. search rules)
     (λ c.
     let t = c.before.before.before in
     let b = t.before in
     let a = b.before.before.before.before.args in
-    rest-payload a.format a.number a.key.now a.rest.now b.before.pair-at.ensures b.barred.ensures t.if1.false refl
-    (ltb-true _ _ (sym c.before.longer.ensures ∙ c.if2.true)))
+    rest-payload a.format a.number a.key.now a.rest.now b.before.pair_at-port.ensures b.barred.ensures t.if-barred.false refl
+    (ltb-true _ _ (sym c.before.longer.ensures ∙ c.if-longer.true)))
     (search rules) (λ c κs. search rules) (search rules)
     (λ c.
     let e = c.before.before in
     let t = e.before.before in
     let b = t.before in
     let a = b.before.before.before.before.args in
-    rest-packet a.format a.number a.key.now a.rest.now b.before.pair-at.ensures b.barred.ensures t.if1.false refl refl
-    c.pair-at2.ensures refl (ltb-false _ _ (sym e.longer.ensures ∙ c.before.if2.false))))
+    rest-packet a.format a.number a.key.now a.rest.now b.before.pair_at-port.ensures b.barred.ensures t.if-barred.false refl refl
+    c.pair_at.ensures refl (ltb-false _ _ (sym e.longer.ensures ∙ c.before.if-longer.false))))

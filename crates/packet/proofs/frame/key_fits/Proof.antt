@@ -9,7 +9,7 @@ pub key_fits_spec : {M : Type 1} → statement M
 key_fits_spec =
     tie.close (tie.spec
     (search rules) (λ c κs. search rules) (λ c κs. search rules) (search rules) (search rules)
-    (λ c. let k = c.before in fits-sized k.before.before.before.before.args.body.now k.before.wide.ensures.0
-    (sym k.key-sized.ensures ∙ c.if1.true))
-    (λ c. let k = c.before in fits_not k.before.before.before.before.args.body.now k.before.wide.ensures.0
-    (sym k.key-sized.ensures ∙ c.if1.false)))
+    (λ c. let k = c.before in fits-sized k.before.before.before.before.args.body.now k.before.wide-k.ensures.0
+    (sym k.key_sized.ensures ∙ c.if-key_sized.true))
+    (λ c. let k = c.before in fits_not k.before.before.before.before.args.body.now k.before.wide-k.ensures.0
+    (sym k.key_sized.ensures ∙ c.if-key_sized.false)))

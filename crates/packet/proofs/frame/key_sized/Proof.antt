@@ -7,5 +7,5 @@ use Rattle.packet.proofs.frame.key_sized.Tie as tie
 pub key_sized_spec : {M : Type 1} → statement M
 key_sized_spec =
     tie.close (tie.spec
-    (λ c. simp (lt-leb key_least _ c.if1.true))
-    (λ c. simp (le-leb key_least _ c.if1.false)))
+    (λ c. simp (lt-leb key_least _ c.if-k-lt-KEY_LEAST.true))
+    (λ c. simp (le-leb key_least _ c.if-k-lt-KEY_LEAST.false)))

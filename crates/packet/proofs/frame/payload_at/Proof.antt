@@ -8,5 +8,5 @@ pub payload_at_spec : {M : Type 1} → statement M
 payload_at_spec =
     tie.close (tie.spec
     (search rules) (search rules)
-    (λ c. simp (eq-eqb _ 0 c.if1.true))
-    (λ c. simp (ne_eqb _ 0 c.if1.false)))
+    (λ c. simp (eq-eqb _ 0 c.if-key-eq0.true))
+    (λ c. simp (ne_eqb _ 0 c.if-key-eq0.false)))

@@ -8,13 +8,13 @@ use Rattle.packet.proofs.port.class_of.Tie as tie
 pub class_of_spec : {M : Type 1} → statement M
 class_of_spec =
     tie.close (tie.spec
-    (λ c. sym (from-5100 c.before.args.port (omega arith) (omega arith)))
-    (λ c. sym (from-0000 c.before.before.args.port (omega arith)))
-    (λ c. sym (from-0401 c.before.before.before.args.port (omega arith) (omega arith)))
-    (λ c. sym (from-5101 c.before.before.before.before.args.port (omega arith) (omega arith)))
-    (λ c. sym (from-5201 c.before.before.before.before.before.args.port (omega arith) (omega arith)))
-    (λ c. sym (from-5208 c.before.before.before.before.before.before.args.port (omega arith) (omega arith)))
-    (λ c. sym (from-5300 c.before.before.before.before.before.before.before.args.port (omega arith) (omega arith)))
-    (λ c. sym (from-7D00 c.before.before.before.before.before.before.before.before.args.port (omega arith) (omega arith)))
-    (λ c. sym (from-7F00 c.before.before.before.before.before.before.before.before.before.args.port (omega arith) (omega arith)))
-    (λ c. sym (from-FF00 c.before.before.before.before.before.before.before.before.before.args.port (omega arith))))
+    (λ c. sym (from-5100 c.args.port (omega arith) (omega arith)))
+    (λ c. sym (from-0000 c.args.port (omega arith)))
+    (λ c. sym (from-0401 c.args.port (omega arith) (omega arith)))
+    (λ c. sym (from-5101 c.args.port (omega arith) (omega arith)))
+    (λ c. sym (from-5201 c.args.port (omega arith) (omega arith)))
+    (λ c. sym (from-5208 c.args.port (omega arith) (omega arith)))
+    (λ c. sym (from-5300 c.args.port (omega arith) (omega arith)))
+    (λ c. sym (from-7D00 c.args.port (omega arith) (omega arith)))
+    (λ c. sym (from-7F00 c.args.port (omega arith) (omega arith)))
+    (λ c. sym (from-FF00 c.args.port (omega arith))))

@@ -10,26 +10,26 @@ use Rattle.packet.proofs.Seeking.{found-more}
 use Rattle.packet.proofs.search.among.Statement.{statement}
 use Rattle.packet.proofs.search.among.Tie as tie
 
-abbrev invariant-loop : tie.invariant-loop
-invariant-loop bytes at c found₀ i₀ found i = (i ≤ 16) × (found ≡ ltb (length (up_to c (drop at bytes))) i) × (at + 16 ≤ length bytes)
+abbrev invariant-loop-i : tie.invariant-loop-i
+invariant-loop-i bytes at c found₀ i₀ found i = (i ≤ 16) × (found ≡ ltb (length (up_to c (drop at bytes))) i) × (at + 16 ≤ length bytes)
     × (length bytes < 0x10000000000000000)
 
-abbrev decreases-loop : tie.decreases-loop
-decreases-loop bytes at c found₀ i₀ found i = 16 - i
+abbrev decreases-loop-i : tie.decreases-loop-i
+decreases-loop-i bytes at c found₀ i₀ found i = 16 - i
 
 pub among_spec : {M : Type 1} → statement M
 among_spec =
-    tie.close (tie.spec invariant-loop decreases-loop
+    tie.close (tie.spec invariant-loop-i decreases-loop-i
     (λ c. let a = c.args in (omega arith, sym (le-ltb (length (up_to a.c (drop a.at a.bytes.now))) 0 (omega arith)), c.requires, omega arith))
     (omega arith)
     (omega arith)
     (omega arith)
     (omega arith)
     (λ c.
-    let l = c.before.before.loop in
+    let l = c.before.before.loop-i in
     let a = c.before.before.before.args in
     (omega arith, found-more a.c a.bytes.now a.at l.i (omega arith) l.invariant.1, l.invariant.2, l.invariant.3))
     (λ c.
     let a = c.before.before.args in
-    let e : c.before.loop.i ≡ 16 = omega arith in
-    c.before.loop.invariant.1 ∙ ap (ltb (length (up_to a.c (drop a.at a.bytes.now)))) e))
+    let e : c.before.loop-i.i ≡ 16 = omega arith in
+    c.before.loop-i.invariant.1 ∙ ap (ltb (length (up_to a.c (drop a.at a.bytes.now)))) e))

@@ -5,4 +5,4 @@ use Rattle.packet.proofs.search.bit.Statement.{statement}
 use Rattle.packet.proofs.search.bit.Tie as tie
 
 pub bit_spec : {M : Type 1} → statement M
-bit_spec = tie.close (tie.spec (λ c. (simp (eq-eqb _ _ c.if1.true), omega arith)) (λ c. (simp (ne_eqb _ _ c.if1.false), omega arith)))
+bit_spec = tie.close (tie.spec (λ c. (simp (eq-eqb _ _ c.if-b-c.true), omega arith)) (λ c. (simp (ne_eqb _ _ c.if-b-c.false), omega arith)))

@@ -10,5 +10,5 @@ check_of_spec =
     (search rules) (search rules) (search rules) (search rules)
     (λ c.
     let a = c.before.before.before.before.before.before.args in
-    check-parts a.opening.now a.payload.now c.before.before.before.fresh.ensures c.before.before.feed.ensures c.before.feed2.ensures
+    check-parts a.opening.now a.payload.now c.before.before.before.fresh.ensures c.before.before.feed.ensures c.before.feed-2.ensures
     c.check.ensures))

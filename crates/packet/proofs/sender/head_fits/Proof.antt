@@ -7,8 +7,8 @@ use Rattle.packet.proofs.sender.head_fits.Tie as tie
 pub head_fits_spec : {M : Type 1} → statement M
 head_fits_spec =
     tie.close (tie.spec
-    (λ c. rw (eq-eqb _ _ c.before.if1.true, eq-eqb _ _ c.if2.true))
-    (λ c. rw (eq-eqb _ _ c.before.if1.true, ne_eqb _ _ c.if2.false))
+    (λ c. rw (eq-eqb _ _ c.before.if-format-eq-PLAIN_FORMAT.true, eq-eqb _ _ c.if-key-eq0.true))
+    (λ c. rw (eq-eqb _ _ c.before.if-format-eq-PLAIN_FORMAT.true, ne_eqb _ _ c.if-key-eq0.false))
     (λ c κs. search rules)
-    (λ c. rw (ne_eqb _ _ c.before.before.if1.false, eq-eqb _ _ c.before.if3.true) c.key-sized.ensures)
-    (λ c. rw (ne_eqb _ _ c.before.if1.false, ne_eqb _ _ c.if3.false)))
+    (λ c. rw (ne_eqb _ _ c.before.before.if-format-eq-PLAIN_FORMAT.false, eq-eqb _ _ c.before.if-format-eq-KEY_FORMAT.true) c.key_sized.ensures)
+    (λ c. rw (ne_eqb _ _ c.before.if-format-eq-PLAIN_FORMAT.false, ne_eqb _ _ c.if-format-eq-KEY_FORMAT.false)))

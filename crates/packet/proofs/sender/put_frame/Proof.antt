@@ -25,10 +25,10 @@ put_frame_spec =
     (search rules) (search rules) (search rules) (search rules) (search rules)
     (λ c.
     let d = c.before.before.before.before.before.before.before in
-    simp length-set (c.before.before.put3.auto.0 ∙ d.put2.auto.0 ∙ d.before.before.before.before.put.auto.0))
+    simp length-set (c.before.before.put-c.auto.out ∙ d.put-b.auto.out ∙ d.before.before.before.before.put-a.auto.out))
     (λ c.
     let d = c.before.before.before.before.before.before.before.before.before.before.before in
     let a = d.before.before.before.before.before.before.before.before.before.before.args in
-    let f = laid-frame a.opening.now a.payload.now a.tail.now d.put.ensures
-    c.before.before.before.before.before.before.before.put2.ensures c.before.before.put3.ensures in
+    let f = laid-frame a.opening.now a.payload.now a.tail.now d.put-a.ensures
+    c.before.before.before.before.before.before.before.put-b.ensures c.before.before.put-c.ensures in
     frame-fits f (omega (arith, framed-length a.opening.now a.payload.now a.tail.now))))

@@ -10,7 +10,7 @@ pub put_head_spec : {M : Type 1} → statement M
 put_head_spec =
     tie.close (tie.spec
     (search rules) (search rules)
-    (λ c. let a = c.before.before.before.args in laid-plain a.format a.number a.key.now a.out.now c.if1.true)
+    (λ c. let a = c.before.before.before.args in laid-plain a.format a.number a.key.now a.out.now c.if-format-ne-KEY_FORMAT.true)
     (search rules)
     (λ c. simp length-set (omega (arith, c.before.before.before.requires.1)))
     (λ c. simp length-set (omega (arith, c.before.before.before.requires.1)))
@@ -19,9 +19,9 @@ put_head_spec =
     (search rules) (λ c κs. search rules) (search rules)
     (λ c.
     let a = c.before.before.before.before.before.before.before.args in
-    key-length a.format a.number a.key.now a.out.now c.before.before.copy.new.1.0 c.before.before.copy.auto.1.0)
+    key-length a.format a.number a.key.now a.out.now c.before.before.copy.new.dst c.before.before.copy.auto.dst)
     (λ c.
     let t = c.before.before.before.before in
     let s = t.before.before.before in
-    laid-key s.args.format s.args.number s.args.key.now s.args.out.now c.before.before.copy.new.1.0 t.if1.false
+    laid-key s.args.format s.args.number s.args.key.now s.args.out.now c.before.before.copy.new.dst t.if-format-ne-KEY_FORMAT.false
     (omega (arith, s.requires.0, s.requires.1)) c.before.before.copy.ensures))

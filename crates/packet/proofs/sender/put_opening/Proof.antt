@@ -12,19 +12,19 @@ put_opening_spec =
     tie.close (tie.spec
     (λ c κs. let s = c.before.before.before in (s.requires.0, omega (arith, s.requires.1)))
     (λ c κs.
-    let h = c.before.before.before.put-head in
+    let h = c.before.before.before.put_head-a in
     let s = c.before.before.before.before.before.before.before in
-    omega (arith, h.ensures.ends, h.auto.0, head-most s.args.format s.args.number s.args.key.now s.requires.0, s.requires.1))
+    omega (arith, h.ensures.ends, h.auto.out, head-most s.args.format s.args.number s.args.key.now s.requires.0, s.requires.1))
     (λ c κs.
-    let t = c.before.before.before.put_two in
-    let h = c.before.before.before.before.before.before.before.put-head in
+    let t = c.before.before.before.put_two-b in
+    let h = c.before.before.before.before.before.before.before.put_head-a in
     let s = c.before.before.before.before.before.before.before.before.before.before.before in
     omega (
       arith,
       t.ensures.ends,
-      t.auto.0,
+      t.auto.out,
       h.ensures.ends,
-      h.auto.0,
+      h.auto.out,
       head-most s.args.format s.args.number s.args.key.now s.requires.0,
       s.requires.1,
     ))
@@ -32,5 +32,5 @@ put_opening_spec =
     (λ c.
     let a = c.before.before.before.before.before.before.before.before.before.before.before.before.before.before.args in
     laid-opening (packet_of a.format a.number a.key.now a.port a.sequence [])
-    c.before.before.before.before.before.before.before.before.before.before.put-head.ensures
-    c.before.before.before.before.before.before.put_two.ensures c.before.before.put-two2.ensures))
+    c.before.before.before.before.before.before.before.before.before.before.put_head-a.ensures
+    c.before.before.before.before.before.before.put_two-b.ensures c.before.before.put_two.ensures))

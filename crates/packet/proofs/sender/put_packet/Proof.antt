@@ -15,35 +15,30 @@ pub put_packet_spec : {M : Type 1} → statement M
 put_packet_spec =
     tie.close (tie.spec
     (search rules)
-    (λ c κs. (c.before.before.before.before.requires.0, omega arith))
+    (λ c κs. (c.requires.0, omega arith))
     (search rules) (search rules)
     (λ c.
-    let o = c.before.before.put-opening in
-    let s = c.before.before.before.before.before.before.before in
+    let o = c.put_opening-n in
     omega (
       arith,
-      opening-short (packet_of s.args.format s.args.number s.args.key.now s.args.port s.args.sequence []) o.ensures
-          (omega arith) s.requires.0,
-      o.auto.0,
+      opening-short (packet_of c.args.format c.args.number c.args.key.now c.args.port c.args.sequence []) o.ensures
+          (omega arith) c.requires.0,
+      o.auto.out,
     ))
     (λ c κs. search rules) (λ c κs. search rules) (search rules) (search rules)
     (λ c.
-    let o = c.before.before.before.before.before.before.put-opening in
-    let s = c.before.before.before.before.before.before.before.before.before.before.before in
+    let o = c.put_opening-n in
     omega (
       arith,
-      opening-short (packet_of s.args.format s.args.number s.args.key.now s.args.port s.args.sequence []) o.ensures
-          (omega arith) s.requires.0,
-      o.auto.0,
+      opening-short (packet_of c.args.format c.args.number c.args.key.now c.args.port c.args.sequence []) o.ensures
+          (omega arith) c.requires.0,
+      o.auto.out,
     ))
     (λ c κs.
-    let o = c.before.before.before.before.before.before.before.before.before.put-opening in
-    let s = c.before.before.before.before.before.before.before.before.before.before.before.before.before.before in
-    let p = packet_of s.args.format s.args.number s.args.key.now s.args.port s.args.sequence [] in
-    (omega (arith, ap length (opening-part p o.ensures (omega arith) s.requires.0), opening-most p s.requires.0), s.requires.1))
+    let o = c.put_opening-n in
+    let p = packet_of c.args.format c.args.number c.args.key.now c.args.port c.args.sequence [] in
+    (omega (arith, ap length (opening-part p o.ensures (omega arith) c.requires.0), opening-most p c.requires.0), c.requires.1))
     (search rules)
-    (λ c. let at-two = c.before.before.before.before.before.before.before in let at-check-of = at-two.before in
-    let at-put-opening = at-check-of.before.before.before.before in let s = at-put-opening.before.before.before.before.before in
-    let o = at-put-opening.put-opening in let p = packet_of s.args.format s.args.number s.args.key.now s.args.port s.args.sequence
-    s.args.payload.now in let e = opening-part p o.ensures (omega arith) s.requires.0 in c.before.before.put-frame.ensures
-    ∙ ap (λ (bs : List ℕ). write bs s.args.out.now) (sent-parts p _ _ _ e at-two.two.ensures at-check-of.check-of.ensures)))
+    (λ c. let o = c.put_opening-n in let p = packet_of c.args.format c.args.number c.args.key.now c.args.port c.args.sequence
+    c.args.payload.now in let e = opening-part p o.ensures (omega arith) c.requires.0 in c.put_frame.ensures
+    ∙ ap (λ (bs : List ℕ). write bs c.args.out.now) (sent-parts p _ _ _ e c.two-tail.ensures c.check_of.ensures)))

@@ -20,4 +20,4 @@ put_two_spec =
     (λ c κs. search rules) (search rules) (search rules) (search rules) (search rules)
     (λ c. simp length-set (omega (arith, c.before.before.requires)))
     (search rules) (search rules)
-    (λ c. let a = c.before.before.args in laid-two a.out.now c.two.result a.at a.n c.two.ensures))
+    (λ c. let a = c.before.before.args in laid-two a.out.now c.two-b.result a.at a.n c.two-b.ensures))

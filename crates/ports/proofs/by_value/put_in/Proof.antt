@@ -14,7 +14,7 @@ returns : tie.Need-returns
 returns c = search rules
 
 returns-2 : tie.Need-returns-2
-returns-2 c = (put-over _ (search rules) _ _ c.if1.false, search rules)
+returns-2 c = (put-over _ (search rules) _ _ c.if-i-lt-PLACES.false, search rules)
 
 pub put_in_spec : {M : Type 1} → statement M
 put_in_spec = tie.close (tie.spec mul_next array-set-from-next returns returns-2)

@@ -5,7 +5,7 @@ use Rattle.ports.proofs.places.holds.Statement.{statement}
 use Rattle.ports.proofs.places.holds.Tie as tie
 
 returns : tie.Need-returns
-returns c = rw c.before.if1.true refl
+returns c = rw c.before.if-e.true refl
 
 returns-2 : tie.Need-returns-2
 returns-2 c = search rules

@@ -4,4 +4,4 @@ use Rattle.ports_spec.proofs.Range.has.Statement.{statement}
 use Rattle.ports_spec.proofs.Range.has.Tie as tie
 
 pub has_spec : {M : Type 1} → statement M
-has_spec = tie.close (tie.spec (λ c. simp (le-leb _ _ c.before.if1.true)) (λ c. simp (lt-leb _ _ c.if1.false)))
+has_spec = tie.close (tie.spec (λ c. simp (le-leb _ _ c.before.if-self-port.true)) (λ c. simp (lt-leb _ _ c.if-self-port.false)))

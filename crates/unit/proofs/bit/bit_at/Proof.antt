@@ -10,5 +10,5 @@ pub bit_at_spec : {M : Type 1} → statement M
 bit_at_spec =
     tie.close (tie.spec
     (search rules) (search rules)
-    (λ c. (c.byte-bit.ensures.0 ∙ bits_at _ _ c.before.before.if1.true, c.byte-bit.ensures.1))
-    (λ c. (bits-over _ _ c.if1.false, omega arith)))
+    (λ c. (c.byte_bit.ensures.0 ∙ bits_at _ _ c.before.before.if-i-bytes.true, c.byte_bit.ensures.1))
+    (λ c. (bits-over _ _ c.if-i-bytes.false, omega arith)))

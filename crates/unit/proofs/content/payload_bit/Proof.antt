@@ -13,7 +13,7 @@ payload_bit_spec =
     tie.close (tie.spec
     (search rules) (search rules)
     (λ c. (
-      c.byte-bit.ensures.0 ∙ ap (λ (b : ℕ). get_or (digits 8 b) (c.before.before.before.before.before.args.t % 8) 0) c.before.payload-byte.ensures
+      c.byte_bit.ensures.0 ∙ ap (λ (b : ℕ). get_or (digits 8 b) (c.before.before.before.before.before.args.t % 8) 0) c.before.payload_byte.ensures
           ∙ bits-any _ _,
-      c.byte-bit.ensures.1,
+      c.byte_bit.ensures.1,
     )))

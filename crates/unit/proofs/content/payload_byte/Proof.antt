@@ -11,43 +11,43 @@ payload_byte_spec =
     tie.close (tie.spec
     (search rules)
     (λ c. let s = c.before.before.before.before.before in let a = s.args in
-    in-audio a.n a.t2 a.audio.now a.opportunistic.now a.fixed.now s.requires a.j c.before.if1.true)
+    in-audio a.n a.delimiter a.audio.now a.opportunistic.now a.fixed.now s.requires a.j c.before.if-j-audio.true)
     (search rules) (search rules)
     (λ c.
     let s = c.before.before.before.before.before.before in
     let a = s.args in
-    c.at.ensures ∙ in-fixed a.n a.t2 a.audio.now a.opportunistic.now a.fixed.now s.requires a.j c.before.if2.true)
+    c.at.ensures ∙ in-fixed a.n a.delimiter a.audio.now a.opportunistic.now a.fixed.now s.requires a.j c.before.if-end-j.true)
     (λ c.
     let s = c.before.before.before.before.before.before in
     let a = s.args in
-    in-none a.n a.t2 a.audio.now a.opportunistic.now a.fixed.now s.requires a.j c.before.if2.false c.before.before.if1.false
-    c.if3.true)
+    in-none a.n a.delimiter a.audio.now a.opportunistic.now a.fixed.now s.requires a.j c.before.if-end-j.false c.before.before.if-j-audio.false
+    c.if-opportunistic-eq0.true)
     (λ c.
     let s = c.before.before.before.before.before.before in
     let a = s.args in
-    (begin-fits _ _ _ a.t2 a.opportunistic.now s.requires c.if3.false (omega arith)).0)
+    (begin-fits _ _ _ a.delimiter a.opportunistic.now s.requires c.if-opportunistic-eq0.false (omega arith)).0)
     (search rules)
     (λ c.
     let s = c.before.before.before.before.before.before.before.before in
     let a = s.args in
-    in-opportunistic a.n a.t2 a.audio.now a.opportunistic.now a.fixed.now s.requires a.j c.before.before.before.if2.false
-    c.before.before.if3.false c.before.if4.true)
+    in-opportunistic a.n a.delimiter a.audio.now a.opportunistic.now a.fixed.now s.requires a.j c.before.before.before.if-end-j.false
+    c.before.before.if-opportunistic-eq0.false c.before.if-begin-j.true)
     (λ c.
     let s = c.before.before.before.before.before.before.before in
     let a = s.args in
-    (begin-fits _ _ _ a.t2 a.opportunistic.now s.requires c.before.if3.false (omega arith)).1)
+    (begin-fits _ _ _ a.delimiter a.opportunistic.now s.requires c.before.if-opportunistic-eq0.false (omega arith)).1)
     (λ c.
     let s = c.before.before.before.before.before.before.before.before in
     let a = s.args in
-    (begin-fits _ _ _ a.t2 a.opportunistic.now s.requires c.before.before.if3.false (omega arith)).1)
+    (begin-fits _ _ _ a.delimiter a.opportunistic.now s.requires c.before.before.if-opportunistic-eq0.false (omega arith)).1)
     (search rules) (search rules)
     (λ c.
     let s = c.before.before.before.before.before.before.before.before in
     let a = s.args in
-    in-delimiter a.n a.t2 a.audio.now a.opportunistic.now a.fixed.now s.requires a.j c.before.before.before.if2.false
-    c.before.before.if3.false (omega arith) c.before.if4.false c.if5.true)
+    in-delimiter a.n a.delimiter a.audio.now a.opportunistic.now a.fixed.now s.requires a.j c.before.before.before.if-end-j.false
+    c.before.before.if-opportunistic-eq0.false (omega arith) c.before.if-begin-j.false c.if-begin-j-2.true)
     (λ c.
     let s = c.before.before.before.before.before.before.before.before in
     let a = s.args in
-    before-delimiter a.n a.t2 a.audio.now a.opportunistic.now a.fixed.now s.requires a.j c.before.before.before.if2.false
-    c.before.before.if3.false (omega arith) c.before.if4.false c.before.before.before.before.if1.false c.if5.false))
+    before-delimiter a.n a.delimiter a.audio.now a.opportunistic.now a.fixed.now s.requires a.j c.before.before.before.if-end-j.false
+    c.before.before.if-opportunistic-eq0.false (omega arith) c.before.if-begin-j.false c.before.before.before.before.if-j-audio.false c.if-begin-j-2.false))

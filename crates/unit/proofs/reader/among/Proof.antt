@@ -6,29 +6,29 @@ use Rattle.unit.proofs.reader.among.Tie as tie
 pub among_spec : {M : Type 1} → statement M
 among_spec =
     tie.close (tie.spec
-    (λ c. simp (eq-eqb _ _ c.if1.true))
-    (λ c. simp (ne_eqb _ _ c.before.if1.false, eq-eqb _ _ c.if2.true))
-    (λ c. simp (ne_eqb _ _ c.before.before.if1.false, ne_eqb _ _ c.before.if2.false, eq-eqb _ _ c.if3.true))
+    (λ c. simp (eq-eqb _ _ c.if-h-a.true))
+    (λ c. simp (ne_eqb _ _ c.before.if-h-a.false, eq-eqb _ _ c.if-h-b.true))
+    (λ c. simp (ne_eqb _ _ c.before.before.if-h-a.false, ne_eqb _ _ c.before.if-h-b.false, eq-eqb _ _ c.if-h-c.true))
     (λ c. simp (
-      ne_eqb _ _ c.before.before.before.if1.false,
-      ne_eqb _ _ c.before.before.if2.false,
-      ne_eqb _ _ c.before.if3.false,
+      ne_eqb _ _ c.before.before.before.if-h-a.false,
+      ne_eqb _ _ c.before.before.if-h-b.false,
+      ne_eqb _ _ c.before.if-h-c.false,
       eq-eqb _ _
-          c.if4.true,
+          c.if-h-d.true,
     ))
     (λ c. simp (
-      ne_eqb _ _ c.before.before.before.before.if1.false,
-      ne_eqb _ _ c.before.before.before.if2.false,
+      ne_eqb _ _ c.before.before.before.before.if-h-a.false,
+      ne_eqb _ _ c.before.before.before.if-h-b.false,
       ne_eqb _ _
-          c.before.before.if3.false,
-      ne_eqb _ _ c.before.if4.false,
-      eq-eqb _ _ c.if5.true,
+          c.before.before.if-h-c.false,
+      ne_eqb _ _ c.before.if-h-d.false,
+      eq-eqb _ _ c.if-h-e.true,
     ))
     (λ c. simp (
-      ne_eqb _ _ c.before.before.before.before.if1.false,
-      ne_eqb _ _ c.before.before.before.if2.false,
+      ne_eqb _ _ c.before.before.before.before.if-h-a.false,
+      ne_eqb _ _ c.before.before.before.if-h-b.false,
       ne_eqb _ _
-          c.before.before.if3.false,
-      ne_eqb _ _ c.before.if4.false,
-      ne_eqb _ _ c.if5.false,
+          c.before.before.if-h-c.false,
+      ne_eqb _ _ c.before.if-h-d.false,
+      ne_eqb _ _ c.if-h-e.false,
     )))

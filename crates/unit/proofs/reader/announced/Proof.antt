@@ -8,6 +8,6 @@ pub announced_spec : {M : Type 1} → statement M
 unfolding announced
 announced_spec =
     tie.close (tie.spec
-    (λ c. simp (eq-eqb _ _ c.if1.true))
-    (λ c. simp (ne_eqb _ _ c.before.if1.false, eq-eqb _ _ c.if2.true))
-    (λ c. simp (ne_eqb _ _ c.before.if1.false, ne_eqb _ _ c.if2.false)))
+    (λ c. simp (eq-eqb _ _ c.if-cw-eq-CW1.true))
+    (λ c. simp (ne_eqb _ _ c.before.if-cw-eq-CW1.false, eq-eqb _ _ c.if-cw-eq-CW3.true))
+    (λ c. simp (ne_eqb _ _ c.before.if-cw-eq-CW1.false, ne_eqb _ _ c.if-cw-eq-CW3.false)))

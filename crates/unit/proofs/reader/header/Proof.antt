@@ -6,24 +6,24 @@ use Rattle.unit.proofs.Hearing.{SoFar, hear-none, low, at_low, table-low, hear-m
 use Rattle.unit.proofs.reader.header.Statement.{statement}
 use Rattle.unit.proofs.reader.header.Tie as tie
 
-abbrev invariant-loop : tie.invariant-loop
-invariant-loop size unit n step at₀ v₀ k₀ at v k = SoFar size unit n at v k
+abbrev invariant-loop-k : tie.invariant-loop-k
+invariant-loop-k size unit n step at₀ v₀ k₀ at v k = SoFar size unit n at v k
 
-abbrev decreases-loop : tie.decreases-loop
-decreases-loop size unit n step at₀ v₀ k₀ at v k = n - k
+abbrev decreases-loop-k : tie.decreases-loop-k
+decreases-loop-k size unit n step at₀ v₀ k₀ at v k = n - k
 
 pub header_spec : {M : Type 1} → statement M
 header_spec =
-    tie.close (tie.spec invariant-loop decreases-loop
+    tie.close (tie.spec invariant-loop-k decreases-loop-k
     (search rules) (search rules) (search rules)
-    (λ c. let s = c.before.before.before.before in hear-none s.args.size s.args.unit.now s.requires c.before.before.heads.ensures
-    c.start.ensures)
+    (λ c. let s = c.before.before.before.before in hear-none s.args.size s.args.unit.now s.requires c.before.before.heads-n.ensures
+    c.start-at.ensures)
     (search rules)
     (λ c κs. let s = c.before.before.before.before.before.before.before in (
       omega (
         arith,
-        low s.args.size s.args.unit.now s.requires c.before.before.before.before.before.heads.ensures c.before.before.loop.invariant
-            c.before.loop-test.true,
+        low s.args.size s.args.unit.now s.requires c.before.before.before.before.before.heads-n.ensures c.before.before.loop-k.invariant
+            c.before.loop-k-test.true,
       ),
       c.bit_at.ensures.1,
     ))
@@ -31,17 +31,17 @@ header_spec =
     let s = c.before.before.before.before.before.before.before.before in
     omega (
       arith,
-      at_low s.args.size s.args.unit.now s.requires c.before.before.before.before.before.before.heads.ensures
-          c.before.before.before.loop.invariant c.before.before.loop-test.true,
+      at_low s.args.size s.args.unit.now s.requires c.before.before.before.before.before.before.heads-n.ensures
+          c.before.before.before.loop-k.invariant c.before.before.loop-k-test.true,
       (table-low s.args.size s.requires).0,
-      c.before.before.before.before.before.step.ensures,
+      c.before.before.before.before.before.step-step.ensures,
     ))
     (search rules)
     (omega arith)
     (λ c.
     let s = c.before.before.before.before.before.before.before.before in
-    hear-more s.args.size s.args.unit.now s.requires c.before.before.before.before.before.before.heads.ensures
-    c.before.before.before.loop.invariant c.before.before.loop-test.true c.before.before.before.before.before.step.ensures
-    c.before.bit_at.ensures.0 c.before.bit_at.ensures.1 c.with-bit.ensures)
+    hear-more s.args.size s.args.unit.now s.requires c.before.before.before.before.before.before.heads-n.ensures
+    c.before.before.before.loop-k.invariant c.before.before.loop-k-test.true c.before.before.before.before.before.step-step.ensures
+    c.before.bit_at.ensures.0 c.before.bit_at.ensures.1 c.with_bit-v.ensures)
     (λ c. let s = c.before.before.before.before.before.before in
-    hear-done s.args.size s.args.unit.now c.before.loop.invariant c.loop-test.false))
+    hear-done s.args.size s.args.unit.now c.before.loop-k.invariant c.loop-k-test.false))

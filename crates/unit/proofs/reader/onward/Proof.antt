@@ -9,4 +9,4 @@ pub onward_spec : {M : Type 1} → statement M
 onward_spec =
     tie.close (tie.spec
     (search rules) (search rules) (search rules) (search rules)
-    (λ c. five-on c.args.t1 c.args.b (omega arith)))
+    (λ c. five-on c.args.five c.args.b (omega arith)))

@@ -14,76 +14,76 @@ abbrev Of : (ℕ → List ℕ → ℕ → ℕ → List ℕ → List ℕ → Type
 Of F c = F c.args.size c.args.delimiter c.args.audio c.args.fixed c.args.unit.now c.args.out.now
 
 -- the call, from behind each test that found something
-abbrev start1 : tie.Else1 → tie.Start
+abbrev start1 : tie.Else-unfit → tie.Start
 start1 c = c.before.before.before.before
 
-abbrev start2 : tie.Else2 → tie.Start
+abbrev start2 : tie.Else-unit-lent → tie.Start
 start2 c = start1 c.before.before
 
-abbrev start3 : tie.Else3 → tie.Start
+abbrev start3 : tie.Else-cw-eq0 → tie.Start
 start3 c = start2 c.before.before.before.before
 
-abbrev start4 : tie.Else4 → tie.Start
+abbrev start4 : tie.Else-sequence-cw → tie.Start
 start4 c = start3 c.before.before.before
 
-abbrev start6 : tie.Else6 → tie.Start
+abbrev start6 : tie.Else-n-audio-2 → tie.Start
 start6 c = start4 c.before.before.before
 
 -- the sequence, its mark and the bytes of payload
-abbrev cw : tie.Else3 → ℕ
-cw c = c.before.named.result
+abbrev cw : tie.Else-cw-eq0 → ℕ
+cw c = c.before.named-cw.result
 
-abbrev mark : tie.Else4 → ℕ
-mark c = c.before.before.announced.result
+abbrev mark : tie.Else-sequence-cw → ℕ
+mark c = c.before.before.announced-mark.result
 
-abbrev bytes : tie.Else6 → ℕ
-bytes c = c.before.before.payload.result
+abbrev bytes : tie.Else-n-audio-2 → ℕ
+bytes c = c.before.before.payload-n.result
 
 -- what is found there
-at1 : (c : tie.Else1) → Of Fit (start1 c)
-at1 c = record { fit = sym c.before.unfit.ensures ∙ c.if1.false }
+at1 : (c : tie.Else-unfit) → Of Fit (start1 c)
+at1 c = record { fit = sym c.before.unfit.ensures ∙ c.if-unfit.false }
 
-at2 : (c : tie.Else2) → Of Whole (start2 c)
-at2 c = whole (at1 c.before.before) c.before.lent.ensures.0 c.if2.false
+at2 : (c : tie.Else-unit-lent) → Of Whole (start2 c)
+at2 c = whole (at1 c.before.before) c.before.lent.ensures.0 c.if-unit-lent.false
 
-at3 : (c : tie.Else3) → Of (λ l d a f u out. Named l d a f u out (cw c)) (start3 c)
+at3 : (c : tie.Else-cw-eq0) → Of (λ l d a f u out. Named l d a f u out (cw c)) (start3 c)
 at3 c = let e = c.before in let h = e.before in let n = h.before in
-    is-named (at2 n.before) n.heads.ensures h.header.ensures e.named.ensures c.if3.false
+    is-named (at2 n.before) n.heads.ensures h.header.ensures e.named-cw.ensures c.if-cw-eq0.false
 
-at4 : (c : tie.Else4) → Of (λ l d a f u out. Told l d a f u out (cw c.before.before.before) (mark c)) (start4 c)
-at4 c = let s = c.before in let m = s.before in is-told (at3 m.before) m.announced.ensures s.sequence.ensures c.if4.false
+at4 : (c : tie.Else-sequence-cw) → Of (λ l d a f u out. Told l d a f u out (cw c.before.before.before) (mark c)) (start4 c)
+at4 c = let s = c.before in let m = s.before in is-told (at3 m.before) m.announced-mark.ensures s.sequence.ensures c.if-sequence-cw.false
 
-at6 : (c : tie.Else6) → Of (λ l d a f u out. let e = c.before.before.before in Parted l d a f u out (cw e.before.before.before) (mark e) (bytes c))
+at6 : (c : tie.Else-n-audio-2) → Of (λ l d a f u out. let e = c.before.before.before in Parted l d a f u out (cw e.before.before.before) (mark e) (bytes c))
     (start6 c)
-at6 c = let t = c.before in let p = t.before in parted (at4 p.before) p.payload.ensures t.if5.false c.if6.false
+at6 c = let t = c.before in let p = t.before in parted (at4 p.before) p.payload-n.ensures t.if-n-audio.false c.if-n-audio-2.false
 
-at-find : (c : tie.After-find) → Of (λ l d a f u out. let k = c.before.before in let e = k.before.before.before in
-    Sought l d a f u out (cw e.before.before.before) (mark e) (bytes k) c.find.result) (start6 c.before.before)
-at-find c = record { on = at6 c.before.before; some = c.before.if7.false; found = c.find.ensures }
+at-find : (c : tie.After-find-o) → Of (λ l d a f u out. let k = c.before.before in let e = k.before.before.before in
+    Sought l d a f u out (cw e.before.before.before) (mark e) (bytes k) c.find-o.result) (start6 c.before.before)
+at-find c = record { on = at6 c.before.before; some = c.before.if-mark-eq0.false; found = c.find-o.ensures }
 
 pub read_spec : {M : Type 1} → statement M
 read_spec =
     tie.close (tie.spec
     (search rules)
-    (λ c. not-a-unit _ _ _ _ _ _ c.before.unfit.ensures c.if1.true)
+    (λ c. not-a-unit _ _ _ _ _ _ c.before.unfit.ensures c.if-unfit.true)
     (λ c κs. is-low (at1 c))
-    (λ c. too_short (at1 c.before.before) c.before.lent.ensures.0 c.if2.true)
+    (λ c. too_short (at1 c.before.before) c.before.lent.ensures.0 c.if-unit-lent.true)
     (search rules)
     (λ c κs. is-fit (at2 c.before))
     (λ c κs. heads-told (start2 c.before.before).args.size c.before.heads.ensures)
     (λ c. let e = c.before in let h = e.before in let n = h.before in
-    unnamed (at2 n.before) n.heads.ensures h.header.ensures e.named.ensures c.if3.true)
+    unnamed (at2 n.before) n.heads.ensures h.header.ensures e.named-cw.ensures c.if-cw-eq0.true)
     (search rules) (search rules)
-    (λ c. let s = c.before in let m = s.before in not-told (at3 m.before) m.announced.ensures s.sequence.ensures c.if4.true)
+    (λ c. let s = c.before in let m = s.before in not-told (at3 m.before) m.announced-mark.ensures s.sequence.ensures c.if-sequence-cw.true)
     (search rules)
-    (λ c. no-audio (at4 c.before.before) c.before.payload.ensures c.if5.true)
-    (λ c. let t = c.before in no-fixed (at4 t.before.before) t.before.payload.ensures t.if5.false c.if6.true)
+    (λ c. no-audio (at4 c.before.before) c.before.payload-n.ensures c.if-n-audio.true)
+    (λ c. let t = c.before in no-fixed (at4 t.before.before) t.before.payload-n.ensures t.if-n-audio.false c.if-n-audio-2.true)
     (λ c κs. let k = at6 c.before.before in let w = k.on.on.on in (is-fit w, long w, plain-room k, low w))
     (search rules)
-    (λ c. let e = c.before.before in plainly (at6 e.before.before.before) e.before.before.if7.true e.deliver.ensures)
+    (λ c. let e = c.before.before in plainly (at6 e.before.before.before) e.before.before.if-mark-eq0.true e.deliver.ensures)
     (search rules)
     (λ c κs. let k = at6 c.before in let w = k.on.on.on in (is-fit w, long w, (searched k).0, (searched k).1, low w))
-    (λ c. unmarked (at-find c.before) c.if8.true)
+    (λ c. unmarked (at-find c.before) c.if-o-eq0.true)
     (λ c κs. let k = at-find c.before.before in let w = k.on.on.on.on in (is-fit w, long w, marked-room k, low w))
     (search rules)
-    (λ c. let e = c.before.before in marked (at-find e.before.before.before) e.before.before.if8.false e.deliver2.ensures))
+    (λ c. let e = c.before.before in marked (at-find e.before.before.before) e.before.before.if-o-eq0.false e.deliver-2.ensures))

@@ -14,5 +14,5 @@ window_spec =
     (λ c.
     let a = c.before.before.before.before.before.before.args in
     window-of (payload_of a.size a.unit.now) a.from (omega (arith, length-payload a.size a.unit.now))
-    c.before.before.before.before.payload-byte.ensures c.before.before.before.payload-byte2.ensures
-    c.before.before.payload-byte3.ensures c.before.payload-byte4.ensures c.payload-byte5.ensures))
+    c.before.before.before.before.payload_byte-a.ensures c.before.before.before.payload_byte-b.ensures
+    c.before.before.payload_byte-c.ensures c.before.payload_byte-d.ensures c.payload_byte-e.ensures))

@@ -8,6 +8,6 @@ pub heads_spec : {M : Type 1} → statement M
 unfolding heads
 heads_spec =
     tie.close (tie.spec
-    (λ c. simp (eq-eqb _ _ c.if1.true))
-    (λ c. simp (ne_eqb _ _ c.before.if1.false, eq-eqb _ _ c.if2.true))
-    (λ c. simp (ne_eqb _ _ c.before.if1.false, ne_eqb _ _ c.if2.false)))
+    (λ c. simp (eq-eqb _ _ c.if-size-eq0.true))
+    (λ c. simp (ne_eqb _ _ c.before.if-size-eq0.false, eq-eqb _ _ c.if-size-eq7.true))
+    (λ c. simp (ne_eqb _ _ c.before.if-size-eq0.false, ne_eqb _ _ c.if-size-eq7.false)))

@@ -11,4 +11,4 @@ unfolding payload
 payload_spec =
     tie.close (tie.spec
     (search rules) (search rules)
-    (λ c. ap (λ (n : ℕ). n / 8) c.less.ensures ∙ ap (λ (h : ℕ). (c.before.before.args.size - h) / 8) c.before.heads.ensures))
+    (λ c. ap (λ (n : ℕ). n / 8) c.less.ensures ∙ ap (λ (h : ℕ). (c.before.before.args.size - h) / 8) c.before.heads-h.ensures))

@@ -8,10 +8,10 @@ pub sequence_spec : {M : Type 1} → statement M
 unfolding sequence
 sequence_spec =
     tie.close (tie.spec
-    (λ c. simp (eq-eqb _ _ c.before.before.if1.true, eq-eqb _ _ c.before.if2.true, eq-eqb _ _ c.if3.true))
-    (λ c. simp (eq-eqb _ _ c.before.before.if1.true, eq-eqb _ _ c.before.if2.true, ne_eqb _ _ c.if3.false))
-    (λ c. simp (eq-eqb _ _ c.before.if1.true, ne_eqb _ _ c.if2.false))
-    (λ c. simp (ne_eqb _ _ c.before.before.if1.false, eq-eqb _ _ c.before.if4.true, eq-eqb _ _ c.if5.true))
-    (λ c. simp (ne_eqb _ _ c.before.before.if1.false, eq-eqb _ _ c.before.if4.true, ne_eqb _ _ c.if5.false))
-    (λ c. simp (ne_eqb _ _ c.before.before.if1.false, ne_eqb _ _ c.before.if4.false, eq-eqb _ _ c.if6.true))
-    (λ c. simp (ne_eqb _ _ c.before.before.if1.false, ne_eqb _ _ c.before.if4.false, ne_eqb _ _ c.if6.false)))
+    (λ c. simp (eq-eqb _ _ c.before.before.if-audio-eq0.true, eq-eqb _ _ c.before.if-opportunistic-eq0.true, eq-eqb _ _ c.if-fixed-eq0.true))
+    (λ c. simp (eq-eqb _ _ c.before.before.if-audio-eq0.true, eq-eqb _ _ c.before.if-opportunistic-eq0.true, ne_eqb _ _ c.if-fixed-eq0.false))
+    (λ c. simp (eq-eqb _ _ c.before.if-audio-eq0.true, ne_eqb _ _ c.if-opportunistic-eq0.false))
+    (λ c. simp (ne_eqb _ _ c.before.before.if-audio-eq0.false, eq-eqb _ _ c.before.if-fixed-eq0-2.true, eq-eqb _ _ c.if-opportunistic-eq0-2.true))
+    (λ c. simp (ne_eqb _ _ c.before.before.if-audio-eq0.false, eq-eqb _ _ c.before.if-fixed-eq0-2.true, ne_eqb _ _ c.if-opportunistic-eq0-2.false))
+    (λ c. simp (ne_eqb _ _ c.before.before.if-audio-eq0.false, ne_eqb _ _ c.before.if-fixed-eq0-2.false, eq-eqb _ _ c.if-opportunistic-eq0-3.true))
+    (λ c. simp (ne_eqb _ _ c.before.before.if-audio-eq0.false, ne_eqb _ _ c.before.if-fixed-eq0-2.false, ne_eqb _ _ c.if-opportunistic-eq0-3.false)))

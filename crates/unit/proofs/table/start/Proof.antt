@@ -10,8 +10,8 @@ pub start_spec : {M : Type 1} → statement M
 unfolding start
 start_spec =
     tie.close (tie.spec
-    (λ c. simp (lt-ltb _ _ c.if1.true))
+    (λ c. simp (lt-ltb _ _ c.if-size-lt-LONG.true))
     (search rules)
-    (λ c. simp (le-ltb _ _ c.before.if1.false, eq-eqb _ _ c.if2.true))
+    (λ c. simp (le-ltb _ _ c.before.if-size-lt-LONG.false, eq-eqb _ _ c.if-size-eq0.true))
     (search rules) (search rules)
-    (λ c. simp (le-ltb _ _ c.before.if1.false, ne_eqb _ _ c.if2.false, pick_same)))
+    (λ c. simp (le-ltb _ _ c.before.if-size-lt-LONG.false, ne_eqb _ _ c.if-size-eq0.false, pick_same)))

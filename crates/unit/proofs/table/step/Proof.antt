@@ -12,19 +12,19 @@ unfolding step
 step_spec =
     tie.close (tie.spec
     (search rules)
-    (λ c. ap (λ (n : ℕ). n / 24) c.less.ensures ∙ simp (lt-ltb _ _ c.before.before.if1.true, eq-eqb _ _ c.before.if2.true))
+    (λ c. ap (λ (n : ℕ). n / 24) c.less.ensures ∙ simp (lt-ltb _ _ c.before.before.if-size-lt-LONG.true, eq-eqb _ _ c.before.if-size-eq0.true))
     (search rules) (search rules)
-    (λ c. ap (λ (n : ℕ). n / 23 * 8) c.less2.ensures ∙ simp (
-      lt-ltb _ _ c.before.before.before.if1.true,
-      ne_eqb _ _ c.before.before.if2.false,
-      eq-eqb _ _ c.before.if3.true,
+    (λ c. ap (λ (n : ℕ). n / 23 * 8) c.less-then-size-eq7.ensures ∙ simp (
+      lt-ltb _ _ c.before.before.before.if-size-lt-LONG.true,
+      ne_eqb _ _ c.before.before.if-size-eq0.false,
+      eq-eqb _ _ c.before.if-size-eq7.true,
     ))
     (search rules) (search rules)
-    (λ c. ap (λ (n : ℕ). n / 22 * 8) c.less3.ensures ∙ simp (
-      lt-ltb _ _ c.before.before.before.if1.true,
-      ne_eqb _ _ c.before.before.if2.false,
-      ne_eqb _ _ c.before.if3.false,
+    (λ c. ap (λ (n : ℕ). n / 22 * 8) c.less-then-size-lt-LONG.ensures ∙ simp (
+      lt-ltb _ _ c.before.before.before.if-size-lt-LONG.true,
+      ne_eqb _ _ c.before.before.if-size-eq0.false,
+      ne_eqb _ _ c.before.if-size-eq7.false,
     ))
-    (λ c. simp (le-ltb _ _ c.before.if1.false, eq-eqb _ _ c.if4.true))
-    (λ c. simp (le-ltb _ _ c.before.before.if1.false, ne_eqb _ _ c.before.if4.false, eq-eqb _ _ c.if5.true))
-    (λ c. simp (le-ltb _ _ c.before.before.if1.false, ne_eqb _ _ c.before.if4.false, ne_eqb _ _ c.if5.false)))
+    (λ c. simp (le-ltb _ _ c.before.if-size-lt-LONG.false, eq-eqb _ _ c.if-size-eq0-2.true))
+    (λ c. simp (le-ltb _ _ c.before.before.if-size-lt-LONG.false, ne_eqb _ _ c.before.if-size-eq0-2.false, eq-eqb _ _ c.if-size-eq7-2.true))
+    (λ c. simp (le-ltb _ _ c.before.before.if-size-lt-LONG.false, ne_eqb _ _ c.before.if-size-eq0-2.false, ne_eqb _ _ c.if-size-eq7-2.false)))

@@ -9,6 +9,6 @@ pub unfit_spec : {M : Type 1} → statement M
 unfolding unfit
 unfit_spec =
     tie.close (tie.spec
-    (λ c. simp (lt-ltb _ _ c.if1.true))
+    (λ c. simp (lt-ltb _ _ c.if-size-gt-MOST.true))
     (search rules)
-    (λ c. simp (le-ltb _ _ c.before.if1.false, c.step.ensures)))
+    (λ c. simp (le-ltb _ _ c.before.if-size-gt-MOST.false, c.step.ensures)))

@@ -18,14 +18,14 @@ unit_byte_spec =
     (λ c κs. let p = c.before.before.before.before.before.before.before.before.before.requires in (p.0, p.1, p.3, lit< tt))
     (λ c κs. let p = c.before.before.before.before.before.before.before.before.before.before.requires in (p.0, p.1, p.3, lit< tt))
     (λ c κs. let c7 = c.before in let c6 = c7.before in let c5 = c6.before in let c4 = c5.before in let c3 = c4.before in let c2 = c3.before in (
-      c2.before.unit-bit.ensures.1,
-      c2.unit-bit2.ensures.1,
-      c3.unit-bit3.ensures.1,
-      c4.unit-bit4.ensures.1,
-      c5.unit-bit5.ensures.1,
-      c6.unit-bit6.ensures.1,
-      c7.unit-bit7.ensures.1,
-      c.unit-bit8.ensures.1,
+      c2.before.unit_bit-a.ensures.1,
+      c2.unit_bit-b.ensures.1,
+      c3.unit_bit-c.ensures.1,
+      c4.unit_bit-d.ensures.1,
+      c5.unit_bit-e.ensures.1,
+      c6.unit_bit-f.ensures.1,
+      c7.unit_bit-g.ensures.1,
+      c.unit_bit-h.ensures.1,
     ))
     (λ c.
     let c8 = c.before in let c7 = c8.before in let c6 = c7.before in let c5 = c6.before in let c4 = c5.before in let c3 = c4.before in
@@ -33,5 +33,5 @@ unit_byte_spec =
     c.byte.ensures
     ∙ byte_at _ _ (byte-within a.size a.cw a.delimiter a.audio.now a.opportunistic.now a.fixed.now a.j s.requires.0 s.requires.1
     s.requires.2)
-    c1.unit-bit.ensures.0 c2.unit-bit2.ensures.0 c3.unit-bit3.ensures.0 c4.unit-bit4.ensures.0 c5.unit-bit5.ensures.0
-    c6.unit-bit6.ensures.0 c7.unit-bit7.ensures.0 c8.unit-bit8.ensures.0))
+    c1.unit_bit-a.ensures.0 c2.unit_bit-b.ensures.0 c3.unit_bit-c.ensures.0 c4.unit_bit-d.ensures.0 c5.unit_bit-e.ensures.0
+    c6.unit_bit-f.ensures.0 c7.unit_bit-g.ensures.0 c8.unit_bit-h.ensures.0))

@@ -9,14 +9,14 @@ pub zeros_spec : {M : Type 1} → statement M
 zeros_spec =
     tie.close (tie.spec
     (search rules)
-    (λ c. zeros-0 c.before.args.t1 (omega arith) c.if1.true)
+    (λ c. zeros-0 c.before.args.delimiter (omega arith) c.if-delimiter-ne0.true)
     (search rules)
-    (λ c. zeros-1 c.before.before.args.t1 (omega arith) c.before.if1.false c.if2.true)
+    (λ c. zeros-1 c.before.before.args.delimiter (omega arith) c.before.if-delimiter-ne0.false c.if-delimiter-ne0-2.true)
     (search rules)
-    (λ c. zeros-2 c.before.before.before.args.t1 (omega arith) c.before.before.if1.false c.before.if2.false c.if3.true)
+    (λ c. zeros-2 c.before.before.before.args.delimiter (omega arith) c.before.before.if-delimiter-ne0.false c.before.if-delimiter-ne0-2.false c.if-delimiter-ne0-3.true)
     (search rules)
-    (λ c. zeros-3 c.before.before.before.before.args.t1 (omega arith) c.before.before.before.if1.false c.before.before.if2.false
-    c.before.if3.false c.if4.true)
+    (λ c. zeros-3 c.before.before.before.before.args.delimiter (omega arith) c.before.before.before.if-delimiter-ne0.false c.before.before.if-delimiter-ne0-2.false
+    c.before.if-delimiter-ne0-3.false c.if-delimiter-ne0-4.true)
     (search rules)
-    (λ c. zeros-4 c.before.before.before.before.args.t1 (omega arith) c.before.before.before.if1.false c.before.before.if2.false
-    c.before.if3.false c.if4.false))
+    (λ c. zeros-4 c.before.before.before.before.args.delimiter (omega arith) c.before.before.before.if-delimiter-ne0.false c.before.before.if-delimiter-ne0-2.false
+    c.before.if-delimiter-ne0-3.false c.if-delimiter-ne0-4.false))

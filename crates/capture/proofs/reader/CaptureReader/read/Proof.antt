@@ -13,15 +13,15 @@ read_spec =
     (search rules)
     (λ c.
     let a = c.before.before.before.before.args in
-    call-unsound (held a.self a.store.now) a.piece.now (sym c.before.is-sound.ensures ∙ not-true _ c.if1.true))
+    call-unsound (held a.self a.store.now) a.piece.now (sym c.before.is_sound.ensures ∙ c.if-not-is_sound.true))
     (λ c.
     let a = c.before.before.before.before.before.args in
-    call-cramped (held a.self a.store.now) a.piece.now (sym c.before.before.is-sound.ensures ∙ not-false _ c.before.if1.false)
-    c.if2.true)
-    (λ c κs. (sym c.before.before.before.is-sound.ensures ∙ not-false _ c.before.before.if1.false, c.before.if2.false))
+    call-cramped (held a.self a.store.now) a.piece.now (sym c.before.before.is_sound.ensures ∙ c.before.if-not-is_sound.false)
+    c.if-store-lt-STORED.true)
+    (λ c κs. (sym c.before.before.before.is_sound.ensures ∙ c.before.before.if-not-is_sound.false, c.before.if-store-lt-STORED.false))
     (search rules)
     (λ c.
     let t = c.before.before.before.before in
     let a = t.before.before.before.before.before.args in
-    call-on (held a.self a.store.now) a.piece.now (sym t.before.before.is-sound.ensures ∙ not-false _ t.before.if1.false) t.if2.false
-    c.before.before.read-on.ensures))
+    call-on (held a.self a.store.now) a.piece.now (sym t.before.before.is_sound.ensures ∙ t.before.if-not-is_sound.false) t.if-store-lt-STORED.false
+    c.before.before.read_on.ensures))

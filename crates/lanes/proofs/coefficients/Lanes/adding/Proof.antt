@@ -15,6 +15,6 @@ adding_spec =
     let first = second.before.before in
     let start = first.before in
     adding-is _ _ start.args.self
-    (record { a = first.chosen.result; b = second.chosen2.result; c = third.chosen3.result; d = fourth.chosen4.result }) start.args.row
+    (record { a = first.chosen.result; b = second.chosen-2.result; c = third.chosen-3.result; d = fourth.chosen-4.result }) start.args.row
     start.args.next _ refl
-    first.chosen.ensures second.chosen2.ensures third.chosen3.ensures fourth.chosen4.ensures))
+    first.chosen.ensures second.chosen-2.ensures third.chosen-3.ensures fourth.chosen-4.ensures))

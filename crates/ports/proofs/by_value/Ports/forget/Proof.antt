@@ -11,7 +11,7 @@ put-in-requires : tie.Need-put-in-requires
 put-in-requires c κs = search rules
 
 returns : tie.Need-returns
-returns c = frees-in _ c.put_in.ensures.1 _ c.before.decide-forget.ensures c.put_in.ensures.0
+returns c = frees-in _ c.put_in-entries.ensures.1 _ c.before.decide_forget-d.ensures c.put_in-entries.ensures.0
 
 pub forget_spec : {M : Type 1} → statement M
 forget_spec = tie.close (tie.spec decide-forget-requires put-in-requires returns)

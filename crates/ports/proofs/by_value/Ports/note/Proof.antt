@@ -11,7 +11,7 @@ put-in-requires : tie.Need-put-in-requires
 put-in-requires c κs = search rules
 
 returns : tie.Need-returns
-returns c = notes-in _ c.put_in.ensures.1 _ _ c.before.decide-note.ensures c.put_in.ensures.0
+returns c = notes-in _ c.put_in-entries.ensures.1 _ _ c.before.decide_note-d.ensures c.put_in-entries.ensures.0
 
 pub note_spec : {M : Type 1} → statement M
 note_spec = tie.close (tie.spec decide-note-requires put-in-requires returns)
