@@ -32,6 +32,7 @@ use Rattle.repair.proofs.Apart.{distance-zero, distance-weight, checked-clean, c
 use Rattle.repair.proofs.Eliminate.{Row, Answers, solved}
 use Rattle.repair.proofs.Exists.{not_none}
 use Rattle.repair.proofs.Values.{found-errors}
+use Rattle.repair.proofs.Settled.{settled-damaged}
 
 -- ---- the equations are rows of 33 bytes
 bytes-sums : (r : ℕ) (w : List ℕ) → Bytes w → Bytes (sums r w)
@@ -152,7 +153,7 @@ module _ (r : ℕ) (w : List ℕ) (b : Bytes w) (harmed : checked r w ≡ check.
 
   settled-promised : (c : Checked) → checked r out ≡ c → distance w out ≤ half r → Promised r w (settled c w out).0 (settled c w out).1
   settled-promised check.Clean q k = (harmed, not-clean q, k, refl, ((bytes-out, q), k), λ v near. sym (is-near v near))
-  settled-promised check.Damaged q k = (harmed, λ v near. none v near, refl)
+  settled-promised check.Damaged q k = settled-damaged r w out harmed bytes-out not-clean is-near q k none
     where
       none : (v : List ℕ) → Near r w v → ⊥
       none v near = let z : check.Damaged ≡ check.Clean = sym q ∙ ap (checked r) (is-near v near) ∙ near.0.1 in let no : ◌≡◌ {A = ℕ} 0 1 = cc in omega arith
