@@ -10,19 +10,15 @@ pub send_spec : {M : Type 1} → statement M
 send_spec =
     tie.close (tie.spec
     (search rules)
-    (λ c. let a = c.before.before.before.before.args in
-    send-unsound a.self a.number a.stream.now a.out.now (sym c.before.sound.ensures ∙ not-true _ c.if1.true))
+    (λ c. let a = c.args in
+    send-unsound a.self a.number a.stream.now a.out.now (sym c.sound.ensures ∙ c.if-not-sound.true))
     (search rules)
     (λ c.
-    let e = c.before.before in
-    let a = e.before.before.before.before.args in
-    send-unknown a.self a.number a.stream.now a.out.now (sym e.before.sound.ensures ∙ not-false _ e.if1.false)
-    (sym c.before.known.ensures ∙ not-true _ c.if2.true))
+    let a = c.args in
+    send-unknown a.self a.number a.stream.now a.out.now (sym c.sound.ensures ∙ c.if-not-sound.false)
+    (sym c.known.ensures ∙ c.if-not-known.true))
     (search rules) (search rules) (search rules)
     (λ c.
-    let g = c.before.before.before.before in
-    let t = g.before in
-    let e = t.before.before in
-    let a = e.before.before.before.before.args in
-    send-known a.self a.number a.stream.now a.out.now (sym e.before.sound.ensures ∙ not-false _ e.if1.false)
-    (sym t.before.known.ensures ∙ not-false _ t.if2.false) g.get.ensures c.before.before.send.ensures))
+    let a = c.args in
+    send-known a.self a.number a.stream.now a.out.now (sym c.sound.ensures ∙ c.if-not-sound.false)
+    (sym c.known.ensures ∙ c.if-not-known.false) c.get-settings.ensures c.send.ensures))
