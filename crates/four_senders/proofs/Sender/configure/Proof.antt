@@ -1,7 +1,6 @@
 -- `Sender::configure` meets its contract: refused with 10, 42, 30, 32, or told.
 use mathlib.Core.Path.{sym, ◌∙◌}
 use borrow.Author.Rules.{rules}
-use borrow.Author.Tests.{not-true, not-false}
 use Rattle.four_senders.proofs.Calling.{configured-unsound, configured-none, configured-roots, configured-depth, configured-told}
 use Rattle.four_senders.proofs.Sender.configure.Statement.{statement}
 use Rattle.four_senders.proofs.Sender.configure.Tie as tie

@@ -1,7 +1,6 @@
 -- `Sender::send` meets its contract: refused with 10, with 42, or sent by that sub-channel's settings.
 use mathlib.Core.Path.{sym, ◌∙◌}
 use borrow.Author.Rules.{rules}
-use borrow.Author.Tests.{not-true, not-false}
 use Rattle.four_senders.proofs.Calling.{send-unsound, send-unknown, send-known}
 use Rattle.four_senders.proofs.Sender.send.Statement.{statement}
 use Rattle.four_senders.proofs.Sender.send.Tie as tie

@@ -1,7 +1,6 @@
 -- `Sender::sound` meets its contract.
 use mathlib.Core.Path.{sym, ◌∙◌}
 use borrow.Author.Rules.{rules}
-use borrow.Author.Tests.{not-true, not-false}
 use Rattle.base.proofs.Tests.{one-and}
 use Rattle.four_senders.proofs.Sender.sound.Statement.{statement}
 use Rattle.four_senders.proofs.Sender.sound.Tie as tie
