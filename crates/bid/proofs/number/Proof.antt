@@ -11,4 +11,4 @@ number_spec =
     (λ c. sym (number-none _ c.if-word-eq0.true))
     (λ c. sym (number-long _ c.if-word-gt-DIGITS.true))
     (search rules)
-    (λ c. c.digits.ensures ∙ sym (number_is _ c.before.before.if-word-eq0.false c.before.if-word-gt-DIGITS.false)))
+    (λ c. c.digits.ensures ∙ sym (number_is _ c.if-word-eq0.false c.if-word-gt-DIGITS.false)))

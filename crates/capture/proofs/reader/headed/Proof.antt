@@ -9,16 +9,13 @@ headed_spec =
     tie.close (tie.spec
     (search rules) (search rules) (search rules)
     (λ c.
-    let f = c.before.before in
-    headed-unequal f.before.before.before.args.store.now f.before.four_at-n.ensures f.four_at.ensures c.before.if-n-four_at.true
+    headed-unequal c.args.store.now c.four_at-n.ensures c.four_at.ensures c.if-n-four_at.true
     c.said.ensures)
     (search rules)
     (λ c.
-    let f = c.before.before.before in
-    headed-none f.before.before.before.args.store.now f.before.four_at-n.ensures f.four_at.ensures c.before.before.if-n-four_at.false
-    c.before.if-n-eq0.true c.said-then-n-eq0.ensures)
+    headed-none c.args.store.now c.four_at-n.ensures c.four_at.ensures c.if-n-four_at.false
+    c.if-n-eq0.true c.said-then-n-eq0.ensures)
     (search rules)
     (λ c.
-    let f = c.before.before.before in
-    headed-some f.before.before.before.args.store.now f.before.four_at-n.ensures f.four_at.ensures c.before.before.if-n-four_at.false
-    c.before.if-n-eq0.false c.on.ensures))
+    headed-some c.args.store.now c.four_at-n.ensures c.four_at.ensures c.if-n-four_at.false
+    c.if-n-eq0.false c.on.ensures))

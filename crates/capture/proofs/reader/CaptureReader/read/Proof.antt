@@ -12,16 +12,15 @@ read_spec =
     tie.close (tie.spec
     (search rules)
     (λ c.
-    let a = c.before.before.before.before.args in
-    call-unsound (held a.self a.store.now) a.piece.now (sym c.before.is_sound.ensures ∙ c.if-not-is_sound.true))
+    let a = c.args in
+    call-unsound (held a.self a.store.now) a.piece.now (sym c.is_sound.ensures ∙ c.if-not-is_sound.true))
     (λ c.
-    let a = c.before.before.before.before.before.args in
-    call-cramped (held a.self a.store.now) a.piece.now (sym c.before.before.is_sound.ensures ∙ c.before.if-not-is_sound.false)
+    let a = c.args in
+    call-cramped (held a.self a.store.now) a.piece.now (sym c.is_sound.ensures ∙ c.if-not-is_sound.false)
     c.if-store-lt-STORED.true)
-    (λ c κs. (sym c.before.before.before.is_sound.ensures ∙ c.before.before.if-not-is_sound.false, c.before.if-store-lt-STORED.false))
+    (λ c κs. (sym c.is_sound.ensures ∙ c.if-not-is_sound.false, c.if-store-lt-STORED.false))
     (search rules)
     (λ c.
-    let t = c.before.before.before.before in
-    let a = t.before.before.before.before.before.args in
-    call-on (held a.self a.store.now) a.piece.now (sym t.before.before.is_sound.ensures ∙ t.before.if-not-is_sound.false) t.if-store-lt-STORED.false
-    c.before.before.read_on.ensures))
+    let a = c.args in
+    call-on (held a.self a.store.now) a.piece.now (sym c.is_sound.ensures ∙ c.if-not-is_sound.false) c.if-store-lt-STORED.false
+    c.read_on.ensures))

@@ -18,27 +18,23 @@ decreases-loop-i store₀ piece capture₀ i₀ store capture i = length piece -
 pub read_on_spec : {M : Type 1} → statement M
 read_on_spec =
     tie.close (tie.spec invariant-loop-i decreases-loop-i
-    (λ c. let s = c.before.before in (going-first _ _ (record { counts = s.requires.0; room = s.requires.1 }), refl, omega arith))
-    (λ c. c.before.before.loop-i-test.true)
-    (λ c κs. let g = c.before.before.before.loop-i.invariant.0 in (g.fine.counts, g.fine.room))
-    (λ c. let l = c.before.before.before.before.before.before.loop-i in omega (arith, l.invariant.0.within, l.invariant.2))
+    (λ c. (going-first _ _ (record { counts = c.requires.0; room = c.requires.1 }), refl, omega arith))
+    (λ c. c.loop-i-test.true)
+    (λ c κs. let g = c.loop-i.invariant.0 in (g.fine.counts, g.fine.room))
+    (λ c. let l = c.loop-i in omega (arith, l.invariant.0.within, l.invariant.2))
     (λ c.
-    let t = c.before.before.before in
-    let l = t.before.before.before.before.loop-i in
-    t.take-s.auto.store ∙ l.invariant.1)
+    let l = c.loop-i in
+    c.take-s.auto.store ∙ l.invariant.1)
     (λ c.
-    let t = c.before.before.before in
-    let l = t.before.before.before.before.loop-i in
-    going_end l.invariant.0 t.before.before.before.loop-i-test.true t.take-s.ensures c.if-s.true)
+    let l = c.loop-i in
+    going_end l.invariant.0 c.loop-i-test.true c.take-s.ensures c.if-s.true)
     (λ c.
-    let t = c.before.before.before in
-    omega (arith, t.before.before.before.loop-i-test.true))
+    omega (arith, c.loop-i-test.true))
     (λ c.
-    let t = c.before.before.before in
-    let l = t.before.before.before.before.loop-i in (
-      going_next l.invariant.0 t.before.before.before.loop-i-test.true t.take-s.ensures c.if-s.false,
-      t.take-s.auto.store ∙ l.invariant.1,
+    let l = c.loop-i in (
+      going_next l.invariant.0 c.loop-i-test.true c.take-s.ensures c.if-s.false,
+      c.take-s.auto.store ∙ l.invariant.1,
       l.invariant.2,
     ))
-    (λ c. c.before.loop-i.invariant.1)
-    (λ c. going_done c.before.loop-i.invariant.0 c.loop-i-test.false))
+    (λ c. c.loop-i.invariant.1)
+    (λ c. going_done c.loop-i.invariant.0 c.loop-i-test.false))
