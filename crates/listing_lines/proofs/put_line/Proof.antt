@@ -8,11 +8,11 @@ use Rattle.listing_lines.proofs.put_line.Tie as tie
 pub put_line_spec : {M : Type 1} → statement M
 put_line_spec =
     tie.close (tie.spec
-    (search rules) (search rules) (λ c κs. search rules) (search rules) (λ c κs. search rules) (search rules) (search rules) (λ c κs. search rules)
-    (λ c. put-case line c.enum_told.given.1 (put-none _ _))
-    (λ c. search rules)
-    (λ c. put-case line c.before.before.before.before.before.answer.given.1 c.before.before.put-told.ensures)
-    (λ c. search rules)
-    (λ c. put-case line c.before.before.before.before.before.answer2.given.1 c.before.before.put-condition.ensures)
-    (λ c. search rules)
-    (λ c. put-case line c.before.before.before.before.before.enum-told2.given.1 c.before.before.put-text.ensures))
+    (search rules) (search rules) (search rules) (search rules) (search rules) (search rules) (search rules) (search rules)
+    (λ c. put-case line c.in-More.is (put-none _ _))
+    (search rules)
+    (λ c. put-case line c.in-Said.is c.put_told.ensures)
+    (search rules)
+    (λ c. put-case line c.in-Block.is c.put_condition.ensures)
+    (search rules)
+    (λ c. put-case line c.in-LockLost.is c.put_text.ensures))
