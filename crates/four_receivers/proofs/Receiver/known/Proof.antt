@@ -12,4 +12,4 @@ known_spec =
     tie.close (tie.spec
     (λ c. simp (lt-leb _ _ c.if-number-gt3.true))
     (search rules)
-    (λ c. one-and (le-leb _ _ c.if-number-gt3.false) (ap (λ (x : Seat). x.lane-1.settings.told) c.get-seat.ensures)))
+    (λ c. one-and (le-leb _ _ c.if-number-gt3.false) (ap (λ (x : Seat). x.lane.settings.told) c.get-seat.ensures)))
