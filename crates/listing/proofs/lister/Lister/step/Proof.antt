@@ -13,13 +13,13 @@ step_spec =
     c.args.word.now c.args.piece.now c.args.out.now (omega arith) (omega arith) c.requires.0 c.requires.1 c.requires.2 c.if-out-lt-ROOM.true)
     (search rules) (search rules) (search rules) (search rules)
     (λ c. step-more c.args.self.tape c.args.self.totals c.args.recv.now c.args.word.now c.args.piece.now c.args.out.now
-    (omega arith) (omega arith) s.requires.0 s.requires.1 s.requires.2 c.next-heard.result _ _
+    (omega arith) (omega arith) c.requires.0 c.requires.1 c.requires.2 c.next-heard.result _ _
     c.next-heard.ensures
     c.if-out-lt-ROOM.false
     (sym c.is_more.ensures ∙ c.if-is_more.true))
     (search rules) (search rules) (search rules) (search rules) (search rules)
     (λ c. step_line c.args.self.tape c.args.self.totals c.args.recv.now c.args.word.now
-    c.args.piece.now c.args.out.now (omega arith) (omega arith) c.pre.0 c.pre.1 c.pre.2
+    c.args.piece.now c.args.out.now (omega arith) (omega arith) c.requires.0 c.requires.1 c.requires.2
     c.next-heard.result _ _
     c.next-heard.ensures
     c.if-out-lt-ROOM.false

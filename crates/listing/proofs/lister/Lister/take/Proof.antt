@@ -18,14 +18,14 @@ take_spec =
     (sym c.near.ensures ∙ c.if-not-near.true) c.refused-then-not-near.ensures)
     (search rules) (search rules) (search rules) (search rules)
     (λ c. take-cramped c.args.self c.args.recv.now c.args.word.now c.args.piece.now c.args.out.now
-    (sym c.sound.ensures ∙ not-false _ c.if-not-sound.false) (sym c.near.ensures ∙ not-false _ c.if-not-near.false)
+    (sym c.sound.ensures ∙ c.if-not-sound.false) (sym c.near.ensures ∙ c.if-not-near.false)
     (sym c.has_room.ensures ∙ c.if-not-has_room.true) c.refused-then-not-has_room.ensures)
     (λ c κs. (
-      (sym c.sound.ensures ∙ not-false _ c.if-not-sound.false),
-      (sym c.has_room.ensures ∙ not-false _ c.if-not-has_room.false),
-      (sym c.near.ensures ∙ not-false _ c.if-not-near.false),
+      (sym c.sound.ensures ∙ c.if-not-sound.false),
+      (sym c.has_room.ensures ∙ c.if-not-has_room.false),
+      (sym c.near.ensures ∙ c.if-not-near.false),
     ))
     (search rules) (search rules) (search rules)
     (λ c. take_on c.args.self c.args.recv.now c.args.word.now c.args.piece.now c.args.out.now
-    (sym c.sound.ensures ∙ not-false _ c.if-not-sound.false) (sym c.near.ensures ∙ not-false _ c.if-not-near.false)
-    (sym c.has_room.ensures ∙ not-false _ c.if-not-has_room.false) c.take_on.ensures))
+    (sym c.sound.ensures ∙ c.if-not-sound.false) (sym c.near.ensures ∙ c.if-not-near.false)
+    (sym c.has_room.ensures ∙ c.if-not-has_room.false) c.take_on.ensures))
