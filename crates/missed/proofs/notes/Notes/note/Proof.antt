@@ -1,4 +1,6 @@
 -- `missed::notes::Notes::note` meets its contract: the line of a packet of the range, and nothing of any other.
+use mathlib.Core.Bool.{not}
+use mathlib.Core.Path.{ap}
 use borrow.Author.Rules.{rules}
 use Rattle.missed.proofs.Taking.{note-out, note-in}
 use Rattle.missed.proofs.notes.Notes.note.Statement.{statement}
@@ -10,8 +12,8 @@ note_spec =
     (search rules)
     (λ c.
     let s = c.args in
-    note-out s.self s.taken s.delivery s.out-1.now c.has.ensures c.if-not-has.true)
+    note-out s.self s.taken s.delivery s.out.now c.has.ensures (ap not c.if-not-has.true))
     (search rules) (search rules) (search rules)
     (λ c.
-    note-in c.args.self c.args.taken c.args.delivery c.args.out.now c.has.ensures c.if-not-has.false c.requires
+    note-in c.args.self c.args.taken c.args.delivery c.args.out.now c.has.ensures (ap not c.if-not-has.false) c.requires
     c.note-told.ensures c.put_noted-written.ensures))
