@@ -1,5 +1,6 @@
 //! What several crates share: the answer of a call that writes, the copying of bytes, the bytes before the first of a kind.
 #![tactic(auto)]
+
 ghost use Rattle.std.specs.Prelude.{◌≡◌, ◌≤◌, min, length};
 ghost use Rattle.base.specs.Written.{copied};
 ghost use Rattle.base.specs.UpTo.{up_to};

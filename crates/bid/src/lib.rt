@@ -1,5 +1,6 @@
 //! A line of the office's input, `PORT SEQUENCE TEXT`, read.
 #![tactic(auto)]
+
 ghost use Rattle.std.specs.Prelude.{◌≡◌};
 ghost use Rattle.bid.specs.Line.{number, number_from, reading};
 

@@ -1,20 +1,26 @@
 //! What is said of a line that is not sent: its number, and why it is no bid.
-use console::say;
+use console::{Speak, say};
 
 // `line N: `, the beginning of what is said of a line.
-pub fn name_line(number: u64) {
-    say(b"line ");
-    console::say_number(number);
-    say(b": ");
+pub fn name_line(rt: &impl Speak, number: u64) {
+    say(rt, b"line ");
+    console::say_number(rt, number);
+    say(rt, b": ");
 }
 
 // A line that is no bid; the first may be none by a mark that an editor put there.
-pub fn say_no_bid(number: u64, line: &[u8]) {
+pub fn say_no_bid(rt: &impl Speak, number: u64, line: &[u8]) {
     if number == 1 && has_mark(line) {
-        say(b"no bid: the file begins with a byte order mark: save it as plain text\n");
+        say(
+            rt,
+            b"no bid: the file begins with a byte order mark: save it as plain text\n",
+        );
         return;
     }
-    say(b"no bid: a bid is PORT SEQUENCE TEXT: two numbers up to 65535, one space behind each\n");
+    say(
+        rt,
+        b"no bid: a bid is PORT SEQUENCE TEXT: two numbers up to 65535, one space behind each\n",
+    );
 }
 
 // Whether a line begins with a byte order mark, of UTF-8 or of UTF-16.
@@ -23,5 +29,5 @@ fn has_mark(line: &[u8]) -> bool {
 }
 
 fn begins(line: &[u8], first: &[u8]) -> bool {
-    check::same(&line[0..base::least(first.len(), line.len())], first)
+    line.starts_with(first)
 }

@@ -5,12 +5,12 @@ ghost use Rattle.std.specs.Prelude.{◌≤◌, length};
 use crate::naming::name_line;
 use bid::Found;
 use board_lines::Piece;
-use console::say;
+use console::{Speak, say};
 use packet::Class;
 use ports::{Entry, Noted, Ports};
 
 // What the boards have seen, and what was said once.
-#[derive(Drop)]
+#[derive(Clone, Copy)]
 pub struct Watch {
     ports: Ports,
     // Of a port that finds no place.
@@ -33,7 +33,7 @@ pub fn fresh() -> Watch {
 
 impl Watch {
     // A line that is sent, and its number.
-    pub fn heed(self, number: u64, line: &[u8]) -> Watch {
+    pub fn heed(self, rt: &impl Speak, number: u64, line: &[u8]) -> Watch {
         match bid::read(line) {
             Found::Bid {
                 port,
@@ -41,69 +41,83 @@ impl Watch {
                 from,
             } => {
                 let begin = base::least(from, line.len());
-                self.heed_bid(number, port, sequence, &line[begin..])
+                self.heed_bid(rt, number, port, sequence, &line[begin..])
             }
             Found::NoBid => self,
         }
     }
 
-    fn heed_bid(self, number: u64, port: u16, sequence: u16, text: &[u8]) -> Watch {
+    fn heed_bid(
+        self,
+        rt: &impl Speak,
+        number: u64,
+        port: u16,
+        sequence: u16,
+        text: &[u8],
+    ) -> Watch {
         let before = self.ports;
         let told = before.note(port, sequence);
         let noted = told.noted;
         let ports = told.ports;
         Watch {
             ports,
-            full: heed_number(self.full, number, port, noted, before),
-            returned: heed_text(self.returned, number, text),
+            full: heed_number(rt, self.full, number, port, noted, before),
+            returned: heed_text(rt, self.returned, number, text),
         }
     }
 }
 
-fn warn(number: u64) {
-    name_line(number);
-    say(b"warning: ");
+fn warn(rt: &impl Speak, number: u64) {
+    name_line(rt, number);
+    say(rt, b"warning: ");
 }
 
 // What a sequence number is to the last one of its port; whether it was said that a port finds no place.
-fn heed_number(full: bool, number: u64, port: u16, noted: Noted, before: Ports) -> bool {
+fn heed_number(
+    rt: &impl Speak,
+    full: bool,
+    number: u64,
+    port: u16,
+    noted: Noted,
+    before: Ports,
+) -> bool {
     match noted {
         Noted::First => {
-            heed_class(number, port);
+            heed_class(rt, number, port);
             full
         }
         Noted::InOrder => full,
         Noted::Repeated => {
-            say_last(number, b"repeated", port, before);
-            say(b"; the yards will not take it for a new bid\n");
+            say_last(rt, number, b"repeated", port, before);
+            say(rt, b"; the yards will not take it for a new bid\n");
             full
         }
         Noted::Missing(n) => {
-            say_last(number, b"a gap", port, before);
-            say(b"; the yards will be told: missing ");
-            console::say_number(n as u64);
-            say(b"\n");
+            say_last(rt, number, b"a gap", port, before);
+            say(rt, b"; the yards will be told: missing ");
+            console::say_number(rt, n as u64);
+            say(rt, b"\n");
             full
         }
         Noted::Late => {
-            say_last(number, b"late", port, before);
-            say(b"; the yards will not quote from it\n");
+            say_last(rt, number, b"late", port, before);
+            say(rt, b"; the yards will not quote from it\n");
             full
         }
-        Noted::Refused(_) => heed_full(full, number, port),
+        Noted::Refused(_) => heed_full(rt, full, number, port),
     }
 }
 
 // `line N: warning: WHAT: port P had number L before`.
-fn say_last(number: u64, what: &[u8], port: u16, before: Ports) {
+fn say_last(rt: &impl Speak, number: u64, what: &[u8], port: u16, before: Ports) {
     let entries = before.entries;
-    warn(number);
-    say(what);
-    say(b": port ");
-    console::say_number(port as u64);
-    say(b" had number ");
-    console::say_number(last_of(port, entries) as u64);
-    say(b" before");
+    warn(rt, number);
+    say(rt, what);
+    say(rt, b": port ");
+    console::say_number(rt, port as u64);
+    say(rt, b" had number ");
+    console::say_number(rt, last_of(port, entries) as u64);
+    say(rt, b" before");
 }
 
 // The last number of a port that is held.
@@ -120,25 +134,29 @@ fn last_of(port: u16, entries: [Entry; 16]) -> u16 {
 }
 
 // A port's first line.
-fn heed_class(number: u64, port: u16) {
+fn heed_class(rt: &impl Speak, number: u64, port: u16) {
     match packet::class_of(port) {
         Class::Applications => {}
         _ => {
-            warn(number);
-            say(b"port ");
-            console::say_number(port as u64);
-            say(b" is none for applications: take one from 1025 to 20735\n");
+            warn(rt, number);
+            say(rt, b"port ");
+            console::say_number(rt, port as u64);
+            say(
+                rt,
+                b" is none for applications: take one from 1025 to 20735\n",
+            );
         }
     }
 }
 
 // A port that finds no place, said once.
-fn heed_full(full: bool, number: u64, port: u16) -> bool {
+fn heed_full(rt: &impl Speak, full: bool, number: u64, port: u16) -> bool {
     if !full {
-        warn(number);
-        say(b"port ");
-        console::say_number(port as u64);
+        warn(rt, number);
+        say(rt, b"port ");
+        console::say_number(rt, port as u64);
         say(
+            rt,
             b" is the seventeenth: a board watches 16, and of others cannot tell what is late or missing\n",
         );
     }
@@ -146,20 +164,21 @@ fn heed_full(full: bool, number: u64, port: u16) -> bool {
 }
 
 // Bytes that the yards see by number; whether a carriage return at the end was said.
-fn heed_text(returned: bool, number: u64, text: &[u8]) -> bool {
+fn heed_text(rt: &impl Speak, returned: bool, number: u64, text: &[u8]) -> bool {
     let end = text_end(text);
     let odd = plain(&text[0..end]);
     if odd < end {
-        warn(number);
-        say(b"not plain ASCII: the yards see ");
-        say_shown(&text[odd..end]);
-        say(b"\n");
+        warn(rt, number);
+        say(rt, b"not plain ASCII: the yards see ");
+        say_shown(rt, &text[odd..end]);
+        say(rt, b"\n");
     }
     if returned || end == text.len() {
         return returned;
     }
-    warn(number);
+    warn(rt, number);
     say(
+        rt,
         b"a carriage return ends the text, as in a file from Windows: the yards see \\x0D; not said of the lines behind it\n",
     );
     true
@@ -196,7 +215,7 @@ fn plain(text: &[u8]) -> usize
 }
 
 // The first such bytes, as a board shows them.
-fn say_shown(text: &[u8]) {
+fn say_shown(rt: &impl Speak, text: &[u8]) {
     let end = base::least(NAMED, text.len());
     let mut i: usize = 0;
     while i < end {
@@ -204,17 +223,17 @@ fn say_shown(text: &[u8]) {
         if !is_odd(b) {
             return;
         }
-        say_byte(b);
+        say_byte(rt, b);
         i += 1;
     }
 }
 
-fn say_byte(b: u8) {
+fn say_byte(rt: &impl Speak, b: u8) {
     let piece = Piece::shown_byte(b);
     let bytes = piece.bytes;
-    say_first(&bytes, piece.length);
+    say_first(rt, &bytes, piece.length);
 }
 
-fn say_first(bytes: &[u8], n: usize) {
-    say(&bytes[0..base::least(n, bytes.len())]);
+fn say_first(rt: &impl Speak, bytes: &[u8], n: usize) {
+    say(rt, &bytes[0..base::least(n, bytes.len())]);
 }

@@ -1,5 +1,6 @@
 //! What the manager reads: bytes in, the board's lines out, any cutting of the input and any room for the output.
 #![tactic(auto)]
+
 mod owed;
 mod readout;
 

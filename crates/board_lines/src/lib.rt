@@ -1,5 +1,6 @@
 //! The lines of the board, written in pieces: by value, so that a piece can be written in parts.
 #![tactic(auto)]
+
 ghost use Rattle.std.specs.Prelude.{◌≡◌, true, ◌<◌, [], ◌∷◌};
 ghost use Rattle.text.specs.Put.{Puts};
 ghost use Rattle.bid.specs.Line.{feed};

@@ -1,5 +1,6 @@
 //! Captures for the usual network viewer: written record after record, and read, at most one answer a call.
 #![tactic(auto)]
+
 mod entry;
 mod reader;
 mod writer;

@@ -2,15 +2,16 @@
 //! they come, and a packet's record is out before the next are read. Where something fails, or the recording does not end as one, it says so on
 //! standard error; behind a wrong byte it reads no more.
 #![tactic(auto)]
+
 use capture::CaptureReader;
 use channel::Receiver;
-use console::say;
-use libc::STDIN_FILENO;
+use console::{PIECE, Speak, say};
 use packet::Delivery;
 use recording::{Found, RecordingReader};
+use std::io::Read;
 
 // What is heard so far, behind a call.
-#[derive(Drop)]
+#[derive(Clone, Copy)]
 struct Turn {
     // The rest of the piece is to be handed in again.
     again: bool,
@@ -22,45 +23,51 @@ struct Turn {
     number: u32,
 }
 
-fn main() {
+fn main(rt: HostRuntime) {
     let mut out = [0u8; CaptureReader::ENTRY];
     let mut recv = [0u8; Receiver::RAW];
     let mut word = [0u8; Receiver::WORD];
-    let mut piece = io::large_buffer();
+    let mut piece = [0u8; PIECE];
     let begun = capture::begin(&mut out);
-    if !console::put(b"capture", begun, &out) {
+    if !console::put(&rt, b"capture", begun, &out) {
         return;
     }
     let mut tape = RecordingReader::fresh();
     let mut number: u32 = 0;
-    let mut reads = u64::MAX;
-    while reads > 0 {
-        let got = libc::read(STDIN_FILENO, &mut piece);
-        if got < 0 {
-            console::say_unread(b"capture");
+    let mut input = rt.reader();
+    for _ in 0..u64::MAX {
+        let Ok(n) = input.read(&mut piece) else {
+            console::say_unread(&rt, b"capture");
+            return;
+        };
+        if n == 0 {
+            finish(&rt, tape);
             return;
         }
-        if got == 0 {
-            finish(tape);
-            return;
-        }
-        let n = io::count(got, &piece);
-        let turn = hear(tape, number, &mut recv, &mut word, &piece[0..n], &mut out);
+        let turn = hear(
+            &rt,
+            tape,
+            number,
+            &mut recv,
+            &mut word,
+            &piece[0..n],
+            &mut out,
+        );
         tape = turn.tape;
         number = turn.number;
         if !turn.go {
             return;
         }
         if tape.is_wrong() {
-            finish(tape);
+            finish(&rt, tape);
             return;
         }
-        reads -= 1;
     }
 }
 
 // A piece, until more is wanted.
 fn hear(
+    rt: &(impl Print + Speak),
     tape: RecordingReader,
     number: u32,
     recv: &mut [u8],
@@ -76,20 +83,19 @@ fn hear(
         number,
     };
     let mut i: usize = 0;
-    let mut calls = u64::MAX;
-    while calls > 0 {
-        turn = call(turn.tape, turn.number, recv, word, &piece[i..], out);
+    for _ in 0..u64::MAX {
+        turn = call(rt, turn.tape, turn.number, recv, word, &piece[i..], out);
         i = console::onward(i, turn.taken, piece.len());
         if !turn.again {
             return turn;
         }
-        calls -= 1;
     }
     turn
 }
 
 // One call: a packet's record is written, and a refused call ends the work.
 fn call(
+    rt: &(impl Print + Speak),
     start: RecordingReader,
     number: u32,
     recv: &mut [u8],
@@ -101,7 +107,7 @@ fn call(
     let taken = next.taken;
     let tape = next.tape;
     let found = next.found;
-    let goes = pass(found, number, recv, out);
+    let goes = pass(rt, found, number, recv, out);
     Turn {
         again: goes && !is_more(found),
         go: goes,
@@ -120,22 +126,28 @@ fn is_more(found: Found) -> bool {
 }
 
 // Whether the recording is heard further: a packet went to standard output, and no call was refused.
-fn pass(found: Found, number: u32, recv: &[u8], out: &mut [u8]) -> bool {
+fn pass(rt: &(impl Print + Speak), found: Found, number: u32, recv: &[u8], out: &mut [u8]) -> bool {
     match found {
         Found::More => true,
-        Found::Packet(delivery) => enter(delivery, number, recv, out),
+        Found::Packet(delivery) => enter(rt, delivery, number, recv, out),
         Found::Refused(_) => {
-            say(b"capture: the recording is too long\n");
+            say(rt, b"capture: the recording is too long\n");
             false
         }
     }
 }
 
 // A packet's record; whether it went to standard output.
-fn enter(delivery: Delivery, number: u32, recv: &[u8], out: &mut [u8]) -> bool {
+fn enter(
+    rt: &(impl Print + Speak),
+    delivery: Delivery,
+    number: u32,
+    recv: &[u8],
+    out: &mut [u8],
+) -> bool {
     let packed = capture::packed(recv, delivery);
     let entered = capture::enter(number, packed, out);
-    console::put(b"capture", entered, out)
+    console::put(rt, b"capture", entered, out)
 }
 
 // The number of the next packet. A recording has fewer packets than stream bytes, so none comes to the last number.
@@ -156,9 +168,9 @@ fn up(number: u32) -> u32 {
 }
 
 // Whether the recording ends as one, and where it does not.
-fn finish(tape: RecordingReader) {
+fn finish(rt: &impl Speak, tape: RecordingReader) {
     let at = tape.spot;
     if !tape.may_end() {
-        console::say_wrong(b"capture", at.offset);
+        console::say_wrong(rt, b"capture", at.offset);
     }
 }

@@ -2,7 +2,7 @@
 
 /// Where a reading stands: the piece that is handed in is bytes[at..end]; `go`: whether there is another call. The next pieces are `size` bytes
 /// long; where that is 0, as the seed says; where that is 0 too, there is one.
-#[derive(Drop)]
+#[derive(Clone, Copy)]
 pub struct Cut {
     pub go: bool,
     at: usize,
@@ -34,7 +34,7 @@ impl Cut {
     pub fn rest(self, taken: usize, go: bool) -> Cut {
         Cut {
             go,
-            at: std::num::wrapping_add_usize(self.at, taken),
+            at: self.at.wrapping_add(taken),
             end: self.end,
             size: self.size,
             seed: self.seed,
@@ -43,7 +43,7 @@ impl Cut {
 
     /// Behind a piece: the next one of n bytes in all, or the end.
     pub fn more(self, taken: usize, n: usize) -> Cut {
-        let at = std::num::wrapping_add_usize(self.at, taken);
+        let at = self.at.wrapping_add(taken);
         Cut {
             go: self.end != n,
             at,

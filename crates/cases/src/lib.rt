@@ -6,13 +6,16 @@
 //! follow. An answer: what is told, in numbers (8 bytes each), and all bytes of the output. Numbers stand low byte first; the output is lent
 //! filled with 0xA5; a refusal n is told as 65,536 + n.
 #![tactic(auto)]
+
 mod cut;
 
 use base::Written;
 pub use cut::Cut;
+use std::io;
+use std::io::{ErrorKind, Read, Write};
 
 /// A case: whether there is one, what is asked, its number, how many bytes are lent as output, and how many follow.
-#[derive(Drop)]
+#[derive(Clone, Copy)]
 pub struct Case {
     pub go: bool,
     pub asked: u8,
@@ -21,16 +24,23 @@ pub struct Case {
     pub length: usize,
 }
 
-const HEAD: usize = 13;
-
 /// Reads a case; the bytes that follow its head then stand at the start of `bytes`.
-pub fn read(bytes: &mut [u8]) -> Case {
+pub fn read(input: &mut impl Read, bytes: &mut [u8]) -> io::Result<Case> {
     let mut head = [0u8; 13];
-    if io::read_full(0, &mut head) != HEAD {
-        return headed(false, head);
+    if !read_full(input, &mut head)? {
+        return Ok(headed(false, head));
     }
-    let go = follow(pair_at(&head, 11), bytes);
-    headed(go, head)
+    let go = follow(input, pair_at(&head, 11), bytes)?;
+    Ok(headed(go, head))
+}
+
+/// Reads until the buffer is full or the input ends: whether it is full. What was read stands at its start.
+pub fn read_full(input: &mut impl Read, bytes: &mut [u8]) -> io::Result<bool> {
+    match input.read_exact(bytes) {
+        Ok(()) => Ok(true),
+        Err(e) if e.kind() == ErrorKind::UnexpectedEof => Ok(false),
+        Err(e) => Err(e),
+    }
 }
 
 fn headed(go: bool, head: [u8; 13]) -> Case {
@@ -44,11 +54,11 @@ fn headed(go: bool, head: [u8; 13]) -> Case {
 }
 
 // Reads the n bytes that follow a head; whether they are all there.
-fn follow(n: usize, bytes: &mut [u8]) -> bool {
+fn follow(input: &mut impl Read, n: usize, bytes: &mut [u8]) -> io::Result<bool> {
     if bytes.len() < n {
-        return false;
+        return Ok(false);
     }
-    io::read_full(0, &mut bytes[0..n]) == n
+    read_full(input, &mut bytes[0..n])
 }
 
 /// The bytes that follow a case's head, where they were read.
@@ -127,7 +137,7 @@ pub fn low(n: u64) -> u8 {
 }
 
 /// Writes a number, its low byte first.
-pub fn print(n: u64) {
+pub fn print(told: &mut impl Write, n: u64) -> io::Result<()> {
     let text = [
         low(n),
         low(n / 0x100),
@@ -138,25 +148,26 @@ pub fn print(n: u64) {
         low(n / 0x1000000000000),
         low(n / 0x100000000000000),
     ];
-    io::write_all(1, &text);
+    told.write_all(&text)
 }
 
 /// Writes numbers, one behind the other.
-pub fn print_all(numbers: &[u64]) {
+pub fn print_all(told: &mut impl Write, numbers: &[u64]) -> io::Result<()> {
     let mut i: usize = 0;
     while i < numbers.len() {
-        print(numbers[i]);
+        print(told, numbers[i])?;
         i += 1;
     }
+    Ok(())
 }
 
 /// Writes the first n bytes, how many first; nothing more where they are not there.
-pub fn show(n: usize, bytes: &[u8]) {
-    print(n as u64);
+pub fn show(told: &mut impl Write, n: usize, bytes: &[u8]) -> io::Result<()> {
+    print(told, n as u64)?;
     if bytes.len() < n {
-        return;
+        return Ok(());
     }
-    io::write_all(1, &bytes[0..n]);
+    told.write_all(&bytes[0..n])
 }
 
 /// What a call that writes answered, as a number.

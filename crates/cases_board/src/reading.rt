@@ -11,6 +11,8 @@ use listing_spec::Spot;
 use ports::{Entry, Ports};
 use ports_spec::Range;
 use recording::RecordingReader;
+use std::io;
+use std::io::Write;
 
 // The receive buffer's least length, and the longest one that is lent.
 const RECV: usize = Receiver::RAW;
@@ -25,29 +27,47 @@ struct Place {
 // Bytes before those that are read out: the range.
 const ENDS: usize = 4;
 
-pub fn read_out(number: u64, bytes: &[u8], out: &mut [u8]) {
+pub fn read_out(
+    told: &mut impl Write,
+    number: u64,
+    bytes: &[u8],
+    out: &mut [u8],
+) -> io::Result<()> {
     if bytes.len() < ENDS {
-        return;
+        return Ok(());
     }
     let range = Range {
         first: end_at(bytes, 0),
         last: end_at(bytes, 2),
     };
-    lend(number, range, &bytes[ENDS..], out);
+    lend(told, number, range, &bytes[ENDS..], out)
 }
 
 fn end_at(bytes: &[u8], at: usize) -> u16 {
     cases::half(cases::pair_at(bytes, at) as u64)
 }
 
-fn lend(number: u64, range: Range, bytes: &[u8], out: &mut [u8]) {
+fn lend(
+    told: &mut impl Write,
+    number: u64,
+    range: Range,
+    bytes: &[u8],
+    out: &mut [u8],
+) -> io::Result<()> {
     let mut recv = [0u8; Receiver::RAW];
     let mut word = [0u8; Receiver::WORD];
     let n = (number / 0x1000000000000 % 16384) as usize;
     if RECV < n {
-        return;
+        return Ok(());
     }
-    run(start(number, range), bytes, &mut recv[0..n], &mut word, out);
+    run(
+        told,
+        start(number, range),
+        bytes,
+        &mut recv[0..n],
+        &mut word,
+        out,
+    )
 }
 
 // The first piece.
@@ -142,41 +162,53 @@ fn longer(fresh: Readout) -> Readout {
     }
 }
 
-fn run(first: Place, bytes: &[u8], recv: &mut [u8], word: &mut [u8], out: &mut [u8]) {
+fn run(
+    told: &mut impl Write,
+    first: Place,
+    bytes: &[u8],
+    recv: &mut [u8],
+    word: &mut [u8],
+    out: &mut [u8],
+) -> io::Result<()> {
     let mut place = first;
-    let mut calls = u64::MAX;
-    while calls > 0 {
+    for _ in 0..u64::MAX {
         if !place.cut.go {
-            finish(place.readout);
-            return;
+            return finish(told, place.readout);
         }
-        place = call(place, bytes, recv, word, out);
-        calls -= 1;
+        place = call(told, place, bytes, recv, word, out)?;
     }
+    Ok(())
 }
 
-fn finish(readout: Readout) {
+fn finish(told: &mut impl Write, readout: Readout) -> io::Result<()> {
     let last = readout.finish();
     let text = last.bytes;
-    cases::show(last.length, &text);
+    cases::show(told, last.length, &text)
 }
 
 // One call, told, and what follows from its answer. Where it took nothing and there is no room, nothing would come of another.
-fn call(p: Place, bytes: &[u8], recv: &mut [u8], word: &mut [u8], out: &mut [u8]) -> Place {
+fn call(
+    told: &mut impl Write,
+    p: Place,
+    bytes: &[u8],
+    recv: &mut [u8],
+    word: &mut [u8],
+    out: &mut [u8],
+) -> io::Result<Place> {
     let readout = p.readout;
     let cut = p.cut;
     let t = readout.take(recv, word, cut.piece(bytes), out);
     let next = t.next;
     let wants = t.wants;
-    cases::print(t.taken as u64);
-    cases::print(code(wants));
-    cases::show(t.written, out);
+    cases::print(told, t.taken as u64)?;
+    cases::print(told, code(wants))?;
+    cases::show(told, t.written, out)?;
     let cut = match wants {
         Wants::More => cut.more(t.taken, bytes.len()),
         Wants::Again => cut.rest(t.taken, 0 < t.taken || 0 < out.len()),
         Wants::Refused(_) => cut.rest(t.taken, false),
     };
-    Place { readout: next, cut }
+    Ok(Place { readout: next, cut })
 }
 
 fn code(wants: Wants) -> u64 {

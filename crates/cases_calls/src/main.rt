@@ -1,35 +1,66 @@
 //! Answers cases, each a single call; crates/cases_stream has those that ask for many, and crates/cases_interleaver those of the interleaver.
 //! crates/cases has the form of a case and of an answer; what is told is a number (two of a closed frame).
 #![tactic(auto)]
+
 use fcs::Register;
 use packet::{Class, Judged};
 use parity::Checked;
 use repair::Mended;
+use std::io;
+use std::io::{BufReader, BufWriter, Read, Write};
 
-fn main() {
-    let mut bytes = io::large_buffer();
-    let mut out = io::large_buffer();
-    let mut left = u64::MAX;
-    while left > 0 {
-        if !answer(&mut bytes, &mut out) {
-            return;
+fn main(rt: HostRuntime) -> io::Result<()> {
+    let mut input = BufReader::new(rt.alloc(), rt.stdin())?;
+    let mut told = BufWriter::new(rt.alloc(), rt.stdout())?;
+    let mut bytes = [0u8; 65536];
+    let mut out = [0u8; 65536];
+    for _ in 0..u64::MAX {
+        if !answer(&mut input, &mut told, &mut bytes, &mut out)? {
+            break;
         }
-        left -= 1;
     }
+    told.flush()
 }
 
 // Reads one case and writes its answer; false at the end of the input.
-fn answer(bytes: &mut [u8], out: &mut [u8]) -> bool {
-    let case = cases::read(bytes);
+fn answer(
+    input: &mut impl Read,
+    told: &mut impl Write,
+    bytes: &mut [u8],
+    out: &mut [u8],
+) -> io::Result<bool> {
+    let case = cases::read(input, bytes)?;
     if !case.go {
-        return false;
+        return Ok(false);
     }
     let lent = cases::lend(case, out);
-    cases::print(tell(case.asked, case.number, cases::given(case, bytes), lent));
-    io::write_all(1, lent)
+    let number = tell(
+        told,
+        case.asked,
+        case.number,
+        cases::given(case, bytes),
+        lent,
+    )?;
+    cases::print(told, number)?;
+    told.write_all(lent)?;
+    Ok(true)
 }
 
-fn tell(asked: u8, number: u64, bytes: &[u8], out: &mut [u8]) -> u64 {
+fn tell(
+    told: &mut impl Write,
+    asked: u8,
+    number: u64,
+    bytes: &[u8],
+    out: &mut [u8],
+) -> io::Result<u64> {
+    match asked {
+        b'Q' => closed(told, number as usize, bytes, out),
+        _ => Ok(tell_one(asked, number, bytes, out)),
+    }
+}
+
+// What is told in one number.
+fn tell_one(asked: u8, number: u64, bytes: &[u8], out: &mut [u8]) -> u64 {
     match asked {
         b'F' => fcs::fcs(bytes) as u64,
         b'G' => Register {
@@ -51,7 +82,6 @@ fn tell(asked: u8, number: u64, bytes: &[u8], out: &mut [u8]) -> u64 {
         )),
         b'B' => cases::written(stream::begin(out)),
         b'A' => appended(number, bytes, out),
-        b'Q' => closed(number as usize, bytes, out),
         b'M' => cases::written(channel_sender::mark(bytes, out)),
         b'R' => cases::written(channel_sender::send(bytes, out)),
         _ => tell_keyed(asked, number, bytes, out),
@@ -173,14 +203,14 @@ fn appended(number: u64, bytes: &[u8], out: &mut [u8]) -> u64 {
 }
 
 // A closed frame, of raw bytes that the output holds from its start: what it is judged to be, and its format and key.
-fn closed(raw: usize, bytes: &[u8], out: &mut [u8]) -> u64 {
+fn closed(told: &mut impl Write, raw: usize, bytes: &[u8], out: &mut [u8]) -> io::Result<u64> {
     base::copy(bytes, out);
     let j = packet::judge(out, raw);
-    cases::print(cases_frames::judged(j));
+    cases::print(told, cases_frames::judged(j))?;
     match j {
-        Judged::Packet(d) => cases_frames::kind(d),
-        Judged::Refused(_) => 0,
-        Judged::Broken(_) => 0,
+        Judged::Packet(d) => Ok(cases_frames::kind(d)),
+        Judged::Refused(_) => Ok(0),
+        Judged::Broken(_) => Ok(0),
     }
 }
 

@@ -1,44 +1,64 @@
 //! Answers cases, each a capture (r), read in pieces (reading.rt), or a single call: a header (f) or a record (e) written, a packet's bytes fetched
 //! (d). crates/cases has the form of a case and of an answer.
 #![tactic(auto)]
+
 mod reading;
 
 use base::Written;
+use std::io;
+use std::io::{BufReader, BufWriter, Read, Write};
 
-fn main() {
-    let mut bytes = io::large_buffer();
-    let mut out = io::large_buffer();
-    let mut left = u64::MAX;
-    while left > 0 {
-        if !answer(&mut bytes, &mut out) {
-            return;
+fn main(rt: HostRuntime) -> io::Result<()> {
+    let mut input = BufReader::new(rt.alloc(), rt.stdin())?;
+    let mut told = BufWriter::new(rt.alloc(), rt.stdout())?;
+    let mut bytes = [0u8; 65536];
+    let mut out = [0u8; 65536];
+    for _ in 0..u64::MAX {
+        if !answer(&mut input, &mut told, &mut bytes, &mut out)? {
+            break;
         }
-        left -= 1;
     }
+    told.flush()
 }
 
 // Reads one case and writes its answer; false at the end of the input.
-fn answer(bytes: &mut [u8], out: &mut [u8]) -> bool {
-    let case = cases::read(bytes);
+fn answer(
+    input: &mut impl Read,
+    told: &mut impl Write,
+    bytes: &mut [u8],
+    out: &mut [u8],
+) -> io::Result<bool> {
+    let case = cases::read(input, bytes)?;
     if !case.go {
-        return false;
+        return Ok(false);
     }
     let lent = cases::lend(case, out);
-    tell(case.asked, case.number, cases::given(case, bytes), lent);
-    io::write_all(1, lent)
+    tell(
+        told,
+        case.asked,
+        case.number,
+        cases::given(case, bytes),
+        lent,
+    )?;
+    told.write_all(lent)?;
+    Ok(true)
 }
 
 // What is told of a case, the output lent.
-fn tell(asked: u8, number: u64, bytes: &[u8], out: &mut [u8]) {
+fn tell(
+    told: &mut impl Write,
+    asked: u8,
+    number: u64,
+    bytes: &[u8],
+    out: &mut [u8],
+) -> io::Result<()> {
     if asked == b'r' {
-        reading::read(number, bytes, out);
-        return;
+        return reading::read(told, number, bytes, out);
     }
     if asked == b'd' {
-        fetch(number, bytes, out);
-        return;
+        return fetch(told, number, bytes, out);
     }
-    cases::print(cases::written(single(asked, number, bytes, out)));
+    cases::print(told, cases::written(single(asked, number, bytes, out)))
 }
 
 // A header or a record, written.
@@ -55,8 +75,9 @@ fn low(number: u64) -> u32 {
 }
 
 // A packet's bytes: how many, and they stand in the output.
-fn fetch(number: u64, bytes: &[u8], out: &mut [u8]) {
+fn fetch(told: &mut impl Write, number: u64, bytes: &[u8], out: &mut [u8]) -> io::Result<()> {
     let part = capture::packed(bytes, cases_frames::delivery(number));
-    cases::print(part.len() as u64);
+    cases::print(told, part.len() as u64)?;
     base::copy(part, out);
+    Ok(())
 }

@@ -6,6 +6,8 @@
 use capture::{CaptureReader, Ended};
 use cases::Cut;
 use packet::Judged;
+use std::io;
+use std::io::Write;
 use stream::Heard;
 
 const HEAD: usize = 11;
@@ -25,16 +27,16 @@ struct Three {
     second: u64,
 }
 
-pub fn read(number: u64, bytes: &[u8], store: &mut [u8]) {
+pub fn read(told: &mut impl Write, number: u64, bytes: &[u8], store: &mut [u8]) -> io::Result<()> {
     if bytes.len() < HEAD {
-        return;
+        return Ok(());
     }
     let first = base::least(cases::pair_at(bytes, 9), bytes.len() - HEAD);
     let place = Place {
         capture: state(bytes[0], four_at(bytes, 1), four_at(bytes, 5)),
         cut: Cut::start(number, 0, first),
     };
-    run(place, &bytes[11..], store);
+    run(told, place, &bytes[11..], store)
 }
 
 fn four_at(bytes: &[u8], at: usize) -> usize {
@@ -80,56 +82,52 @@ fn numbers(capture: CaptureReader) -> Three {
     }
 }
 
-fn run(first: Place, bytes: &[u8], store: &mut [u8]) {
+fn run(told: &mut impl Write, first: Place, bytes: &[u8], store: &mut [u8]) -> io::Result<()> {
     let mut place = first;
-    let mut calls = u64::MAX;
-    while calls > 0 {
+    for _ in 0..u64::MAX {
         if !place.cut.go {
-            let last = place.capture;
-            finish(last);
-            return;
+            return finish(told, place.capture);
         }
-        place = call(place, bytes, store);
-        calls -= 1;
+        place = call(told, place, bytes, store)?;
     }
+    Ok(())
 }
 
 // Writes the state's numbers, and what the end of the file says.
-fn finish(capture: CaptureReader) {
+fn finish(told: &mut impl Write, capture: CaptureReader) -> io::Result<()> {
     let three = numbers(capture);
-    cases::print(three.kind);
-    cases::print(three.first);
-    cases::print(three.second);
+    cases::print(told, three.kind)?;
+    cases::print(told, three.first)?;
+    cases::print(told, three.second)?;
     match capture.finish() {
-        Ended::Whole => cases::print(0),
-        Ended::Refused(n) => cases::print(cases::refused(n)),
+        Ended::Whole => cases::print(told, 0),
+        Ended::Refused(n) => cases::print(told, cases::refused(n)),
     }
 }
 
 // One call, told, and what follows from its answer.
-fn call(p: Place, bytes: &[u8], store: &mut [u8]) -> Place {
+fn call(told: &mut impl Write, p: Place, bytes: &[u8], store: &mut [u8]) -> io::Result<Place> {
     let capture = p.capture;
     let cut = p.cut;
     let r = capture.read(store, cut.piece(bytes));
     let next = r.capture;
     let heard = r.heard;
-    cases::print(r.taken as u64);
+    cases::print(told, r.taken as u64)?;
     let cut = match heard {
         Heard::More => {
-            cases::print(0);
+            cases::print(told, 0)?;
             cut.more(r.taken, bytes.len())
         }
-        Heard::Said(j) => cut.rest(r.taken, said(j, store)),
+        Heard::Said(j) => cut.rest(r.taken, said(told, j, store)?),
     };
-    Place { capture: next, cut }
+    Ok(Place { capture: next, cut })
 }
 
 // All bytes of a packet stand behind its payload.
-fn said(j: Judged, store: &[u8]) -> bool {
-    let go = cases_frames::said(j, store);
-    match j {
-        Judged::Packet(d) => io::write_all(1, capture::packed(store, d)),
-        Judged::Refused(_) => go,
-        Judged::Broken(_) => go,
+fn said(told: &mut impl Write, j: Judged, store: &[u8]) -> io::Result<bool> {
+    let go = cases_frames::said(told, j, store)?;
+    if let Judged::Packet(d) = j {
+        told.write_all(capture::packed(store, d))?;
     }
+    Ok(go)
 }

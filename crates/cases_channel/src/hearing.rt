@@ -6,6 +6,8 @@
 //! word buffer.
 use cases::Cut;
 use channel::{Answer, Condition, Hunting, Locked, Receiver};
+use std::io;
+use std::io::Write;
 
 const HEAD: usize = 17;
 
@@ -16,39 +18,54 @@ struct Place {
     cut: Cut,
 }
 
-pub fn hear(number: u64, bytes: &[u8], recv: &mut [u8]) {
+pub fn hear(told: &mut impl Write, number: u64, bytes: &[u8], recv: &mut [u8]) -> io::Result<()> {
     let mut head = [0u8; 17];
     let mut word = [0u8; 300];
     base::copy(bytes, &mut head);
-    lend(number, head, bytes, recv, &mut word);
+    lend(told, number, head, bytes, recv, &mut word)
 }
 
 // Lends as much of the word buffer as the head says.
-fn lend(number: u64, head: [u8; 17], bytes: &[u8], recv: &mut [u8], word: &mut [u8]) {
+fn lend(
+    told: &mut impl Write,
+    number: u64,
+    head: [u8; 17],
+    bytes: &[u8],
+    recv: &mut [u8],
+    word: &mut [u8],
+) -> io::Result<()> {
     let size = cases::pair_at(&head, 13);
     if word.len() < size {
-        return;
+        return Ok(());
     }
     if bytes.len() < HEAD {
-        return;
+        return Ok(());
     }
-    lent(number, head, &bytes[17..], recv, &mut word[0..size]);
+    lent(told, number, head, &bytes[17..], recv, &mut word[0..size])
 }
 
 // Fills the word buffer and hears what follows it.
-fn lent(number: u64, head: [u8; 17], bytes: &[u8], recv: &mut [u8], word: &mut [u8]) {
+fn lent(
+    told: &mut impl Write,
+    number: u64,
+    head: [u8; 17],
+    bytes: &[u8],
+    recv: &mut [u8],
+    word: &mut [u8],
+) -> io::Result<()> {
     let size = word.len();
     if bytes.len() < size {
-        return;
+        return Ok(());
     }
     base::copy(bytes, word);
     run(
+        told,
         start(number, head, bytes.len() - size),
         &bytes[size..],
         recv,
         word,
-    );
-    io::write_all(1, word);
+    )?;
+    told.write_all(word)
 }
 
 // The first piece, of n bytes at most.
@@ -83,21 +100,25 @@ fn lock(head: [u8; 17]) -> Locked {
     }
 }
 
-fn run(first: Place, bytes: &[u8], recv: &mut [u8], word: &mut [u8]) {
+fn run(
+    told: &mut impl Write,
+    first: Place,
+    bytes: &[u8],
+    recv: &mut [u8],
+    word: &mut [u8],
+) -> io::Result<()> {
     let mut place = first;
-    let mut calls = u64::MAX;
-    while calls > 0 {
+    for _ in 0..u64::MAX {
         if !place.cut.go {
-            finish(place.receiver);
-            return;
+            return finish(told, place.receiver);
         }
-        place = call(place, bytes, recv, word);
-        calls -= 1;
+        place = call(told, place, bytes, recv, word)?;
     }
+    Ok(())
 }
 
 // Writes the state's numbers and the hunted bytes.
-fn finish(r: Receiver) {
+fn finish(told: &mut impl Write, r: Receiver) -> io::Result<()> {
     let lock = r.lock;
     let frame = r.frame;
     let hunting = r.hunting;
@@ -115,36 +136,42 @@ fn finish(r: Receiver) {
         hunting.c as u64,
         hunting.d as u64,
     ];
-    cases::print_all(&numbers);
+    cases::print_all(told, &numbers)
 }
 
 // One call, told, and what follows from its answer.
-fn call(p: Place, bytes: &[u8], recv: &mut [u8], word: &mut [u8]) -> Place {
+fn call(
+    told: &mut impl Write,
+    p: Place,
+    bytes: &[u8],
+    recv: &mut [u8],
+    word: &mut [u8],
+) -> io::Result<Place> {
     let receiver = p.receiver;
     let cut = p.cut;
     let h = receiver.hear(recv, word, cut.piece(bytes));
     let next = h.receiver;
     let answer = h.answer;
-    cases::print(h.taken as u64);
+    cases::print(told, h.taken as u64)?;
     let cut = match answer {
         Answer::More => {
-            cases::print(0);
+            cases::print(told, 0)?;
             cut.more(h.taken, bytes.len())
         }
-        Answer::Said(j) => cut.rest(h.taken, cases_frames::said(j, recv)),
+        Answer::Said(j) => cut.rest(h.taken, cases_frames::said(told, j, recv)?),
         Answer::Block(condition) => {
-            cases::print(block(condition));
+            cases::print(told, block(condition))?;
             cut.rest(h.taken, true)
         }
         Answer::LockLost => {
-            cases::print(3);
+            cases::print(told, 3)?;
             cut.rest(h.taken, true)
         }
     };
-    Place {
+    Ok(Place {
         receiver: next,
         cut,
-    }
+    })
 }
 
 // Repaired is a number of its own: all others are below 4, or 65,536 and more.

@@ -5,15 +5,18 @@
 use channel::{Answer, Condition, Hunting};
 use four_receivers::{Receiver, Seat};
 use interleaver::Matrix;
+use std::io;
+use std::io::Write;
 use stream::FrameReader;
 use subchannel::{Counts, Lane, Settings, Sub};
 use subchannel_spec::Configured;
 
 pub fn configure(
+    told: &mut impl Write,
     number: u64,
     receiver: Receiver,
     cells: &mut [[u8; Matrix::CELLS]; Receiver::MOST],
-) -> Receiver {
+) -> io::Result<Receiver> {
     let done = receiver.configure(
         cases::first(number),
         cases::second(number),
@@ -21,8 +24,8 @@ pub fn configure(
         cells,
     );
     let answer = done.answer;
-    cases::print(configured(answer));
-    done.receiver
+    cases::print(told, configured(answer))?;
+    Ok(done.receiver)
 }
 
 fn configured(answer: Configured) -> u64 {
@@ -34,13 +37,14 @@ fn configured(answer: Configured) -> u64 {
 
 // Lends the two buffers of a sub-channel, as much of them as the case says; beyond the four those of the last.
 pub fn hear(
+    told: &mut impl Write,
     number: u64,
     receiver: Receiver,
     cells: &mut [[u8; Matrix::CELLS]; Receiver::MOST],
     recv: &mut [u8],
     word: &mut [u8],
     piece: &[u8],
-) -> Receiver {
+) -> io::Result<Receiver> {
     let n = cases::first(number);
     let k = base::least(n, 3);
     let from = Sub::RAW * k;
@@ -48,9 +52,10 @@ pub fn hear(
     let to = from + base::least(cases::second(number), Sub::RAW);
     let end = at + base::least(cases::third(number), Sub::WORD);
     if recv.len() < to || word.len() < end {
-        return receiver;
+        return Ok(receiver);
     }
     hear_all(
+        told,
         receiver,
         n,
         cells,
@@ -62,30 +67,29 @@ pub fn hear(
 
 // A piece, until more is wanted or a call is refused.
 fn hear_all(
+    told: &mut impl Write,
     receiver: Receiver,
     n: usize,
     cells: &mut [[u8; Matrix::CELLS]; Receiver::MOST],
     recv: &mut [u8],
     word: &mut [u8],
     piece: &[u8],
-) -> Receiver {
+) -> io::Result<Receiver> {
     let mut next = receiver;
     let mut at: usize = 0;
-    let mut calls = u64::MAX;
-    while calls > 0 {
+    for _ in 0..u64::MAX {
         if piece.len() < at {
-            return next;
+            return Ok(next);
         }
         let h = next.hear(n, cells, recv, word, &piece[at..]);
         let answer = h.answer;
         next = h.receiver;
-        at = std::num::wrapping_add_usize(at, h.taken);
-        if !goes_on(h.taken, answer, recv) {
-            return next;
+        at = at.wrapping_add(h.taken);
+        if !goes_on(told, h.taken, answer, recv)? {
+            return Ok(next);
         }
-        calls -= 1;
     }
-    next
+    Ok(next)
 }
 
 fn block(condition: Condition) -> u64 {
@@ -97,21 +101,21 @@ fn block(condition: Condition) -> u64 {
 }
 
 // Tells a call: whether the piece is handed in again.
-fn goes_on(taken: usize, answer: Answer, recv: &[u8]) -> bool {
-    cases::print(taken as u64);
+fn goes_on(told: &mut impl Write, taken: usize, answer: Answer, recv: &[u8]) -> io::Result<bool> {
+    cases::print(told, taken as u64)?;
     match answer {
         Answer::More => {
-            cases::print(0);
-            false
+            cases::print(told, 0)?;
+            Ok(false)
         }
-        Answer::Said(j) => cases_frames::said(j, recv),
+        Answer::Said(j) => cases_frames::said(told, j, recv),
         Answer::Block(condition) => {
-            cases::print(block(condition));
-            true
+            cases::print(told, block(condition))?;
+            Ok(true)
         }
         Answer::LockLost => {
-            cases::print(3);
-            true
+            cases::print(told, 3)?;
+            Ok(true)
         }
     }
 }
@@ -204,23 +208,24 @@ fn frame(x: &[u8]) -> FrameReader {
 }
 
 pub fn view(
+    told: &mut impl Write,
     number: u64,
     room: usize,
     receiver: Receiver,
     cells: &[[u8; Matrix::CELLS]; Receiver::MOST],
     recv: &[u8],
     word: &[u8],
-) {
+) -> io::Result<()> {
     let k = base::least(cases::first(number), 3);
     let seat = get(receiver, k);
     let lane = seat.lane;
-    print_lane(lane);
-    cases::print(seat.again as u64);
-    cases::print(seat.place as u64);
-    print_part(Sub::RAW * k, Sub::RAW, recv);
-    print_part(Sub::WORD * k, Sub::WORD, word);
+    print_lane(told, lane)?;
+    cases::print(told, seat.again as u64)?;
+    cases::print(told, seat.place as u64)?;
+    print_part(told, Sub::RAW * k, Sub::RAW, recv)?;
+    print_part(told, Sub::WORD * k, Sub::WORD, word)?;
     let own = cells_of(cells, k);
-    print_part(0, room, &own);
+    print_part(told, 0, room, &own)
 }
 
 fn cells_of(cells: &[[u8; Matrix::CELLS]; Receiver::MOST], k: usize) -> [u8; Matrix::CELLS] {
@@ -233,15 +238,15 @@ fn cells_of(cells: &[[u8; Matrix::CELLS]; Receiver::MOST], k: usize) -> [u8; Mat
 }
 
 // So many bytes from a place on.
-fn print_part(from: usize, n: usize, bytes: &[u8]) {
+fn print_part(told: &mut impl Write, from: usize, n: usize, bytes: &[u8]) -> io::Result<()> {
     if bytes.len() < from {
-        return;
+        return Ok(());
     }
     let end = from + base::least(n, bytes.len() - from);
-    io::write_all(1, &bytes[from..end]);
+    told.write_all(&bytes[from..end])
 }
 
-fn print_lane(lane: Lane) {
+fn print_lane(told: &mut impl Write, lane: Lane) -> io::Result<()> {
     let settings = lane.settings;
     let hunting = lane.hunting;
     let counts = lane.counts;
@@ -265,5 +270,5 @@ fn print_lane(lane: Lane) {
         frame.stored as u64,
         frame.place as u64,
     ];
-    cases::print_all(&numbers);
+    cases::print_all(told, &numbers)
 }

@@ -5,11 +5,14 @@
 //! more is wanted (its number, how much of its receive buffer and of its word buffer is lent); x its numbers set; v its numbers, its two
 //! buffers, and its cells, as many as there is room for.
 #![tactic(auto)]
+
 mod hearing;
 
 use cases::Case;
 use four_receivers::Receiver;
 use interleaver::Matrix;
+use std::io;
+use std::io::{BufReader, BufWriter, Read, Write};
 use subchannel::Sub;
 
 // The receive buffers and the word buffers of four sub-channels.
@@ -17,32 +20,36 @@ const RAWS: usize = Receiver::MOST * Sub::RAW;
 
 const WORDS: usize = Receiver::MOST * Sub::WORD;
 
-fn main() {
-    let mut bytes = io::large_buffer();
+fn main(rt: HostRuntime) -> io::Result<()> {
+    let mut input = BufReader::new(rt.alloc(), rt.stdin())?;
+    let mut told = BufWriter::new(rt.alloc(), rt.stdout())?;
+    let mut bytes = [0u8; 65536];
     let mut recv = [0xA5u8; RAWS];
     let mut word = [0xA5u8; WORDS];
     let mut cells = [[0u8; Matrix::CELLS]; Receiver::MOST];
     let mut receiver = Receiver::fresh();
-    let mut left = u64::MAX;
-    while left > 0 {
-        let case = cases::read(&mut bytes);
+    for _ in 0..u64::MAX {
+        let case = cases::read(&mut input, &mut bytes)?;
         if !case.go {
-            return;
+            break;
         }
-        receiver = answer(case, receiver, &mut cells, &mut recv, &mut word, &bytes);
-        left -= 1;
+        receiver = answer(
+            &mut told, case, receiver, &mut cells, &mut recv, &mut word, &bytes,
+        )?;
     }
+    told.flush()
 }
 
 // Writes the answer to one case: the receiver behind it.
 fn answer(
+    told: &mut impl Write,
     case: Case,
     receiver: Receiver,
     cells: &mut [[u8; Matrix::CELLS]; Receiver::MOST],
     recv: &mut [u8],
     word: &mut [u8],
     bytes: &[u8],
-) -> Receiver {
+) -> io::Result<Receiver> {
     let asked = case.asked;
     let number = case.number;
     let given = cases::given(case, bytes);
@@ -51,15 +58,15 @@ fn answer(
             cases::fill(recv, 0xA5);
             cases::fill(word, 0xA5);
             *cells = [[0u8; Matrix::CELLS]; Receiver::MOST];
-            Receiver::fresh()
+            Ok(Receiver::fresh())
         }
-        b'c' => hearing::configure(number, receiver, cells),
-        b'h' => hearing::hear(number, receiver, cells, recv, word, given),
-        b'x' => hearing::set(number, receiver, given),
+        b'c' => hearing::configure(told, number, receiver, cells),
+        b'h' => hearing::hear(told, number, receiver, cells, recv, word, given),
+        b'x' => Ok(hearing::set(number, receiver, given)),
         b'v' => {
-            hearing::view(number, case.room, receiver, cells, recv, word);
-            receiver
+            hearing::view(told, number, case.room, receiver, cells, recv, word)?;
+            Ok(receiver)
         }
-        _ => receiver,
+        _ => Ok(receiver),
     }
 }

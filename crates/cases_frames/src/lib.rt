@@ -1,8 +1,11 @@
 //! What the comparison programs share of frames (crates/cases has the rest): a frame's state and a delivery in the number of a case, and what is
 //! told of a judged frame. Only programs stand on this crate.
 #![tactic(auto)]
+
 use base::Refusal;
 use packet::{Delivery, Judged};
+use std::io;
+use std::io::Write;
 use stream::FrameReader;
 
 /// The frame state in the number of a case, with its place: above 31 bits whether the frame is open, then raw and stored count in 16 bits each.
@@ -45,19 +48,22 @@ pub fn kind(d: Delivery) -> u64 {
 }
 
 /// Tells a judged frame: its number, and of a packet the kind, key and payload. False where the call was refused: by 10, 11 or 42.
-pub fn said(j: Judged, recv: &[u8]) -> bool {
-    cases::print(judged(j));
+pub fn said(told: &mut impl Write, j: Judged, recv: &[u8]) -> io::Result<bool> {
+    cases::print(told, judged(j))?;
     match j {
-        Judged::Packet(d) => parts(d, recv),
-        Judged::Refused(n) => {
-            n != Refusal::STATE && n != Refusal::BUFFER && n != Refusal::SUB_CHANNEL
+        Judged::Packet(d) => {
+            parts(told, d, recv)?;
+            Ok(true)
         }
-        Judged::Broken(_) => true,
+        Judged::Refused(n) => {
+            Ok(n != Refusal::STATE && n != Refusal::BUFFER && n != Refusal::SUB_CHANNEL)
+        }
+        Judged::Broken(_) => Ok(true),
     }
 }
 
-fn parts(d: Delivery, recv: &[u8]) -> bool {
-    cases::print(kind(d));
-    io::write_all(1, stream::key(recv, d));
-    io::write_all(1, stream::payload(recv, d))
+fn parts(told: &mut impl Write, d: Delivery, recv: &[u8]) -> io::Result<()> {
+    cases::print(told, kind(d))?;
+    told.write_all(stream::key(recv, d))?;
+    told.write_all(stream::payload(recv, d))
 }

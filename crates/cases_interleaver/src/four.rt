@@ -1,12 +1,14 @@
 //! The cases of the sender of four. Its settings stand before a case's other bytes, of each sub-channel three numbers of 16 bits: told, R, depth.
 use base::Written;
 use four_senders::Sender;
+use std::io;
+use std::io::Write;
 use subchannel_spec::{Configured, Settings};
 
 const SETTINGS: usize = 24;
 
 // Tells the settings behind it, in three numbers each.
-pub fn configure(number: u64, bytes: &[u8]) -> u64 {
+pub fn configure(told: &mut impl Write, number: u64, bytes: &[u8]) -> io::Result<u64> {
     let sender = sender_in(bytes);
     let done = sender.configure(
         cases::first(number),
@@ -15,13 +17,13 @@ pub fn configure(number: u64, bytes: &[u8]) -> u64 {
     );
     let answer = done.answer;
     let next = done.sender;
-    print(next.a);
-    print(next.b);
-    print(next.c);
-    print(next.d);
+    print(told, next.a)?;
+    print(told, next.b)?;
+    print(told, next.c)?;
+    print(told, next.d)?;
     match answer {
-        Configured::Done => 0,
-        Configured::Refused(n) => cases::refused(n),
+        Configured::Done => Ok(0),
+        Configured::Refused(n) => Ok(cases::refused(n)),
     }
 }
 
@@ -50,8 +52,8 @@ fn settings(bytes: &[u8], told: usize, parity: usize, depth: usize) -> Settings 
     }
 }
 
-fn print(settings: Settings) {
-    cases::print(settings.told as u64);
-    cases::print(settings.parity as u64);
-    cases::print(settings.depth as u64);
+fn print(told: &mut impl Write, settings: Settings) -> io::Result<()> {
+    cases::print(told, settings.told as u64)?;
+    cases::print(told, settings.parity as u64)?;
+    cases::print(told, settings.depth as u64)
 }

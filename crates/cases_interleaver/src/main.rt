@@ -8,13 +8,16 @@
 //! the number says (four.rt); V the place of the sender (number 0) or of the receiving side (1), with the cells in the output and, of the latter,
 //! whether its first pass is over behind them.
 #![tactic(auto)]
+
 mod four;
 
 use interleaver::{Back, Matrix, Pulled, Pushed};
+use std::io;
+use std::io::{BufReader, BufWriter, Read, Write};
 use subchannel_sender::Counted;
 
 // Both sides.
-#[derive(Drop)]
+#[derive(Clone, Copy)]
 struct Sides {
     matrix: Matrix,
     back: Back,
@@ -34,19 +37,20 @@ struct Turn {
     sides: Sides,
 }
 
-fn main() {
-    let mut bytes = io::large_buffer();
-    let mut out = io::large_buffer();
+fn main(rt: HostRuntime) -> io::Result<()> {
+    let mut input = BufReader::new(rt.alloc(), rt.stdin())?;
+    let mut told = BufWriter::new(rt.alloc(), rt.stdout())?;
+    let mut bytes = [0u8; 65536];
+    let mut out = [0u8; 65536];
     let mut sides = fresh();
-    let mut left = u64::MAX;
-    while left > 0 {
-        let turn = answer(sides, &mut bytes, &mut out);
+    for _ in 0..u64::MAX {
+        let turn = answer(&mut input, &mut told, sides, &mut bytes, &mut out)?;
         sides = turn.sides;
         if !turn.go {
-            return;
+            break;
         }
-        left -= 1;
     }
+    told.flush()
 }
 
 fn fresh() -> Sides {
@@ -57,29 +61,56 @@ fn fresh() -> Sides {
 }
 
 // Reads one case and writes its answer.
-fn answer(sides: Sides, bytes: &mut [u8], out: &mut [u8]) -> Turn {
-    let case = cases::read(bytes);
+fn answer(
+    input: &mut impl Read,
+    told: &mut impl Write,
+    sides: Sides,
+    bytes: &mut [u8],
+    out: &mut [u8],
+) -> io::Result<Turn> {
+    let case = cases::read(input, bytes)?;
     if !case.go {
-        return Turn { go: false, sides };
+        return Ok(Turn { go: false, sides });
     }
     let lent = cases::lend(case, out);
-    let told = tell(
+    let answered = tell(
+        told,
         case.asked,
         case.number,
         sides,
         cases::given(case, bytes),
         lent,
-    );
-    let next = told.sides;
-    cases::print(told.number);
-    Turn {
-        go: io::write_all(1, lent),
+    )?;
+    let next = answered.sides;
+    cases::print(told, answered.number)?;
+    told.write_all(lent)?;
+    Ok(Turn {
+        go: true,
         sides: next,
-    }
+    })
 }
 
 // A case of the two states.
-fn tell(asked: u8, number: u64, sides: Sides, bytes: &[u8], out: &mut [u8]) -> Answered {
+fn tell(
+    told: &mut impl Write,
+    asked: u8,
+    number: u64,
+    sides: Sides,
+    bytes: &[u8],
+    out: &mut [u8],
+) -> io::Result<Answered> {
+    match asked {
+        b'g' => grouped(told, number, sides, bytes, out),
+        b'p' => Ok(Answered {
+            number: four::configure(told, number, bytes)?,
+            sides,
+        }),
+        _ => Ok(tell_one(asked, number, sides, bytes, out)),
+    }
+}
+
+// What is told in one number.
+fn tell_one(asked: u8, number: u64, sides: Sides, bytes: &[u8], out: &mut [u8]) -> Answered {
     let matrix = sides.matrix;
     let back = sides.back;
     let depth = number as usize;
@@ -99,7 +130,6 @@ fn tell(asked: u8, number: u64, sides: Sides, bytes: &[u8], out: &mut [u8]) -> A
             number: shown(sides, number, out),
             sides,
         },
-        b'g' => grouped(number, matrix, back, bytes, out),
         _ => Answered {
             number: tell_sent(asked, number, bytes, out),
             sides,
@@ -121,7 +151,6 @@ fn tell_sent(asked: u8, number: u64, bytes: &[u8], out: &mut [u8]) -> u64 {
             cases::second(number),
             cases::number_at(bytes, 0) as usize,
         )),
-        b'p' => four::configure(number, bytes),
         b'w' => cases::written(four::send(number, bytes, out)),
         _ => 0,
     }
@@ -146,21 +175,28 @@ fn pulled(matrix: Matrix, p: Pulled) -> Answered {
 }
 
 // The next group; the bytes taken are told before it.
-fn grouped(number: u64, matrix: Matrix, back: Back, bytes: &[u8], out: &mut [u8]) -> Answered {
+fn grouped(
+    told: &mut impl Write,
+    number: u64,
+    sides: Sides,
+    bytes: &[u8],
+    out: &mut [u8],
+) -> io::Result<Answered> {
+    let back = sides.back;
     let sent = subchannel_sender::send_group(
         cases::first(number),
         cases::second(number),
-        matrix,
+        sides.matrix,
         bytes,
         out,
     );
     let answer = sent.written;
     let next = sent.matrix;
-    cases::print(sent.taken as u64);
-    Answered {
+    cases::print(told, sent.taken as u64)?;
+    Ok(Answered {
         number: cases::written(answer),
         sides: Sides { matrix: next, back },
-    }
+    })
 }
 
 fn counted(c: Counted) -> u64 {

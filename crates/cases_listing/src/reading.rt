@@ -10,6 +10,8 @@ use listing::{Lister, Wants};
 use listing_lines::Totals;
 use listing_spec::Spot;
 use recording::RecordingReader;
+use std::io;
+use std::io::Write;
 
 // The receive buffer's least length, and the longest one that is lent.
 const RECV: usize = Receiver::RAW;
@@ -21,14 +23,14 @@ struct Place {
     cut: Cut,
 }
 
-pub fn list(number: u64, bytes: &[u8], out: &mut [u8]) {
+pub fn list(told: &mut impl Write, number: u64, bytes: &[u8], out: &mut [u8]) -> io::Result<()> {
     let mut recv = [0u8; Receiver::RAW];
     let mut word = [0u8; Receiver::WORD];
     let n = (number / 0x1000000000000 % 16384) as usize;
     if RECV < n {
-        return;
+        return Ok(());
     }
-    run(start(number), bytes, &mut recv[0..n], &mut word, out);
+    run(told, start(number), bytes, &mut recv[0..n], &mut word, out)
 }
 
 // The first piece.
@@ -69,59 +71,72 @@ fn near(offset: u64, count: u64, total: u64) -> Lister {
     }
 }
 
-fn run(first: Place, bytes: &[u8], recv: &mut [u8], word: &mut [u8], out: &mut [u8]) {
+fn run(
+    told: &mut impl Write,
+    first: Place,
+    bytes: &[u8],
+    recv: &mut [u8],
+    word: &mut [u8],
+    out: &mut [u8],
+) -> io::Result<()> {
     let mut place = first;
-    let mut calls = u64::MAX;
-    while calls > 0 {
+    for _ in 0..u64::MAX {
         if !place.cut.go {
-            finish(place.recording, out);
-            return;
+            return finish(told, place.recording, out);
         }
-        place = call(place, bytes, recv, word, out);
-        calls -= 1;
+        place = call(told, place, bytes, recv, word, out)?;
     }
+    Ok(())
 }
 
-fn finish(r: Lister, out: &mut [u8]) {
-    let n = length(r.finish(out));
+fn finish(told: &mut impl Write, r: Lister, out: &mut [u8]) -> io::Result<()> {
+    let n = length(told, r.finish(out))?;
     if out.len() < n {
-        return;
+        return Ok(());
     }
     if n == 0 {
-        return;
+        return Ok(());
     }
-    length(r.finish(&mut out[0..n]));
-    length(r.finish(&mut out[0..n - 1]));
+    length(told, r.finish(&mut out[0..n]))?;
+    length(told, r.finish(&mut out[0..n - 1]))?;
+    Ok(())
 }
 
 // Tells an answer; how many bytes were written.
-fn length(w: Written) -> usize {
-    cases::print(cases::written(w));
+fn length(told: &mut impl Write, w: Written) -> io::Result<usize> {
+    cases::print(told, cases::written(w))?;
     match w {
-        Written::Wrote(n) => n,
-        Written::Refused(_) => 0,
+        Written::Wrote(n) => Ok(n),
+        Written::Refused(_) => Ok(0),
     }
 }
 
 // One call, told, and what follows from its answer. Where it wants room and wrote nothing, nothing would come of another.
-fn call(p: Place, bytes: &[u8], recv: &mut [u8], word: &mut [u8], out: &mut [u8]) -> Place {
+fn call(
+    told: &mut impl Write,
+    p: Place,
+    bytes: &[u8],
+    recv: &mut [u8],
+    word: &mut [u8],
+    out: &mut [u8],
+) -> io::Result<Place> {
     let recording = p.recording;
     let cut = p.cut;
     let t = recording.take(recv, word, cut.piece(bytes), out);
     let next = t.next;
     let wants = t.wants;
-    cases::print(t.taken as u64);
-    cases::print(code(wants));
-    cases::show(t.written, out);
+    cases::print(told, t.taken as u64)?;
+    cases::print(told, code(wants))?;
+    cases::show(told, t.written, out)?;
     let cut = match wants {
         Wants::More => cut.more(t.taken, bytes.len()),
         Wants::Room => cut.rest(t.taken, 0 < t.written),
         Wants::Refused(_) => cut.rest(t.taken, false),
     };
-    Place {
+    Ok(Place {
         recording: next,
         cut,
-    }
+    })
 }
 
 fn code(wants: Wants) -> u64 {

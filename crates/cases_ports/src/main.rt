@@ -4,25 +4,27 @@
 //! byte first, of what is told: 0 first or forgotten, 1 in order, 2 repeated, 3 late, 0x10000 and how many are missing, 0x1000000 and the
 //! number of a refusal; and the 16 places then.
 #![tactic(auto)]
+
 use ports::{Entry, Forgot, Noted, Ports};
+use std::io;
+use std::io::{BufReader, BufWriter, Read, Write};
 
-const CASE: usize = 85;
-
-fn main() {
-    let mut left = u64::MAX;
-    while left > 0 {
-        if !answer() {
-            return;
+fn main(rt: HostRuntime) -> io::Result<()> {
+    let mut input = BufReader::new(rt.alloc(), rt.stdin())?;
+    let mut told = BufWriter::new(rt.alloc(), rt.stdout())?;
+    for _ in 0..u64::MAX {
+        if !answer(&mut input, &mut told)? {
+            break;
         }
-        left -= 1;
     }
+    told.flush()
 }
 
 // Reads one case and writes its answer; whether there was one.
-fn answer() -> bool {
+fn answer(input: &mut impl Read, out: &mut impl Write) -> io::Result<bool> {
     let mut case = [0u8; 85];
-    if io::read_full(0, &mut case) != CASE {
-        return false;
+    if !cases::read_full(input, &mut case)? {
+        return Ok(false);
     }
     let head = place(cases::number_at(&case, 0));
     let ports = Ports {
@@ -32,14 +34,14 @@ fn answer() -> bool {
         let r = ports.note(head.port, head.last);
         let told = r.noted;
         let after = r.ports;
-        tell(noted(told), after);
-        return true;
+        tell(out, noted(told), after)?;
+        return Ok(true);
     }
     let r = ports.forget(head.port);
     let told = r.forgot;
     let after = r.ports;
-    tell(forgot(told), after);
-    true
+    tell(out, forgot(told), after)?;
+    Ok(true)
 }
 
 fn noted(noted: Noted) -> u64 {
@@ -79,23 +81,24 @@ fn place(n: u64) -> Entry {
     }
 }
 
-fn tell(told: u64, ports: Ports) {
+fn tell(out: &mut impl Write, told: u64, ports: Ports) -> io::Result<()> {
     let head = [
         cases::low(told),
         cases::low(told / 0x100),
         cases::low(told / 0x10000),
         cases::low(told / 0x1000000),
     ];
-    io::write_all(1, &head);
+    out.write_all(&head)?;
     let entries = ports.entries;
     let mut i: usize = 0;
     while i < 16 {
-        tell_place(entries[i]);
+        tell_place(out, entries[i])?;
         i += 1;
     }
+    Ok(())
 }
 
-fn tell_place(e: Entry) {
+fn tell_place(out: &mut impl Write, e: Entry) -> io::Result<()> {
     let text = [
         e.held as u8,
         (e.port % 256) as u8,
@@ -103,5 +106,5 @@ fn tell_place(e: Entry) {
         (e.last % 256) as u8,
         (e.last / 256) as u8,
     ];
-    io::write_all(1, &text);
+    out.write_all(&text)
 }

@@ -5,100 +5,103 @@
 //! well. An answer: what becomes of the recording: 0 it counts, 1 it is wrong, 65,536 and the number of a refusal; how many rows the sheet then has;
 //! and for each of 16 places its row, and its line with its length before it, or 65,536 and the number of a refusal.
 #![tactic(auto)]
+
 use base::Written;
 use ports_spec::Range;
 use sheet::{Counted, Draft, Sheet};
 use sheet_spec::{Row, Tally};
+use std::io;
+use std::io::{BufReader, BufWriter, Read, Write};
 
-fn main() {
-    let mut left = u64::MAX;
-    while left > 0 {
-        if !answer() {
-            return;
+fn main(rt: HostRuntime) -> io::Result<()> {
+    let mut input = BufReader::new(rt.alloc(), rt.stdin())?;
+    let mut told = BufWriter::new(rt.alloc(), rt.stdout())?;
+    for _ in 0..u64::MAX {
+        if !answer(&mut input, &mut told)? {
+            break;
         }
-        left -= 1;
     }
+    told.flush()
 }
 
 // Reads one case and writes its answer; false at the end of the input.
-fn answer() -> bool {
+fn answer(input: &mut impl Read, told: &mut impl Write) -> io::Result<bool> {
     let mut head = [0u8; 8];
-    if io::read_full(0, &mut head) != 8 {
-        return false;
+    if !cases::read_full(input, &mut head)? {
+        return Ok(false);
     }
     let ports = cases::number_at(&head, 0) as usize;
-    let rows = rows();
+    let rows = rows(input)?;
     let sheet = Sheet { ports, rows };
-    let range = range();
-    let draft = note_all(range, sheet.begin(), next());
-    let closed = draft.close(next() != 0);
+    let range = range(input)?;
+    let n = next(input)?;
+    let draft = note_all(input, range, sheet.begin(), n)?;
+    let closed = draft.close(next(input)? != 0);
     let counted = closed.counted;
     let after = closed.sheet;
     let left = after.rows;
-    cases::print(code(counted));
-    cases::print(after.ports as u64);
-    tell_rows(after, left);
-    true
+    cases::print(told, code(counted))?;
+    cases::print(told, after.ports as u64)?;
+    tell_rows(told, after, left)?;
+    Ok(true)
 }
 
-fn rows() -> [Row; 16] {
-    let first = row();
+fn rows(input: &mut impl Read) -> io::Result<[Row; 16]> {
+    let first = row(input)?;
     let mut rows = [first; 16];
     let mut i: usize = 1;
     while i < 16 {
-        rows[i] = row();
+        rows[i] = row(input)?;
         i += 1;
     }
-    rows
+    Ok(rows)
 }
 
-fn row() -> Row {
-    let port = short();
+fn row(input: &mut impl Read) -> io::Result<Row> {
+    let port = short(input)?;
     let tally = Tally {
-        delivered: next(),
-        repeated: next(),
-        late: next(),
-        missing: next(),
-        total: next(),
+        delivered: next(input)?,
+        repeated: next(input)?,
+        late: next(input)?,
+        missing: next(input)?,
+        total: next(input)?,
     };
-    Row {
+    Ok(Row {
         port,
         tally,
-        heard: next() != 0,
-        last: short(),
-    }
+        heard: next(input)? != 0,
+        last: short(input)?,
+    })
 }
 
 // The ports that count.
-fn range() -> Range {
-    let first = short();
-    Range {
+fn range(input: &mut impl Read) -> io::Result<Range> {
+    let first = short(input)?;
+    Ok(Range {
         first,
-        last: short(),
-    }
+        last: short(input)?,
+    })
 }
 
 // The recording's packets, n of them.
-fn note_all(range: Range, begun: Draft, n: u64) -> Draft {
+fn note_all(input: &mut impl Read, range: Range, begun: Draft, n: u64) -> io::Result<Draft> {
     let mut draft = begun;
-    let mut left = n;
-    while left > 0 {
-        let port = short();
-        draft = draft.note(range, port, short());
-        left -= 1;
+    for _ in 0..n {
+        let port = short(input)?;
+        draft = draft.note(range, port, short(input)?);
     }
-    draft
+    Ok(draft)
 }
 
-fn short() -> u16 {
-    cases::half(next())
+fn short(input: &mut impl Read) -> io::Result<u16> {
+    Ok(cases::half(next(input)?))
 }
 
 // The next number of the input.
-fn next() -> u64 {
+fn next(input: &mut impl Read) -> io::Result<u64> {
     let mut bytes = [0u8; 8];
-    io::read_full(0, &mut bytes);
-    cases::number_at(&bytes, 0)
+    cases::read_full(input, &mut bytes)?;
+    Ok(cases::number_at(&bytes, 0))
 }
 
 fn code(counted: Counted) -> u64 {
@@ -109,31 +112,32 @@ fn code(counted: Counted) -> u64 {
     }
 }
 
-fn tell_rows(sheet: Sheet, rows: [Row; 16]) {
+fn tell_rows(told: &mut impl Write, sheet: Sheet, rows: [Row; 16]) -> io::Result<()> {
     let mut i: usize = 0;
     while i < 16 {
-        tell_row(rows[i]);
-        tell_line(sheet, i);
+        tell_row(told, rows[i])?;
+        tell_line(told, sheet, i)?;
         i += 1;
     }
+    Ok(())
 }
 
-fn tell_row(row: Row) {
+fn tell_row(told: &mut impl Write, row: Row) -> io::Result<()> {
     let t = row.tally;
-    cases::print(row.port as u64);
-    cases::print(t.delivered);
-    cases::print(t.repeated);
-    cases::print(t.late);
-    cases::print(t.missing);
-    cases::print(t.total);
-    cases::print(if row.heard { 1 } else { 0 });
-    cases::print(row.last as u64);
+    cases::print(told, row.port as u64)?;
+    cases::print(told, t.delivered)?;
+    cases::print(told, t.repeated)?;
+    cases::print(told, t.late)?;
+    cases::print(told, t.missing)?;
+    cases::print(told, t.total)?;
+    cases::print(told, if row.heard { 1 } else { 0 })?;
+    cases::print(told, row.last as u64)
 }
 
-fn tell_line(sheet: Sheet, i: usize) {
+fn tell_line(told: &mut impl Write, sheet: Sheet, i: usize) -> io::Result<()> {
     let mut text = [0u8; Sheet::LINE];
     match sheet.print(i, &mut text) {
-        Written::Wrote(n) => cases::show(n, &text),
-        Written::Refused(n) => cases::print(cases::refused(n)),
+        Written::Wrote(n) => cases::show(told, n, &text),
+        Written::Refused(n) => cases::print(told, cases::refused(n)),
     }
 }

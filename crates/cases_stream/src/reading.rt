@@ -3,6 +3,8 @@
 //! length of the first piece. Those to be read follow; the output is the receive buffer. Each call is told as the bytes taken and its
 //! answer (0: more wanted), a packet's format and key, and its payload, behind it; at the end the state's four numbers.
 use cases::Cut;
+use std::io;
+use std::io::Write;
 use stream::{FrameReader, Heard};
 
 const HEAD: usize = 4;
@@ -14,56 +16,54 @@ struct Place {
     cut: Cut,
 }
 
-pub fn read(number: u64, bytes: &[u8], recv: &mut [u8]) {
+pub fn read(told: &mut impl Write, number: u64, bytes: &[u8], recv: &mut [u8]) -> io::Result<()> {
     if bytes.len() < HEAD {
-        return;
+        return Ok(());
     }
     let first = base::least(cases::pair_at(bytes, 2), bytes.len() - HEAD);
     let place = Place {
         frame: cases_frames::frame(number, cases::pair_at(bytes, 0)),
         cut: Cut::start(number, 0, first),
     };
-    run(place, &bytes[4..], recv);
+    run(told, place, &bytes[4..], recv)
 }
 
-fn run(first: Place, bytes: &[u8], recv: &mut [u8]) {
+fn run(told: &mut impl Write, first: Place, bytes: &[u8], recv: &mut [u8]) -> io::Result<()> {
     let mut place = first;
-    let mut calls = u64::MAX;
-    while calls > 0 {
+    for _ in 0..u64::MAX {
         if !place.cut.go {
-            finish(place.frame);
-            return;
+            return finish(told, place.frame);
         }
-        place = call(place, bytes, recv);
-        calls -= 1;
+        place = call(told, place, bytes, recv)?;
     }
+    Ok(())
 }
 
 // Writes the state's numbers.
-fn finish(f: FrameReader) {
+fn finish(told: &mut impl Write, f: FrameReader) -> io::Result<()> {
     let numbers = [
         f.opened as u64,
         f.raw as u64,
         f.stored as u64,
         f.place as u64,
     ];
-    cases::print_all(&numbers);
+    cases::print_all(told, &numbers)
 }
 
 // One call, told, and what follows from its answer.
-fn call(p: Place, bytes: &[u8], recv: &mut [u8]) -> Place {
+fn call(told: &mut impl Write, p: Place, bytes: &[u8], recv: &mut [u8]) -> io::Result<Place> {
     let frame = p.frame;
     let cut = p.cut;
     let r = frame.read(recv, cut.piece(bytes));
     let next = r.frame;
     let heard = r.heard;
-    cases::print(r.taken as u64);
+    cases::print(told, r.taken as u64)?;
     let cut = match heard {
         Heard::More => {
-            cases::print(0);
+            cases::print(told, 0)?;
             cut.more(r.taken, bytes.len())
         }
-        Heard::Said(j) => cut.rest(r.taken, cases_frames::said(j, recv)),
+        Heard::Said(j) => cut.rest(r.taken, cases_frames::said(told, j, recv)?),
     };
-    Place { frame: next, cut }
+    Ok(Place { frame: next, cut })
 }

@@ -1,5 +1,6 @@
 //! The opportunistic channel's receiver, at most one answer a call.
 #![tactic(auto)]
+
 mod answer;
 mod hunting;
 mod locked;

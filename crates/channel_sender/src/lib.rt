@@ -1,5 +1,6 @@
 //! The opportunistic channel's sender: blocks, each the marker, a message and its parity, in one go.
 #![tactic(auto)]
+
 ghost use Rattle.std.specs.Prelude.{◌≡◌, ◌+◌, ◌*◌, ◌/◌, ◌≤◌, ◌<◌, ◌++◌, length, drop, replicate};
 ghost use Rattle.base.specs.Written.{outcome, copied};
 ghost use Rattle.packet_spec.specs.Escape.{flag};

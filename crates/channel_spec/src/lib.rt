@@ -1,6 +1,7 @@
 //! What the opportunistic channel's bytes mean, as they are sent and as they are received without a limit, and the laws of whole streams and
 //! of altered blocks. Of code the types that it names, and the four hunted bytes; `channel_sender` sends, `channel` receives. Read specs/.
 #![tactic(auto)]
+
 ghost use Rattle.std.specs.Prelude.{◌≡◌};
 ghost use Rattle.channel_spec.specs.Meaning.{shift, is_marker, zeros};
 

@@ -2,11 +2,24 @@
 //! its number and in words. No contract can speak of what is read or written, so this promises nothing of it, and only programs stand on it; tests/
 //! compares what is said. docs/REFUSALS.md has each number with its cause and what to do.
 #![tactic(auto)]
-ghost use Rattle.std.specs.Prelude.{◌≤◌};
+
+ghost use Rattle.std.specs.Prelude.{◌≤◌, length};
 
 use base::{Refusal, Written};
-use libc::{STDERR_FILENO, STDOUT_FILENO};
 use ports_spec::Range;
+use std::env::{Env, FillError};
+use std::io::{Eprint, Print};
+
+/// Who says something on standard error, in bytes that need not be text.
+pub trait Speak: Eprint {
+    fn speak(&self, bytes: &[u8]);
+}
+
+impl Speak for HostRuntime {
+    fn speak(&self, bytes: &[u8]) {
+        let _ = self.stderr().write_all(bytes);
+    }
+}
 
 /// No argument is this number.
 pub const NONE: usize = usize::MAX;
@@ -14,20 +27,52 @@ pub const NONE: usize = usize::MAX;
 /// The last port; a greater number is none.
 pub const LAST_PORT: usize = 65535;
 
+/// Bytes of an argument, at most: a longer one counts as empty.
+pub const ARGUMENT: usize = 4096;
+
+/// Bytes that are read at once.
+pub const PIECE: usize = 65536;
+
 // A number has no more than thirteen digits.
 const MOST: usize = 1000000000000;
 
+/// How many arguments there are; the first is the program's name.
+pub fn argument_count(rt: &impl Env) -> usize {
+    for place in 0..usize::MAX {
+        if !is_there(rt, place) {
+            return place;
+        }
+    }
+    usize::MAX
+}
+
+// Whether there is such an argument.
+fn is_there(rt: &impl Env, place: usize) -> bool {
+    let mut space = [0u8; 1];
+    match rt.arg(place, &mut space) {
+        Err(FillError::NotPresent) => false,
+        _ => true,
+    }
+}
+
+/// The bytes of an argument, and how many; none where there is no such argument or it does not fit.
+pub fn argument(rt: &impl Env, place: usize, space: &mut [u8]) -> usize
+    ensures { result ≤ length space.new }
+{
+    rt.arg(place, space).unwrap_or(0)
+}
+
 /// Whether an argument is this one.
-pub fn is_argument(place: usize, text: &[u8]) -> bool {
-    let mut space = io::buffer();
-    let n = os::arg(place, &mut space);
-    check::same(&space[..n], text)
+pub fn is_argument(rt: &impl Env, place: usize, text: &[u8]) -> bool {
+    let mut space = [0u8; ARGUMENT];
+    let n = argument(rt, place, &mut space);
+    &space[..n] == text
 }
 
 /// The number that an argument says, in one to so many digits; else none.
-pub fn number(place: usize, digits: usize) -> usize {
-    let mut space = io::buffer();
-    let n = os::arg(place, &mut space);
+pub fn number(rt: &impl Env, place: usize, digits: usize) -> usize {
+    let mut space = [0u8; ARGUMENT];
+    let n = argument(rt, place, &mut space);
     if n == 0 || n > digits {
         return NONE;
     }
@@ -53,8 +98,8 @@ fn with_digit(n: usize, b: u8) -> usize {
 }
 
 /// The port that an argument names, in one to five digits; else a number above the last port.
-pub fn port(place: usize) -> usize {
-    number(place, 5)
+pub fn port(rt: &impl Env, place: usize) -> usize {
+    number(rt, place, 5)
 }
 
 /// The ports from one to another.
@@ -78,125 +123,133 @@ pub fn onward(at: usize, n: usize, end: usize) -> usize
 }
 
 /// Bytes to standard output; whether all went there, else that is said.
-pub fn print(program: &[u8], bytes: &[u8]) -> bool {
-    if io::write_all(STDOUT_FILENO, bytes) {
+pub fn print(rt: &(impl Print + Speak), program: &[u8], bytes: &[u8]) -> bool {
+    if rt.write_all(bytes).is_ok() {
         return true;
     }
-    say(program);
-    say(b": cannot write standard output\n");
+    say(rt, program);
+    say(rt, b": cannot write standard output\n");
     false
 }
 
 /// What was written, to standard output; whether all of it went there, else it is said why.
-pub fn put(program: &[u8], written: Written, out: &[u8]) -> bool {
+pub fn put(rt: &(impl Print + Speak), program: &[u8], written: Written, out: &[u8]) -> bool {
     match written {
-        Written::Wrote(n) => print(program, &out[0..base::least(n, out.len())]),
+        Written::Wrote(n) => print(rt, program, &out[0..base::least(n, out.len())]),
         Written::Refused(number) => {
-            say_refusal(program, number);
+            say_refusal(rt, program, number);
             false
         }
     }
 }
 
 /// Standard input could not be read.
-pub fn say_unread(program: &[u8]) {
-    say(program);
-    say(b": cannot read standard input\n");
+pub fn say_unread(rt: &impl Speak, program: &[u8]) {
+    say(rt, program);
+    say(rt, b": cannot read standard input\n");
 }
 
 /// A recording is wrong, or ends early, at this byte.
-pub fn say_wrong(program: &[u8], offset: u64) {
-    say(program);
-    say(b": no whole recording: X ");
-    say_number(offset);
-    say(b"\n");
+pub fn say_wrong(rt: &impl Speak, program: &[u8], offset: u64) {
+    say(rt, program);
+    say(rt, b": no whole recording: X ");
+    say_number(rt, offset);
+    say(rt, b"\n");
 }
 
 /// A text.
-pub fn say(text: &[u8]) {
-    io::write_all(STDERR_FILENO, text);
+pub fn say(rt: &impl Speak, text: &[u8]) {
+    rt.speak(text);
 }
 
 /// A number.
-pub fn say_number(number: u64) {
-    io::print_decimal(STDERR_FILENO, number);
+pub fn say_number(rt: &impl Speak, number: u64) {
+    let _ = rt.eprint(number);
 }
 
 /// `PROGRAM: refused N: WORDS`, a line.
-pub fn say_refusal(program: &[u8], number: u8) {
-    say(program);
-    say(b": ");
-    say_refused(number);
+pub fn say_refusal(rt: &impl Speak, program: &[u8], number: u8) {
+    say(rt, program);
+    say(rt, b": ");
+    say_refused(rt, number);
 }
 
 /// `refused N: WORDS`, the end of its line.
-pub fn say_refused(number: u8) {
-    say(b"refused ");
-    say_number(number as u64);
-    say_why(number);
+pub fn say_refused(rt: &impl Speak, number: u8) {
+    say(rt, b"refused ");
+    say_number(rt, number as u64);
+    say_why(rt, number);
 }
 
 /// `: WORDS`, the end of a line that has named the number.
-pub fn say_why(number: u8) {
-    say(b": ");
-    say_words(number);
-    say(b"\n");
+pub fn say_why(rt: &impl Speak, number: u8) {
+    say(rt, b": ");
+    say_words(rt, number);
+    say(rt, b"\n");
 }
 
 // A refusal in words, by its tens; those of frames stand in no line here.
-fn say_words(number: u8) {
+fn say_words(rt: &impl Speak, number: u8) {
     match number {
-        Refusal::STATE => say(b"a count of the state is beyond its limit"),
-        Refusal::BUFFER => say(b"a buffer is too short"),
-        Refusal::EMPTY => say(b"there is no text"),
-        Refusal::LONG => say(b"the text is above 8,192 bytes, } and ~ counted twice"),
-        Refusal::BARRED => say(b"ports 32000 to 32511 may not be used"),
-        Refusal::OUTPUT => say(b"the output is too short"),
-        Refusal::SENT_KEY => say(b"no such format and key are sent"),
-        _ => say_words_from_30(number),
+        Refusal::STATE => say(rt, b"a count of the state is beyond its limit"),
+        Refusal::BUFFER => say(rt, b"a buffer is too short"),
+        Refusal::EMPTY => say(rt, b"there is no text"),
+        Refusal::LONG => say(rt, b"the text is above 8,192 bytes, } and ~ counted twice"),
+        Refusal::BARRED => say(rt, b"ports 32000 to 32511 may not be used"),
+        Refusal::OUTPUT => say(rt, b"the output is too short"),
+        Refusal::SENT_KEY => say(rt, b"no such format and key are sent"),
+        _ => say_words_from_30(rt, number),
     }
 }
 
-fn say_words_from_30(number: u8) {
+fn say_words_from_30(rt: &impl Speak, number: u8) {
     match number {
-        Refusal::ROOTS => say(b"R is above 64"),
-        Refusal::LENGTH => say(b"no message or word has this length"),
-        Refusal::DEPTH => say(b"the depth is above 64"),
-        _ => say_words_from_40(number),
+        Refusal::ROOTS => say(rt, b"R is above 64"),
+        Refusal::LENGTH => say(rt, b"no message or word has this length"),
+        Refusal::DEPTH => say(rt, b"the depth is above 64"),
+        _ => say_words_from_40(rt, number),
     }
 }
 
-fn say_words_from_40(number: u8) {
+fn say_words_from_40(rt: &impl Speak, number: u8) {
     match number {
-        Refusal::FULL => say(b"a seventeenth port"),
-        Refusal::UNHELD => say(b"no such port is held"),
-        Refusal::SUB_CHANNEL => say(b"no such sub-channel is configured"),
-        Refusal::TABLE => say(b"the table of ports is too long, or holds one port twice"),
-        Refusal::WIDE => say(b"a number would pass 18,446,744,073,709,551,615"),
-        _ => say_words_from_50(number),
+        Refusal::FULL => say(rt, b"a seventeenth port"),
+        Refusal::UNHELD => say(rt, b"no such port is held"),
+        Refusal::SUB_CHANNEL => say(rt, b"no such sub-channel is configured"),
+        Refusal::TABLE => say(
+            rt,
+            b"the table of ports is too long, or holds one port twice",
+        ),
+        Refusal::WIDE => say(rt, b"a number would pass 18,446,744,073,709,551,615"),
+        _ => say_words_from_50(rt, number),
     }
 }
 
-fn say_words_from_50(number: u8) {
+fn say_words_from_50(rt: &impl Speak, number: u8) {
     match number {
-        Refusal::UNIT => say(b"no unit has this length, or fewer bytes of it are there"),
-        Refusal::MIX => say(b"no header sequence is for this mix of content"),
-        Refusal::SEQUENCE => say(b"the header matches no sequence"),
+        Refusal::UNIT => say(
+            rt,
+            b"no unit has this length, or fewer bytes of it are there",
+        ),
+        Refusal::MIX => say(rt, b"no header sequence is for this mix of content"),
+        Refusal::SEQUENCE => say(rt, b"the header matches no sequence"),
         Refusal::PARTS => say(
+            rt,
             b"the parts do not fit into the unit, or a length told does not fit its header",
         ),
         Refusal::DELIMITER => say(
+            rt,
             b"the delimiter is not found, or zeros before it would pass for it",
         ),
-        _ => say_words_from_60(number),
+        _ => say_words_from_60(rt, number),
     }
 }
 
-fn say_words_from_60(number: u8) {
+fn say_words_from_60(rt: &impl Speak, number: u8) {
     match number {
-        Refusal::CAPTURE => say(b"the first 24 bytes are not those of a capture of ours"),
-        Refusal::RECORD => say(b"the record is cut short, or its two lengths differ"),
-        Refusal::NO_PACKET => say(b"the record is no packet that would be sent"),
-        _ => say(b"docs/REFUSALS.md has the numbers"),
+        Refusal::CAPTURE => say(rt, b"the first 24 bytes are not those of a capture of ours"),
+        Refusal::RECORD => say(rt, b"the record is cut short, or its two lengths differ"),
+        Refusal::NO_PACKET => say(rt, b"the record is no packet that would be sent"),
+        _ => say(rt, b"docs/REFUSALS.md has the numbers"),
     }
 }

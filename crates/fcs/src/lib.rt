@@ -1,5 +1,6 @@
 //! The check of a frame: the 16-bit FCS of RFC 1662.
 #![tactic(auto)]
+
 ghost use Rattle.std.specs.Prelude.{◌≡◌, ◌+◌, ◌≤◌, length, take, drop};
 ghost use Rattle.fcs.specs.Fcs.{complement, entered, register, fcs, fresh, fed};
 ghost use Rattle.fcs.specs.Private.{little, behind};

@@ -1,20 +1,21 @@
 //! The receiver: received bytes in, a line of each answer out, and the totals.
 use base::Refusal;
 use channel::Answer;
-use libc::STDIN_FILENO;
+use console::{PIECE, Speak};
 use listing_lines::{Line, Totals};
 use packet::Judged;
+use std::io::Read;
 use subchannel::Sub;
 
 // What is counted of received bytes and of their answers.
-#[derive(Drop)]
+#[derive(Clone, Copy)]
 struct Counts {
     bytes: u64,
     totals: Totals,
 }
 
 // The receiver behind a call.
-#[derive(Drop)]
+#[derive(Clone, Copy)]
 struct Turn {
     // The rest of the piece is to be handed in again.
     again: bool,
@@ -26,41 +27,44 @@ struct Turn {
 }
 
 // The receiver: pieces as they come, and the totals behind the last.
-pub fn list_all(parity: usize, depth: usize) {
+pub fn list_all(rt: &(impl Input + Print + Speak), parity: usize, depth: usize) {
     let mut recv = [0u8; Sub::RAW];
     let mut word = [0u8; Sub::WORD];
-    let mut piece = io::large_buffer();
+    let mut piece = [0u8; PIECE];
     let told = Sub::told(parity, depth);
     let mut sub = told.sub;
     let mut counts = Counts {
         bytes: 0,
         totals: Totals::none(),
     };
-    let mut reads = u64::MAX;
-    while reads > 0 {
-        let turn = list_next(sub, counts, &mut recv, &mut word, &mut piece);
+    for _ in 0..u64::MAX {
+        let turn = list_next(rt, sub, counts, &mut recv, &mut word, &mut piece);
         sub = turn.sub;
         counts = turn.counts;
         if !turn.go {
             return;
         }
-        reads -= 1;
     }
 }
 
 // The next piece, read and listed.
-fn list_next(sub: Sub, counts: Counts, recv: &mut [u8], word: &mut [u8], piece: &mut [u8]) -> Turn {
-    let got = libc::read(STDIN_FILENO, piece);
-    if got < 0 {
-        crate::say_unread();
+fn list_next(
+    rt: &(impl Input + Print + Speak),
+    sub: Sub,
+    counts: Counts,
+    recv: &mut [u8],
+    word: &mut [u8],
+    piece: &mut [u8],
+) -> Turn {
+    let Ok(n) = rt.reader().read(piece) else {
+        crate::say_unread(rt);
+        return stopped(sub, counts);
+    };
+    if n == 0 {
+        print_totals(rt, counts);
         return stopped(sub, counts);
     }
-    if got == 0 {
-        print_totals(counts);
-        return stopped(sub, counts);
-    }
-    let n = io::count(got, piece);
-    list(sub, counts, recv, word, &piece[0..n])
+    list(rt, sub, counts, recv, word, &piece[0..n])
 }
 
 fn stopped(sub: Sub, counts: Counts) -> Turn {
@@ -74,7 +78,14 @@ fn stopped(sub: Sub, counts: Counts) -> Turn {
 }
 
 // A piece, until more is wanted.
-fn list(start: Sub, before: Counts, recv: &mut [u8], word: &mut [u8], piece: &[u8]) -> Turn {
+fn list(
+    rt: &(impl Print + Speak),
+    start: Sub,
+    before: Counts,
+    recv: &mut [u8],
+    word: &mut [u8],
+    piece: &[u8],
+) -> Turn {
     let mut turn = Turn {
         again: true,
         go: false,
@@ -83,24 +94,29 @@ fn list(start: Sub, before: Counts, recv: &mut [u8], word: &mut [u8], piece: &[u
         counts: received(before, piece.len()),
     };
     let mut i: usize = 0;
-    let mut calls = u64::MAX;
-    while calls > 0 {
-        turn = call(turn.sub, turn.counts, recv, word, &piece[i..]);
+    for _ in 0..u64::MAX {
+        turn = call(rt, turn.sub, turn.counts, recv, word, &piece[i..]);
         i = console::onward(i, turn.taken, piece.len());
         if !turn.again {
             return turn;
         }
-        calls -= 1;
     }
     turn
 }
 
 // One call, and its line.
-fn call(start: Sub, before: Counts, recv: &mut [u8], word: &mut [u8], piece: &[u8]) -> Turn {
+fn call(
+    rt: &(impl Print + Speak),
+    start: Sub,
+    before: Counts,
+    recv: &mut [u8],
+    word: &mut [u8],
+    piece: &[u8],
+) -> Turn {
     let heard = start.hear(recv, word, piece);
     let answer = heard.answer;
     let sub = heard.sub;
-    let go = tell(answer);
+    let go = tell(rt, answer);
     Turn {
         again: go && !is_more(answer),
         go,
@@ -120,14 +136,14 @@ fn is_more(answer: Answer) -> bool {
 }
 
 // Whether a call was not refused, and its line went to standard output.
-fn tell(answer: Answer) -> bool {
+fn tell(rt: &(impl Print + Speak), answer: Answer) -> bool {
     if is_refused(answer) {
-        console::say(b"fixed: a call was refused\n");
+        console::say(rt, b"fixed: a call was refused\n");
         return false;
     }
     let mut text = [0u8; Line::LONGEST];
     let written = listing_lines::print(answer, &mut text);
-    crate::put(written, &text)
+    crate::put(rt, written, &text)
 }
 
 // Whether a call was refused: no state of this program comes to that.
@@ -173,11 +189,11 @@ fn counted(c: Counts, answer: Answer) -> Counts {
 }
 
 // The last line.
-fn print_totals(c: Counts) {
+fn print_totals(rt: &(impl Print + Speak), c: Counts) {
     let t = c.totals;
     let mut text = [0u8; Line::LONGEST];
     let written = listing_lines::print_end(
         c.bytes, t.packets, t.refused, t.damaged, t.lost, &mut text,
     );
-    crate::put(written, &text);
+    crate::put(rt, written, &text);
 }

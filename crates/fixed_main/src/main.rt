@@ -2,62 +2,64 @@
 //! as its bytes are in, the closing push behind them. `fixed list R DEPTH`: received bytes on standard input; a line of each answer goes to
 //! standard output as it comes, the totals behind them. Where something fails it says so on standard error and stops.
 #![tactic(auto)]
+
 mod listing;
 mod sending;
 
 use base::Written;
-use console::is_argument;
+use console::{Speak, is_argument};
 use subchannel_sender::Counted;
 
-fn main() {
-    let parity = console::number(2, 2);
-    let depth = console::number(3, 2);
-    if os::arg_count() != 4 || parity > 99 || depth > 99 {
-        usage();
+fn main(rt: HostRuntime) {
+    let parity = console::number(&rt, 2, 2);
+    let depth = console::number(&rt, 3, 2);
+    if console::argument_count(&rt) != 4 || parity > 99 || depth > 99 {
+        usage(&rt);
         return;
     }
-    if is_argument(1, b"send") {
-        start(true, parity, depth);
+    if is_argument(&rt, 1, b"send") {
+        start(&rt, true, parity, depth);
         return;
     }
-    if is_argument(1, b"list") {
-        start(false, parity, depth);
+    if is_argument(&rt, 1, b"list") {
+        start(&rt, false, parity, depth);
         return;
     }
-    usage();
+    usage(&rt);
 }
 
-fn usage() {
+fn usage(rt: &impl Speak) {
     console::say(
+        rt,
         b"usage: fixed send|list R DEPTH <IN >OUT; R and DEPTH are numbers from 0 to 64\n",
     );
 }
 
 // With settings that are not refused.
-fn start(sends: bool, parity: usize, depth: usize) {
+fn start(rt: &(impl Input + Print + Speak), sends: bool, parity: usize, depth: usize) {
     match subchannel_sender::count(parity, depth, 0) {
-        Counted::Groups(_) => run(sends, parity, depth),
-        Counted::Refused(number) => say_refused(number),
+        Counted::Groups(_) => run(rt, sends, parity, depth),
+        Counted::Refused(number) => say_refused(rt, number),
     }
 }
 
-fn run(sends: bool, parity: usize, depth: usize) {
+fn run(rt: &(impl Input + Print + Speak), sends: bool, parity: usize, depth: usize) {
     if sends {
-        sending::send_all(parity, depth);
+        sending::send_all(rt, parity, depth);
         return;
     }
-    listing::list_all(parity, depth);
+    listing::list_all(rt, parity, depth);
 }
 
-fn say_refused(number: u8) {
-    console::say_refusal(b"fixed", number);
+fn say_refused(rt: &impl Speak, number: u8) {
+    console::say_refusal(rt, b"fixed", number);
 }
 
-fn say_unread() {
-    console::say_unread(b"fixed");
+fn say_unread(rt: &impl Speak) {
+    console::say_unread(rt, b"fixed");
 }
 
 // What was written, to standard output; whether all of it went there.
-fn put(written: Written, out: &[u8]) -> bool {
-    console::put(b"fixed", written, out)
+fn put(rt: &(impl Print + Speak), written: Written, out: &[u8]) -> bool {
+    console::put(rt, b"fixed", written, out)
 }

@@ -1,13 +1,14 @@
 //! The sender: a stream of any length, group by group.
 ghost use Rattle.std.specs.Prelude.{◌≤◌, length};
 
+use console::Speak;
 use interleaver::Matrix;
-use libc::STDIN_FILENO;
+use std::io::Read;
 use subchannel::Settings;
 use subchannel_sender::{Counted, Group, Sent};
 
 // The sender behind a group, and whether it goes on.
-#[derive(Drop)]
+#[derive(Clone, Copy)]
 struct Behind {
     go: bool,
     taken: usize,
@@ -15,7 +16,7 @@ struct Behind {
 }
 
 // How the sender stands behind a read.
-#[derive(Drop)]
+#[derive(Clone, Copy)]
 struct Stand {
     go: bool,
     have: usize,
@@ -23,12 +24,15 @@ struct Stand {
 }
 
 // What is held of a stream behind a read.
-#[derive(Drop)]
+#[derive(Clone, Copy)]
 struct Held {
     failed: bool,
     ended: bool,
     have: usize,
 }
+
+// Bytes of a stream that are held, at most.
+const HOLD: usize = 4096;
 
 // Bytes of a stream that fill a group.
 fn four_messages(parity: usize) -> usize {
@@ -36,27 +40,27 @@ fn four_messages(parity: usize) -> usize {
 }
 
 // Reads behind the bytes that are held, until so many are.
-fn read_on(hold: &mut [u8], have: usize, want: usize) -> Held
+fn read_on(rt: &impl Input, hold: &mut [u8], have: usize, want: usize) -> Held
     requires { (have ≤ want) × (want ≤ length hold.old) }
     ensures { (have ≤ result.have) × (result.have ≤ want) }
 {
-    let got = libc::read(STDIN_FILENO, &mut hold[have..want]);
-    if got <= 0 {
+    let Ok(n) = rt.reader().read(&mut hold[have..want]) else {
         return Held {
-            failed: got < 0,
+            failed: true,
             ended: true,
             have,
         };
-    }
+    };
     Held {
         failed: false,
-        ended: false,
-        have: console::onward(have, io::count(got, hold), want),
+        ended: n == 0,
+        have: console::onward(have, n, want),
     }
 }
 
 // What is held goes out where it fills a group.
 fn send_full(
+    rt: &(impl Print + Speak),
     parity: usize,
     depth: usize,
     matrix: Matrix,
@@ -75,7 +79,7 @@ fn send_full(
             matrix,
         };
     }
-    let behind = send(parity, depth, matrix, &hold[0..want], out);
+    let behind = send(rt, parity, depth, matrix, &hold[0..want], out);
     let next = behind.matrix;
     Stand {
         go: behind.go,
@@ -85,56 +89,60 @@ fn send_full(
 }
 
 // The sender: a group whenever its bytes are in.
-pub fn send_all(parity: usize, depth: usize) {
-    let mut hold = io::buffer();
+pub fn send_all(rt: &(impl Input + Print + Speak), parity: usize, depth: usize) {
+    let mut hold = [0u8; HOLD];
     let mut out = [0u8; Group::LENGTH];
     let mut matrix = interleaver::fresh();
     let want = base::least(four_messages(parity), hold.len());
     let mut have: usize = 0;
-    let mut reads = u64::MAX;
-    while reads > 0 {
-        let held = read_on(&mut hold, have, want);
+    for reads in 0..u64::MAX {
+        let held = read_on(rt, &mut hold, have, want);
         have = held.have;
         if held.failed {
-            crate::say_unread();
+            crate::say_unread(rt);
             return;
         }
-        hint(reads, &hold[0..have]);
+        hint(rt, reads, &hold[0..have]);
         if held.ended {
-            finish(parity, depth, matrix, &hold[0..have], &mut out);
+            finish(rt, parity, depth, matrix, &hold[0..have], &mut out);
             return;
         }
-        let stand = send_full(parity, depth, matrix, have, want, &hold, &mut out);
+        let stand = send_full(rt, parity, depth, matrix, have, want, &hold, &mut out);
         matrix = stand.matrix;
         have = stand.have;
         if !stand.go {
             return;
         }
-        reads -= 1;
     }
 }
 
 // The first bytes read: a plain stream begins with no marker. Blocks are sent as they are all the same, and the receiver will not read them as such.
-fn hint(reads: u64, begin: &[u8]) {
-    if reads < u64::MAX || begin.len() < 4 {
-        return;
-    }
-    if check::same(&begin[0..4], b"\x7D\x3A\xE2\x42") {
+fn hint(rt: &impl Speak, reads: u64, begin: &[u8]) {
+    if reads == 0 && begin.starts_with(b"\x7D\x3A\xE2\x42") {
         console::say(
+            rt,
             b"fixed: hint: begins as marked blocks do, as the office sends them; a plain stream is sent here\n",
         );
     }
 }
 
 // The groups behind the last whole one: what is left of the stream, and the closing push.
-fn finish(parity: usize, depth: usize, matrix: Matrix, rest: &[u8], out: &mut [u8]) {
+fn finish(
+    rt: &(impl Print + Speak),
+    parity: usize,
+    depth: usize,
+    matrix: Matrix,
+    rest: &[u8],
+    out: &mut [u8],
+) {
     match subchannel_sender::count(parity, depth, rest.len()) {
-        Counted::Groups(groups) => send_last(parity, depth, groups, matrix, rest, out),
-        Counted::Refused(number) => crate::say_refused(number),
+        Counted::Groups(groups) => send_last(rt, parity, depth, groups, matrix, rest, out),
+        Counted::Refused(number) => crate::say_refused(rt, number),
     }
 }
 
 fn send_last(
+    rt: &(impl Print + Speak),
     parity: usize,
     depth: usize,
     groups: usize,
@@ -146,7 +154,7 @@ fn send_last(
     let mut at: usize = 0;
     let mut i: usize = 0;
     while i < groups {
-        let behind = send(parity, depth, matrix, &rest[at..], out);
+        let behind = send(rt, parity, depth, matrix, &rest[at..], out);
         matrix = behind.matrix;
         at = console::onward(at, behind.taken, rest.len());
         if !behind.go {
@@ -157,16 +165,23 @@ fn send_last(
 }
 
 // One group, to standard output.
-fn send(parity: usize, depth: usize, matrix: Matrix, stream: &[u8], out: &mut [u8]) -> Behind {
+fn send(
+    rt: &(impl Print + Speak),
+    parity: usize,
+    depth: usize,
+    matrix: Matrix,
+    stream: &[u8],
+    out: &mut [u8],
+) -> Behind {
     let sent = subchannel_sender::send_group(parity, depth, matrix, stream, out);
-    put(sent, out)
+    put(rt, sent, out)
 }
 
-fn put(sent: Sent, out: &[u8]) -> Behind {
+fn put(rt: &(impl Print + Speak), sent: Sent, out: &[u8]) -> Behind {
     let written = sent.written;
     let matrix = sent.matrix;
     Behind {
-        go: crate::put(written, out),
+        go: crate::put(rt, written, out),
         taken: sent.taken,
         matrix,
     }

@@ -1,5 +1,6 @@
 //! One to four fixed sub-channels: the receiver. What is small of its state goes by value, the interleavers' cells are lent: they are 64 KiB.
 #![tactic(auto)]
+
 ghost use Rattle.std.specs.Prelude.{◌≡◌, []};
 ghost use Rattle.four_receivers.specs.Call.{seated, seat, whole, seats, fresh_receiver, get, put, sound_four, known};
 ghost use Rattle.four_receivers.specs.Call.{configuring, ConfiguringIs, hear_four, FourIs};

@@ -1,5 +1,6 @@
 //! One to four fixed sub-channels: the sender.
 #![tactic(auto)]
+
 ghost use Rattle.std.specs.Prelude.{◌≡◌};
 ghost use Rattle.base.specs.Written.{outcome};
 ghost use Rattle.subchannel_spec.specs.Settings.{settings};

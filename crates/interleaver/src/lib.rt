@@ -1,5 +1,6 @@
 //! The byte interleaver, running: each write is followed at once by a read.
 #![tactic(auto)]
+
 ghost use Rattle.std.specs.Prelude.{◌≡◌, false, ◌+◌, ◌*◌, ◌≤◌, ◌<◌, length};
 ghost use Rattle.base.specs.Calls.{run};
 ghost use Rattle.base.specs.Written.{outcome};

@@ -1,5 +1,6 @@
 //! The lines of a listing, written, and its totals.
 #![tactic(auto)]
+
 ghost use Rattle.std.specs.Prelude.{◌≡◌};
 ghost use Rattle.base.specs.Written.{outcome, write};
 ghost use Rattle.text.specs.Put.{Puts};

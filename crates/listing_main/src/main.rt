@@ -1,15 +1,16 @@
 //! Lists the recording on standard input, on standard output. Where one of them fails it says so on standard error and stops,
 //! without a last line. Where the last line is `X`, it stands on standard error too. Behind a wrong byte it reads no more.
 #![tactic(auto)]
+
 ghost use Rattle.std.specs.Prelude.{◌≤◌, length};
 
 use channel::Receiver;
-use console::say;
-use libc::STDIN_FILENO;
+use console::{PIECE, Speak, say};
 use listing::{Lister, Wants};
+use std::io::Read;
 
 // A recording behind a call.
-#[derive(Drop)]
+#[derive(Clone, Copy)]
 struct Turn {
     // The rest of the piece is to be handed in again.
     again: bool,
@@ -19,44 +20,48 @@ struct Turn {
     next: Lister,
 }
 
-fn main() {
+fn main(rt: HostRuntime) {
     let mut recv = [0u8; Receiver::RAW];
     let mut word = [0u8; Receiver::WORD];
-    let mut piece = io::large_buffer();
-    let mut out = io::large_buffer();
+    let mut piece = [0u8; PIECE];
+    let mut out = [0u8; PIECE];
     let mut recording = Lister::fresh();
-    let mut reads = u64::MAX;
-    while reads > 0 {
-        let got = libc::read(STDIN_FILENO, &mut piece);
-        if got < 0 {
-            say_unread();
+    let mut input = rt.reader();
+    for _ in 0..u64::MAX {
+        let Ok(n) = input.read(&mut piece) else {
+            say_unread(&rt);
+            return;
+        };
+        if n == 0 {
+            finish(&rt, recording, &mut out);
             return;
         }
-        if got == 0 {
-            finish(recording, &mut out);
-            return;
-        }
-        let n = io::count(got, &piece);
-        let turn = list(recording, &mut recv, &mut word, &piece[0..n], &mut out);
+        let turn = list(&rt, recording, &mut recv, &mut word, &piece[0..n], &mut out);
         recording = turn.next;
         if !turn.go {
             return;
         }
         let tape = recording.tape;
         if tape.is_wrong() {
-            finish(recording, &mut out);
+            finish(&rt, recording, &mut out);
             return;
         }
-        reads -= 1;
     }
 }
 
-fn say_unread() {
-    console::say_unread(b"listing");
+fn say_unread(rt: &impl Speak) {
+    console::say_unread(rt, b"listing");
 }
 
 // A piece, until more is wanted.
-fn list(start: Lister, recv: &mut [u8], word: &mut [u8], piece: &[u8], out: &mut [u8]) -> Turn {
+fn list(
+    rt: &(impl Print + Speak),
+    start: Lister,
+    recv: &mut [u8],
+    word: &mut [u8],
+    piece: &[u8],
+    out: &mut [u8],
+) -> Turn {
     let mut turn = Turn {
         again: true,
         go: false,
@@ -64,20 +69,25 @@ fn list(start: Lister, recv: &mut [u8], word: &mut [u8], piece: &[u8], out: &mut
         next: start,
     };
     let mut i: usize = 0;
-    let mut calls = u64::MAX;
-    while calls > 0 {
-        turn = call(turn.next, recv, word, &piece[i..], out);
+    for _ in 0..u64::MAX {
+        turn = call(rt, turn.next, recv, word, &piece[i..], out);
         i += turn.taken;
         if !turn.again {
             return turn;
         }
-        calls -= 1;
     }
     turn
 }
 
 // One call, and its lines.
-fn call(start: Lister, recv: &mut [u8], word: &mut [u8], piece: &[u8], out: &mut [u8]) -> Turn
+fn call(
+    rt: &(impl Print + Speak),
+    start: Lister,
+    recv: &mut [u8],
+    word: &mut [u8],
+    piece: &[u8],
+    out: &mut [u8],
+) -> Turn
     ensures { result.taken ≤ length piece.now }
 {
     let took = start.take(recv, word, piece, out);
@@ -85,7 +95,7 @@ fn call(start: Lister, recv: &mut [u8], word: &mut [u8], piece: &[u8], out: &mut
     let next = took.next;
     let wants = took.wants;
     let n = took.written;
-    if !print(&out[0..n]) {
+    if !print(rt, &out[0..n]) {
         return Turn {
             again: false,
             go: false,
@@ -95,7 +105,7 @@ fn call(start: Lister, recv: &mut [u8], word: &mut [u8], piece: &[u8], out: &mut
     }
     Turn {
         again: wants_room(wants),
-        go: !is_refused(wants),
+        go: !is_refused(rt, wants),
         taken,
         next,
     }
@@ -110,28 +120,28 @@ fn wants_room(wants: Wants) -> bool {
 }
 
 // Whether a call was refused: no recording of less than 2^64 bytes comes to that.
-fn is_refused(wants: Wants) -> bool {
+fn is_refused(rt: &impl Speak, wants: Wants) -> bool {
     match wants {
         Wants::More => false,
         Wants::Room => false,
         Wants::Refused(_) => {
-            say(b"listing: the recording is too long\n");
+            say(rt, b"listing: the recording is too long\n");
             true
         }
     }
 }
 
 // The last line, and where the input is no whole recording.
-fn finish(recording: Lister, out: &mut [u8]) {
+fn finish(rt: &(impl Print + Speak), recording: Lister, out: &mut [u8]) {
     let tape = recording.tape;
     let at = tape.spot;
     let last = recording.finish(out);
-    if console::put(b"listing", last, out) && !tape.may_end() {
-        console::say_wrong(b"listing", at.offset);
+    if console::put(rt, b"listing", last, out) && !tape.may_end() {
+        console::say_wrong(rt, b"listing", at.offset);
     }
 }
 
 // Lines to standard output; whether all went there.
-fn print(text: &[u8]) -> bool {
-    console::print(b"listing", text)
+fn print(rt: &(impl Print + Speak), text: &[u8]) -> bool {
+    console::print(rt, b"listing", text)
 }

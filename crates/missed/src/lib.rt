@@ -1,5 +1,6 @@
 //! Which bids a recording misses: its bytes in, in any pieces, and a line out for each packet of a range of ports.
 #![tactic(auto)]
+
 mod line;
 mod notes;
 

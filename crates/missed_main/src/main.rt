@@ -2,14 +2,15 @@
 //! a line of it on standard output: its port, its sequence number, and what it is to that port. Where something fails, or the recording does not end
 //! as one, it says so on standard error; behind a wrong byte it reads no more.
 #![tactic(auto)]
+
 use channel::Receiver;
-use console::{LAST_PORT, say};
-use libc::STDIN_FILENO;
+use console::{LAST_PORT, PIECE, Speak, say};
 use missed::{Notes, Wants};
 use ports_spec::Range;
+use std::io::Read;
 
 // What is noted so far, behind a call.
-#[derive(Drop)]
+#[derive(Clone, Copy)]
 struct Turn {
     // The rest of the piece is to be handed in again.
     again: bool,
@@ -19,46 +20,53 @@ struct Turn {
     notes: Notes,
 }
 
-fn main() {
-    let first = console::port(1);
-    let last = console::port(2);
-    if os::arg_count() != 3 || first > LAST_PORT || last > LAST_PORT {
-        say(b"usage: missed FIRST LAST <RECORDING; FIRST and LAST are ports\n");
+fn main(rt: HostRuntime) {
+    let first = console::port(&rt, 1);
+    let last = console::port(&rt, 2);
+    if console::argument_count(&rt) != 3 || first > LAST_PORT || last > LAST_PORT {
+        say(
+            &rt,
+            b"usage: missed FIRST LAST <RECORDING; FIRST and LAST are ports\n",
+        );
         return;
     }
-    hear_all(console::range(first, last));
+    hear_all(&rt, console::range(first, last));
 }
 
 // The recording, piece by piece.
-fn hear_all(range: Range) {
+fn hear_all(rt: &(impl Input + Print + Speak), range: Range) {
     let mut recv = [0u8; Receiver::RAW];
     let mut word = [0u8; Receiver::WORD];
     let mut out = [0u8; Notes::ROOM];
-    let mut piece = io::large_buffer();
+    let mut piece = [0u8; PIECE];
     let mut notes = Notes::fresh(range);
-    let mut reads = u64::MAX;
-    while reads > 0 {
-        let got = libc::read(STDIN_FILENO, &mut piece);
-        if got < 0 {
-            console::say_unread(b"missed");
+    let mut input = rt.reader();
+    for _ in 0..u64::MAX {
+        let Ok(n) = input.read(&mut piece) else {
+            console::say_unread(rt, b"missed");
+            return;
+        };
+        if n == 0 {
+            finish(rt, notes);
             return;
         }
-        if got == 0 {
-            finish(notes);
-            return;
-        }
-        let n = io::count(got, &piece);
-        let turn = hear(notes, &mut recv, &mut word, &piece[0..n], &mut out);
+        let turn = hear(rt, notes, &mut recv, &mut word, &piece[0..n], &mut out);
         notes = turn.notes;
-        if !turn.go || is_over(notes) {
+        if !turn.go || is_over(rt, notes) {
             return;
         }
-        reads -= 1;
     }
 }
 
 // A piece, until more is wanted.
-fn hear(start: Notes, recv: &mut [u8], word: &mut [u8], piece: &[u8], out: &mut [u8]) -> Turn {
+fn hear(
+    rt: &(impl Print + Speak),
+    start: Notes,
+    recv: &mut [u8],
+    word: &mut [u8],
+    piece: &[u8],
+    out: &mut [u8],
+) -> Turn {
     let mut turn = Turn {
         again: true,
         go: false,
@@ -66,25 +74,30 @@ fn hear(start: Notes, recv: &mut [u8], word: &mut [u8], piece: &[u8], out: &mut 
         notes: start,
     };
     let mut i: usize = 0;
-    let mut calls = u64::MAX;
-    while calls > 0 {
-        turn = call(turn.notes, recv, word, &piece[i..], out);
+    for _ in 0..u64::MAX {
+        turn = call(rt, turn.notes, recv, word, &piece[i..], out);
         i = console::onward(i, turn.taken, piece.len());
         if !turn.again {
             return turn;
         }
-        calls -= 1;
     }
     turn
 }
 
 // One call, and its line.
-fn call(start: Notes, recv: &mut [u8], word: &mut [u8], piece: &[u8], out: &mut [u8]) -> Turn {
+fn call(
+    rt: &(impl Print + Speak),
+    start: Notes,
+    recv: &mut [u8],
+    word: &mut [u8],
+    piece: &[u8],
+    out: &mut [u8],
+) -> Turn {
     let took = start.take(recv, word, piece, out);
     let taken = took.taken;
     let notes = took.next;
     let wants = took.wants;
-    if !console::print(b"missed", &out[0..base::least(took.written, out.len())]) {
+    if !console::print(rt, b"missed", &out[0..base::least(took.written, out.len())]) {
         return Turn {
             again: false,
             go: false,
@@ -94,7 +107,7 @@ fn call(start: Notes, recv: &mut [u8], word: &mut [u8], piece: &[u8], out: &mut 
     }
     Turn {
         again: wants_again(wants),
-        go: !is_refused(wants),
+        go: !is_refused(rt, wants),
         taken,
         notes,
     }
@@ -109,32 +122,32 @@ fn wants_again(wants: Wants) -> bool {
 }
 
 // Whether a call was refused: no recording of less than 2^64 bytes comes to that.
-fn is_refused(wants: Wants) -> bool {
+fn is_refused(rt: &impl Speak, wants: Wants) -> bool {
     match wants {
         Wants::More => false,
         Wants::Again => false,
         Wants::Refused(_) => {
-            say(b"missed: the recording is too long\n");
+            say(rt, b"missed: the recording is too long\n");
             true
         }
     }
 }
 
 // Whether a wrong byte was met: nothing behind it counts, so no more is read.
-fn is_over(notes: Notes) -> bool {
+fn is_over(rt: &impl Speak, notes: Notes) -> bool {
     let tape = notes.tape;
     if tape.is_wrong() {
-        finish(notes);
+        finish(rt, notes);
         return true;
     }
     false
 }
 
 // Whether the recording ends as one, and where it does not.
-fn finish(notes: Notes) {
+fn finish(rt: &impl Speak, notes: Notes) {
     let tape = notes.tape;
     let at = tape.spot;
     if !tape.may_end() {
-        console::say_wrong(b"missed", at.offset);
+        console::say_wrong(rt, b"missed", at.offset);
     }
 }

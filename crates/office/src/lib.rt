@@ -1,5 +1,6 @@
 //! The office's sender: lines of bids in, marked blocks out, any cutting of the input, in constant memory.
 #![tactic(auto)]
+
 ghost use Rattle.std.specs.Prelude.{◌≡◌, true, ◌+◌, ◌-◌, ◌≤◌, min, length, take};
 ghost use Rattle.std.proofs.lemmas.List.Edits.{sets};
 ghost use Rattle.base.specs.Written.{outcome};

@@ -1,5 +1,6 @@
 //! Parity words of 255 bytes: parity made, a word's values at its roots, and a word checked.
 #![tactic(auto)]
+
 ghost use Rattle.std.specs.Prelude.{◌≡◌, ◌∷◌, ◌++◌, ◌+◌, ◌-◌, ◌≤◌, length, take, drop, replicate};
 ghost use Rattle.base.specs.Written.{copied, outcome};
 ghost use Rattle.word_spec.specs.Word.{values_from, clean, scale, onto, generator, divide, remainder};

@@ -1,5 +1,4 @@
--- The promises of the covered public functions leave nothing open. Those of `note` and `forget` of a lent
--- table, proved by hand, stand in Says.
+-- The promises of the public functions leave nothing open. Those of `note` and `forget` of a lent table stand in Says.
 -- rule-determined                                                           the distance rule
 -- fresh-determined, sound-determined, note-determined, forget-determined    the table by value
 use mathlib.Core.Path.{refl}

@@ -1,6 +1,7 @@
--- What the covered functions of the table of ports need.
--- place_here, place-on, place_end    the loop that finds a port; free-.. that finds a free place
--- twice-here, twice-on, twice-end    the loop that finds a port held twice
+-- What the loops over a table of ports need.
+-- place_here, place-on, place_end    the loop that finds a port
+-- free-here, free_on, free-end       .. a free place
+-- twice-here, twice-on, twice-end    .. a port held twice
 use mathlib.Core.Path.{◌≡◌, refl, sym, ap, ◌∙◌}
 use mathlib.Core.Bool.{Bool, true, false, not, ◌&&◌, false≢true, true≢false}
 use mathlib.Core.List.{List, [], ◌∷◌}

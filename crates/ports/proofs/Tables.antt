@@ -1,25 +1,22 @@
 -- A lent table as a value, and back.
--- set_past, put-over        nothing is put behind the end; nor behind place 16 of a table by value
+-- set_past                  nothing is put behind the end
 -- whole                     the places gathered are the table
--- free-.., note-..         the decisions, way by way; freed-.., noted-.. as the functions come to them
--- freeing-is, noting-is     the decision on the value, put, is what the two calls are to answer and leave; freeing-in, noting-in of a table by value,
---                           frees-in, notes-in as the functions come to them
--- sound-in                  .. whether it is fit
-use mathlib.Core.Path.{◌≡◌, refl, sym, ap, subst, ◌∙◌}
-use mathlib.Core.Bool.{Bool, true, false, not, ◌||◌}
-use mathlib.Core.Logic.{◌⊎◌, inl, inr, ⊎_elim}
+-- free-.., note-..          the decisions, way by way; freed-.., noted-.. as the functions come to them
+-- freeing-is, noting-is     the decision on the value, put, is what the two calls are to answer and leave; frees-lent, notes-lent as the functions
+--                           come to them
+-- freeing-in, noting-in     .. of a table by value; frees-in, notes-in as the functions come to them
+use mathlib.Core.Path.{◌≡◌, refl, sym, ap, ◌∙◌}
+use mathlib.Core.Bool.{Bool, true, false}
 use Prim.Native.Nat.{ℕ, zero, suc, ◌+◌, ◌≤◌, ◌<◌}
 use native.Mathlib.Nat.{le_of_suc-le-suc, not-suc-le-zero}
 use native.Mathlib.Omega.{arith}
 use mathlib.Core.List.{List, [], ◌∷◌}
 use borrow.Author.Tests.{lt-ltb, le-ltb}
-use lib.Dec.{ltb}
 use lib.ListN.{length, get_or, set, take, drop}
 use lib.Seq.{take_all}
 use Rattle.base.proofs.Tests.{by_le, by-test}
-use Rattle.base.specs.Choice.{pick}
 use Rattle.ports_spec.specs.Distance.{ruled, last_behind}
-use Rattle.ports_spec.specs.Ports.{freed, entry, place_of, free_place, twice, unfit, forgetting, noting}
+use Rattle.ports_spec.specs.Ports.{freed, entry, place_of, free_place, twice, forgetting, noting}
 use Rattle.ports.specs.ByValue.{forgot_in, noted_in}
 use Rattle.ports.specs.Private.{gathered, table_of, unfreed, unnoted, freeing_of, noting_of}
 use Rattle.ports_spec.specs.declared.Entry.{Entry}
@@ -202,7 +199,8 @@ module _ (es g : List Entry) (all : length es ≤ 16 → take (length es) g ≡ 
         unfolding forgetting
         frees-held h =
             ap (λ (d : Freeing). Freed d es) (sym (free-held t port few (ap twice (all few) ∙ once) (omega (arith, at, h)))) ∙
-            ap (λ (k : ℕ). Freed (record { forgot = Forgotten; place = k; entry = record { held = false; port = port; last = (get_or g k freed).last } }) es) at ∙
+            ap (λ (k : ℕ). Freed (record { forgot = Forgotten; place = k; entry = record { held = false; port = port; last = (get_or g k freed).last } }) es)
+            at ∙
             ap (λ (e : Entry). Freed (record { forgot = Forgotten; place = place_of port es; entry = record { held = false; port = port; last = e.last } }) es)
             (each (place_of port es) (omega (arith, h, few))) ∙
             rw (le-ltb 16 (length es) few, once, lt-ltb (place_of port es) (length es) h) refl
@@ -284,6 +282,16 @@ freeing-is es port = freeing es (gathered es) (whole es) (gathered-at es) port
 pub noting-is : (es : List Entry) (port sequence : ℕ) → Put (noting_of (table_of es) port sequence) es ≡ noting es port sequence
 noting-is es port sequence = notes es (gathered es) (whole es) (gathered-at es) port sequence
 
+module _ (es : List Entry) {t : Table} {z : List Entry} (et : t ≡ table_of es) where
+  pub frees-lent : (port : ℕ) {d : Freeing} → d ≡ freeing_of t port → z ≡ set es d.place d.entry
+      → ◌≡◌ {A = Forgot × List Entry} (d.forgot, z) (forgetting es port)
+  frees-lent port {d} ed ez = (λ i. (d.forgot, ez i)) ∙ ap (λ (c : Freeing). Freed c es) (ed ∙ ap (λ (u : Table). freeing_of u port) et) ∙ freeing-is es port
+
+  pub notes-lent : (port sequence : ℕ) {d : Noting} → d ≡ noting_of t port sequence → z ≡ set es d.place d.entry
+      → ◌≡◌ {A = Noted × List Entry} (d.noted, z) (noting es port sequence)
+  notes-lent port sequence {d} ed ez =
+      (λ i. (d.noted, ez i)) ∙ ap (λ (c : Noting). Put c es) (ed ∙ ap (λ (u : Table). noting_of u port sequence) et) ∙ noting-is es port sequence
+
 -- ---- of a table by value, which has 16 places
 module _ (es : List Entry) (size : length es ≡ 16) where
   abbrev sixteen : ℕ → Table
@@ -297,9 +305,6 @@ module _ (es : List Entry) (size : length es ≡ 16) where
   noting-in port sequence = ap (λ (n : ℕ). Put (noting_of (sixteen n) port sequence) es) (sym size) ∙ notes es es (λ _. take_all (length es) es (omega arith))
       (λ i _. refl) port sequence
 
-  pub put-over : (i : ℕ) (e : Entry) → 16 ≤ i → es ≡ set es i e
-  put-over i e h = sym (set_past es i e (omega (arith, size, h)))
-
   pub frees-in : (port : ℕ) {d : Freeing} {z : List Entry} → d ≡ freeing_of (sixteen 16) port → z ≡ set es d.place d.entry
       → forgot_in (d.forgot, z) ≡ forgot_in (forgetting es port)
   frees-in port {d} {z} ed ez = ap forgot_in ((λ i. (d.forgot, ez i)) ∙ ap (λ (c : Freeing). Freed c es) ed ∙ freeing-in port)
@@ -307,8 +312,3 @@ module _ (es : List Entry) (size : length es ≡ 16) where
   pub notes-in : (port sequence : ℕ) {d : Noting} {z : List Entry} → d ≡ noting_of (sixteen 16) port sequence → z ≡ set es d.place d.entry
       → noted_in (d.noted, z) ≡ noted_in (noting es port sequence)
   notes-in port sequence {d} {z} ed ez = ap noted_in ((λ i. (d.noted, ez i)) ∙ ap (λ (c : Noting). Put c es) ed ∙ noting-in port sequence)
-
-  pub sound-in : {t : Bool} → t ≡ twice (take 16 es) → not t ≡ not (unfit es)
-  sound-in e =
-      let few = le-ltb 16 (length es) (omega (arith, size)) in
-      ap not (e ∙ ap twice (take_all 16 es (omega (arith, size))) ∙ sym (ap (λ (b : Bool). b || twice es) few))

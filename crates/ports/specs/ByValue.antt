@@ -1,6 +1,6 @@
 -- A table of ports by value (request W1).
--- fresh_ports          one that holds no port
--- sound_ports          whether it is fit: no port is held twice
+-- fresh_ports           one that holds no port
+-- sound_ports           whether it is fit: no port is held twice
 -- noted_in, forgot_in   what the two calls on it give
 use Rattle.std.specs.Prelude.{Bool, not, List}
 use Rattle.ports_spec.specs.Ports.{fresh_table, unfit}

@@ -1,6 +1,6 @@
 -- What private functions alone are promised by: a lent table as a value, and a call's answer with what it puts where.
 -- gathered, table_of          the value; in_table, last_in: its places, and a port's last number
--- freeing_of, noting_of        what a port to forget, and a packet, come to; unfreed, unnoted where that is a refusal
+-- freeing_of, noting_of       what a port to forget, and a packet, come to; unfreed, unnoted where that is a refusal
 use Rattle.std.specs.Prelude.{ℕ, List, [], ◌∷◌, ltb, length, get_or, take}
 use Rattle.base.specs.Choice.{pick}
 use Rattle.ports_spec.specs.Distance.{ruled, last_behind}
@@ -15,8 +15,9 @@ use Rattle.ports_spec.specs.declared.Forgot.TheVariants.{Forgotten, Refused as U
 -- the first 16 places of a table, free ones behind its end
 abbrev pub gathered : List Entry → List Entry
 gathered es =
-    get_or es 0 freed ∷ get_or es 1 freed ∷ get_or es 2 freed ∷ get_or es 3 freed ∷ get_or es 4 freed ∷ get_or es 5 freed ∷ get_or es 6 freed ∷ get_or es 7 freed ∷
-    get_or es 8 freed ∷ get_or es 9 freed ∷ get_or es 10 freed ∷ get_or es 11 freed ∷ get_or es 12 freed ∷ get_or es 13 freed ∷ get_or es 14 freed ∷ get_or es 15 freed ∷ []
+    get_or es 0 freed ∷ get_or es 1 freed ∷ get_or es 2 freed ∷ get_or es 3 freed ∷ get_or es 4 freed ∷ get_or es 5 freed ∷
+    get_or es 6 freed ∷ get_or es 7 freed ∷ get_or es 8 freed ∷ get_or es 9 freed ∷ get_or es 10 freed ∷ get_or es 11 freed ∷
+    get_or es 12 freed ∷ get_or es 13 freed ∷ get_or es 14 freed ∷ get_or es 15 freed ∷ []
 
 -- a lent table, as a value
 abbrev pub table_of : List Entry → Table

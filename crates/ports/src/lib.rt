@@ -1,5 +1,6 @@
 //! Which bids did we miss (request W1): a small table of ports, each with its last sequence number.
 #![tactic(auto)]
+
 ghost use Rattle.std.specs.Prelude.{◌≡◌, List, get_or, set};
 ghost use Rattle.ports_spec.specs.Ports.{freed, noting, forgetting};
 ghost use Rattle.ports.specs.Private.{table_of, freeing_of, noting_of, unfreed, unnoted};

@@ -1,6 +1,7 @@
 //! What a packet's sequence number is to the last one of its port (request W1), a small table of ports, and the laws of both; a range of ports.
 //! Of code the types that it names, and the range's two functions; `ports` keeps such tables. Read specs/.
 #![tactic(auto)]
+
 ghost use Rattle.std.specs.Prelude.{◌≡◌};
 ghost use Rattle.ports_spec.specs.Range.{every_port, inside};
 

@@ -70,8 +70,7 @@ fn numbers(taken: usize, told: Numbered, receiver: Receiver) -> [u64; 21]
 
 /// One call on the opportunistic channel: 0 more wanted, 256 a packet, 257 lock lost, 258 a clean block, 259 a repaired one, 260 one beyond
 /// repair, or the number of a refusal. Refused with 10 or 11, it changes nothing.
-#[unsafe(no_mangle)]
-pub extern "C" fn aas_channel_read(
+pub fn aas_channel_read(
     state: &mut [u64; 21],
     recv: &mut [u8],
     word: &mut [u8],

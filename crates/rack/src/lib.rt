@@ -1,7 +1,8 @@
-//! The rack's functions, for C to call with numbers and byte slices (rack/rack.h): parity made, a word checked, a word repaired, a plain
-//! stream read, the opportunistic channel heard. A slice is a pointer and a length; a receiver's state is an array of numbers that the
-//! caller lends. Each function hands its arguments on to the crate that does the work, and tells the answer by a number.
+//! The rack's functions, which the crate rack_c hands to C (rack/rack.h): parity made, a word checked, a word repaired, a plain stream read,
+//! the opportunistic channel heard. A receiver's state is an array of numbers that the caller lends. Each function hands its arguments on
+//! to the crate that does the work, and tells the answer by a number.
 #![tactic(auto)]
+
 mod answers;
 mod hearing;
 mod reading;

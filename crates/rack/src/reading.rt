@@ -29,8 +29,7 @@ fn numbers(taken: usize, told: Numbered, frame: FrameReader) -> [u64; 12]
 }
 
 /// One call on a plain stream: 0 more wanted, 256 a packet, or the number of a refusal. Refused with 10 or 11, it changes nothing.
-#[unsafe(no_mangle)]
-pub extern "C" fn aas_stream_read(state: &mut [u64; 12], recv: &mut [u8], piece: &[u8]) -> usize
+pub fn aas_stream_read(state: &mut [u64; 12], recv: &mut [u8], piece: &[u8]) -> usize
     ensures { (result, state.new, recv.new) ≡ reading state.old recv.old piece.now }
 {
     let s = *state;

@@ -8,8 +8,7 @@ use parity::Checked;
 use repair::Mended;
 
 /// Makes the r parity bytes of a message: 0, or refused with 30, 31, 23.
-#[unsafe(no_mangle)]
-pub extern "C" fn aas_parity_make(r: usize, message: &[u8], out: &mut [u8]) -> usize
+pub fn aas_parity_make(r: usize, message: &[u8], out: &mut [u8]) -> usize
     ensures { (result, out.new) ≡ making r message.now out.old }
 {
     let written = parity::make(r, message, out);
@@ -20,8 +19,7 @@ pub extern "C" fn aas_parity_make(r: usize, message: &[u8], out: &mut [u8]) -> u
 }
 
 /// Checks a word with r parity bytes: 0 clean, 1 damaged, or refused with 30, 31.
-#[unsafe(no_mangle)]
-pub extern "C" fn aas_word_check(r: usize, word: &[u8]) -> usize
+pub fn aas_word_check(r: usize, word: &[u8]) -> usize
     ensures { result ≡ checking r word.now }
 {
     let checked = parity::check(r, word);
@@ -33,8 +31,7 @@ pub extern "C" fn aas_word_check(r: usize, word: &[u8]) -> usize
 }
 
 /// Repairs a word with r parity bytes in its place: 0 clean, 1 beyond repair, 256 + n repaired in n places, or refused with 30, 31.
-#[unsafe(no_mangle)]
-pub extern "C" fn aas_word_repair(r: usize, word: &mut [u8]) -> usize
+pub fn aas_word_repair(r: usize, word: &mut [u8]) -> usize
     ensures { (result, word.new) ≡ mending r word.old }
 {
     let mended = repair::repair(r, word);

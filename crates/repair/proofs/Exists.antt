@@ -50,7 +50,7 @@ top v (c ∷ cs) = top c cs
 raise-top : (a u v : ℕ) (cs : List ℕ) → top u (raise a v cs) ≡ top v cs
 unfolding raise top
 raise-top a u v [] = refl
-raise-top a u v (c ∷ cs) = raise-top a _ c cs
+raise-top a u v (c ∷ cs) = raise-top a (add v (mul a c)) c cs
 
 zero-top : (v : ℕ) (cs : List ℕ) → v ≡ 0 → AllZero cs → top v cs ≡ 0
 unfolding top

@@ -1,5 +1,6 @@
 //! Repair of parity words: with R parity bytes, up to INT(R/2) altered bytes of a word are found and put right.
 #![tactic(auto)]
+
 ghost use Rattle.std.specs.Prelude.{◌≡◌, ◌≤◌, length};
 ghost use Rattle.parity.specs.Calls.{root_limit, word_bytes};
 ghost use Rattle.repair.specs.Promise.{distance, Promised};

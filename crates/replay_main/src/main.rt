@@ -2,15 +2,16 @@
 //! its own and each packet in one. Bytes are read as they come, and a packet's record is out before the next are read. Where the capture is
 //! refused, or something fails, it says so on standard error and stops; what came before is there.
 #![tactic(auto)]
+
 use base::{Refusal, Written};
 use capture::{CaptureReader, Ended};
-use console::say;
-use libc::STDIN_FILENO;
+use console::{PIECE, Speak, say};
 use packet::{Delivery, Judged, Packet};
+use std::io::Read;
 use stream::Heard;
 
 // What is sent so far.
-#[derive(Drop)]
+#[derive(Clone, Copy)]
 struct Sent {
     packets: u64,
     // Stream bytes.
@@ -18,7 +19,7 @@ struct Sent {
 }
 
 // What is read so far, behind a call.
-#[derive(Drop)]
+#[derive(Clone, Copy)]
 struct Turn {
     // The rest of the piece is to be handed in again.
     again: bool,
@@ -30,7 +31,7 @@ struct Turn {
 }
 
 // What becomes of an answer.
-#[derive(Drop)]
+#[derive(Clone, Copy)]
 struct Passed {
     again: bool,
     go: bool,
@@ -40,47 +41,45 @@ struct Passed {
 // Stream bytes of a recording, at most.
 const MOST: u64 = 4294967295;
 
-fn main() {
+fn main(rt: HostRuntime) {
     let mut out = [0u8; Packet::RAW];
     let begun = stream::begin(&mut out);
-    if console::print(b"replay", &[0x50]) && put(begun, &out) {
-        replay(&mut out);
+    if console::print(&rt, b"replay", &[0x50]) && put(&rt, begun, &out) {
+        replay(&rt, &mut out);
     }
 }
 
 // Standard input, piece by piece as it comes, behind the first flag.
-fn replay(out: &mut [u8]) {
+fn replay(rt: &(impl Input + Print + Speak), out: &mut [u8]) {
     let mut store = [0u8; CaptureReader::STORED];
-    let mut piece = io::large_buffer();
+    let mut piece = [0u8; PIECE];
     let mut capture = CaptureReader::fresh();
     let mut sent = Sent {
         packets: 0,
         bytes: 1,
     };
-    let mut reads = u64::MAX;
-    while reads > 0 {
-        let got = libc::read(STDIN_FILENO, &mut piece);
-        if got < 0 {
-            console::say_unread(b"replay");
+    let mut input = rt.reader();
+    for _ in 0..u64::MAX {
+        let Ok(n) = input.read(&mut piece) else {
+            console::say_unread(rt, b"replay");
+            return;
+        };
+        if n == 0 {
+            finish(rt, capture, sent);
             return;
         }
-        if got == 0 {
-            finish(capture, sent);
-            return;
-        }
-        let n = io::count(got, &piece);
-        let turn = read(capture, sent, &mut store, &piece[0..n], out);
+        let turn = read(rt, capture, sent, &mut store, &piece[0..n], out);
         capture = turn.capture;
         sent = turn.sent;
         if !turn.go {
             return;
         }
-        reads -= 1;
     }
 }
 
 // A piece, until more is wanted.
 fn read(
+    rt: &(impl Print + Speak),
     capture: CaptureReader,
     sent: Sent,
     store: &mut [u8],
@@ -95,26 +94,31 @@ fn read(
         sent,
     };
     let mut i: usize = 0;
-    let mut calls = u64::MAX;
-    while calls > 0 {
+    for _ in 0..u64::MAX {
         let next = turn.capture;
-        turn = call(next, turn.sent, store, &piece[i..], out);
+        turn = call(rt, next, turn.sent, store, &piece[i..], out);
         i = console::onward(i, turn.taken, piece.len());
         if !turn.again {
             return turn;
         }
-        calls -= 1;
     }
     turn
 }
 
 // One call, and the record of its packet.
-fn call(start: CaptureReader, sent: Sent, store: &mut [u8], piece: &[u8], out: &mut [u8]) -> Turn {
+fn call(
+    rt: &(impl Print + Speak),
+    start: CaptureReader,
+    sent: Sent,
+    store: &mut [u8],
+    piece: &[u8],
+    out: &mut [u8],
+) -> Turn {
     let told = start.read(store, piece);
     let taken = told.taken;
     let capture = told.capture;
     let heard = told.heard;
-    let passed = pass(heard, sent, store, out);
+    let passed = pass(rt, heard, sent, store, out);
     let behind = passed.sent;
     Turn {
         again: passed.again,
@@ -126,28 +130,40 @@ fn call(start: CaptureReader, sent: Sent, store: &mut [u8], piece: &[u8], out: &
 }
 
 // An answer: a packet is sent, and a refusal ends the work.
-fn pass(heard: Heard, sent: Sent, store: &[u8], out: &mut [u8]) -> Passed {
+fn pass(
+    rt: &(impl Print + Speak),
+    heard: Heard,
+    sent: Sent,
+    store: &[u8],
+    out: &mut [u8],
+) -> Passed {
     match heard {
         Heard::More => Passed {
             again: false,
             go: true,
             sent,
         },
-        Heard::Said(judged) => judge(judged, sent, store, out),
+        Heard::Said(judged) => judge(rt, judged, sent, store, out),
     }
 }
 
-fn judge(judged: Judged, sent: Sent, store: &[u8], out: &mut [u8]) -> Passed {
+fn judge(
+    rt: &(impl Print + Speak),
+    judged: Judged,
+    sent: Sent,
+    store: &[u8],
+    out: &mut [u8],
+) -> Passed {
     match judged {
-        Judged::Packet(delivery) => send(delivery, sent, store, out),
-        Judged::Refused(n) => refuse(n, sent),
-        Judged::Broken(_) => refuse(Refusal::ESCAPE, sent),
+        Judged::Packet(delivery) => send(rt, delivery, sent, store, out),
+        Judged::Refused(n) => refuse(rt, n, sent),
+        Judged::Broken(_) => refuse(rt, Refusal::ESCAPE, sent),
     }
 }
 
 // A refusal, and no more is read.
-fn refuse(number: u8, sent: Sent) -> Passed {
-    say_refused(number, sent.packets);
+fn refuse(rt: &impl Speak, number: u8, sent: Sent) -> Passed {
+    say_refused(rt, number, sent.packets);
     Passed {
         again: false,
         go: false,
@@ -156,7 +172,13 @@ fn refuse(number: u8, sent: Sent) -> Passed {
 }
 
 // A packet, where the recording has room for it.
-fn send(delivery: Delivery, sent: Sent, store: &[u8], out: &mut [u8]) -> Passed {
+fn send(
+    rt: &(impl Print + Speak),
+    delivery: Delivery,
+    sent: Sent,
+    store: &[u8],
+    out: &mut [u8],
+) -> Passed {
     let key = stream::key(store, delivery);
     let payload = stream::payload(store, delivery);
     let appended = stream::append_as(
@@ -170,7 +192,7 @@ fn send(delivery: Delivery, sent: Sent, store: &[u8], out: &mut [u8]) -> Passed 
         payload,
     );
     let behind = counted(sent, appended);
-    let go = fits(behind) && put(appended, out);
+    let go = fits(rt, behind) && put(rt, appended, out);
     Passed {
         again: go,
         go,
@@ -195,47 +217,47 @@ fn up(a: u64, b: u64) -> u64 {
 }
 
 // Whether a recording holds so many stream bytes.
-fn fits(sent: Sent) -> bool {
+fn fits(rt: &impl Speak, sent: Sent) -> bool {
     if sent.bytes <= MOST {
         return true;
     }
-    say(b"replay: the recording is full\n");
+    say(rt, b"replay: the recording is full\n");
     false
 }
 
 // The end of the capture.
-fn finish(capture: CaptureReader, sent: Sent) {
+fn finish(rt: &impl Speak, capture: CaptureReader, sent: Sent) {
     match capture.finish() {
         Ended::Whole => {}
-        Ended::Refused(n) => say_refused(n, sent.packets),
+        Ended::Refused(n) => say_refused(rt, n, sent.packets),
     }
 }
 
 // A refusal and the record that it is for; the first 24 bytes are no record.
-fn say_refused(number: u8, record: u64) {
-    say(b"replay: refused ");
-    console::say_number(number as u64);
+fn say_refused(rt: &impl Speak, number: u8, record: u64) {
+    say(rt, b"replay: refused ");
+    console::say_number(rt, number as u64);
     if number != Refusal::CAPTURE {
-        say(b" at record ");
-        console::say_number(record);
+        say(rt, b" at record ");
+        console::say_number(rt, record);
     }
-    console::say_why(number);
+    console::say_why(rt, number);
 }
 
 // Stream bytes in a record; whether all of it went to standard output.
-fn put(written: Written, out: &[u8]) -> bool {
+fn put(rt: &(impl Print + Speak), written: Written, out: &[u8]) -> bool {
     match written {
-        Written::Wrote(n) => record(&out[0..base::least(n, out.len())]),
+        Written::Wrote(n) => record(rt, &out[0..base::least(n, out.len())]),
         Written::Refused(number) => {
-            say(b"replay: ");
-            console::say_refused(number);
+            say(rt, b"replay: ");
+            console::say_refused(rt, number);
             false
         }
     }
 }
 
-fn record(bytes: &[u8]) -> bool {
+fn record(rt: &(impl Print + Speak), bytes: &[u8]) -> bool {
     let n = bytes.len();
     let head = [0xF5, 0x5F, (n % 256) as u8, (n / 256 % 256) as u8];
-    console::print(b"replay", &head) && console::print(b"replay", bytes)
+    console::print(rt, b"replay", &head) && console::print(rt, b"replay", bytes)
 }

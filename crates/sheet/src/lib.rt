@@ -1,5 +1,6 @@
 //! The monthly reception sheet (request W13): a line for each port, counted from the delivered packets of many recordings.
 #![tactic(auto)]
+
 ghost use Rattle.std.specs.Prelude.{◌≡◌};
 ghost use Rattle.base.specs.Written.{outcome};
 ghost use Rattle.sheet.specs.Call.{fresh_sheet, tidied, beginning, adding, noting, closing, printing};

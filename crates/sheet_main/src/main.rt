@@ -2,14 +2,19 @@
 //! prints a line for each port on standard output. On standard error it says which recordings do not count, and why; with `progress` also which one
 //! it is at. Behind a wrong byte of a recording it reads no more of it.
 #![tactic(auto)]
+
 use channel::Receiver;
-use console::{LAST_PORT, say};
+use console::{ARGUMENT, LAST_PORT, PIECE, Speak, say};
 use ports_spec::Range;
 use recording::{Found, RecordingReader};
 use sheet::{Counted, Draft, Sheet};
+use std::env::Env;
+use std::io::{ErrorKind, Read};
+use std::rt::Files;
+use std::{fs, io};
 
 // What is heard so far, behind a call.
-#[derive(Drop)]
+#[derive(Clone, Copy)]
 struct Turn {
     // The rest of the piece is to be handed in again.
     again: bool,
@@ -21,88 +26,97 @@ struct Turn {
 }
 
 // A recording heard: whether it could be read to its end, and whether it may end there.
-#[derive(Drop)]
+#[derive(Clone, Copy)]
 struct Finished {
     whole: bool,
     well: bool,
     draft: Draft,
 }
 
-fn main() {
-    let first = console::port(2);
-    let last = console::port(3);
-    let count = os::arg_count();
+fn main(rt: HostRuntime) {
+    let first = console::port(&rt, 2);
+    let last = console::port(&rt, 3);
+    let count = console::argument_count(&rt);
     if count < 5 || first > LAST_PORT || last > LAST_PORT {
-        say(b"usage: sheet progress|quiet FIRST LAST FILE..; FIRST and LAST are ports\n");
+        say(
+            &rt,
+            b"usage: sheet progress|quiet FIRST LAST FILE..; FIRST and LAST are ports\n",
+        );
         return;
     }
-    let shown = console::is_argument(1, b"progress");
-    print_all(count_all(console::range(first, last), shown, count));
+    let shown = console::is_argument(&rt, 1, b"progress");
+    print_all(
+        &rt,
+        count_all(&rt, console::range(first, last), shown, count),
+    );
 }
 
 // The sheet of the recordings that the arguments behind the fourth name.
-fn count_all(range: Range, shown: bool, count: usize) -> Sheet {
+fn count_all(rt: &(impl Env + Files + Speak), range: Range, shown: bool, count: usize) -> Sheet {
     let mut sheet = Sheet::fresh();
     let mut i: usize = 4;
     while i < count {
-        progress(shown, i - 3, count - 4);
-        sheet = counted(range, sheet, i);
+        progress(rt, shown, i - 3, count - 4);
+        sheet = counted(rt, range, sheet, i);
         i += 1;
     }
     sheet
 }
 
 // Which recording of how many, where that is asked for.
-fn progress(shown: bool, i: usize, all: usize) {
+fn progress(rt: &impl Speak, shown: bool, i: usize, all: usize) {
     if !shown {
         return;
     }
-    say(b"recording ");
-    console::say_number(i as u64);
-    say(b" of ");
-    console::say_number(all as u64);
-    say(b"\n");
+    say(rt, b"recording ");
+    console::say_number(rt, i as u64);
+    say(rt, b" of ");
+    console::say_number(rt, all as u64);
+    say(rt, b"\n");
 }
 
 // The sheet with the recording that argument i names.
-fn counted(range: Range, sheet: Sheet, i: usize) -> Sheet {
-    let mut name = io::buffer();
-    let n = os::arg(i, &mut name);
-    let fd = os::open_read(&name[..n]);
-    if fd < 0 {
-        tell(&name[..n], b": cannot be read\n");
+fn counted(rt: &(impl Env + Files + Speak), range: Range, sheet: Sheet, i: usize) -> Sheet {
+    let mut name = [0u8; ARGUMENT];
+    let n = console::argument(rt, i, &mut name);
+    let Ok(file) = open(rt, &name[..n]) else {
+        tell(rt, &name[..n], b": cannot be read\n");
         return sheet;
-    }
-    let heard = hear_all(range, sheet, fd);
-    libc::close(fd);
+    };
+    let heard = hear_all(range, sheet, file);
     if !heard.whole {
-        tell(&name[..n], b": cannot be read\n");
+        tell(rt, &name[..n], b": cannot be read\n");
         return sheet;
     }
     let draft = heard.draft;
     let closed = draft.close(heard.well);
     let answer = closed.counted;
-    tell_counted(&name[..n], answer);
+    tell_counted(rt, &name[..n], answer);
     closed.sheet
 }
 
+// The file of this name, which is UTF-8.
+fn open<R: Files>(rt: &R, name: &[u8]) -> io::Result<R::File> {
+    match str::from_utf8(name) {
+        Ok(path) => fs::open(rt, path),
+        Err(_) => Err(io::Error::from(ErrorKind::InvalidFilename)),
+    }
+}
+
 // A recording, piece by piece.
-fn hear_all(range: Range, sheet: Sheet, fd: i32) -> Finished {
+fn hear_all(range: Range, sheet: Sheet, mut file: impl Read + Drop) -> Finished {
     let mut recv = [0u8; Receiver::RAW];
     let mut word = [0u8; Receiver::WORD];
-    let mut piece = io::large_buffer();
+    let mut piece = [0u8; PIECE];
     let mut tape = RecordingReader::fresh();
     let mut draft = sheet.begin();
-    let mut reads = u64::MAX;
-    while reads > 0 {
-        let got = libc::read(fd, &mut piece);
-        if got < 0 {
+    for _ in 0..u64::MAX {
+        let Ok(n) = file.read(&mut piece) else {
             return unread(draft);
-        }
-        if got == 0 {
+        };
+        if n == 0 {
             return ended(tape, draft);
         }
-        let n = io::count(got, &piece);
         let turn = hear(range, tape, draft, &mut recv, &mut word, &piece[0..n]);
         tape = turn.tape;
         draft = turn.draft;
@@ -112,7 +126,6 @@ fn hear_all(range: Range, sheet: Sheet, fd: i32) -> Finished {
         if tape.is_wrong() {
             return ended(tape, draft);
         }
-        reads -= 1;
     }
     unread(draft)
 }
@@ -152,14 +165,12 @@ fn hear(
         draft,
     };
     let mut i: usize = 0;
-    let mut calls = u64::MAX;
-    while calls > 0 {
+    for _ in 0..u64::MAX {
         turn = call(range, turn.tape, turn.draft, recv, word, &piece[i..]);
         i = console::onward(i, turn.taken, piece.len());
         if !turn.again {
             return turn;
         }
-        calls -= 1;
     }
     turn
 }
@@ -203,24 +214,24 @@ fn call(
 }
 
 // What becomes of a recording, where it does not count.
-fn tell_counted(name: &[u8], counted: Counted) {
+fn tell_counted(rt: &impl Speak, name: &[u8], counted: Counted) {
     match counted {
         Counted::Counts => {}
-        Counted::Wrong => tell(name, b": ends in X\n"),
+        Counted::Wrong => tell(rt, name, b": ends in X\n"),
         Counted::Refused(n) => {
-            tell(name, b": ");
-            console::say_refused(n);
+            tell(rt, name, b": ");
+            console::say_refused(rt, n);
         }
     }
 }
 
 // The lines.
-fn print_all(sheet: Sheet) {
+fn print_all(rt: &(impl Print + Speak), sheet: Sheet) {
     let mut text = [0u8; Sheet::LINE];
     let mut i: usize = 0;
     while i < Sheet::PORTS {
         let written = sheet.print(i, &mut text);
-        if !console::put(b"sheet", written, &text) {
+        if !console::put(rt, b"sheet", written, &text) {
             return;
         }
         i += 1;
@@ -228,7 +239,7 @@ fn print_all(sheet: Sheet) {
 }
 
 // A file's name, and what is to be said of it.
-fn tell(name: &[u8], what: &[u8]) {
-    say(name);
-    say(what);
+fn tell(rt: &impl Speak, name: &[u8], what: &[u8]) {
+    say(rt, name);
+    say(rt, what);
 }

@@ -3,7 +3,7 @@
 -- shown-plain          a byte string
 -- tell-end             an answer before others leaves the final state
 -- held-use, held-st    what is in use does not hang on what stands behind it in the buffer
-use Prim.Native.Nat.{ℕ, suc, ◌+◌, ◌-◌, ◌≤◌, ◌<◌, min}
+use Prim.Native.Nat.{ℕ, suc, ◌+◌, ◌≤◌, ◌<◌, min}
 use native.Mathlib.Omega.{arith}
 use mathlib.Core.Path.{◌≡◌, refl, sym, ◌∙◌, ap, subst}
 use mathlib.Core.Bool.{Bool, true, false}

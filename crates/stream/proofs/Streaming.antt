@@ -6,7 +6,7 @@
 -- unclosed, between-flags      bytes behind a flag that no flag follows are kept, and what stands between two flags is told at the second
 -- behind-read, stream-read     a whole stream, filled with flags, gives its packets, once each, in order, and nothing else
 -- from-flag                    and so does its rest from any flag on
-use Prim.Native.Nat.{ℕ, zero, suc, ◌+◌, ◌-◌, ◌≤◌}
+use Prim.Native.Nat.{ℕ, zero, suc, ◌-◌, ◌≤◌}
 use native.Mathlib.Omega.{arith}
 use mathlib.Core.Path.{◌≡◌, refl, sym, ◌∙◌, ap}
 use mathlib.Core.Logic.{◌≢◌}

@@ -1,5 +1,6 @@
 //! The plain stream: the sender's calls, and the frame reader, at most one answer a call.
 #![tactic(auto)]
+
 mod frame;
 mod sender;
 

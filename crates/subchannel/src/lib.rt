@@ -1,5 +1,6 @@
 //! The receiver of one fixed sub-channel, with its parity, its depth and its own bytes, at most one answer a call.
 #![tactic(auto)]
+
 mod cells;
 mod counts;
 mod fill;

@@ -1,5 +1,6 @@
 //! The sender of a fixed sub-channel: words in groups of four, interleaved, and the marker before each group.
 #![tactic(auto)]
+
 ghost use Rattle.std.specs.Prelude.{◌≡◌, false, ◌+◌, ◌*◌, ◌≤◌, ◌/◌, length, take, replicate};
 ghost use Rattle.base.specs.Calls.{joined};
 ghost use Rattle.base.specs.Written.{outcome, copied};

@@ -1,6 +1,7 @@
 //! What fixed sub-channels send and what they make of received bytes, and the laws of both. Of code the types that it names, and whether settings
 //! are within their limits. Read specs/.
 #![tactic(auto)]
+
 ghost use Rattle.std.specs.Prelude.{◌≡◌};
 ghost use Rattle.subchannel_spec.specs.Settings.{within};
 

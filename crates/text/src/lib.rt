@@ -1,5 +1,6 @@
 //! Texts and numbers, put byte by byte into a lent buffer: as many bytes as there is room for.
 #![tactic(auto)]
+
 ghost use Rattle.std.specs.Prelude.{◌≡◌, [], ◌∷◌, ◌++◌, take};
 ghost use Rattle.base.specs.Written.{outcome, write};
 ghost use Rattle.text.specs.Text.{decimal};

@@ -5,25 +5,30 @@
 //! Of a file the first 65,536 bytes are read: no unit holds as many, so the answer is that of the whole file. A number counts up to
 //! 1,000,000,000,000: whatever is above is above every length.
 #![tactic(auto)]
+
 use base::Written;
-use console::{is_argument, say};
+use console::{ARGUMENT, PIECE, Speak, is_argument, say};
+use std::env::Env;
+use std::io::{ErrorKind, Read, Write};
+use std::rt::Files;
+use std::{fs, io};
 
 // Whether a file could be read, and how many bytes it gave.
-#[derive(Drop)]
+#[derive(Clone, Copy)]
 struct Got {
     well: bool,
     n: usize,
 }
 
 // Whether an argument is a number, and which.
-#[derive(Drop)]
+#[derive(Clone, Copy)]
 struct Parsed {
     well: bool,
     value: usize,
 }
 
 // Whether length and delimiter are such, and which.
-#[derive(Drop)]
+#[derive(Clone, Copy)]
 struct Asked {
     well: bool,
     size: usize,
@@ -33,51 +38,56 @@ struct Asked {
 // Above this a number stays as it is.
 const FAR: usize = 1000000000000;
 
-fn main() {
-    let count = os::arg_count();
-    if count == 7 && is_argument(1, b"write") {
-        write();
+fn main(rt: HostRuntime) {
+    let count = console::argument_count(&rt);
+    if count == 7 && is_argument(&rt, 1, b"write") {
+        write(&rt);
         return;
     }
-    if count == 10 && is_argument(1, b"read") {
-        read();
+    if count == 10 && is_argument(&rt, 1, b"read") {
+        read(&rt);
         return;
     }
-    usage();
+    usage(&rt);
 }
 
-fn usage() {
-    say(b"usage: unit write LENGTH DELIMITER AUDIO OPPORTUNISTIC FIXED\n");
+fn usage(rt: &impl Speak) {
     say(
+        rt,
+        b"usage: unit write LENGTH DELIMITER AUDIO OPPORTUNISTIC FIXED\n",
+    );
+    say(
+        rt,
         b"usage: unit read LENGTH DELIMITER AUDIO-LENGTH FIXED-LENGTH UNIT AUDIO OPPORTUNISTIC FIXED\n",
     );
 }
 
-fn refuse(number: u8) {
-    say(b"unit: ");
-    console::say_refused(number);
+fn refuse(rt: &impl Speak, number: u8) {
+    say(rt, b"unit: ");
+    console::say_refused(rt, number);
 }
 
 // A unit written.
-fn write() {
-    let asked = settings();
+fn write(rt: &(impl Env + Files + Alloc + Print + Speak)) {
+    let asked = settings(rt);
     if !asked.well {
-        usage();
+        usage(rt);
         return;
     }
-    let mut audio = io::large_buffer();
-    let mut opportunistic = io::large_buffer();
-    let mut fixed = io::large_buffer();
-    let a = get(4, &mut audio);
-    let o = get(5, &mut opportunistic);
-    let f = get(6, &mut fixed);
+    let mut audio = [0u8; PIECE];
+    let mut opportunistic = [0u8; PIECE];
+    let mut fixed = [0u8; PIECE];
+    let a = get(rt, 4, &mut audio);
+    let o = get(rt, 5, &mut opportunistic);
+    let f = get(rt, 6, &mut fixed);
     if a.well && o.well && f.well {
-        write_parts(asked, a.n, o.n, f.n, &audio, &opportunistic, &fixed);
+        write_parts(rt, asked, a.n, o.n, f.n, &audio, &opportunistic, &fixed);
     }
 }
 
 // .. of so many bytes of each part.
 fn write_parts(
+    rt: &(impl Print + Speak),
     asked: Asked,
     a: usize,
     o: usize,
@@ -86,7 +96,7 @@ fn write_parts(
     opportunistic: &[u8],
     fixed: &[u8],
 ) {
-    let mut out = io::large_buffer();
+    let mut out = [0u8; PIECE];
     let delimiter = asked.delimiter;
     let written = unit::write(
         asked.size,
@@ -96,28 +106,35 @@ fn write_parts(
         &fixed[0..base::least(f, fixed.len())],
         &mut out,
     );
-    console::put(b"unit", written, &out);
+    console::put(rt, b"unit", written, &out);
 }
 
 // A unit read.
-fn read() {
-    let asked = settings();
-    let audio = number(4);
-    let fixed = number(5);
+fn read(rt: &(impl Env + Files + Alloc + Speak)) {
+    let asked = settings(rt);
+    let audio = number(rt, 4);
+    let fixed = number(rt, 5);
     if !asked.well || !audio.well || !fixed.well {
-        usage();
+        usage(rt);
         return;
     }
-    let mut unit = io::large_buffer();
-    let got = get(6, &mut unit);
+    let mut unit = [0u8; PIECE];
+    let got = get(rt, 6, &mut unit);
     if got.well {
-        read_parts(asked, audio.value, fixed.value, got.n, &unit);
+        read_parts(rt, asked, audio.value, fixed.value, got.n, &unit);
     }
 }
 
 // .. of n bytes, with these told lengths.
-fn read_parts(asked: Asked, audio: usize, fixed: usize, n: usize, unit: &[u8]) {
-    let mut out = io::large_buffer();
+fn read_parts(
+    rt: &(impl Env + Files + Alloc + Speak),
+    asked: Asked,
+    audio: usize,
+    fixed: usize,
+    n: usize,
+    unit: &[u8],
+) {
+    let mut out = [0u8; PIECE];
     let delimiter = asked.delimiter;
     let found = unit::read(
         asked.size,
@@ -128,10 +145,10 @@ fn read_parts(asked: Asked, audio: usize, fixed: usize, n: usize, unit: &[u8]) {
         &mut out,
     );
     if is_read(found) && n > bytes_of(asked.size) {
-        say_behind(bytes_of(asked.size));
+        say_behind(rt, bytes_of(asked.size));
         return;
     }
-    share(found, audio, fixed, &out);
+    share(rt, found, audio, fixed, &out);
 }
 
 fn is_read(found: Written) -> bool {
@@ -147,86 +164,126 @@ fn bytes_of(size: usize) -> usize {
 }
 
 // A file that goes on behind its unit holds another one, or its length is another.
-fn say_behind(end: usize) {
-    say(b"unit: the unit ends at byte ");
-    console::say_number(end as u64);
-    say(b", and the file goes on: nothing is written\n");
+fn say_behind(rt: &impl Speak, end: usize) {
+    say(rt, b"unit: the unit ends at byte ");
+    console::say_number(rt, end as u64);
+    say(rt, b", and the file goes on: nothing is written\n");
 }
 
 // What was read, into files.
-fn share(found: Written, audio: usize, fixed: usize, out: &[u8]) {
+fn share(
+    rt: &(impl Env + Files + Alloc + Speak),
+    found: Written,
+    audio: usize,
+    fixed: usize,
+    out: &[u8],
+) {
     match found {
-        Written::Wrote(n) => store_all(audio, fixed, &out[0..base::least(n, out.len())]),
-        Written::Refused(number) => refuse(number),
+        Written::Wrote(n) => store_all(rt, audio, fixed, &out[0..base::least(n, out.len())]),
+        Written::Refused(number) => refuse(rt, number),
     }
 }
 
 // Audio, what lies between, and fixed data.
-fn store_all(audio: usize, fixed: usize, parts: &[u8]) {
+fn store_all(rt: &(impl Env + Files + Alloc + Speak), audio: usize, fixed: usize, parts: &[u8]) {
     let begin = base::least(audio, parts.len());
     let behind = &parts[begin..];
     let end = behind.len() - base::least(fixed, behind.len());
-    if !store(7, &parts[0..begin]) {
+    if !store(rt, 7, &parts[0..begin]) {
         return;
     }
-    if !store(8, &behind[0..end]) {
+    if !store(rt, 8, &behind[0..end]) {
         return;
     }
-    store(9, &behind[end..]);
+    store(rt, 9, &behind[end..]);
 }
 
 // Bytes into the file that an argument names; where that fails it was said why.
-fn store(i: usize, bytes: &[u8]) -> bool {
-    if is_argument(i, b"-") {
+fn store(rt: &(impl Env + Files + Alloc + Speak), i: usize, bytes: &[u8]) -> bool {
+    if is_argument(rt, i, b"-") {
         return true;
     }
-    let mut name = io::buffer();
-    let n = os::arg(i, &mut name);
-    let fd = os::open_overwrite(&name[..n]);
-    if fd < 0 || !io::write_all(fd, bytes) || libc::close(fd) < 0 {
-        say(b"unit: ");
-        os::fail(&name[..n]);
-        return false;
+    let mut name = [0u8; ARGUMENT];
+    let n = console::argument(rt, i, &mut name);
+    match write_file(rt, &name[..n], bytes) {
+        Ok(()) => true,
+        Err(error) => {
+            say_failed(rt, &name[..n], error);
+            false
+        }
     }
-    true
+}
+
+// Bytes into the file of this name.
+fn write_file(rt: &impl Files, name: &[u8], bytes: &[u8]) -> io::Result<()> {
+    let mut file = fs::create(rt, path(name)?)?;
+    file.write_all(bytes)
+}
+
+// A file's name, which is UTF-8.
+fn path(name: &[u8]) -> io::Result<&str> {
+    match str::from_utf8(name) {
+        Ok(path) => Ok(path),
+        Err(_) => Err(io::Error::from(ErrorKind::InvalidFilename)),
+    }
 }
 
 // The first bytes of the file that an argument names; where that fails it was said why.
-fn get(i: usize, bytes: &mut [u8]) -> Got {
-    if is_argument(i, b"-") {
+fn get(rt: &(impl Env + Files + Alloc + Speak), i: usize, bytes: &mut [u8]) -> Got {
+    if is_argument(rt, i, b"-") {
         return Got { well: true, n: 0 };
     }
-    let mut name = io::buffer();
-    let k = os::arg(i, &mut name);
-    let fd = os::open_read(&name[..k]);
-    if fd < 0 {
-        return fail(&name[..k]);
+    let mut name = [0u8; ARGUMENT];
+    let k = console::argument(rt, i, &mut name);
+    match read_file(rt, &name[..k], bytes) {
+        Ok(n) => Got { well: true, n },
+        Err(error) => {
+            say_failed(rt, &name[..k], error);
+            Got { well: false, n: 0 }
+        }
     }
-    let n = io::read_full(fd, bytes);
-    if n < bytes.len() && !is_over(fd) {
-        return fail(&name[..k]);
-    }
-    libc::close(fd);
-    Got { well: true, n }
 }
 
-fn fail(name: &[u8]) -> Got {
-    say(b"unit: ");
-    os::fail(name);
-    Got { well: false, n: 0 }
+// The first bytes of the file of this name, and how many it gave.
+fn read_file(rt: &impl Files, name: &[u8], bytes: &mut [u8]) -> io::Result<usize> {
+    let mut file = fs::open(rt, path(name)?)?;
+    let mut n: usize = 0;
+    while n < bytes.len() {
+        let more = file.read(&mut bytes[n..])?;
+        if more == 0 {
+            return Ok(n);
+        }
+        n += more;
+    }
+    Ok(n)
 }
 
-// Whether a file that gave no more has ended; else reading failed.
-fn is_over(fd: i32) -> bool {
-    let mut one = [0u8; 1];
-    libc::read(fd, &mut one) == 0
+// `unit: NAME: WORDS`, a line, in the system's words for an error.
+fn say_failed(rt: &(impl Alloc + Speak), name: &[u8], error: io::Error) {
+    say(rt, b"unit: ");
+    say(rt, name);
+    say(rt, b": ");
+    say_error(rt, error);
+    say(rt, b"\n");
+}
+
+// .. without the number that stands behind them.
+fn say_error(rt: &(impl Alloc + Speak), error: io::Error) {
+    let Ok(text) = error.to_string(rt.alloc()) else {
+        say(rt, b"the file cannot be used");
+        return;
+    };
+    match text.as_str().split_once(" (os error ") {
+        Some((words, _)) => say(rt, words.as_bytes()),
+        None => say(rt, text.as_bytes()),
+    }
 }
 
 // Length and delimiter.
-fn settings() -> Asked {
-    let length = number(2);
-    let mut text = io::buffer();
-    let n = os::arg(3, &mut text);
+fn settings(rt: &impl Env) -> Asked {
+    let length = number(rt, 2);
+    let mut text = [0u8; ARGUMENT];
+    let n = console::argument(rt, 3, &mut text);
     settings_by(length, &text[..n])
 }
 
@@ -284,9 +341,9 @@ fn byte(high: u8, low: u8) -> u8 {
 }
 
 // The number that an argument says, in decimal digits.
-fn number(i: usize) -> Parsed {
-    let mut text = io::buffer();
-    let n = os::arg(i, &mut text);
+fn number(rt: &impl Env, i: usize) -> Parsed {
+    let mut text = [0u8; ARGUMENT];
+    let n = console::argument(rt, i, &mut text);
     value(&text[..n])
 }
 

@@ -9,58 +9,58 @@ use Rattle.bid.proofs.Decimal.{digit_low, digit-high, digit-next, digits-over, d
 use Rattle.bid.proofs.digits.Statement.{statement}
 use Rattle.bid.proofs.digits.Tie as tie
 
-abbrev invariant-loop : tie.invariant-loop
-invariant-loop word n₀ i₀ n i = (n < no_number) × (number_from 0 word ≡ number_from n (drop i word))
+abbrev invariant-loop-i : tie.invariant-loop-i
+invariant-loop-i word n₀ i₀ n i = (n < no_number) × (number_from 0 word ≡ number_from n (drop i word))
 
-abbrev decreases-loop : tie.decreases-loop
-decreases-loop word n₀ i₀ n i = length word - i
+abbrev decreases-loop-i : tie.decreases-loop-i
+decreases-loop-i word n₀ i₀ n i = length word - i
 
-loop-holds : tie.Need-loop-init invariant-loop decreases-loop
+loop-holds : tie.Need-loop-i-init invariant-loop-i decreases-loop-i
 loop-holds c = (omega arith, refl)
 
-shared-slice-read-b : tie.Need-shared-slice-read-b invariant-loop decreases-loop
+shared-slice-read-b : tie.Need-bounds-word-i invariant-loop-i decreases-loop-i
 shared-slice-read-b c = search rules
 
-returns : tie.Need-returns invariant-loop decreases-loop
-returns c = sym (c.before.before.before.loop.invariant.1 ∙ digit_low _ _ _ c.before.before.loop-test.true c.if1.true)
+returns : tie.Need-returns-then-b-lt48 invariant-loop-i decreases-loop-i
+returns c = sym (c.loop-i.invariant.1 ∙ digit_low _ _ _ c.loop-i-test.true c.if-b-lt48.true)
 
-returns-2 : tie.Need-returns-2 invariant-loop decreases-loop
-returns-2 c = sym (c.before.before.before.before.loop.invariant.1 ∙ digit-high _ _ _ c.before.before.before.loop-test.true c.if2.true)
+returns-2 : tie.Need-returns-then-b-gt57 invariant-loop-i decreases-loop-i
+returns-2 c = sym (c.loop-i.invariant.1 ∙ digit-high _ _ _ c.loop-i-test.true c.if-b-gt57.true)
 
-mul-n : tie.Need-overflow-mul-n invariant-loop decreases-loop
+mul-n : tie.Need-overflow_mul-n invariant-loop-i decreases-loop-i
 mul-n c = omega arith
 
-cast-n : tie.Need-overflow-cast-n invariant-loop decreases-loop
+cast-n : tie.Need-overflow_cast-n invariant-loop-i decreases-loop-i
 cast-n c = omega arith
 
-add-n : tie.Need-overflow-add-n invariant-loop decreases-loop
+add-n : tie.Need-overflow_add-n invariant-loop-i decreases-loop-i
 add-n c = omega arith
 
-returns-3 : tie.Need-returns-3 invariant-loop decreases-loop
-returns-3 c = sym (c.before.before.before.before.before.loop.invariant.1 ∙ digit-next _ _ _ c.before.before.before.before.loop-test.true
-    c.before.before.if1.false c.before.if2.false ∙ digits-over _ _ c.if3.true)
+returns-3 : tie.Need-returns-then-n-ge-NO_NUMBER invariant-loop-i decreases-loop-i
+returns-3 c = sym (c.loop-i.invariant.1 ∙ digit-next _ _ _ c.loop-i-test.true
+    c.if-b-lt48.false c.if-b-gt57.false ∙ digits-over _ _ c.if-n-ge-NO_NUMBER.true)
 
-add-i : tie.Need-overflow-add-i invariant-loop decreases-loop
+add-i : tie.Need-overflow_add-i invariant-loop-i decreases-loop-i
 add-i c = omega arith
 
-loop-less : tie.Need-loop-smaller invariant-loop decreases-loop
+loop-less : tie.Need-loop-i-smaller invariant-loop-i decreases-loop-i
 loop-less c = omega arith
 
-loop-again : tie.Need-loop-preserved invariant-loop decreases-loop
+loop-again : tie.Need-loop-i-preserved invariant-loop-i decreases-loop-i
 loop-again c = (
-  c.if3.false,
-  c.before.before.before.before.before.loop.invariant.1 ∙ digit-next _ _ _ c.before.before.before.before.loop-test.true
-      c.before.before.if1.false c.before.if2.false,
+  c.if-n-ge-NO_NUMBER.false,
+  c.loop-i.invariant.1 ∙ digit-next _ _ _ c.loop-i-test.true
+      c.if-b-lt48.false c.if-b-gt57.false,
 )
 
-returns-4 : tie.Need-returns-4 invariant-loop decreases-loop
-returns-4 c = sym (c.before.loop.invariant.1 ∙ digits-end _ _ _ c.loop-test.false c.before.loop.invariant.0)
+returns-4 : tie.Need-returns invariant-loop-i decreases-loop-i
+returns-4 c = sym (c.loop-i.invariant.1 ∙ digits-end _ _ _ c.loop-i-test.false c.loop-i.invariant.0)
 
 pub digits_spec : {M : Type 1} → statement M
 digits_spec =
     tie.close (tie.spec
-    invariant-loop
-    decreases-loop
+    invariant-loop-i
+    decreases-loop-i
     loop-holds
     shared-slice-read-b
     returns

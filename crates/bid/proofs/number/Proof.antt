@@ -8,7 +8,7 @@ use Rattle.bid.proofs.number.Tie as tie
 pub number_spec : {M : Type 1} → statement M
 number_spec =
     tie.close (tie.spec
-    (λ c. sym (number-none _ c.if1.true))
-    (λ c. sym (number-long _ c.if2.true))
+    (λ c. sym (number-none _ c.if-word-eq0.true))
+    (λ c. sym (number-long _ c.if-word-gt-DIGITS.true))
     (search rules)
-    (λ c. c.digits.ensures ∙ sym (number_is _ c.before.before.if1.false c.before.if2.false)))
+    (λ c. c.digits.ensures ∙ sym (number_is _ c.if-word-eq0.false c.if-word-gt-DIGITS.false)))

@@ -8,16 +8,16 @@ pub read_spec : {M : Type 1} → statement M
 read_spec =
     tie.close (tie.spec
     (search rules)
-    (λ c. read_short _ c.before.up_to_lem.ensures.0 c.if1.true)
+    (λ c. read_short _ c.up_to-a.ensures.0 c.if-a-line.true)
     (search rules) (search rules) (search rules) (search rules) (search rules) (search rules) (search rules) (search rules) (search rules)
     (search rules) (search rules) (search rules) (search rules) (search rules)
-    (λ c. read-no-port _ c.before.before.before.before.before.before.before.before.up_to_lem.ensures.0
-    c.before.before.before.before.before.number.ensures c.before.before.before.up-to2.ensures.0 c.before.number2.ensures
-    c.if2.true)
-    (λ c. read-no-sequence _ c.before.before.before.before.before.before.before.before.before.up_to_lem.ensures.0
-    c.before.before.before.before.before.before.number.ensures c.before.before.before.before.up-to2.ensures.0
-    c.before.before.number2.ensures c.if3.true)
+    (λ c. read-no-port _ c.up_to-a.ensures.0
+    c.number-port.ensures c.up_to-e.ensures.0 c.number-sequence.ensures
+    c.if-port-ge-NO_NUMBER.true)
+    (λ c. read-no-sequence _ c.up_to-a.ensures.0
+    c.number-port.ensures c.up_to-e.ensures.0
+    c.number-sequence.ensures c.if-sequence-ge-NO_NUMBER.true)
     (search rules) (search rules) (search rules) (search rules)
-    (λ c. read-bid _ c.before.before.before.before.before.before.before.before.before.before.up_to_lem.ensures.0
-    c.before.before.before.before.before.before.before.number.ensures c.before.before.before.before.before.up-to2.ensures.0
-    c.before.before.before.number2.ensures c.before.before.if2.false c.before.if3.false c.least.ensures))
+    (λ c. read-bid _ c.up_to-a.ensures.0
+    c.number-port.ensures c.up_to-e.ensures.0
+    c.number-sequence.ensures c.if-port-ge-NO_NUMBER.false c.if-sequence-ge-NO_NUMBER.false c.least.ensures))

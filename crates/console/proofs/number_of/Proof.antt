@@ -5,14 +5,14 @@ use borrow.Author.Rules.{rules}
 use Rattle.console.proofs.number_of.Statement.{statement}
 use Rattle.console.proofs.number_of.Tie as tie
 
-abbrev invariant-loop : tie.invariant-loop
-invariant-loop text n₀ i₀ n i = i ≤ length text
+abbrev invariant-loop-i : tie.invariant-loop-i
+invariant-loop-i text n₀ i₀ n i = i ≤ length text
 
-abbrev decreases-loop : tie.decreases-loop
-decreases-loop text n₀ i₀ n i = length text - i
+abbrev decreases-loop-i : tie.decreases-loop-i
+decreases-loop-i text n₀ i₀ n i = length text - i
 
 pub number_of_spec : {M : Type 1} → statement M
 number_of_spec =
-    tie.close (tie.spec invariant-loop decreases-loop
+    tie.close (tie.spec invariant-loop-i decreases-loop-i
     (search rules) (search rules) (λ c κs. search rules) (search rules) (search rules) (search rules)
     (search rules))

@@ -32,7 +32,7 @@ step_spec =
     let more = c.before.before.loop-lane-test.true in (
       omega arith,
       length-set at.next at.lane c.plus.result ∙ at.invariant.1,
-      step-next _ _ c.before.before.before.before.args.t2 _ at.invariant.2 (omega arith) (subst (λ (n : ℕ). at.lane < n) (sym at.invariant.1) more)
+      step-next _ _ c.before.before.before.before.args.p _ at.invariant.2 (omega arith) (subst (λ (n : ℕ). at.lane < n) (sym at.invariant.1) more)
           c.before.times.ensures c.plus.ensures,
     ))
-    (λ c. step-done _ c.before.loop-lane.lane c.before.before.args.t2 _ c.before.loop-lane.invariant.2 (omega arith)))
+    (λ c. step-done _ c.before.loop-lane.lane c.before.before.args.p _ c.before.loop-lane.invariant.2 (omega arith)))

@@ -12,26 +12,16 @@ amend_spec =
     tie.close (tie.spec
     (search rules) (search rules) (search rules) (search rules) (search rules)
     (λ c.
-    let found = c.before in
-    let roots = found.before.before.before in
-    let start = roots.before.before.before.before in
-    let f = found.locator in
-    amend-none start.args.r start.args.word.now (sums-are _ _ start.requires.0 roots.at-roots.ensures) f.result.n f.result.v f.ensures.2
-    c.if1.true)
+    let f = c.locator-locator in
+    amend-none c.args.r c.args.word.now (sums-are _ _ c.requires.0 c.at_roots.ensures) f.result.n f.result.v f.ensures.2 c.if-k-eq0.true)
     (search rules)
-    (λ c. let f = c.before.before.before.locator in sym (length-take-le f.result.n f.result.v (omega (arith, f.ensures.0, f.ensures.1))))
+    (λ c. let f = c.locator-locator in sym (length-take-le f.result.n f.result.v (omega (arith, f.ensures.0, f.ensures.1))))
     (search rules)
     (λ c κs.
-    let some = c.before.before.before.before in
-    let f = some.before.locator in
+    let f = c.locator-locator in
     let l = length-take-le f.result.n f.result.v (omega (arith, f.ensures.0, f.ensures.1)) in
-    (omega (arith, l, some.if1.false), omega (arith, l, f.ensures.0), omega (arith, l, f.ensures.0), omega arith))
+    (omega (arith, l, c.if-k-eq0.false), omega (arith, l, f.ensures.0), omega (arith, l, f.ensures.0), omega arith))
     (search rules)
     (λ c.
-    let added = c.before.before in
-    let found = added.before.before.before.before.before.before in
-    let roots = found.before.before.before in
-    let start = roots.before.before.before.before in
-    let f = found.locator in
-    amend-some start.args.r start.args.word.now (sums-are _ _ start.requires.0 roots.at-roots.ensures) f.result.n f.result.v f.ensures.2
-    added.add.ensures))
+    let f = c.locator-locator in
+    amend-some c.args.r c.args.word.now (sums-are _ _ c.requires.0 c.at_roots.ensures) f.result.n f.result.v f.ensures.2 c.add.ensures))

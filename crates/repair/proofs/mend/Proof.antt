@@ -10,35 +10,17 @@ mend_spec =
     tie.close (tie.spec
     (search rules) (search rules) (search rules) (search rules) (search rules) (search rules) (search rules)
     (λ c.
-    let counted = c.before in
-    let amended = counted.before.before.before.before in
-    let copied = amended.before.before.before in
-    let start = copied.before.before.before.before in
-    mend-far start.args.r start.args.word.now start.requires.1 amended.amend.new.1.0 copied.copy.ensures amended.amend.ensures
-    counted.distance.ensures (omega arith))
+    mend-far c.args.r c.args.word.now c.requires.1 c.amend.new.word c.copy.ensures c.amend.ensures
+    c.distance-n.ensures (omega arith))
     (search rules) (search rules) (search rules) (search rules) (search rules) (search rules) (search rules) (search rules)
     (λ c.
-    let counted = c.before.before.before.before.before.before.before.before.before.before in
-    let amended = counted.before.before.before.before in
-    let copied = amended.before.before.before in
-    let start = copied.before.before.before.before in
-    mend-clean start.args.r start.args.word.now start.requires.1 amended.amend.new.1.0 copied.copy.ensures amended.amend.ensures
-    counted.distance.ensures (omega (arith, c.before.before.before.before.before.before.before.before.before.if1.false))
-    c.before.before.before.before.before.before.before.check.ensures c.before.before.before.before.before.enum_told.given.1
-    c.before.before.copy2.ensures)
+    mend-clean c.args.r c.args.word.now c.requires.1 c.amend.new.word c.copy.ensures c.amend.ensures
+    c.distance-n.ensures (omega (arith, c.if-r-n.false)) c.check-found.ensures c.in-Clean.is c.copy-in-Clean.ensures)
     (search rules)
     (λ c.
-    let counted = c.before.before.before.before.before in
-    let amended = counted.before.before.before.before in
-    let copied = amended.before.before.before in
-    let start = copied.before.before.before.before in
-    mend-damaged start.args.r start.args.word.now start.requires.1 amended.amend.new.1.0 copied.copy.ensures amended.amend.ensures
-    counted.distance.ensures (omega (arith, c.before.before.before.before.if1.false)) c.before.before.check.ensures c.enum-told2.given.1)
+    mend-damaged c.args.r c.args.word.now c.requires.1 c.amend.new.word c.copy.ensures c.amend.ensures
+    c.distance-n.ensures (omega (arith, c.if-r-n.false)) c.check-found.ensures c.in-Damaged.is)
     (search rules)
     (λ c.
-    let counted = c.before.before.before.before.before in
-    let amended = counted.before.before.before.before in
-    let copied = amended.before.before.before in
-    let start = copied.before.before.before.before in
-    mend-refused start.args.r start.args.word.now start.requires.1 amended.amend.new.1.0 copied.copy.ensures amended.amend.ensures
-    counted.distance.ensures (omega (arith, c.before.before.before.before.if1.false)) c.before.before.check.ensures _ c.enum-told3.given.1))
+    mend-refused c.args.r c.args.word.now c.requires.1 c.amend.new.word c.copy.ensures c.amend.ensures
+    c.distance-n.ensures (omega (arith, c.if-r-n.false)) c.check-found.ensures _ c.in-Refused.is))

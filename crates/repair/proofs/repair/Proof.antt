@@ -12,17 +12,13 @@ repair_spec =
     tie.close (tie.spec
     (search rules) (search rules) (search rules)
     (λ c κs.
-    let args = c.before.before.before.before.before.before.args in
-    let harmed = checked-damaged args.r args.word.now (sym c.before.before.before.check.ensures ∙ c.before.enum-told2.given.1) in
+    let harmed = checked-damaged c.args.r c.args.word.now (sym c.check-found.ensures ∙ c.in-Damaged.is) in
     (harmed.0, harmed.1))
     (search rules) (search rules)
-    (λ c. (sym c.before.before.check.ensures ∙ c.enum_told.given.1, refl))
+    (λ c. (sym c.check-found.ensures ∙ c.in-Clean.is, refl))
     (search rules)
     (λ c.
-    let args = c.before.before.before.before.before.before.before.before.before.args in
-    repair-damaged args.r args.word.now
-    (bytes_of args.word.now (λ i. (c.before.before.before.before.before.before.before.before.slice-known.given i).fits))
-    c.before.before.before.before.before.before.check.ensures c.before.before.before.before.enum-told2.given.1
-    c.before.before.mend.result c.before.before.mend.new.1.0 c.before.before.mend.ensures)
+    repair-damaged c.args.r c.args.word.now (bytes_of c.args.word.now (λ i. (c.slice_known-1.given i).fits))
+    c.check-found.ensures c.in-Damaged.is c.mend.result c.mend.new.word c.mend.ensures)
     (search rules)
-    (λ c. (sym c.before.before.before.check.ensures ∙ c.before.found.given.1, refl)))
+    (λ c. (sym c.check-found.ensures ∙ c.in-Refused.is, refl)))

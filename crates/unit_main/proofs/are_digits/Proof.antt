@@ -5,15 +5,15 @@ use borrow.Author.Rules.{rules}
 use Rattle.unit_main.proofs.are_digits.Statement.{statement}
 use Rattle.unit_main.proofs.are_digits.Tie as tie
 
-abbrev invariant-loop : tie.invariant-loop
-invariant-loop text i₀ i = Unit {0}
+abbrev invariant-loop-i : tie.invariant-loop-i
+invariant-loop-i text i₀ i = Unit {0}
 
-abbrev decreases-loop : tie.decreases-loop
-decreases-loop text i₀ i = length text - i
+abbrev decreases-loop-i : tie.decreases-loop-i
+decreases-loop-i text i₀ i = length text - i
 
 pub are_digits_spec : {M : Type 1} → statement M
 are_digits_spec =
-    tie.close (tie.spec invariant-loop decreases-loop
+    tie.close (tie.spec invariant-loop-i decreases-loop-i
     (λ c. tt)
     (search rules) (λ c κs. search rules) (search rules) (search rules) (search rules)
     (λ c. tt)

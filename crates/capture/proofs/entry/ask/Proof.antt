@@ -11,20 +11,14 @@ ask_spec =
     (search rules) (search rules) (search rules) (search rules) (search rules) (search rules) (search rules) (search rules) (search rules)
     (search rules) (search rules) (search rules) (search rules) (search rules) (search rules)
     (λ c.
-    let w = c.before.before.before.before.before in
-    let s = w.before.before.before in
-    let a = s.before.before.before.before.before.before.before.before.args in
-    ask-packet a.format a.number a.key.now a.rest.now s.before.before.before.pair.ensures s.pair2.ensures w.write_as.ensures
-    c.before.before.n.given.1 c.if1.true refl refl)
+    let a = c.args in
+    ask-packet a.format a.number a.key.now a.rest.now c.pair-port.ensures c.pair-sequence.ensures c.write_as.ensures
+    c.in-Refused.is c.if-n-eq-OUTPUT.true refl refl)
     (λ c.
-    let w = c.before.before.before in
-    let s = w.before.before.before in
-    let a = s.before.before.before.before.before.before.before.before.args in
-    ask-wrote a.format a.number a.key.now a.rest.now s.before.before.before.pair.ensures s.pair2.ensures w.write_as.ensures
-    c.enum_told.given.1)
+    let a = c.args in
+    ask-wrote a.format a.number a.key.now a.rest.now c.pair-port.ensures c.pair-sequence.ensures c.write_as.ensures
+    c.in-Wrote.is)
     (λ c.
-    let w = c.before.before.before.before.before in
-    let s = w.before.before.before in
-    let a = s.before.before.before.before.before.before.before.before.args in
-    ask-none a.format a.number a.key.now a.rest.now s.before.before.before.pair.ensures s.pair2.ensures w.write_as.ensures
-    c.before.before.n.given.1 c.if1.false))
+    let a = c.args in
+    ask-none a.format a.number a.key.now a.rest.now c.pair-port.ensures c.pair-sequence.ensures c.write_as.ensures
+    c.in-Refused.is c.if-n-eq-OUTPUT.false))

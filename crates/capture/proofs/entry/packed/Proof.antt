@@ -9,11 +9,11 @@ pub packed_spec : {M : Type 1} → statement M
 packed_spec =
     tie.close (tie.spec
     (search rules) (search rules)
-    (λ c. let a = c.before.before.before.before.args in
-    part-short a.delivery a.recv.now c.before.before.payload-at.ensures (omega (arith, c.before.if1.true)))
+    (λ c. let a = c.args in
+    part-short a.delivery a.recv.now c.payload_at-at.ensures (omega (arith, c.if-recv-at.true)))
     (search rules) (search rules)
-    (λ c. let a = c.before.before.before.before.before.args in part-short a.delivery a.recv.now c.before.before.before.payload-at.ensures
-    (omega (arith, c.before.if2.true, c.before.before.if1.false)))
+    (λ c. let a = c.args in part-short a.delivery a.recv.now c.payload_at-at.ensures
+    (omega (arith, c.if-recv-at-2.true, c.if-recv-at.false)))
     (search rules) (search rules) (search rules) (search rules)
-    (λ c. let a = c.before.before.before.before.before.args in part-long a.delivery a.recv.now c.before.before.before.payload-at.ensures
-    (omega (arith, c.before.if2.false, c.before.before.if1.false))))
+    (λ c. let a = c.args in part-long a.delivery a.recv.now c.payload_at-at.ensures
+    (omega (arith, c.if-recv-at-2.false, c.if-recv-at.false))))

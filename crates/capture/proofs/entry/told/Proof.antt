@@ -7,20 +7,17 @@ use Rattle.capture.proofs.entry.told.Tie as tie
 pub told_spec : {M : Type 1} → statement M
 told_spec =
     tie.close (tie.spec
-    (λ c. told-short c.before.before.args.bytes.now c.if1.true)
+    (λ c. told-short c.args.bytes.now c.if-n-lt6.true)
     (search rules) (search rules) (search rules) (search rules) (search rules) (search rules) (search rules) (search rules)
-    (λ c. let f = c.before.before.before in told-plain f.before.before.before.before.args.bytes.now f.before.before.if1.false f.if2.true
+    (λ c. told-plain c.args.bytes.now c.if-n-lt6.false c.if-format-eq-PLAIN_FORMAT.true
     c.ask.ensures)
-    (λ c. told-other c.before.before.before.before.before.args.bytes.now c.before.before.before.if1.false c.before.if2.false
-    c.if3.true)
+    (λ c. told-other c.args.bytes.now c.if-n-lt6.false c.if-format-eq-PLAIN_FORMAT.false
+    c.if-format-ne-KEY_FORMAT.true)
     (search rules) (search rules) (search rules) (search rules)
     (λ c.
-    let f = c.before.before.before in
-    told-cut f.before.before.before.before.before.args.bytes.now f.before.before.before.if1.false f.if3.false c.before.wide.ensures.0
-    c.if4.true)
+    told-cut c.args.bytes.now c.if-n-lt6.false c.if-format-ne-KEY_FORMAT.false c.wide-end.ensures.0
+    c.if-n-end.true)
     (search rules) (search rules) (search rules) (search rules) (search rules) (search rules) (search rules) (search rules)
     (λ c.
-    let l = c.before.before.before.before in
-    let f = l.before.before.before in
-    told-keyed f.before.before.before.before.before.args.bytes.now f.before.before.before.if1.false f.if3.false
-    l.before.wide.ensures.0 l.if4.false c.ask2.ensures))
+    told-keyed c.args.bytes.now c.if-n-lt6.false c.if-format-ne-KEY_FORMAT.false
+    c.wide-end.ensures.0 c.if-n-end.false c.ask-2.ensures))

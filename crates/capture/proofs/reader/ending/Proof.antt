@@ -13,6 +13,6 @@ pub ending_spec : {M : Type 1} → statement M
 ending_spec =
     tie.close (tie.spec
     (λ c. search rules) (λ c. search rules) (λ c. search rules) (λ c. search rules) (λ c. search rules) (λ c. search rules)
-    (λ c. sym (ap ending c.before.before.capture.given.1 ∙ ap (λ (t : Bool). pick t Whole (Refused 61)) (ne_eqb _ 0 c.if1.false)))
+    (λ c. sym (ap ending c.in-Head.is ∙ ap (λ (t : Bool). pick t Whole (Refused 61)) (ne_eqb _ 0 c.if-k-eq0.false)))
     (λ c. search rules)
-    (λ c. sym (ap ending c.before.capture2.given.1)))
+    (λ c. sym (ap ending c.in-Behind.is)))

@@ -9,16 +9,13 @@ headed_spec =
     tie.close (tie.spec
     (search rules) (search rules) (search rules)
     (λ c.
-    let f = c.before.before in
-    headed-unequal f.before.before.before.args.store.now f.before.four-at.ensures f.four-at2.ensures c.before.if1.true
+    headed-unequal c.args.store.now c.four_at-n.ensures c.four_at.ensures c.if-n-four_at.true
     c.said.ensures)
     (search rules)
     (λ c.
-    let f = c.before.before.before in
-    headed-none f.before.before.before.args.store.now f.before.four-at.ensures f.four-at2.ensures c.before.before.if1.false
-    c.before.if2.true c.said2.ensures)
+    headed-none c.args.store.now c.four_at-n.ensures c.four_at.ensures c.if-n-four_at.false
+    c.if-n-eq0.true c.said-then-n-eq0.ensures)
     (search rules)
     (λ c.
-    let f = c.before.before.before in
-    headed-some f.before.before.before.args.store.now f.before.four-at.ensures f.four-at2.ensures c.before.before.if1.false
-    c.before.if2.false c.on.ensures))
+    headed-some c.args.store.now c.four_at-n.ensures c.four_at.ensures c.if-n-four_at.false
+    c.if-n-eq0.false c.on.ensures))

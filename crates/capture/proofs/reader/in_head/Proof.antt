@@ -8,6 +8,6 @@ pub in_head_spec : {M : Type 1} → statement M
 in_head_spec =
     tie.close (tie.spec
     (search rules) (search rules)
-    (λ c. simp (eq-eqb _ _ c.before.if1.true) c.headed.ensures)
+    (λ c. simp (eq-eqb _ _ c.if-k-eq-HEAD.true) c.headed.ensures)
     (search rules) (search rules)
-    (λ c. simp (ne_eqb _ _ c.before.if1.false) c.on.ensures))
+    (λ c. simp (ne_eqb _ _ c.if-k-eq-HEAD.false) c.on.ensures))

@@ -8,11 +8,11 @@ pub in_header_spec : {M : Type 1} → statement M
 in_header_spec =
     tie.close (tie.spec
     (search rules) (search rules)
-    (λ c. let h = c.before.before in header-wrong h.before.args.k h.before.args.b h.header_at.ensures c.before.if1.true
+    (λ c. header-wrong c.args.k c.args.b c.header_at.ensures c.if-b-header_at.true
     c.said.ensures)
     (search rules) (search rules)
-    (λ c. let h = c.before.before.before in header-last h.before.args.k h.before.args.b h.header_at.ensures c.before.before.if1.false
-    c.before.if2.true c.on.ensures)
+    (λ c. header-last c.args.k c.args.b c.header_at.ensures c.if-b-header_at.false
+    c.if-k-eq-HEADER.true c.on.ensures)
     (search rules) (search rules)
-    (λ c. let h = c.before.before.before in header-more h.before.args.k h.before.args.b h.header_at.ensures c.before.before.if1.false
-    c.before.if2.false c.on2.ensures))
+    (λ c. header-more c.args.k c.args.b c.header_at.ensures c.if-b-header_at.false
+    c.if-k-eq-HEADER.false c.on-2.ensures))

@@ -8,6 +8,6 @@ pub in_record_spec : {M : Type 1} → statement M
 in_record_spec =
     tie.close (tie.spec
     (search rules) (search rules)
-    (λ c. simp (eq-eqb _ _ c.before.if1.true) c.whole.ensures)
+    (λ c. simp (eq-eqb _ _ c.if-done-size.true) c.whole.ensures)
     (search rules) (search rules)
-    (λ c. simp (ne_eqb _ _ c.before.if1.false) c.on.ensures))
+    (λ c. simp (ne_eqb _ _ c.if-done-size.false) c.on.ensures))

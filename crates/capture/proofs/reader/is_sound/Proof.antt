@@ -10,8 +10,8 @@ pub is_sound_spec : {M : Type 1} → statement M
 is_sound_spec =
     tie.close (tie.spec
     (search rules) (search rules) (search rules) (search rules)
-    (λ c. sound-low c.before.before.capture4.given.1 c.if1.true)
-    (λ c. sym (ap sound c.before.capture.given.1))
-    (λ c. sym (ap sound c.before.capture2.given.1))
-    (λ c. sym (ap sound c.before.capture3.given.1))
-    (λ c. sound-high c.before.before.capture4.given.1 c.if1.false))
+    (λ c. sound-low c.in-Behind.is c.if-f-lt-CAPTURE.true)
+    (λ c. sym (ap sound c.in-Header.is))
+    (λ c. sym (ap sound c.in-Head.is))
+    (λ c. sym (ap sound c.in-Record.is))
+    (λ c. sound-high c.in-Behind.is c.if-f-lt-CAPTURE.false))

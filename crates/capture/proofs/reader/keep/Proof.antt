@@ -6,4 +6,4 @@ use Rattle.capture.proofs.reader.keep.Statement.{statement}
 use Rattle.capture.proofs.reader.keep.Tie as tie
 
 pub keep_spec : {M : Type 1} → statement M
-keep_spec = tie.close (tie.spec (search rules) (search rules) (search rules) (λ c. sym (set_out _ _ _ c.if1.false)))
+keep_spec = tie.close (tie.spec (search rules) (search rules) (search rules) (λ c. sym (set_out _ _ _ c.if-at-store.false)))

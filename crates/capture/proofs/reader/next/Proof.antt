@@ -9,5 +9,5 @@ pub next_spec : {M : Type 1} → statement M
 next_spec =
     tie.close (tie.spec
     (λ c. search rules) (λ c. search rules) (λ c. search rules) (λ c. search rules)
-    (λ c. sym (ap next c.before.judged.given.1))
+    (λ c. sym (ap next c.in-Refused.is))
     (λ c. search rules))

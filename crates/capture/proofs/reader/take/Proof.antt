@@ -8,32 +8,22 @@ pub take_spec : {M : Type 1} → statement M
 take_spec =
     tie.close (tie.spec
     (search rules)
-    (λ c κs. let s = c.before.before.before.before in sound-header s.requires.0 c.before.capture.given.1)
+    (λ c κs. sound-header c.requires.0 c.in-Header.is)
     (search rules) (search rules)
     (λ c κs.
-    let k = c.before.before.before in
-    let m = k.before.before.before in
-    let s = m.before.before.before in
-    (sound-head s.requires.0 m.capture2.given.1, room-set s.args.store.now _ _ k.keep.ensures s.requires.1))
+    (sound-head c.requires.0 c.in-Head.is, room-set c.args.store.now _ _ c.keep.ensures c.requires.1))
     (search rules) (search rules)
     (λ c κs.
-    let k = c.before.before.before in
-    let m = k.before.before.before in
-    let s = m.before.before.before in
-    (sound-record s.requires.0 m.capture3.given.1, room-set s.args.store.now _ _ k.keep2.ensures s.requires.1))
+    (sound-record c.requires.0 c.in-Record.is, room-set c.args.store.now _ _ c.keep-in-Record.ensures c.requires.1))
     (search rules) (search rules)
-    (λ c. let a = c.before.before.before.before.before.args in
-    as-header a.store.now a.b c.before.before.capture.given.1 c.in-header.ensures)
+    (λ c. let a = c.args in
+    as-header a.store.now a.b c.in-Header.is c.in_header.ensures)
     (search rules)
     (λ c.
-    let k = c.before.before.before.before in
-    let m = k.before.before.before in
-    let a = m.before.before.before.args in
-    as-head a.store.now a.b m.capture2.given.1 k.keep.ensures c.in_head.ensures)
+    let a = c.args in
+    as-head a.store.now a.b c.in-Head.is c.keep.ensures c.in_head.ensures)
     (search rules)
     (λ c.
-    let k = c.before.before.before.before in
-    let m = k.before.before.before in
-    let a = m.before.before.before.args in
-    as-record a.store.now a.b m.capture3.given.1 k.keep2.ensures c.in-record.ensures)
-    (λ c. let a = c.before.before.before.before.before.args in as-behind a.store.now a.b c.before.before.capture4.given.1 c.on.ensures))
+    let a = c.args in
+    as-record a.store.now a.b c.in-Record.is c.keep-in-Record.ensures c.in_record.ensures)
+    (λ c. let a = c.args in as-behind a.store.now a.b c.in-Behind.is c.on.ensures))

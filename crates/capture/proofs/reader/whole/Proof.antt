@@ -8,9 +8,8 @@ pub whole_spec : {M : Type 1} → statement M
 whole_spec =
     tie.close (tie.spec
     (search rules)
-    (λ c. let a = c.before.before.before.args in whole_long a.n a.store.now c.before.if1.true c.said.ensures)
+    (λ c. let a = c.args in whole_long a.n a.store.now c.if-n-gt-STORED.true c.said.ensures)
     (search rules) (search rules) (search rules) (search rules) (search rules)
     (λ c.
-    let t = c.before.before.before in
-    let a = t.before.before.args in
-    whole-kept a.n a.store.now t.if1.false c.before.told.ensures c.said2.ensures))
+    let a = c.args in
+    whole-kept a.n a.store.now c.if-n-gt-STORED.false c.told.ensures c.said-2.ensures))

@@ -11,8 +11,7 @@ use Rattle.capture.proofs.writer.begin.Tie as tie
 pub begin_spec : {M : Type 1} → statement M
 begin_spec =
     tie.close (tie.spec
-    (λ c. sym (write-short header c.before.before.args.out.now c.if1.true))
+    (λ c. sym (write-short header c.args.out.now c.if-out-lt-HEADER.true))
     (search rules) (search rules) (search rules)
     (λ c.
-    let t = c.before.before.before.before.before in
-    ap (outcome (Wrote 24)) c.before.before.copy.ensures ∙ sym (write-fits header t.before.before.args.out.now t.if1.false)))
+    ap (outcome (Wrote 24)) c.copy.ensures ∙ sym (write-fits header c.args.out.now c.if-out-lt-HEADER.false)))

@@ -10,25 +10,19 @@ enter_spec =
     tie.close (tie.spec
     (search rules) (search rules) (search rules)
     (λ c.
-    let t = c.before.before.before in
-    let a = t.before.before.before.args in
-    enter-short a.number a.packed.now a.out.now t.told.ensures c.before.enum_told.given.1 c.if1.true)
+    let a = c.args in
+    enter-short a.number a.packed.now a.out.now c.told.ensures c.in-Packet.is c.if-out-n.true)
     (λ c κs.
-    let t = c.before.before.before.before in
-    let a = t.before.before.before.args in
-    (omega (arith, told-most a.packed.now t.told.ensures c.before.before.enum_told.given.1), c.before.if1.false))
+    let a = c.args in
+    (omega (arith, told-most a.packed.now c.told.ensures c.in-Packet.is), c.if-out-n.false))
     (search rules) (search rules) (search rules)
     (λ c.
-    let p = c.before.before in
-    let t = p.before.before.before.before.before in
-    let a = t.before.before.before.args in
-    enter-fits a.number a.packed.now a.out.now t.told.ensures p.before.before.before.enum_told.given.1 p.before.before.if1.false
-    p.put.ensures)
+    let a = c.args in
+    enter-fits a.number a.packed.now a.out.now c.told.ensures c.in-Packet.is c.if-out-n.false
+    c.put.ensures)
     (λ c.
-    let t = c.before.before.before in
-    let a = t.before.before.before.args in
-    enter-none a.number a.packed.now a.out.now t.told.ensures c.before.number.given.1)
+    let a = c.args in
+    enter-none a.number a.packed.now a.out.now c.told.ensures c.in-Refused.is)
     (λ c.
-    let t = c.before.before in
-    let a = t.before.before.before.args in
-    enter-broken a.number a.packed.now a.out.now t.told.ensures c.enum-told2.given.1))
+    let a = c.args in
+    enter-broken a.number a.packed.now a.out.now c.told.ensures c.in-Broken.is))

@@ -9,8 +9,4 @@ put_spec =
     tie.close (tie.spec
     (search rules) (search rules) (search rules) (search rules) (search rules) (search rules) (search rules) (search rules) (search rules)
     (λ c.
-    let d = c.before.before in
-    let f = d.before.before.before.before in
-    let h = f.before.before.before in
-    let s = h.before.before.before in
-    record-put s.args.number s.args.bytes.now s.args.out.now s.requires.1 h.head.ensures f.copy.ensures d.copy2.ensures))
+    record-put c.args.number c.args.bytes.now c.args.out.now c.requires.1 c.head-head.ensures c.copy.ensures c.copy-2.ensures))

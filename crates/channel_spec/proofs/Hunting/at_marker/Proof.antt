@@ -9,8 +9,8 @@ pub at_marker_spec : {M : Type 1} → statement M
 at_marker_spec =
     tie.close (tie.spec
     (search rules) (search rules) (search rules) (search rules)
-    (λ c. three-and (eq-eqb _ _ c.before.before.before.before.before.if1.true) (eq-eqb _ _ c.before.before.before.if2.true)
-    (eq-eqb _ _ c.before.if3.true))
-    (λ c. simp (eq-eqb _ _ c.before.before.before.before.if1.true, eq-eqb _ _ c.before.before.if2.true, ne_eqb _ _ c.if3.false))
-    (λ c. simp (eq-eqb _ _ c.before.before.if1.true, ne_eqb _ _ c.if2.false))
-    (λ c. simp (ne_eqb _ _ c.if1.false)))
+    (λ c. three-and (eq-eqb _ _ c.before.before.before.before.before.if-self-m.true) (eq-eqb _ _ c.before.before.before.if-self-m-2.true)
+    (eq-eqb _ _ c.before.if-self-m-3.true))
+    (λ c. simp (eq-eqb _ _ c.before.before.before.before.if-self-m.true, eq-eqb _ _ c.before.before.if-self-m-2.true, ne_eqb _ _ c.if-self-m-3.false))
+    (λ c. simp (eq-eqb _ _ c.before.before.if-self-m.true, ne_eqb _ _ c.if-self-m-2.false))
+    (λ c. simp (ne_eqb _ _ c.if-self-m.false)))

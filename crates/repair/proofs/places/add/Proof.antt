@@ -13,17 +13,17 @@ use Rattle.repair.proofs.Loops.{add_start, add-next, point-next, value_there, ba
 use Rattle.repair.proofs.places.add.Statement.{statement}
 use Rattle.repair.proofs.places.add.Tie as tie
 
-abbrev invariant-loop : tie.invariant-loop
-invariant-loop v s word₀ z x₀ k₀ i₀ word x k i =
+abbrev invariant-loop-i : tie.invariant-loop-i
+invariant-loop-i v s word₀ z x₀ k₀ i₀ word x k i =
     (k + i ≡ length word₀) × (length word ≡ length word₀) × (x ≡ pow alpha k)
     × (word ≡ take i word₀ ++ onto (errors v s (length (drop i word₀))) (drop i word₀))
 
-abbrev decreases-loop : tie.decreases-loop
-decreases-loop v s word₀ z x₀ k₀ i₀ word x k i = i
+abbrev decreases-loop-i : tie.decreases-loop-i
+decreases-loop-i v s word₀ z x₀ k₀ i₀ word x k i = i
 
 pub add_spec : {M : Type 1} → statement M
 add_spec =
-    tie.close (tie.spec invariant-loop decreases-loop
+    tie.close (tie.spec invariant-loop-i decreases-loop-i
     (search rules)
     (λ c.
     let args = c.before.before.before.before.args in
@@ -31,10 +31,10 @@ add_spec =
     (omega arith)
     (omega arith)
     (λ c κs.
-    let loop = c.before.loop in
+    let loop = c.before.loop-i in
     let placed = c.before.before in
     let args = placed.before.before.before.before.args in
-    (value_there args.v.now loop.k (omega arith) placed.at_places.ensures loop.invariant.2, omega arith, omega arith))
+    (value_there args.v.now loop.k (omega arith) placed.at_places-z.ensures loop.invariant.2, omega arith, omega arith))
     (omega arith)
     (search rules)
     (omega arith)
@@ -42,17 +42,17 @@ add_spec =
     (omega arith)
     (omega arith)
     (λ c.
-    let loop = c.before.before.before.before.before.loop in
+    let loop = c.before.before.before.before.before.loop-i in
     let args = c.before.before.before.before.before.before.before.before.before.before.args in
     let h : 0 < loop.i = omega arith in (
       omega arith,
       simp length-set loop.invariant.1,
-      point-next loop.k loop.invariant.2 c.times.ensures,
+      point-next loop.k loop.invariant.2 c.times-x.ensures,
       add-next args.v.now args.s.now args.word.now loop.k loop.i loop.word h loop.invariant.3 loop.invariant.0 loop.invariant.2
-          c.before.before.before.error-at.ensures c.before.plus.ensures,
+          c.before.before.before.error_at.ensures c.before.plus.ensures,
     ))
     (search rules)
     (λ c.
     let args = c.before.before.before.before.before.before.args in
-    back_done (λ t. onto (errors args.v.now args.s.now (length t)) t) args.word.now c.before.loop.i c.before.loop.word
-    c.loop-test.false c.before.loop.invariant.3))
+    back_done (λ t. onto (errors args.v.now args.s.now (length t)) t) args.word.now c.before.loop-i.i c.before.loop-i.word
+    c.loop-i-test.false c.before.loop-i.invariant.3))

@@ -35,22 +35,20 @@ pub +solve_spec : {M : Type 1} → statement M
 )
     (at 1 solve-kinds.ps μ_solve solve.Pre t)
     solve.Post
-    (λ c. (omega arith, refl, solve-zero _ _ c.if1.true))
+    (λ c. (omega arith, refl, solve-zero _ _ c.if-n-eq0.true))
     (search rules) (search rules) (search rules) (search rules)
     (λ c. (
       omega arith,
       refl,
-      solve-free c.before.before.before.before.args.n c.before.before.before.before.args.rows.now c.before.before.before.if1.false
-          c.before.pivot.ensures c.if2.true,
+      solve-free c.args.n c.args.rows.now c.if-n-eq0.false c.pivot-row.ensures c.if-row-eq0.true,
     ))
     (search rules) (search rules) (search rules)
     (λ c κs. (omega arith, omega arith))
-    (λ c κs. (omega (arith, c.before.solve.ensures.0), c.before.solve.ensures.1))
+    (λ c κs. (omega (arith, c.solve.ensures.0), c.solve.ensures.1))
     (search rules)
-    (λ c. let at-reduce = c.before.before.before.before.before in let at-normal = at-reduce.before.before in let at-if2 = at-normal.before in
-    let at-pivot = at-if2.before in let at-if1 = at-pivot.before.before in let s = at-if1.before in (
-      omega (arith, c.extended.ensures.0, c.before.before.solve.ensures.0),
+    (λ c. (
+      omega (arith, c.extended.ensures.0, c.solve.ensures.0),
       c.extended.ensures.1,
-      solve-some s.args.n s.args.rows.now at-if1.if1.false at-pivot.pivot.ensures at-if2.if2.false at-normal.normal.ensures
-          at-reduce.reduce.ensures c.before.before.solve.ensures.2 c.extended.ensures.2,
+      solve-some c.args.n c.args.rows.now c.if-n-eq0.false c.pivot-row.ensures c.if-row-eq0.false c.normal-p.ensures c.reduce.ensures c.solve.ensures.2
+          c.extended.ensures.2,
     ))

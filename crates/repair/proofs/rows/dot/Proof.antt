@@ -11,21 +11,21 @@ use Rattle.repair.proofs.Loops.{dot-next, dot-done}
 use Rattle.repair.proofs.rows.dot.Statement.{statement}
 use Rattle.repair.proofs.rows.dot.Tie as tie
 
-abbrev invariant-loop : tie.invariant-loop
-invariant-loop u row a₀ i₀ a i = (i ≤ length u) × (add a (dot (drop i u) (drop i row)) ≡ dot u row)
+abbrev invariant-loop-i : tie.invariant-loop-i
+invariant-loop-i u row a₀ i₀ a i = (i ≤ length u) × (add a (dot (drop i u) (drop i row)) ≡ dot u row)
 
-abbrev decreases-loop : tie.decreases-loop
-decreases-loop u row a₀ i₀ a i = length u - i
+abbrev decreases-loop-i : tie.decreases-loop-i
+decreases-loop-i u row a₀ i₀ a i = length u - i
 
 pub dot_spec : {M : Type 1} → statement M
 dot_spec =
-    tie.close (tie.spec invariant-loop decreases-loop
+    tie.close (tie.spec invariant-loop-i decreases-loop-i
     (λ c. (omega arith, zero-add _))
     (search rules) (search rules) (search rules) (search rules) (search rules) (search rules)
     (λ c. let at-loop = c.before.before.before.before.before in let s = at-loop.before.before.before in
-    let loop = at-loop.loop in let args = s.args in (
+    let loop = at-loop.loop-i in let args = s.args in (
       omega arith,
       dot-next loop.a loop.i args.u.now args.row.now loop.invariant.1 (omega arith) (omega (arith, s.requires))
-          c.before.times.ensures c.plus.ensures,
+          c.before.times.ensures c.plus-a.ensures,
     ))
-    (λ c. dot-done _ _ _ _ c.before.loop.invariant.1 c.loop-test.false))
+    (λ c. dot-done _ _ _ _ c.before.loop-i.invariant.1 c.loop-i-test.false))

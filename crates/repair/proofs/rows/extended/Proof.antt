@@ -12,7 +12,7 @@ use Rattle.repair.proofs.rows.extended.Tie as tie
 pub extended_spec : {M : Type 1} → statement M
 extended_spec =
     tie.close (tie.spec
-    (λ c. (omega arith, c.before.requires.1, behind-none c.before.args.t1 c.before.args.rest.v c.before.args.rest.n c.if1.true))
+    (λ c. (omega arith, c.before.requires.1, behind-none c.before.args.p c.before.args.rest.v c.before.args.rest.n c.if-k-eq0.true))
     (search rules)
     (λ c. let s = c.before.before.before in sym (length-take-le s.args.rest.n s.args.rest.v (omega (arith, s.requires.0, s.requires.1))))
     (search rules)
@@ -24,8 +24,8 @@ extended_spec =
     (λ c.
     let start = c.before.before.before.before.before.before.before.before.before in (
       omega arith,
-      omega (arith, length-append c.before.copy.new.1.0 []),
-      behind-some start.args.t1 start.args.rest.v start.args.rest.n start.requires.1
-          c.before.before.before.before.before.before.before.before.if1.false start.requires.0 c.before.before.before.before.dot.ensures
+      omega (arith, length-append c.before.copy.new.dst []),
+      behind-some start.args.p start.args.rest.v start.args.rest.n start.requires.1
+          c.before.before.before.before.before.before.before.before.if-k-eq0.false start.requires.0 c.before.before.before.before.dot.ensures
           c.before.copy.ensures,
     )))

@@ -11,12 +11,12 @@ pub locator_spec : {M : Type 1} → statement M
 locator_spec =
     tie.close (tie.spec
     (search rules) (search rules) (search rules) (search rules)
-    (λ c. sym (length-take-le _ c.before.equations.result (omega arith)))
+    (λ c. sym (length-take-le _ c.before.equations-rows.result (omega arith)))
     (search rules)
     (λ c.
     let f = c.before.solve.ensures in (
       omega (arith, f.0),
       f.1,
       locator-is c.before.before.before.before.before.args.r c.before.before.before.before.before.args.s.now
-          c.before.before.before.equations.ensures f.2,
+          c.before.before.before.equations-rows.ensures f.2,
     )))

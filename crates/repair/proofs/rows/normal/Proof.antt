@@ -9,5 +9,4 @@ pub normal_spec : {M : Type 1} → statement M
 normal_spec =
     tie.close (tie.spec
     (search rules) (search rules) (search rules) (search rules) (search rules) (search rules) (search rules)
-    (λ c. normal-is c.before.before.before.before.before.before.args.t1 (omega arith) c.before.before.before.before.before.inverse.ensures
-    c.before.subtract.ensures))
+    (λ c. normal-is c.args.row (omega arith) c.inverse-k.ensures c.subtract.ensures))

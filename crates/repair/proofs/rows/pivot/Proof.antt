@@ -8,18 +8,18 @@ use Rattle.repair.proofs.Loops.{pivot-here, pivot-next, pivot-none}
 use Rattle.repair.proofs.rows.pivot.Statement.{statement}
 use Rattle.repair.proofs.rows.pivot.Tie as tie
 
-abbrev invariant-loop : tie.invariant-loop
-invariant-loop rows i₀ i = pivot (drop i rows) ≡ pivot rows
+abbrev invariant-loop-i : tie.invariant-loop-i
+invariant-loop-i rows i₀ i = pivot (drop i rows) ≡ pivot rows
 
-abbrev decreases-loop : tie.decreases-loop
-decreases-loop rows i₀ i = length rows - i
+abbrev decreases-loop-i : tie.decreases-loop-i
+decreases-loop-i rows i₀ i = length rows - i
 
 pub pivot_spec : {M : Type 1} → statement M
 pivot_spec =
-    tie.close (tie.spec invariant-loop decreases-loop
+    tie.close (tie.spec invariant-loop-i decreases-loop-i
     (λ c. refl)
     (search rules) (search rules) (search rules)
-    (λ c. pivot-here _ _ c.before.before.before.loop.invariant c.before.before.loop-test.true c.if1.true)
+    (λ c. pivot-here _ _ c.before.before.before.loop-i.invariant c.before.before.loop-i-test.true c.if-row-ne0.true)
     (search rules) (search rules)
-    (λ c. pivot-next _ _ c.before.before.before.loop.invariant c.before.before.loop-test.true c.if1.false)
-    (λ c. pivot-none _ _ c.before.loop.invariant c.loop-test.false))
+    (λ c. pivot-next _ _ c.before.before.before.loop-i.invariant c.before.before.loop-i-test.true c.if-row-ne0.false)
+    (λ c. pivot-none _ _ c.before.loop-i.invariant c.loop-i-test.false))

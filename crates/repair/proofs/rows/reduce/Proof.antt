@@ -10,21 +10,21 @@ use Rattle.repair.proofs.Loops.{reduce-next, reduce-done}
 use Rattle.repair.proofs.rows.reduce.Statement.{statement}
 use Rattle.repair.proofs.rows.reduce.Tie as tie
 
-abbrev invariant-loop : tie.invariant-loop
-invariant-loop p rows₀ i₀ rows i = (length rows ≡ length rows₀) × (take i rows ++ map (reduced p) (drop i rows) ≡ map (reduced p) rows₀)
+abbrev invariant-loop-i : tie.invariant-loop-i
+invariant-loop-i p rows₀ i₀ rows i = (length rows ≡ length rows₀) × (take i rows ++ map (reduced p) (drop i rows) ≡ map (reduced p) rows₀)
 
-abbrev decreases-loop : tie.decreases-loop
-decreases-loop p rows₀ i₀ rows i = length rows₀ - i
+abbrev decreases-loop-i : tie.decreases-loop-i
+decreases-loop-i p rows₀ i₀ rows i = length rows₀ - i
 
 pub reduce_spec : {M : Type 1} → statement M
 reduce_spec =
-    tie.close (tie.spec invariant-loop decreases-loop
+    tie.close (tie.spec invariant-loop-i decreases-loop-i
     (λ c. (refl, refl))
     (search rules) (search rules) (search rules) (search rules) (search rules) (search rules) (search rules)
     (λ c. (
       simp length-set (omega arith),
-      reduce-next _ _ _ c.before.before.before.loop.invariant.1 c.before.before.loop-test.true
+      reduce-next _ _ _ c.before.before.before.loop-i.invariant.1 c.before.before.loop-i-test.true
           c.reduced.ensures,
     ))
-    (λ c. c.before.loop.invariant.0)
-    (λ c. reduce-done _ _ _ c.before.loop.invariant.1 c.loop-test.false))
+    (λ c. c.before.loop-i.invariant.0)
+    (λ c. reduce-done _ _ _ c.before.loop-i.invariant.1 c.loop-i-test.false))

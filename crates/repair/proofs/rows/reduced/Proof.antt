@@ -9,8 +9,6 @@ pub reduced_spec : {M : Type 1} → statement M
 reduced_spec =
     tie.close (tie.spec
     (search rules) (search rules) (search rules) (search rules) (search rules) (search rules)
-    (λ c. let s = c.before.before.before.before.before.before in
-    reduced-zero s.args.t2 (omega arith) s.args.t1 c.before.before.copy.ensures c.if1.true)
+    (λ c. reduced-zero c.args.row (omega arith) c.args.p c.copy.ensures c.if-k-eq0.true)
     (search rules) (search rules) (search rules)
-    (λ c. let at_copy = c.before.before.before.before.before.before in let s = at_copy.before.before.before.before in
-    reduced-is s.args.t2 (omega arith) s.args.t1 at_copy.copy.ensures c.before.subtract.ensures))
+    (λ c. reduced-is c.args.row (omega arith) c.args.p c.copy.ensures c.subtract.ensures))

@@ -12,11 +12,11 @@ pub part_spec : {M : Type 1} → statement M
 part_spec =
     tie.close (tie.spec
     (search rules)
-    (λ c. let a = c.before.before.args in simp (lt-ltb (length a.recv.now) (a.at + a.length) (omega arith)))
+    (λ c. let a = c.args in simp (lt-ltb (length a.recv.now) (a.at + a.length) (omega arith)))
     (search rules) (search rules)
-    (λ c. let a = c.before.before.before.args in simp (lt-ltb (length a.recv.now) (a.at + a.length) (omega arith)))
+    (λ c. let a = c.args in simp (lt-ltb (length a.recv.now) (a.at + a.length) (omega arith)))
     (search rules) (search rules) (search rules) (search rules)
     (λ c.
-    let a = c.before.before.before.args in
+    let a = c.args in
     let e : a.at + a.length - a.at ≡ a.length = omega arith in
     simp (e, le-ltb (length a.recv.now) (a.at + a.length) (omega arith))))

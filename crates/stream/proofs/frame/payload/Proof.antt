@@ -11,4 +11,4 @@ payload_spec =
     tie.close (tie.spec
     (λ c κs. search rules) (λ c κs. search rules)
     (λ c. let a = c.before.before.before.args in c.part.ensures ∙ ap (λ (n : ℕ). part n a.delivery.length a.recv.now)
-    c.before.payload-at.ensures))
+    c.before.payload_at.ensures))

@@ -12,4 +12,4 @@ store_spec =
     (λ c.
     let found = c.before.before.before.before.before in
     let a = found.before.before.before.args in
-    (found.up_to_lem.ensures.0, stored a.bytes.now a.recv.now a.at (omega arith) found.up_to_lem.ensures.0 c.before.before.copy.ensures)))
+    (found.up_to-n.ensures.0, stored a.bytes.now a.recv.now a.at (omega arith) found.up_to-n.ensures.0 c.before.before.copy.ensures)))

@@ -12,5 +12,5 @@ append_as_spec =
     (search rules) (search rules) (search rules) (search rules) (search rules) (search rules)
     (λ c.
     let a = c.before.before.before.before.before.before.before.before.args in
-    appended a.at _ a.out.now c.before.before.before.before.least.ensures
+    appended a.at _ a.out.now c.before.before.before.before.least-from.ensures
     (writing (packet_of a.format a.number a.key.now a.port a.sequence a.payload.now)) c.before.before.write_as.ensures))

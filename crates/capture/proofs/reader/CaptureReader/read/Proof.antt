@@ -12,16 +12,15 @@ read_spec =
     tie.close (tie.spec
     (search rules)
     (λ c.
-    let a = c.before.before.before.before.args in
-    call-unsound (held a.self a.store.now) a.piece.now (sym c.before.is-sound.ensures ∙ not-true _ c.if1.true))
+    let a = c.args in
+    call-unsound (held a.self a.store.now) a.piece.now (sym c.is_sound.ensures ∙ c.if-not-is_sound.true))
     (λ c.
-    let a = c.before.before.before.before.before.args in
-    call-cramped (held a.self a.store.now) a.piece.now (sym c.before.before.is-sound.ensures ∙ not-false _ c.before.if1.false)
-    c.if2.true)
-    (λ c κs. (sym c.before.before.before.is-sound.ensures ∙ not-false _ c.before.before.if1.false, c.before.if2.false))
+    let a = c.args in
+    call-cramped (held a.self a.store.now) a.piece.now (sym c.is_sound.ensures ∙ c.if-not-is_sound.false)
+    c.if-store-lt-STORED.true)
+    (λ c κs. (sym c.is_sound.ensures ∙ c.if-not-is_sound.false, c.if-store-lt-STORED.false))
     (search rules)
     (λ c.
-    let t = c.before.before.before.before in
-    let a = t.before.before.before.before.before.args in
-    call-on (held a.self a.store.now) a.piece.now (sym t.before.before.is-sound.ensures ∙ not-false _ t.before.if1.false) t.if2.false
-    c.before.before.read-on.ensures))
+    let a = c.args in
+    call-on (held a.self a.store.now) a.piece.now (sym c.is_sound.ensures ∙ c.if-not-is_sound.false) c.if-store-lt-STORED.false
+    c.read_on.ensures))

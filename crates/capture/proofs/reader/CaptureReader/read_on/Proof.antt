@@ -8,37 +8,33 @@ use Rattle.capture.proofs.Hearing.{Going, going-first, going_next, going_end, go
 use Rattle.capture.proofs.reader.CaptureReader.read_on.Statement.{statement}
 use Rattle.capture.proofs.reader.CaptureReader.read_on.Tie as tie
 
-abbrev invariant-loop : tie.invariant-loop
-invariant-loop store₀ piece capture₀ i₀ store capture i =
+abbrev invariant-loop-i : tie.invariant-loop-i
+invariant-loop-i store₀ piece capture₀ i₀ store capture i =
     Going (held capture₀ store₀) piece i (held capture store) × (length store ≡ length store₀) × (length piece < 2 ^ 64)
 
-abbrev decreases-loop : tie.decreases-loop
-decreases-loop store₀ piece capture₀ i₀ store capture i = length piece - i
+abbrev decreases-loop-i : tie.decreases-loop-i
+decreases-loop-i store₀ piece capture₀ i₀ store capture i = length piece - i
 
 pub read_on_spec : {M : Type 1} → statement M
 read_on_spec =
-    tie.close (tie.spec invariant-loop decreases-loop
-    (λ c. let s = c.before.before in (going-first _ _ (record { counts = s.requires.0; room = s.requires.1 }), refl, omega arith))
-    (λ c. c.before.before.loop-test.true)
-    (λ c κs. let g = c.before.before.before.loop.invariant.0 in (g.fine.counts, g.fine.room))
-    (λ c. let l = c.before.before.before.before.before.before.loop in omega (arith, l.invariant.0.within, l.invariant.2))
+    tie.close (tie.spec invariant-loop-i decreases-loop-i
+    (λ c. (going-first _ _ (record { counts = c.requires.0; room = c.requires.1 }), refl, omega arith))
+    (λ c. c.loop-i-test.true)
+    (λ c κs. let g = c.loop-i.invariant.0 in (g.fine.counts, g.fine.room))
+    (λ c. let l = c.loop-i in omega (arith, l.invariant.0.within, l.invariant.2))
     (λ c.
-    let t = c.before.before.before in
-    let l = t.before.before.before.before.loop in
-    t.take.auto.1.0 ∙ l.invariant.1)
+    let l = c.loop-i in
+    c.take-s.auto.store ∙ l.invariant.1)
     (λ c.
-    let t = c.before.before.before in
-    let l = t.before.before.before.before.loop in
-    going_end l.invariant.0 t.before.before.before.loop-test.true t.take.ensures c.if1.true)
+    let l = c.loop-i in
+    going_end l.invariant.0 c.loop-i-test.true c.take-s.ensures c.if-s.true)
     (λ c.
-    let t = c.before.before.before in
-    omega (arith, t.before.before.before.loop-test.true))
+    omega (arith, c.loop-i-test.true))
     (λ c.
-    let t = c.before.before.before in
-    let l = t.before.before.before.before.loop in (
-      going_next l.invariant.0 t.before.before.before.loop-test.true t.take.ensures c.if1.false,
-      t.take.auto.1.0 ∙ l.invariant.1,
+    let l = c.loop-i in (
+      going_next l.invariant.0 c.loop-i-test.true c.take-s.ensures c.if-s.false,
+      c.take-s.auto.store ∙ l.invariant.1,
       l.invariant.2,
     ))
-    (λ c. c.before.loop.invariant.1)
-    (λ c. going_done c.before.loop.invariant.0 c.loop-test.false))
+    (λ c. c.loop-i.invariant.1)
+    (λ c. going_done c.loop-i.invariant.0 c.loop-i-test.false))

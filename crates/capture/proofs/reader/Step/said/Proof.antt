@@ -9,4 +9,4 @@ pub said_spec : {M : Type 1} → statement M
 said_spec =
     tie.close (tie.spec
     (search rules)
-    (λ c. let a = c.before.args in λ i. record { done = true; heard = Said a.judged; capture = c.next.ensures i }))
+    (λ c. let a = c.args in λ i. record { done = true; heard = Said a.judged; capture = c.next.ensures i }))

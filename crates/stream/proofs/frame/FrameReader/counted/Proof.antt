@@ -13,6 +13,6 @@ counted_spec =
     (search rules) (search rules) (search rules) (search rules)
     (λ c.
     let start = c.before.before.before.before.before in
-    counted_is start.args.self start.args.n c.before.before.before.before.if1.true start.requires c.before.before.least.ensures
-    c.least2.ensures)
-    (λ c. let a = c.before.args in ap (λ (b : Bool). counted_by b a.self a.n) (sym c.if1.false)))
+    counted_is start.args.self start.args.n c.before.before.before.before.if-self.true start.requires c.before.before.least.ensures
+    c.least-then-self.ensures)
+    (λ c. let a = c.before.args in ap (λ (b : Bool). counted_by b a.self a.n) (sym c.if-self.false)))

@@ -21,23 +21,23 @@ gather_spec =
     let least = stored.before.before.before in
     let opened = least.before.before in
     let a = opened.before.before.before.args in
-    let e = simp sub-zero at stored.store.ensures in
-    let g = gather-found a.self.raw a.bytes.now a.recv.now _ _ least.before.least.ensures least.least2.ensures e.0 c.if2.true
+    let e = simp sub-zero at stored.store-k.ensures in
+    let g = gather-found a.self.raw a.bytes.now a.recv.now _ _ least.before.least-at.ensures least.least-n.ensures e.0 c.if-k-n.true
     e.1 in
-    (g.0, g.1 ∙ ap (λ (b : Bool). gathered_by b a.self.raw (before a.bytes.now) a.recv.now) (sym opened.if1.true)))
+    (g.0, g.1 ∙ ap (λ (b : Bool). gathered_by b a.self.raw (before a.bytes.now) a.recv.now) (sym opened.if-self.true)))
     (search rules) (search rules) (search rules) (search rules) (search rules) (search rules)
     (λ c.
     let stored = c.before.before.before.before.before in
     let least = stored.before.before.before in
     let opened = least.before.before in
     let a = opened.before.before.before.args in
-    let e = simp sub-zero at stored.store.ensures in
-    let n = least.least2.result in
-    let behind = ap (λ (m : ℕ). n + m) (c.up_to_lem.ensures.0 ∙ ap (λ (x : List ℕ). length (before x)) (tail-is n a.bytes.now)) in
-    let g = gather_none a.self.raw a.bytes.now a.recv.now _ _ least.before.least.ensures least.least2.ensures e.0
-    c.before.before.if2.false e.1 behind in
-    (g.0, g.1 ∙ ap (λ (b : Bool). gathered_by b a.self.raw (before a.bytes.now) a.recv.now) (sym opened.if1.true)))
+    let e = simp sub-zero at stored.store-k.ensures in
+    let n = least.least-n.result in
+    let behind = ap (λ (m : ℕ). n + m) (c.up_to.ensures.0 ∙ ap (λ (x : List ℕ). length (before x)) (tail-is n a.bytes.now)) in
+    let g = gather_none a.self.raw a.bytes.now a.recv.now _ _ least.before.least-at.ensures least.least-n.ensures e.0
+    c.before.before.if-k-n.false e.1 behind in
+    (g.0, g.1 ∙ ap (λ (b : Bool). gathered_by b a.self.raw (before a.bytes.now) a.recv.now) (sym opened.if-self.true)))
     (search rules)
     (λ c.
     let a = c.before.before.before.before.args in
-    (c.up-to2.ensures.0, ap (λ (b : Bool). gathered_by b a.self.raw (before a.bytes.now) a.recv.now) (sym c.before.if1.false))))
+    (c.up_to-2.ensures.0, ap (λ (b : Bool). gathered_by b a.self.raw (before a.bytes.now) a.recv.now) (sym c.before.if-self.false))))

@@ -1,7 +1,6 @@
 -- `stream::frame::FrameReader::read` meets its contract: refused with 10, with 11, or let on.
 use mathlib.Core.Path.{sym, ◌∙◌}
 use borrow.Author.Rules.{rules}
-use borrow.Author.Tests.{not-true, not-false}
 use Rattle.stream.specs.Call.{held}
 use Rattle.stream.proofs.Turning.{call-unsound, call-cramped, call-on}
 use Rattle.stream.proofs.frame.FrameReader.read.Statement.{statement}
@@ -12,15 +11,14 @@ read_spec =
     tie.close (tie.spec
     (search rules)
     (λ c.
-    let a = c.before.before.before.before.args in
-    call-unsound (held a.self a.recv.now) a.piece.now (sym c.before.sound.ensures ∙ not-true _ c.if1.true))
+    let a = c.args in
+    call-unsound (held a.self a.recv.now) a.piece.now (sym c.sound.ensures ∙ c.if-not-sound.true))
     (λ c.
-    let a = c.before.before.before.before.before.args in
-    call-cramped (held a.self a.recv.now) a.piece.now (sym c.before.before.sound.ensures ∙ not-false _ c.before.if1.false) c.if2.true)
-    (λ c κs. (sym c.before.before.before.sound.ensures ∙ not-false _ c.before.before.if1.false, c.before.if2.false))
+    let a = c.args in
+    call-cramped (held a.self a.recv.now) a.piece.now (sym c.sound.ensures ∙ c.if-not-sound.false) c.if-recv-lt-RAW.true)
+    (λ c κs. (sym c.sound.ensures ∙ c.if-not-sound.false, c.if-recv-lt-RAW.false))
     (search rules)
     (λ c.
-    let t = c.before.before.before.before in
-    let a = t.before.before.before.before.before.args in
-    call-on (held a.self a.recv.now) a.piece.now (sym t.before.before.sound.ensures ∙ not-false _ t.before.if1.false) t.if2.false
-    c.before.before.read-on.ensures))
+    let a = c.args in
+    call-on (held a.self a.recv.now) a.piece.now (sym c.sound.ensures ∙ c.if-not-sound.false) c.if-recv-lt-RAW.false
+    c.read_on.ensures))

@@ -9,8 +9,8 @@ pub sound_spec : {M : Type 1} → statement M
 sound_spec =
     tie.close (tie.spec
     (search rules)
-    (λ c. sound-stored c.before.before.before.args.self (λ e. c.if1.true (e ∙ sym c.before.before.least.ensures)))
-    (λ c. sound-raw c.before.before.before.before.before.args.self (c.before.before.if1.false ∙ c.before.before.before.before.least.ensures)
-    c.if2.true)
+    (λ c. sound-stored c.before.before.before.args.self (λ e. c.if-self-least.true (e ∙ sym c.before.before.least.ensures)))
+    (λ c. sound-raw c.before.before.before.before.before.args.self (c.before.before.if-self-least.false ∙ c.before.before.before.before.least.ensures)
+    c.if-self-gt-OVER.true)
     (λ c. sound-place c.before.before.before.before.before.before.args.self
-    (c.before.before.before.if1.false ∙ c.before.before.before.before.before.least.ensures) c.before.if2.false))
+    (c.before.before.before.if-self-least.false ∙ c.before.before.before.before.before.least.ensures) c.before.if-self-gt-OVER.false))

@@ -15,50 +15,32 @@ pub turn_spec : {M : Type 1} → statement M
 turn_spec =
     tie.close (tie.spec
     (search rules)
-    (λ c κs. let start = c.before.before.before.before.before.before in
-    (fine_of start.args.self start.args.recv.now start.requires.0 start.requires.1).raw)
+    (λ c κs. (fine_of c.args.self c.args.recv.now c.requires.0 c.requires.1).raw)
     (λ c κs.
-    let counted = c.before.before in
-    let g = counted.before.before.before in
-    let start = g.before.before.before.before in
-    let a = start.args in
-    let f = fine_of a.self a.recv.now start.requires.0 start.requires.1 in
-    counted-room a.self _ counted.counted.ensures f.stored (subst (λ (n : ℕ). raw_limit ≤ n) (sym g.gather.auto.1.0) f.room))
+    let a = c.args in
+    let f = fine_of a.self a.recv.now c.requires.0 c.requires.1 in
+    counted-room a.self _ c.counted-frame.ensures f.stored (subst (λ (n : ℕ). raw_limit ≤ n) (sym c.gather-n.auto.recv) f.room))
     (search rules)
     (λ c.
-    let counted = c.before.before.before in
-    let g = counted.before.before.before in
-    let start = g.before.before.before.before in
-    let a = start.args in
-    turn_end (held a.self a.recv.now) (fine_of a.self a.recv.now start.requires.0 start.requires.1) a.bytes.now start.requires.2
-    g.gather.ensures.0 counted.counted.ensures g.gather.ensures.1 c.looked.ensures c.before.before.if1.true)
+    let a = c.args in
+    turn_end (held a.self a.recv.now) (fine_of a.self a.recv.now c.requires.0 c.requires.1) a.bytes.now c.requires.2
+    c.gather-n.ensures.0 c.counted-frame.ensures c.gather-n.ensures.1 c.looked.ensures c.if-n-bytes.true)
     (search rules) (search rules)
     (λ c.
-    let else = c.before.before.before.before.before.before in
-    let g = else.before.before.before.before in
-    let a = g.before.before.before.before.args in
-    omega (arith, before-stops a.bytes.now g.gather.ensures.0 else.if1.false))
+    let a = c.args in
+    omega (arith, before-stops a.bytes.now c.gather-n.ensures.0 c.if-n-bytes.false))
     (search rules) (search rules)
     (λ c.
-    let closed = c.before.before.before in
-    let else = closed.before.before.before.before in
-    let g = else.before.before.before.before in
-    let start = g.before.before.before.before in
-    let a = start.args in
-    turn-answer (held a.self a.recv.now) (fine_of a.self a.recv.now start.requires.0 start.requires.1) a.bytes.now start.requires.2
-    g.gather.ensures.0 else.before.counted.ensures g.gather.ensures.1 else.if1.false
-    (sym closed.before.before.before.closes.ensures ∙ closed.before.before.if2.true) c.begun.ensures closed.judge.ensures)
+    let a = c.args in
+    turn-answer (held a.self a.recv.now) (fine_of a.self a.recv.now c.requires.0 c.requires.1) a.bytes.now c.requires.2
+    c.gather-n.ensures.0 c.counted-frame.ensures c.gather-n.ensures.1 c.if-n-bytes.false
+    (sym c.closes.ensures ∙ c.if-closes.true) c.begun.ensures c.judge-j.ensures)
     (λ c.
-    let else = c.before.before in
-    let g = else.before.before.before.before in
-    let a = g.before.before.before.before.args in
-    omega (arith, before-stops a.bytes.now g.gather.ensures.0 else.if1.false))
+    let a = c.args in
+    omega (arith, before-stops a.bytes.now c.gather-n.ensures.0 c.if-n-bytes.false))
     (search rules) (search rules)
     (λ c.
-    let else = c.before.before.before in
-    let g = else.before.before.before.before in
-    let start = g.before.before.before.before in
-    let a = start.args in
-    turn-opens (held a.self a.recv.now) (fine_of a.self a.recv.now start.requires.0 start.requires.1) a.bytes.now start.requires.2
-    g.gather.ensures.0 else.before.counted.ensures g.gather.ensures.1 else.if1.false
-    (sym c.before.before.closes.ensures ∙ c.before.if2.false) c.begun2.ensures))
+    let a = c.args in
+    turn-opens (held a.self a.recv.now) (fine_of a.self a.recv.now c.requires.0 c.requires.1) a.bytes.now c.requires.2
+    c.gather-n.ensures.0 c.counted-frame.ensures c.gather-n.ensures.1 c.if-n-bytes.false
+    (sym c.closes.ensures ∙ c.if-closes.false) c.begun-2.ensures))
