@@ -44,11 +44,13 @@ left_by_gate() (
 prove_object() {
     prove "$1" || return 1
     mkdir -p target/log
-    gives_program "$1" || { are_there "$1" && build_crate "target/obj/$1.o" "$1" >"target/log/$1.say" && gives_program "$1"; } || {
+    { [ -s "target/log/$1.say" ] && gives_program "$1"; } || make_object "$1" || {
         rm -f "target/started/$1" "crates/$1/out/$1"
         prove "$1" && gives_program "$1"
     }
 }
+
+make_object() { are_there "$1" && build_crate "target/obj/$1.o" "$1" >"target/log/$1.say" && gives_program "$1"; }
 
 # gives_program CRATE: whether the toolchain's linker makes of target/obj/CRATE.o, byte for byte, the program that stands there proved.
 gives_program() (

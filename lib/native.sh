@@ -4,8 +4,8 @@
 mkdir -p target/bench
 : >target/bench/log
 
-# build_archive NAME CRATE FOLDER FILE: $room/libNAME.a of a source in FOLDER, whose root is FILE there, over the crate, which is proved, and what that stands on;
-# as `rt lib` makes one.
+# build_archive NAME CRATE FOLDER FILE: $room/libNAME.a of a source in FOLDER, whose root is FILE there, over the crate, which is proved, and what that stands
+# on; as `rt lib` makes one.
 build_archive() {
     build_code "$room/lib$1.a" "$1" "$3" "$4" "$2 $(libraries_of "$2")" --crate-type staticlib >>target/bench/log || {
         tail -n 20 target/bench/log
