@@ -8,6 +8,6 @@ pub mod Demands
 pub mod Blocks
 pub mod Checks
 pub mod Phases
-pub mod Hearing
+pub mod Ways
 pub mod Determined
 pub mod Numbers

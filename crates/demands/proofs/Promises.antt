@@ -90,7 +90,7 @@ use Rattle.sheet.specs.Call.{beginning, noting as counted, closing as settling, 
 use Rattle.sheet.specs.declared.Counted.TheVariants as sheet-answer
 use Rattle.rack.specs.Words.{making, checking, mending}
 use Rattle.rack.specs.Call as rack
-use Rattle.demands.specs.Means.{Means, MeansByHand}
+use Rattle.demands.specs.Means.{Means}
 use Rattle.packet.proofs.write_as as packet-write-as
 use Rattle.packet.proofs.write as packet-write
 use Rattle.stream.proofs.begin as stream-begin
@@ -847,14 +847,15 @@ pub ports-ports-forget-means : Means ports-ports-forget.Statement.statement port
     let x = forgetting self.entries port in r ≡ record { forgot = x.0; ports = record { entries = x.1 } }
 ports-ports-forget-means = (λ M. ports-ports-forget.Met.met, λ κs a. tt, λ κs a z ws. (λ p. p, λ p. p))
 
--- .. and lent, of any length: of the parameters a (table, port, sequence), the answer r and the parameters e at the end
-pub ports-note-means : MeansByHand ports-note.Statement.statement ports-note.ended (λ M. ports-note.clauses)
-    λ κs a r e. ◌≡◌ {A = Noted × List Entry} (r, e.0.now) (noting a.0.now a.1.0 a.1.1.0)
-ports-note-means = (λ M. ports-note.Met.met, λ M 𝓤 𝓛 mem run κs a. refl)
+-- .. and lent, of any length
+pub ports-note-means : Means ports-note.Statement.statement ports-note.Kinds.ps ports-note.Kinds.r ports-note.Reads.Asked ports-note.Reads.Learnt
+    λ κs table port sequence r. ◌≡◌ {A = Noted × List Entry} (r, table.exit.now) (noting table.entry.now port sequence)
+ports-note-means = (λ M. ports-note.Met.met, λ κs a. tt, λ κs a z ws. (λ p. p, λ p. p))
 
-pub ports-forget-means : MeansByHand ports-forget.Statement.statement ports-forget.ended (λ M. ports-forget.clauses)
-    λ κs a r e. ◌≡◌ {A = Forgot × List Entry} (r, e.0.now) (forgetting a.0.now a.1.0)
-ports-forget-means = (λ M. ports-forget.Met.met, λ M 𝓤 𝓛 mem run κs a. refl)
+pub ports-forget-means : Means ports-forget.Statement.statement ports-forget.Kinds.ps ports-forget.Kinds.r ports-forget.Reads.Asked
+    ports-forget.Reads.Learnt
+    λ κs table port r. ◌≡◌ {A = Forgot × List Entry} (r, table.exit.now) (forgetting table.entry.now port)
+ports-forget-means = (λ M. ports-forget.Met.met, λ κs a. tt, λ κs a z ws. (λ p. p, λ p. p))
 
 -- ---- for C, with numbers and byte slices: the number answered, and what the lent memory then holds
 pub rack-aas-parity-make-means : Means rack-aas-parity-make.Statement.statement rack-aas-parity-make.Kinds.ps rack-aas-parity-make.Kinds.r

@@ -3,7 +3,6 @@
 --         the promise in src/ says more, less or other, whether or not the body keeps it
 -- MeansByHand   the same of a function that is proved by hand
 -- Follows   what holds of every result of a public function and of what each lent buffer then holds, said of the same contract
--- FollowsByHand   the same of a function that is proved by hand
 -- Named, Given  how a statement names the parameters
 use Rattle.std.specs.Prelude.{ℕ, ◌↔◌, List, [], ◌∷◌}
 use contract.Lifetimes.{Lfts}
@@ -17,12 +16,12 @@ use Rattle.base.specs.ByHand.{Contract, Statement, Promises}
 -- a parameter as a promise names it: one that the call cannot change as it was passed, a lent buffer by its .entry and its .exit
 abbrev pub Named : {D : Type 0} → Exit D → Type 0
 Named {D} unchanged = D
-Named {D} (leaves L l S s) = Both D S
+Named {D} (leaves L l S s r₀) = Both D S
 
 -- .. of a parameter passed as x, with what it holds at the end
 abbrev named : {D : Type 0} (e : Exit D) (x : D) → Last e x → Named e
 named unchanged x w = x
-named (leaves L l S s) x w = record { entry = x; exit = s x w }
+named (leaves L l S s r₀) x w = record { entry = x; exit = s x w }
 
 module _ {n : ℕ} (κs : Lfts n) where
   -- how a parameter ends

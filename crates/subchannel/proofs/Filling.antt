@@ -27,7 +27,7 @@ use Rattle.subchannel.specs.Call.{sub, counts, counted, word_at, grouped, eat}
 use Rattle.subchannel.specs.Private.{is_some, TurnedIs, EatenIs, Going, GoesOn, Fills, filled}
 use Rattle.subchannel.proofs.Fine.{pull-placed}
 use Rattle.subchannel.proofs.Steps.{again-full, words_more, eats-brought, eats-group}
-use Rattle.subchannel.proofs.Hearing.{going_next}
+use Rattle.subchannel.proofs.Ways.{going_next}
 
 -- ---- how many
 module _ (s : Lane) (a : Bool) (g : s.counts.group ≤ group_bytes) (w : s.counts.word ≤ word_bytes) where

@@ -4,7 +4,7 @@ pub mod Shown
 pub mod Delivery
 pub mod Demands
 pub mod Steps
-pub mod Hearing
+pub mod Ways
 pub mod Filling
 pub mod Numbers
 pub mod Determined

@@ -15,6 +15,6 @@ decreases-loop recording line₀ hold₀ out₀ stand₀ turns₀ line hold out 
 pub read_all_spec : {M : Type 1} → statement M
 read_all_spec =
     tie.close (tie.spec invariant-loop decreases-loop
-    (search rules) (λ c κs. search rules) (search rules) (search rules) (search rules) (search rules) (search rules) (search rules) (search rules)
+    (search rules) (search rules) (search rules) (search rules) (search rules) (search rules) (search rules) (search rules) (search rules)
     (search rules) (search rules) (search rules)
     (search rules))

@@ -16,7 +16,7 @@ decreases-loop recording line₀ hold₀ piece out₀ next₀ at₀ line hold ou
 pub take_spec : {M : Type 1} → statement M
 take_spec =
     tie.close (tie.spec invariant-loop decreases-loop
-    (search rules) (search rules) (search rules) (search rules) (λ c κs. search rules) (λ c κs. search rules) (search rules) (search rules)
+    (search rules) (search rules) (search rules) (search rules) (search rules) (search rules) (search rules) (search rules)
     (search rules) (search rules) (search rules) (search rules) (search rules) (search rules) (search rules) (search rules) (search rules)
     (search rules) (search rules)
     (search rules))

@@ -7,12 +7,12 @@ use Rattle.board_lines.proofs.put_ahead.Tie as tie
 pub put_ahead_spec : {M : Type 1} → statement M
 put_ahead_spec =
     tie.close (tie.spec
-    (search rules) (search rules) (search rules) (search rules) (search rules) (λ c κs. search rules) (λ c κs. search rules) (search rules)
-    (λ c κs. search rules) (search rules) (search rules) (search rules) (λ c κs. search rules) (λ c κs. search rules)
+    (search rules) (search rules) (search rules) (search rules) (search rules) (search rules) (search rules) (search rules)
+    (search rules) (search rules) (search rules) (search rules) (search rules) (search rules)
     (λ c. ahead-as _ c.enum_told.given.1 (none_ahead _))
     (λ c. ahead-as _ c.enum-told2.given.1 (none_ahead _))
     (λ c. ahead-as _ c.enum-told3.given.1 (none_ahead _))
-    (λ c. search rules)
+    (search rules)
     (λ c.
     let t = c.before.before in
     let u = t.before.before.before.before in
@@ -20,7 +20,7 @@ put_ahead_spec =
     let w = v.before.before.before.before in
     ahead-as _ w.noted.given.1 (missing-put _ _ v.put-text.ensures u.put_item.ensures t.put-item2.ensures))
     (λ c. ahead-as _ c.enum-told4.given.1 (none_ahead _))
-    (λ c. search rules)
+    (search rules)
     (λ c.
     let t = c.before.before in
     let u = t.before.before.before.before in

@@ -7,5 +7,5 @@ use Rattle.board_lines.proofs.put_heading.Tie as tie
 pub put_heading_spec : {M : Type 1} → statement M
 put_heading_spec =
     tie.close (tie.spec
-    (λ c κs. search rules) (λ c κs. search rules) (λ c. search rules)
+    (search rules) (search rules) (search rules)
     (λ c. heading-put _ _ c.before.before.before.before.before.before.put_item.ensures c.before.before.put-item2.ensures))

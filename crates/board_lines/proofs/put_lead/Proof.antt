@@ -7,14 +7,14 @@ use Rattle.board_lines.proofs.put_lead.Tie as tie
 pub put_lead_spec : {M : Type 1} → statement M
 put_lead_spec =
     tie.close (tie.spec
-    (λ c κs. search rules) (λ c κs. search rules) (λ c. search rules)
+    (search rules) (search rules) (search rules)
     (λ c.
     let t = c.before.before in
     let u = t.before.before in
     let v = u.before.before.before.before in
     let w = v.before.before.before in
     lead-restricted w.args.noted w.args.delivery u.if1.true v.put-ahead.ensures t.put-restricted.ensures)
-    (λ c κs. search rules) (λ c. search rules)
+    (search rules) (search rules)
     (λ c.
     let t = c.before.before in
     let u = t.before.before in

@@ -7,7 +7,7 @@ use Rattle.board_lines.proofs.put_numbered.Tie as tie
 pub put_numbered_spec : {M : Type 1} → statement M
 put_numbered_spec =
     tie.close (tie.spec
-    (λ c κs. search rules) (λ c κs. search rules) (search rules) (λ c κs. search rules) (λ c. search rules)
+    (search rules) (search rules) (search rules) (search rules) (search rules)
     (λ c.
     let t = c.before.before in
     let u = t.before.before.before in

@@ -12,16 +12,16 @@ use Rattle.board_lines.proofs.put_refused.Tie as tie
 pub put_refused_spec : {M : Type 1} → statement M
 put_refused_spec =
     tie.close (tie.spec
-    (search rules) (search rules) (search rules) (λ c κs. search rules) (search rules) (λ c κs. search rules) (search rules) (search rules)
-    (λ c κs. search rules) (search rules) (λ c κs. search rules) (λ c κs. search rules)
+    (search rules) (search rules) (search rules) (search rules) (search rules) (search rules) (search rules) (search rules)
+    (search rules) (search rules) (search rules) (search rules)
     (λ c. put-case (λ (j : Judged). remark true (Said j)) c.enum_told.given.1 (put-none _ _))
-    (λ c. search rules)
+    (search rules)
     (λ c.
     let t = c.before.before in
     let u = t.before.before.before.before in
     let v = u.before.before.before.before in
     put-case (λ (j : Judged). remark true (Said j)) v.judged.given.1 (refused-line u.put-text.ensures _ t.put_item.ensures))
-    (λ c. search rules)
+    (search rules)
     (λ c.
     let t = c.before.before in
     let u = t.before.before.before.before in

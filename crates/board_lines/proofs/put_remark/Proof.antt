@@ -9,11 +9,11 @@ use Rattle.board_lines.proofs.put_remark.Tie as tie
 pub put_remark_spec : {M : Type 1} → statement M
 put_remark_spec =
     tie.close (tie.spec
-    (search rules) (search rules) (λ c κs. search rules) (search rules) (λ c κs. search rules) (search rules) (search rules) (λ c κs. search rules)
+    (search rules) (search rules) (search rules) (search rules) (search rules) (search rules) (search rules) (search rules)
     (λ c. put-case (remark _) c.enum_told.given.1 (put-none _ _))
-    (λ c. search rules)
+    (search rules)
     (λ c. said-line _ c.before.before.before.before.before.answer.given.1 c.before.before.Put-refused.ensures)
-    (λ c. search rules)
+    (search rules)
     (λ c. put-case (remark _) c.before.before.before.before.before.answer2.given.1 c.before.before.put-block-told.ensures)
-    (λ c. search rules)
+    (search rules)
     (λ c. put-case (remark _) c.before.before.before.before.before.enum-told2.given.1 (lost-line c.before.before.put-text.ensures)))

@@ -7,7 +7,7 @@ use Rattle.board_lines.proofs.put_restricted.Tie as tie
 pub put_restricted_spec : {M : Type 1} → statement M
 put_restricted_spec =
     tie.close (tie.spec
-    (search rules) (λ c κs. search rules) (λ c κs. search rules) (λ c κs. search rules) (λ c κs. search rules) (λ c. search rules)
+    (search rules) (search rules) (search rules) (search rules) (search rules) (search rules)
     (λ c.
     let t = c.before.before in
     let u = t.before.before.before.before in

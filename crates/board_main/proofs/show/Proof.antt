@@ -17,7 +17,7 @@ decreases-loop recv₀ word₀ piece₀ out₀ readout₀ reads₀ recv word pie
 pub show_spec : {M : Type 1} → statement M
 show_spec =
     tie.close (tie.spec invariant-loop decreases-loop
-    (λ c κs. search rules) (search rules) (search rules) (λ c κs. search rules) (λ c κs. search rules) (search rules) (λ c κs. search rules)
-    (search rules) (search rules) (λ c κs. search rules) (search rules) (search rules) (search rules) (search rules) (search rules) (search rules)
-    (λ c κs. search rules) (λ c κs. search rules) (search rules) (search rules) (search rules) (search rules)
+    (search rules) (search rules) (search rules) (search rules) (search rules) (search rules) (search rules)
+    (search rules) (search rules) (search rules) (search rules) (search rules) (search rules) (search rules) (search rules) (search rules)
+    (search rules) (search rules) (search rules) (search rules) (search rules) (search rules)
     (search rules))

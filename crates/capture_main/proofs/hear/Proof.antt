@@ -16,6 +16,6 @@ decreases-loop number recv₀ word₀ piece out₀ turn₀ i₀ calls₀ recv wo
 pub hear_spec : {M : Type 1} → statement M
 hear_spec =
     tie.close (tie.spec invariant-loop decreases-loop
-    (search rules) (search rules) (search rules) (search rules) (λ c κs. search rules) (λ c κs. search rules) (search rules) (search rules)
+    (search rules) (search rules) (search rules) (search rules) (search rules) (search rules) (search rules) (search rules)
     (search rules) (search rules) (search rules) (search rules) (search rules) (search rules) (search rules) (search rules)
     (search rules))

@@ -20,10 +20,10 @@ decreases-loop out₀ recv₀ word₀ piece₀ tape₀ number₀ reads₀ t12 ou
 pub main_spec : {M : Type 1} → statement M
 main_spec =
     tie.close (tie.spec invariant-loop decreases-loop
-    (λ c κs. search rules) (search rules) (λ c κs. search rules) (search rules) (search rules) (λ c κs. search rules) (search rules)
-    (λ c κs. search rules) (search rules) (search rules) (λ c κs. search rules) (search rules) (λ c κs. search rules) (search rules)
-    (λ c κs. search rules) (search rules) (search rules) (λ c κs. search rules) (search rules) (search rules) (search rules) (search rules)
-    (search rules) (search rules) (λ c κs. search rules) (search rules) (λ c κs. search rules) (λ c κs. search rules) (search rules)
+    (search rules) (search rules) (search rules) (search rules) (search rules) (search rules) (search rules)
+    (search rules) (search rules) (search rules) (search rules) (search rules) (search rules) (search rules)
+    (search rules) (search rules) (search rules) (search rules) (search rules) (search rules) (search rules) (search rules)
+    (search rules) (search rules) (search rules) (search rules) (search rules) (search rules) (search rules)
     (λ c. omega (
       arith,
       c.before.before.before.before.before.before.before.before.before.before.before.before.before.before.before.before.before.before.before.before.before.loop-test.true,

@@ -14,9 +14,9 @@ decreases-loop told entries i₀ i = 16 - i
 pub tell_spec : {M : Type 1} → statement M
 tell_spec =
     tie.close (tie.spec invariant-loop decreases-loop
-    (λ c κs. search rules) (λ c κs. search rules) (λ c κs. search rules) (λ c κs. search rules) (search rules) (λ c κs. search rules)
+    (search rules) (search rules) (search rules) (search rules) (search rules) (search rules)
     (λ c. tt)
-    (search rules) (search rules) (λ c κs. search rules) (search rules)
+    (search rules) (search rules) (search rules) (search rules)
     (omega arith)
     (λ c. tt)
     (search rules))

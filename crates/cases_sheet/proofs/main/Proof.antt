@@ -14,7 +14,7 @@ pub main_spec : {M : Type 1} → statement M
 main_spec =
     tie.close (tie.spec invariant-loop decreases-loop
     (λ c. tt)
-    (λ c κs. search rules) (search rules) (search rules)
+    (search rules) (search rules) (search rules)
     (omega arith)
     (λ c. tt)
     (search rules))

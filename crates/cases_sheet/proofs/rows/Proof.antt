@@ -14,9 +14,9 @@ decreases-loop rows₀ i₀ rows i = 16 - i
 pub rows_spec : {M : Type 1} → statement M
 rows_spec =
     tie.close (tie.spec invariant-loop decreases-loop
-    (λ c κs. search rules)
+    (search rules)
     (λ c. tt)
-    (λ c κs. search rules) (search rules) (search rules) (search rules)
+    (search rules) (search rules) (search rules) (search rules)
     (omega arith)
     (λ c. tt)
     (search rules))

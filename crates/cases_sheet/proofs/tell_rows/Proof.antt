@@ -15,7 +15,7 @@ pub tell_rows_spec : {M : Type 1} → statement M
 tell_rows_spec =
     tie.close (tie.spec invariant-loop decreases-loop
     (λ c. tt)
-    (search rules) (search rules) (λ c κs. search rules) (λ c κs. search rules) (search rules)
+    (search rules) (search rules) (search rules) (search rules) (search rules)
     (omega arith)
     (λ c. tt)
     (search rules))

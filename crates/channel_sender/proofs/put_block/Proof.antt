@@ -11,8 +11,5 @@ put_block_spec =
     (search rules) (search rules) (search rules) (search rules) (search rules) (search rules) (search rules) (search rules) (search rules)
     (search rules) (search rules)
     (λ c.
-    let copied = c.before.before.before.before.before.before in
-    let marked = copied.before.before.before.before in
-    let start = marked.before.before.before.before.before in
-    block-put start.args.message.now start.args.out.now start.requires.0 start.requires.1 _
-    marked.copy.ensures copied.copy2.ensures refl c.before.before.make.ensures))
+    block-put c.args.message.now c.args.out.now c.requires.0 c.requires.1 _
+    c.copy.ensures c.copy-2.ensures refl c.make.ensures))

@@ -9,6 +9,4 @@ put_next_spec =
     tie.close (tie.spec
     (search rules) (search rules) (search rules) (search rules) (search rules)
     (λ c.
-    let copied = c.before.before.before.before.before.before in
-    let start = copied.before.before.before.before in
-    next-put start.args.stream.now start.args.out.now copied.copy.ensures start.requires c.before.before.mark.ensures))
+    next-put c.args.stream.now c.args.out.now c.copy.ensures c.requires c.mark.ensures))

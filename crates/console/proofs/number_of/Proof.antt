@@ -14,5 +14,5 @@ decreases-loop-i text n₀ i₀ n i = length text - i
 pub number_of_spec : {M : Type 1} → statement M
 number_of_spec =
     tie.close (tie.spec invariant-loop-i decreases-loop-i
-    (search rules) (search rules) (λ c κs. search rules) (search rules) (search rules) (search rules)
+    (search rules) (search rules) (search rules) (search rules) (search rules) (search rules)
     (search rules))

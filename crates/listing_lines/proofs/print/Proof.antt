@@ -8,9 +8,6 @@ use Rattle.listing_lines.proofs.print.Tie as tie
 pub print_spec : {M : Type 1} → statement M
 print_spec =
     tie.close (tie.spec
-    (search rules) (λ c κs. search rules) (search rules) (λ c κs. search rules) (λ c. search rules)
+    (search rules) (search rules) (search rules) (search rules) (search rules)
     (λ c.
-    let t = c.before.before in
-    let u = t.before.before.before.before in
-    let v = u.before.before.before in
-    delivers v.args.out.now u.put-line.ensures (line-short v.args.answer) t.deliver.ensures))
+    delivers c.args.out.now c.put_line-n.ensures (line-short c.args.answer) c.deliver.ensures))

@@ -18,10 +18,10 @@ decreases-loop recv₀ word₀ piece₀ out₀ recording₀ reads₀ recv word p
 pub main_spec : {M : Type 1} → statement M
 main_spec =
     tie.close (tie.spec invariant-loop decreases-loop
-    (λ c κs. search rules) (λ c κs. search rules) (λ c κs. search rules) (search rules) (search rules) (λ c κs. search rules) (λ c κs. search rules)
-    (search rules) (search rules) (λ c κs. search rules) (search rules) (search rules) (λ c κs. search rules) (search rules) (search rules)
-    (search rules) (search rules) (search rules) (search rules) (λ c κs. search rules) (search rules) (λ c κs. search rules) (search rules)
-    (λ c κs. search rules) (search rules)
+    (search rules) (search rules) (search rules) (search rules) (search rules) (search rules) (search rules)
+    (search rules) (search rules) (search rules) (search rules) (search rules) (search rules) (search rules) (search rules)
+    (search rules) (search rules) (search rules) (search rules) (search rules) (search rules) (search rules) (search rules)
+    (search rules) (search rules)
     (λ c. omega (
       arith,
       c.before.before.before.before.before.before.before.before.before.before.before.before.before.before.before.before.before.before.before.before.before.before.loop-test.true,

@@ -19,9 +19,9 @@ decreases-loop recv₀ word₀ out₀ piece₀ notes₀ reads₀ t11 recv word o
 pub hear_all_spec : {M : Type 1} → statement M
 hear_all_spec =
     tie.close (tie.spec invariant-loop decreases-loop
-    (λ c κs. search rules) (λ c κs. search rules) (search rules) (search rules) (λ c κs. search rules) (search rules) (λ c κs. search rules)
-    (search rules) (λ c κs. search rules) (search rules) (search rules) (λ c κs. search rules) (search rules) (search rules) (search rules)
-    (search rules) (search rules) (search rules) (λ c κs. search rules) (λ c κs. search rules) (search rules)
+    (search rules) (search rules) (search rules) (search rules) (search rules) (search rules) (search rules)
+    (search rules) (search rules) (search rules) (search rules) (search rules) (search rules) (search rules) (search rules)
+    (search rules) (search rules) (search rules) (search rules) (search rules) (search rules)
     (λ c. omega (
       arith,
       c.before.before.before.before.before.before.before.before.before.before.before.before.before.before.before.before.before.before.before.before.before.loop-test.true,

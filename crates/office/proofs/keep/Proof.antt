@@ -9,8 +9,8 @@ pub keep_spec : {M : Type 1} → statement M
 keep_spec =
     tie.close (tie.spec
     (search rules) (search rules) (search rules) (search rules) (search rules) (search rules) (search rules) (search rules)
-    (λ c. let s = c.before.before.before.before.before.before.before in (
-      omega (arith, c.least.ensures, s.requires.0),
-      keep-is s.args.line.now s.args.bytes.now s.args.at s.requires.0 s.requires.1
-          c.before.before.before.copy.ensures,
+    (λ c. (
+      omega (arith, c.least.ensures, c.requires.0),
+      keep-is c.args.line.now c.args.bytes.now c.args.at c.requires.0 c.requires.1
+          c.copy.ensures,
     )))

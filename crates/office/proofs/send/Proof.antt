@@ -15,16 +15,16 @@ send_spec =
     (search rules) (search rules)
     (λ c. let p = c.before.before.before.before.before in let s = begun p in
     let a = send-asks s.args.port s.args.sequence s.args.text.now s.args.held s.args.hold.now s.pre.0 s.pre.1
-    p.append.ensures _ c.before.n.given.1 in omega (arith, a.1))
-    (λ c κs. let n = c.before.before.before in let p = n.before.before.before.before in let s = begun p in
+    p.append.ensures _ c.in-Wrote.is in omega (arith, a.1))
+    (λ c κs. let p = c.before.before.before.before in let s = begun p in
     let a = send-asks s.args.port s.args.sequence s.args.text.now s.args.held s.args.hold.now s.pre.0 s.pre.1
-    p.append.ensures _ n.n.given.1 in (a.0, a.1, s.pre.2))
+    p.append.ensures _ c.in-Wrote.is in (a.0, a.1, s.pre.2))
     (search rules) (search rules) (search rules)
-    (λ c. let o = c.before.before.before.before in let n = o.before.before.before.before in let p = n.before.before.before.before in
+    (λ c. let p = c.before.before.before.before in
     let s = begun p in
     send-is s.args.port s.args.sequence s.args.text.now s.args.held s.args.hold.now s.pre.0 s.pre.1
-    p.append.ensures _ n.n.given.1 s.args.out.now o.put-out.ensures)
+    p.append.ensures _ c.in-Wrote.is s.args.out.now c.put_out.ensures)
     (search rules)
     (λ c. let p = c.before.before.before.before.before in let s = begun p in
     send-not s.args.port s.args.sequence s.args.text.now s.args.held s.args.hold.now s.pre.0 s.pre.1
-    p.append.ensures _ c.before.number.given.1 s.args.out.now))
+    p.append.ensures _ c.in-Refused.is s.args.out.now))

@@ -15,6 +15,6 @@ decreases-loop store₀ piece out₀ turn₀ i₀ calls₀ store out turn i call
 pub read_spec : {M : Type 1} → statement M
 read_spec =
     tie.close (tie.spec invariant-loop decreases-loop
-    (search rules) (search rules) (search rules) (search rules) (λ c κs. search rules) (λ c κs. search rules) (search rules) (search rules)
+    (search rules) (search rules) (search rules) (search rules) (search rules) (search rules) (search rules) (search rules)
     (search rules) (search rules) (search rules) (search rules) (search rules) (search rules)
     (search rules))

@@ -16,8 +16,8 @@ decreases-loop out₀ store₀ piece₀ capture₀ sent₀ reads₀ t10 out stor
 pub replay_spec : {M : Type 1} → statement M
 replay_spec =
     tie.close (tie.spec invariant-loop decreases-loop
-    (λ c κs. search rules) (λ c κs. search rules) (search rules) (search rules) (λ c κs. search rules) (search rules) (λ c κs. search rules)
-    (search rules) (search rules) (λ c κs. search rules) (search rules) (search rules) (search rules) (λ c κs. search rules) (search rules)
-    (search rules) (search rules) (search rules) (λ c κs. search rules) (search rules) (search rules) (search rules) (search rules) (search rules)
+    (search rules) (search rules) (search rules) (search rules) (search rules) (search rules) (search rules)
+    (search rules) (search rules) (search rules) (search rules) (search rules) (search rules) (search rules) (search rules)
+    (search rules) (search rules) (search rules) (search rules) (search rules) (search rules) (search rules) (search rules) (search rules)
     (search rules)
     (search rules))

@@ -13,6 +13,6 @@ decreases-loop range shown count sheet₀ i₀ sheet i = count - i
 pub count_all_spec : {M : Type 1} → statement M
 count_all_spec =
     tie.close (tie.spec invariant-loop decreases-loop
-    (λ c κs. search rules) (search rules) (search rules) (search rules) (λ c κs. search rules) (λ c κs. search rules) (search rules) (search rules)
+    (search rules) (search rules) (search rules) (search rules) (search rules) (search rules) (search rules) (search rules)
     (search rules)
     (search rules))

@@ -16,6 +16,6 @@ decreases-loop range recv₀ word₀ piece turn₀ i₀ calls₀ recv word turn 
 pub hear_spec : {M : Type 1} → statement M
 hear_spec =
     tie.close (tie.spec invariant-loop decreases-loop
-    (search rules) (search rules) (search rules) (search rules) (λ c κs. search rules) (λ c κs. search rules) (search rules) (search rules)
+    (search rules) (search rules) (search rules) (search rules) (search rules) (search rules) (search rules) (search rules)
     (search rules) (search rules) (search rules) (search rules) (search rules) (search rules)
     (search rules))

@@ -18,9 +18,9 @@ decreases-loop range fd recv₀ word₀ piece₀ tape₀ draft₀ reads₀ recv 
 pub hear_all_spec : {M : Type 1} → statement M
 hear_all_spec =
     tie.close (tie.spec invariant-loop decreases-loop
-    (λ c κs. search rules) (λ c κs. search rules) (λ c κs. search rules) (search rules) (search rules) (λ c κs. search rules) (λ c κs. search rules)
-    (search rules) (λ c κs. search rules) (search rules) (search rules) (λ c κs. search rules) (search rules) (search rules) (search rules)
-    (search rules) (search rules) (λ c κs. search rules) (λ c κs. search rules) (search rules) (λ c κs. search rules) (λ c κs. search rules)
+    (search rules) (search rules) (search rules) (search rules) (search rules) (search rules) (search rules)
+    (search rules) (search rules) (search rules) (search rules) (search rules) (search rules) (search rules) (search rules)
+    (search rules) (search rules) (search rules) (search rules) (search rules) (search rules) (search rules)
     (search rules)
     (λ c. omega (
       arith,
@@ -37,5 +37,5 @@ hear_all_spec =
       omega (arith, at-hear.hear.auto.1.1.1.1.0, at-loop.loop.invariant.1),
       omega (arith, at_read.read.auto.1.0, at-loop.loop.invariant.2),
     ))
-    (λ c κs. search rules)
+    (search rules)
     (search rules))

@@ -17,6 +17,6 @@ decreases-loop sheet text₀ i₀ t5 text i = 16 - i
 pub print_all_spec : {M : Type 1} → statement M
 print_all_spec =
     tie.close (tie.spec invariant-loop decreases-loop
-    (search rules) (search rules) (λ c κs. search rules) (search rules) (search rules) (λ c κs. search rules) (search rules) (search rules)
+    (search rules) (search rules) (search rules) (search rules) (search rules) (search rules) (search rules) (search rules)
     (search rules) (search rules)
     (search rules))

@@ -11,11 +11,10 @@ use Rattle.subchannel_sender.proofs.count.Tie as tie
 pub count_spec : {M : Type 1} → statement M
 count_spec =
     tie.close (tie.spec
-    (λ c. let a = c.before.args in count-roots a.parity a.depth a.bytes c.if1.true)
-    (λ c. let a = c.before.before.args in count-depth a.parity a.depth a.bytes c.before.if1.false c.if2.true)
+    (λ c. let a = c.args in count-roots a.parity a.depth a.bytes c.if-parity-gt-PARITY.true)
+    (λ c. let a = c.args in count-depth a.parity a.depth a.bytes c.if-parity-gt-PARITY.false c.if-depth-gt-DEPTH.true)
     (search rules) (search rules) (search rules)
     (λ c.
-    let d = c.before.before in
-    let a = d.before.before.args in
-    ap Groups (c.groups_of.ensures ∙ ap (λ q. (q + closing_words a.depth + 3) / group_words) c.before.messages-of.ensures)
-    ∙ count-are a.parity a.depth a.bytes d.before.if1.false d.if2.false))
+    let a = c.args in
+    ap Groups (c.groups_of.ensures ∙ ap (λ q. (q + closing_words a.depth + 3) / group_words) c.messages_of-words.ensures)
+    ∙ count-are a.parity a.depth a.bytes c.if-parity-gt-PARITY.false c.if-depth-gt-DEPTH.false))

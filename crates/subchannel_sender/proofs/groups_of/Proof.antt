@@ -8,6 +8,6 @@ pub groups_of_spec : {M : Type 1} → statement M
 groups_of_spec =
     tie.close (tie.spec
     (search rules) (search rules)
-    (λ c. let a = c.before.args in groups-flat a.words a.depth c.if1.true)
+    (λ c. let a = c.args in groups-flat a.words a.depth c.if-depth-lt2.true)
     (search rules) (search rules) (search rules)
-    (λ c. let a = c.before.args in groups-deep a.words a.depth c.if1.false))
+    (λ c. let a = c.args in groups-deep a.words a.depth c.if-depth-lt2.false))

@@ -9,6 +9,4 @@ message_of_spec =
     tie.close (tie.spec
     (search rules) (search rules) (search rules) (search rules) (search rules) (search rules)
     (λ c.
-    let l = c.before.before.before.before in
-    let s = l.before.before in
-    message-is s.args.m l.least.result s.args.stream.now s.requires l.least.ensures c.before.copy.ensures))
+    message-is c.args.m c.least-n.result c.args.stream.now c.requires c.least-n.ensures c.copy.ensures))

@@ -9,7 +9,7 @@ pub messages_of_spec : {M : Type 1} → statement M
 messages_of_spec =
     tie.close (tie.spec
     (search rules) (search rules)
-    (λ c. let s = c.before in messages-even s.args.m s.args.n s.requires c.if1.true)
+    (λ c. messages-even c.args.m c.args.n c.requires c.if-n-m-eq0.true)
     (search rules)
-    (λ c. let s = c.before in omega (arith, half s.args.n s.args.m s.requires))
-    (λ c. let s = c.before in messages-over s.args.m s.args.n s.requires c.if1.false))
+    (λ c. omega (arith, half c.args.n c.args.m c.requires))
+    (λ c. messages-over c.args.m c.args.n c.requires c.if-n-m-eq0.false))

@@ -9,8 +9,5 @@ put_group_spec =
     tie.close (tie.spec
     (search rules) (search rules) (search rules) (search rules) (search rules) (search rules) (search rules)
     (λ c.
-    let p = c.before.before.before in
-    let k = p.before.before.before.before in
-    let s = k.before.before.before.before.before in
-    group-put s.args.depth s.args.matrix s.args.group.now s.args.out.now s.requires.0 s.requires.1 s.requires.2 s.requires.3 k.copy.ensures
-    p.push.ensures))
+    group-put c.args.depth c.args.matrix c.args.group.now c.args.out.now c.requires.0 c.requires.1 c.requires.2 c.requires.3 c.copy.ensures
+    c.push-pushed.ensures))

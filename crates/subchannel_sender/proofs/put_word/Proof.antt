@@ -7,12 +7,8 @@ use Rattle.subchannel_sender.proofs.put_word.Tie as tie
 pub put_word_spec : {M : Type 1} → statement M
 put_word_spec =
     tie.close (tie.spec
-    (search rules) (λ c κs. search rules) (search rules) (search rules) (search rules) (search rules) (search rules) (search rules) (search rules)
+    (search rules) (search rules) (search rules) (search rules) (search rules) (search rules) (search rules) (search rules) (search rules)
     (search rules) (search rules) (search rules) (search rules) (search rules)
     (λ c.
-    let k = c.before.before in
-    let p = k.before.before.before.before.before.before in
-    let m = p.before.before.before.before in
-    let s = m.before.before.before in
-    word-put s.args.parity s.args.stream.now m.message-of.result s.args.out.now s.requires.0 m.message-of.ensures s.requires.1
-    p.copy.ensures k.make.ensures))
+    word-put c.args.parity c.args.stream.now c.message_of-message.result c.args.out.now c.requires.0 c.message_of-message.ensures c.requires.1
+    c.copy.ensures c.make.ensures))

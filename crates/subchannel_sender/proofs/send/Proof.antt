@@ -11,25 +11,19 @@ use Rattle.subchannel_sender.proofs.send.Tie as tie
 pub send_spec : {M : Type 1} → statement M
 send_spec =
     tie.close (tie.spec
-    (λ c. let a = c.before.before.before.args in send-roots a.parity a.depth a.stream.now a.out.now c.if1.true)
-    (λ c. let a = c.before.before.before.before.args in send-depth a.parity a.depth a.stream.now a.out.now c.before.if1.false
-    c.if2.true)
+    (λ c. let a = c.args in send-roots a.parity a.depth a.stream.now a.out.now c.if-parity-gt-PARITY.true)
+    (λ c. let a = c.args in send-depth a.parity a.depth a.stream.now a.out.now c.if-parity-gt-PARITY.false
+    c.if-depth-gt-DEPTH.true)
     (search rules) (search rules) (search rules)
     (λ c.
-    let g = c.before in
-    let d = g.before.before in
-    let a = d.before.before.before.before.args in
-    send-short a.parity a.depth d.before.if1.false d.if2.false a.stream.now a.out.now
-    (g.groups_of.ensures ∙ ap (λ q. (q + closing_words a.depth + 3) / group_words) g.before.messages-of.ensures) c.if3.true)
-    (λ c κs. let d = c.before.before.before.before in (d.before.if1.false, d.if2.false, omega (arith, c.before.if3.false)))
-    (λ c. omega (arith, c.before.before.before.before.if3.false))
+    let a = c.args in
+    send-short a.parity a.depth c.if-parity-gt-PARITY.false c.if-depth-gt-DEPTH.false a.stream.now a.out.now
+    (c.groups_of-groups.ensures ∙ ap (λ q. (q + closing_words a.depth + 3) / group_words) c.messages_of-words.ensures) c.if-out-groups.true)
+    (λ c κs. (c.if-parity-gt-PARITY.false, c.if-depth-gt-DEPTH.false, omega (arith, c.if-out-groups.false)))
+    (λ c. omega (arith, c.if-out-groups.false))
     (search rules)
     (λ c.
-    let p = c.before.before in
-    let t = p.before.before in
-    let g = t.before in
-    let d = g.before.before in
-    let a = d.before.before.before.before.args in
-    send-fits a.parity a.depth d.before.if1.false d.if2.false a.stream.now a.out.now
-    (g.groups_of.ensures ∙ ap (λ q. (q + closing_words a.depth + 3) / group_words) g.before.messages-of.ensures) t.if3.false
-    p.put-groups.ensures))
+    let a = c.args in
+    send-fits a.parity a.depth c.if-parity-gt-PARITY.false c.if-depth-gt-DEPTH.false a.stream.now a.out.now
+    (c.groups_of-groups.ensures ∙ ap (λ q. (q + closing_words a.depth + 3) / group_words) c.messages_of-words.ensures) c.if-out-groups.false
+    c.put_groups.ensures))

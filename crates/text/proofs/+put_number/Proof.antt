@@ -30,10 +30,10 @@ pub +put_number_spec : {M : Type 1} → statement M
     (put-byte-reads.Asked, put-byte-reads.Learnt, put_number_below t, put-number.Post)
     (put_number_at t)
     put-number.Post
-    (search rules) (search rules) (search rules) (λ c. search rules)
+    (search rules) (search rules) (search rules) (search rules)
     (λ c. number-last _ c.before.before.before.before.if-n-lt10.true c.before.before.put_byte.ensures)
     (λ c κs. (omega arith, tt))
-    (search rules) (search rules) (search rules) (λ c. search rules)
+    (search rules) (search rules) (search rules) (search rules)
     (λ c.
     let d = c.before.before in
     number_more _ (omega arith) d.before.before.before.before.before.before.if-n-lt10.false

@@ -7,5 +7,5 @@ use Rattle.text.proofs.put_item.Tie as tie
 pub put_item_spec : {M : Type 1} → statement M
 put_item_spec =
     tie.close (tie.spec
-    (search rules) (search rules) (λ c. search rules)
+    (search rules) (search rules) (search rules)
     (λ c. put_then c.before.before.before.before.before.before.put_number-end.ensures c.before.before.put_byte.ensures))

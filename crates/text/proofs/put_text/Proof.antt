@@ -19,7 +19,7 @@ pub put_text_spec : {M : Type 1} → statement M
 put_text_spec =
     tie.close (tie.spec invariant-loop-i decreases-loop-i
     (λ c. (refl, refl))
-    (search rules) (λ c κs. search rules) (search rules)
+    (search rules) (search rules) (search rules)
     (omega arith)
     (λ c.
     let l = c.before.before.before.before.before.before.loop-i in

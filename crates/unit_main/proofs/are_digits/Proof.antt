@@ -15,6 +15,6 @@ pub are_digits_spec : {M : Type 1} → statement M
 are_digits_spec =
     tie.close (tie.spec invariant-loop-i decreases-loop-i
     (λ c. tt)
-    (search rules) (λ c κs. search rules) (search rules) (search rules) (search rules)
+    (search rules) (search rules) (search rules) (search rules) (search rules)
     (λ c. tt)
     (search rules))

@@ -15,6 +15,6 @@ pub value_spec : {M : Type 1} → statement M
 value_spec =
     tie.close (tie.spec invariant-loop-i decreases-loop-i
     (λ c. tt)
-    (search rules) (λ c κs. search rules) (search rules) (λ c κs. search rules) (search rules) (search rules)
+    (search rules) (search rules) (search rules) (search rules) (search rules) (search rules)
     (λ c. tt)
     (search rules))

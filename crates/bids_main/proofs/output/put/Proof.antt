@@ -15,6 +15,6 @@ decreases-loop recording bytes at₀ at = length bytes - at
 pub put_spec : {M : Type 1} → statement M
 put_spec =
     tie.close (tie.spec invariant-loop decreases-loop
-    (λ c κs. search rules) (search rules) (search rules) (search rules) (λ c κs. search rules) (search rules) (search rules) (search rules)
-    (search rules) (λ c κs. search rules) (search rules) (search rules) (search rules)
+    (search rules) (search rules) (search rules) (search rules) (search rules) (search rules) (search rules) (search rules)
+    (search rules) (search rules) (search rules) (search rules) (search rules)
     (search rules))

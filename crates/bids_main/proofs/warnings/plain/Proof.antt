@@ -14,5 +14,5 @@ decreases-loop text i₀ i = length text - i
 pub plain_spec : {M : Type 1} → statement M
 plain_spec =
     tie.close (tie.spec invariant-loop decreases-loop
-    (search rules) (search rules) (λ c κs. search rules) (search rules) (search rules) (search rules) (search rules)
+    (search rules) (search rules) (search rules) (search rules) (search rules) (search rules) (search rules)
     (search rules))

@@ -14,6 +14,6 @@ decreases-loop text end i₀ i = end - i
 pub say_shown_spec : {M : Type 1} → statement M
 say_shown_spec =
     tie.close (tie.spec invariant-loop decreases-loop
-    (λ c κs. search rules) (search rules) (search rules) (λ c κs. search rules) (search rules) (λ c κs. search rules) (search rules) (search rules)
+    (search rules) (search rules) (search rules) (search rules) (search rules) (search rules) (search rules) (search rules)
     (search rules)
     (search rules))

@@ -8,5 +8,5 @@ use Rattle.board_lines.proofs.Piece.lead.Tie as tie
 pub lead_spec : {M : Type 1} → statement M
 lead_spec =
     tie.close (tie.spec
-    (search rules) (λ c κs. search rules)
+    (search rules) (search rules)
     (λ c. piece-put c.before.put-lead.ensures (lead-short c.before.before.before.args.noted c.before.before.before.args.delivery)))

@@ -8,5 +8,5 @@ use Rattle.board_lines.proofs.Piece.remark.Tie as tie
 pub remark_spec : {M : Type 1} → statement M
 remark_spec =
     tie.close (tie.spec
-    (search rules) (λ c κs. search rules)
+    (search rules) (search rules)
     (λ c. piece-put c.before.put-remark.ensures (remark-short c.before.before.before.args.blocks c.before.before.before.args.answer)))

@@ -7,5 +7,5 @@ use Rattle.board_lines.proofs.Piece.shown_byte.Tie as tie
 pub shown_byte_spec : {M : Type 1} → statement M
 shown_byte_spec =
     tie.close (tie.spec
-    (search rules) (λ c κs. search rules)
+    (search rules) (search rules)
     (λ c. piece-put c.before.put-shown.ensures (shown-short c.before.before.before.args.b)))

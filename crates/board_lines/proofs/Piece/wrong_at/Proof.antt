@@ -7,5 +7,5 @@ use Rattle.board_lines.proofs.Piece.wrong_at.Tie as tie
 pub wrong_at_spec : {M : Type 1} → statement M
 wrong_at_spec =
     tie.close (tie.spec
-    (search rules) (search rules) (λ c κs. search rules) (search rules) (λ c κs. search rules)
+    (search rules) (search rules) (search rules) (search rules) (search rules)
     (λ c. piece-put (wrong-line _ c.before.before.before.before.put-text.ensures c.before.put_item.ensures) (wrong-short _)))

@@ -12,7 +12,7 @@ use Rattle.capture.proofs.reader.ending.Tie as tie
 pub ending_spec : {M : Type 1} → statement M
 ending_spec =
     tie.close (tie.spec
-    (λ c. search rules) (λ c. search rules) (λ c. search rules) (λ c. search rules) (λ c. search rules) (λ c. search rules)
+    (search rules) (search rules) (search rules) (search rules) (search rules) (search rules)
     (λ c. sym (ap ending c.in-Head.is ∙ ap (λ (t : Bool). pick t Whole (Refused 61)) (ne_eqb _ 0 c.if-k-eq0.false)))
-    (λ c. search rules)
+    (search rules)
     (λ c. sym (ap ending c.in-Behind.is)))

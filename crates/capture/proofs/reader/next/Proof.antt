@@ -8,6 +8,6 @@ use Rattle.capture.proofs.reader.next.Tie as tie
 pub next_spec : {M : Type 1} → statement M
 next_spec =
     tie.close (tie.spec
-    (λ c. search rules) (λ c. search rules) (λ c. search rules) (λ c. search rules)
+    (search rules) (search rules) (search rules) (search rules)
     (λ c. sym (ap next c.in-Refused.is))
-    (λ c. search rules))
+    (search rules))

@@ -8,8 +8,8 @@ pub is_clean_spec : {M : Type 1} → statement M
 is_clean_spec =
     tie.close (tie.spec
     (search rules) (search rules) (search rules) (search rules)
-    (λ c. let s = c.before.before.before.before in told-clean s.args.word.now s.requires _ c.before.before.check.ensures c.enum_told.given.1)
-    (λ c. let s = c.before.before.before.before in told-damaged s.args.word.now s.requires _ c.before.before.check.ensures
-    c.enum-told2.given.1)
-    (λ c. let s = c.before.before.before.before in told-refused s.args.word.now s.requires _ c.before.before.check.ensures _
-    c.enum-told3.given.1))
+    (λ c. told-clean c.args.word.now c.requires _ c.check.ensures c.in-Clean.is)
+    (λ c. told-damaged c.args.word.now c.requires _ c.check.ensures
+    c.in-Damaged.is)
+    (λ c. told-refused c.args.word.now c.requires _ c.check.ensures _
+    c.in-Refused.is))

@@ -14,10 +14,9 @@ is_clean_last_spec =
     tie.close (tie.spec
     (search rules) (search rules) (search rules) (search rules) (search rules)
     (λ c.
-    let s = c.before.before.before.before.before in
-    let n : s.args.at + word_bytes - s.args.at ≡ word_bytes = omega arith in
-    c.is-clean.ensures
-    ∙ ap (λ m. clean parity_bytes (take m (drop s.args.at s.args.piece.now))) n
-    ∙ ap (clean parity_bytes) (s.requires.1.1 c.before.before.if1.true))
+    let n : c.args.at + word_bytes - c.args.at ≡ word_bytes = omega arith in
+    c.is_clean.ensures
+    ∙ ap (λ m. clean parity_bytes (take m (drop c.args.at c.args.piece.now))) n
+    ∙ ap (clean parity_bytes) (c.requires.1.1 c.if-n-eq-WORD.true))
     (search rules) (search rules) (search rules) (search rules)
-    (λ c. c.is-clean2.ensures))
+    (λ c. c.is_clean-2.ensures))

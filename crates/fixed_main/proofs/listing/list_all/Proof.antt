@@ -17,6 +17,6 @@ decreases-loop parity depth recv₀ word₀ piece₀ sub₀ counts₀ reads₀ r
 pub list_all_spec : {M : Type 1} → statement M
 list_all_spec =
     tie.close (tie.spec invariant-loop decreases-loop
-    (λ c κs. search rules) (λ c κs. search rules) (λ c κs. search rules) (search rules) (search rules) (search rules) (search rules)
-    (λ c κs. search rules) (search rules) (search rules) (search rules) (search rules)
+    (search rules) (search rules) (search rules) (search rules) (search rules) (search rules) (search rules)
+    (search rules) (search rules) (search rules) (search rules) (search rules)
     (search rules))

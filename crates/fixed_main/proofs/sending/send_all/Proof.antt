@@ -16,8 +16,8 @@ decreases-loop parity depth hold₀ out₀ matrix₀ want have₀ reads₀ hold 
 pub send_all_spec : {M : Type 1} → statement M
 send_all_spec =
     tie.close (tie.spec invariant-loop decreases-loop
-    (λ c κs. search rules) (λ c κs. search rules) (λ c κs. search rules) (λ c κs. search rules) (search rules) (search rules) (λ c κs. search rules)
-    (λ c κs. search rules) (search rules) (search rules) (search rules) (search rules) (λ c κs. search rules) (search rules) (search rules)
-    (search rules) (search rules) (λ c κs. search rules) (search rules) (search rules) (search rules) (λ c κs. search rules) (search rules)
+    (search rules) (search rules) (search rules) (search rules) (search rules) (search rules) (search rules)
+    (search rules) (search rules) (search rules) (search rules) (search rules) (search rules) (search rules) (search rules)
+    (search rules) (search rules) (search rules) (search rules) (search rules) (search rules) (search rules) (search rules)
     (search rules) (search rules) (search rules)
     (search rules))

@@ -8,5 +8,5 @@ pub more_spec : {M : Type 1} → statement M
 more_spec =
     tie.close (tie.spec
     (search rules)
-    (λ c. simp (lt-ltb _ _ c.if1.true))
-    (λ c. simp (le-ltb _ _ c.if1.false)))
+    (λ c. simp (lt-ltb _ _ c.if-n-lt18446744073709551615.true))
+    (λ c. simp (le-ltb _ _ c.if-n-lt18446744073709551615.false)))

@@ -13,7 +13,7 @@ use Rattle.missed.proofs.line.print_noted.Tie as tie
 pub print_noted_spec : {M : Type 1} → statement M
 print_noted_spec =
     tie.close (tie.spec
-    (search rules) (λ c κs. search rules) (search rules) (λ c κs. search rules) (λ c. search rules)
+    (search rules) (search rules) (search rules) (search rules) (search rules)
     (λ c.
     let s = c.before.before.before.before.before.before.before.before.before.args in
     c.before.before.deliver.ensures

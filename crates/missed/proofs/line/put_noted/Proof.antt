@@ -7,7 +7,7 @@ use Rattle.missed.proofs.line.put_noted.Tie as tie
 pub put_noted_spec : {M : Type 1} → statement M
 put_noted_spec =
     tie.close (tie.spec
-    (λ c κs. search rules) (λ c κs. search rules) (λ c κs. search rules) (λ c. search rules)
+    (search rules) (search rules) (search rules) (search rules)
     (λ c.
     let s = c.before.before in
     noted-put _ _ _ s.before.before.before.before.before.before.before.before.put_item.ensures

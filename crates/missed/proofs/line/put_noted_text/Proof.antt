@@ -8,9 +8,9 @@ use Rattle.missed.proofs.line.put_noted_text.Tie as tie
 pub put_noted_text_spec : {M : Type 1} → statement M
 put_noted_text_spec =
     tie.close (tie.spec
-    (search rules) (search rules) (λ c κs. search rules) (search rules) (search rules) (λ c κs. search rules) (search rules) (search rules)
-    (λ c κs. search rules) (search rules) (search rules) (λ c κs. search rules) (search rules) (λ c κs. search rules) (search rules) (search rules)
-    (λ c κs. search rules) (search rules) (search rules) (λ c κs. search rules) (search rules) (λ c κs. search rules) (search rules)
+    (search rules) (search rules) (search rules) (search rules) (search rules) (search rules) (search rules) (search rules)
+    (search rules) (search rules) (search rules) (search rules) (search rules) (search rules) (search rules) (search rules)
+    (search rules) (search rules) (search rules) (search rules) (search rules) (search rules) (search rules)
     (λ c. put-case noted_text c.before.before.before.before.before.enum_told.given.1 c.before.before.put-text.ensures)
     (search rules)
     (λ c. put-case noted_text c.before.before.before.before.before.enum-told2.given.1 c.before.before.put-text2.ensures)

@@ -10,12 +10,8 @@ pub close_spec : {M : Type 1} → statement M
 close_spec =
     tie.close (tie.spec
     (search rules) (search rules) (search rules) (search rules) (search rules) (search rules) (search rules)
-    (λ c. let at-hear = c.before.before.before.before.before.before in let at-if1 = at-hear.before.before.before.before.before.before in
-    let s = at-if1.before.before.before.before.before in
-    let d = desk s.args.self s.args.line.now s.args.hold.now in
-    close-as (length s.args.out.now) d s.args.out.now (none-begun d at-if1.if1.true) at-hear.hear.ensures)
+    (λ c. let d = desk c.args.self c.args.line.now c.args.hold.now in
+    close-as (length c.args.out.now) d c.args.out.now (none-begun d c.if-self-eq0.true) c.hear.ensures)
     (search rules) (search rules) (search rules) (search rules) (search rules)
-    (λ c. let at-hear2 = c.before.before.before.before.before.before in let at-if1 = at-hear2.before.before.before.before.before in
-    let s = at-if1.before.before.before.before.before in
-    let d = desk s.args.self s.args.line.now s.args.hold.now in
-    close-as (length s.args.out.now) d s.args.out.now (one-begun d at-if1.if1.false) at-hear2.hear2.ensures))
+    (λ c. let d = desk c.args.self c.args.line.now c.args.hold.now in
+    close-as (length c.args.out.now) d c.args.out.now (one-begun d c.if-self-eq0.false) c.hear-2.ensures))

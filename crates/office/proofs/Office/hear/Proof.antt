@@ -14,37 +14,37 @@ use Rattle.office.proofs.Office.hear.Tie as tie
 abbrev at : tie.Start → Desk
 at s = desk s.args.self s.args.line.now s.args.hold.now
 
-abbrev begun : tie.Else1 → tie.Start
+abbrev begun : tie.Else-not-sound → tie.Start
 begun c = c.before.before.before.before.before.before
 
-abbrev else1 : tie.Else2 → tie.Else1
+abbrev else1 : tie.Else-not-has_room → tie.Else-not-sound
 else1 c = c.before.before.before.before
 
 -- what passes 10, and 11
-ten : (c : tie.Else1) → sound (begun c).args.self ≡ true
-ten c = sym c.before.sound.ensures ∙ not-false _ c.if1.false
+ten : (c : tie.Else-not-sound) → sound (begun c).args.self ≡ true
+ten c = sym c.sound.ensures ∙ c.if-not-sound.false
 
-eleven : (c : tie.Else2) → let a = (begun (else1 c)).args in roomy a.line.now a.hold.now ≡ true
-eleven c = sym c.before.has_room.ensures ∙ not-false _ c.if2.false
+eleven : (c : tie.Else-not-has_room) → let a = (begun (else1 c)).args in roomy a.line-1.now a.hold-1.now ≡ true
+eleven c = sym c.has_room.ensures ∙ c.if-not-has_room.false
 
 pub hear_spec : {M : Type 1} → statement M
 hear_spec =
     tie.close (tie.spec
     (search rules) (search rules)
-    (λ c. let e = c.before in let s = e.before.before.before.before.before.before in
-    call-unsound (length s.args.out.now) (at s) s.args.piece.now (sym e.before.sound.ensures ∙ not-true _ e.if1.true)
+    (λ c. let s = c.before.before.before.before.before.before in
+    call-unsound (length s.args.out.now) (at s) s.args.piece.now (sym c.sound.ensures ∙ c.if-not-sound.true)
     s.args.out.now c.refused.ensures)
     (search rules) (search rules) (search rules) (search rules)
-    (λ c. let e = c.before in let k = e.before.before.before.before in let s = begun k in
-    call-cramped (length s.args.out.now) (at s) s.args.piece.now (ten k) (sym e.before.has_room.ensures ∙ not-true _ e.if2.true)
-    s.args.out.now c.refused2.ensures)
+    (λ c. let k = c.before.before.before.before in let s = begun k in
+    call-cramped (length s.args.out.now) (at s) s.args.piece.now (ten k) (sym c.has_room.ensures ∙ c.if-not-has_room.true)
+    s.args.out.now c.refused-then-not-has_room.ensures)
     (search rules) (search rules) (search rules)
-    (λ c. let e = c.before in let k = e.before in let s = begun (else1 k) in
-    call-short (length s.args.out.now) (at s) s.args.piece.now (ten (else1 k)) (eleven k) e.if3.true s.args.out.now
-    c.refused3.ensures)
-    (λ c κs. let e = c.before.before.before in (ten (else1 e.before), eleven e.before, e.if3.false))
+    (λ c. let k = c.before in let s = begun (else1 k) in
+    call-short (length s.args.out.now) (at s) s.args.piece.now (ten (else1 k)) (eleven k) c.if-out-lt-OUTPUT.true s.args.out.now
+    c.refused-then-out-lt-OUTPUT.ensures)
+    (λ c κs. let e = c.before.before.before in (ten (else1 e.before), eleven e.before, e.if-out-lt-OUTPUT.false))
     (search rules) (search rules) (search rules)
-    (λ c. let h = c.before.before.before.before.before.before in let e = h.before.before.before.before in let k = e.before in
+    (λ c. let k = c.before in
     let s = begun (else1 k) in
-    called_on (length s.args.out.now) (at s) s.args.piece.now (ten (else1 k)) (eleven k) e.if3.false s.args.out.now
-    h.hear-on.ensures))
+    called_on (length s.args.out.now) (at s) s.args.piece.now (ten (else1 k)) (eleven k) c.if-out-lt-OUTPUT.false s.args.out.now
+    c.hear_on.ensures))

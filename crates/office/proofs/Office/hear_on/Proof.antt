@@ -5,31 +5,30 @@ use Rattle.office.proofs.Office.hear_on.Statement.{statement}
 use Rattle.office.proofs.Office.hear_on.Tie as tie
 
 -- what is sought, and the call, from where bytes are kept
-abbrev sought : tie.After-keep → tie.After-up-to
+abbrev sought : tie.After-keep-stored → tie.After-up_to-n
 sought c = c.before.before.before
 
-abbrev begun : tie.After-keep → tie.Start
+abbrev begun : tie.After-keep-stored → tie.Start
 begun c = (sought c).before.before.before.before.before
 
 pub hear_on_spec : {M : Type 1} → statement M
 hear_on_spec =
     tie.close (tie.spec
     (search rules) (search rules) (search rules) (search rules)
-    (λ c κs. let s = c.before.before.before.before.before.before.before in
-    (sound-stored s.args.self s.requires.0, roomy-line s.args.line.now s.args.hold.now s.requires.1))
+    (λ c κs. (sound-stored c.args.self c.requires.0, roomy-line c.args.line.now c.args.hold.now c.requires.1))
     (search rules)
     (λ c. let k = c.before.before.before in let s = begun k in
     heard-more s.args.self s.args.line.now s.args.hold.now s.args.piece.now (sound-stored s.args.self s.pre.0)
-    (sought k).up_to_lem.ensures.0 k.keep.ensures.0 k.keep.ensures.1 c.if1.true s.args.out.now)
+    (sought k).up_to-n.ensures.0 k.keep-stored.ensures.0 k.keep-stored.ensures.1 c.if-n-piece.true s.args.out.now)
     (search rules) (search rules)
     (λ c. let k = c.before.before.before.before in let s = begun k in
     stored-fits s.args.self s.args.line.now s.args.hold.now s.args.piece.now (sound-stored s.args.self s.pre.0)
-    (sought k).up_to_lem.ensures.0 k.keep.ensures.0 k.keep.ensures.1 (roomy-line s.args.line.now s.args.hold.now s.pre.1))
+    (sought k).up_to-n.ensures.0 k.keep-stored.ensures.0 k.keep-stored.ensures.1 (roomy-line s.args.line.now s.args.hold.now s.pre.1))
     (λ c κs. let s = begun c.before.before.before.before.before.before.before in
     (sound-held s.args.self s.pre.0, roomy-hold s.args.line.now s.args.hold.now s.pre.1, s.pre.2))
     (search rules) (search rules) (search rules) (search rules) (search rules)
-    (λ c. let l = c.before.before.before.before.before in let e = l.before.before.before.before.before in let k = e.before.before.before in
+    (λ c. let k = c.before.before.before in
     let s = begun k in
     heard-line s.args.self s.args.line.now s.args.hold.now s.args.piece.now (sound-stored s.args.self s.pre.0)
-    (sought k).up_to_lem.ensures.0 k.keep.ensures.0 k.keep.ensures.1 e.if1.false s.args.out.now l.end_line.ensures
+    (sought k).up_to-n.ensures.0 k.keep-stored.ensures.0 k.keep-stored.ensures.1 c.if-n-piece.false s.args.out.now c.end_line-ended.ensures
     c.numbered.ensures))

@@ -8,7 +8,7 @@ use Rattle.office.proofs.Office.start.Tie as tie
 pub start_spec : {M : Type 1} → statement M
 start_spec =
     tie.close (tie.spec
-    (λ c. start-short c.before.before.args.hold.now (omega (arith, c.if1.true)))
+    (λ c. start-short c.args.hold.now (omega (arith, c.if-hold-lt-HOLD.true)))
     (search rules) (search rules) (search rules)
-    (λ c. start-copied c.before.before.before.before.before.before.before.args.hold.now c.before.before.before.before.before.if1.false
-    c.before.before.copy.ensures))
+    (λ c. start-copied c.args.hold.now c.if-hold-lt-HOLD.false
+    c.copy.ensures))

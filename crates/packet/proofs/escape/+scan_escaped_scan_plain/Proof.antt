@@ -34,7 +34,7 @@ unfolding wrong_from
     (λ t. escaped.spec (below 1 plain-kinds.ps μ_plain plain-reads.Pre t, plain-reads.Post)
     (at 1 escaped-kinds.ps μ_escaped escaped-reads.Pre t) escaped-reads.Post
     (λ c. let a = c.args in rw (over a.raw.now a.at (omega arith)))
-    (λ c. search rules) (λ c. search rules) (λ c κs. search rules)
+    (search rules) (search rules) (search rules)
     (λ c.
     let a = c.args in
     rw (next a.raw.now a.at (omega arith)) (simp (right-in _ c.in-94.if-b-lt93-own.false c.in-94.if-b-lt95-own.true)
@@ -43,7 +43,7 @@ unfolding wrong_from
     (λ c. let a = c.args in rw (next a.raw.now a.at (omega arith)) (simp (right-high _ c.in_default.if-b-lt95-own.false))))
     (λ t. plain.spec (up-to-reads.Asked, up-to-reads.Learnt, below 1 escaped-kinds.ps μ_escaped escaped-reads.Pre t, escaped-reads.Post)
     (at 1 plain-kinds.ps μ_plain plain-reads.Pre t) plain-reads.Post
-    (λ c. search rules) (λ c. search rules) (λ c. search rules) (λ c κs. search rules)
+    (search rules) (search rules) (search rules) (search rules)
     (λ c.
     let a = c.args in
     let w = found_within a.raw.now a.at (found-is a.raw.now a.at c.up_to.ensures.0) (omega arith) in

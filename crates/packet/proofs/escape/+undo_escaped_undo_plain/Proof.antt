@@ -34,7 +34,7 @@ unfolding plain escaped
     (λ t. e-lts.spec (restored-reads.Asked, restored-reads.Learnt, below 1 p-kinds.ps μ_p p-reads.Pre t, p-reads.Post)
     (at 1 e-kinds.ps μ_e e-reads.Pre t) e-reads.Post
     (λ c. let a = c.before.before.args in rw (part-over a.recv.now a.from a.n (omega arith)) (laid_none a.recv.now a.to))
-    (λ c. search rules) (λ c κs. search rules) (λ c. search rules) (λ c. search rules) (λ c. search rules)
+    (search rules) (search rules) (search rules) (search rules) (search rules)
     (λ c κs. simp length-set (omega arith))
     (λ c. c.before.before.undo_plain.auto.recv ∙ simp length-set)
     (λ c.
@@ -44,7 +44,7 @@ unfolding plain escaped
     (rw (← c.before.before.before.before.restored-b.ensures)
     (laid_more _ (rw (part-set l (a.from + 1) a.n a.to _ (omega arith) (omega arith)) at c.before.before.undo_plain.ensures)))))
     (λ t. p-lts.spec (move-reads.Asked, move-reads.Learnt, below 1 e-kinds.ps μ_e e-reads.Pre t, e-reads.Post) (at 1 p-kinds.ps μ_p p-reads.Pre t) p-reads.Post
-    (λ c κs. search rules)
+    (search rules)
     (λ c.
     let a = c.before.before.before.before.before.args in
     let h = c.before.before.move_run-k.ensures in

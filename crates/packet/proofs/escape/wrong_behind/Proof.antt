@@ -11,15 +11,15 @@ pub wrong_behind_spec : {M : Type 1} → statement M
 wrong_behind_spec =
     tie.close (tie.spec
     (λ c. let a = c.before.before.args in unfold wrong_from in rw (over a.raw.now a.from c.if-raw-from.true))
-    (λ c κs. search rules)
+    (search rules)
     (λ c.
     let a = c.before.before.before.before.args in
     c.scan_plain.ensures ∙ at-start a.raw.now a.from c.before.if-from-eq0.true)
-    (search rules) (search rules) (λ c κs. search rules)
+    (search rules) (search rules) (search rules)
     (λ c.
     let a = c.before.before.before.before.before.before.args in
     c.scan_escaped.ensures ∙ behind-escape a.raw.now a.from c.before.before.before.if-from-eq0.false c.before.if-raw-from-eq125.true)
-    (λ c κs. search rules)
+    (search rules)
     (λ c.
     let a = c.before.before.before.before.before.before.args in
     c.scan_plain-2.ensures ∙ behind-other a.raw.now a.from c.before.before.before.if-from-eq0.false c.before.if-raw-from-eq125.false))

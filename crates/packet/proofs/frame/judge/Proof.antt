@@ -10,7 +10,7 @@ judge_spec =
     tie.close (tie.spec
     (λ c. let a = c.before.before.args in both (judging-over a.recv.now a.raw c.if-raw-gt-OVER.true))
     (λ c. let a = c.before.before.before.args in both (judging-short a.recv.now a.raw c.before.if-raw-gt-OVER.false c.if-recv-lt-RAW.true))
-    (λ c κs. search rules) (search rules)
+    (search rules) (search rules)
     (λ c.
     let l = c.before.before.before.before in
     let a = l.before.before.before.args in

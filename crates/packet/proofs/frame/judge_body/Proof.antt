@@ -13,10 +13,10 @@ use Rattle.packet.proofs.frame.judge_body.Tie as tie
 pub judge_body_spec : {M : Type 1} → statement M
 judge_body_spec =
     tie.close (tie.spec
-    (search rules) (search rules) (search rules) (search rules) (search rules) (search rules) (search rules) (λ c κs. search rules)
+    (search rules) (search rules) (search rules) (search rules) (search rules) (search rules) (search rules) (search rules)
     (λ c. as_plain c.before.before.before.before.before.before.args.body.now c.before.before.before.if-format-eq-PLAIN_FORMAT.true c.judge_packet.ensures)
     (λ c. ap judged (sym (body-format _ c.before.if-format-eq-PLAIN_FORMAT.false c.if-format-ne-KEY_FORMAT.true)))
-    (λ c κs. search rules) (search rules) (λ c κs. search rules) (search rules) (search rules) (search rules) (search rules)
+    (search rules) (search rules) (search rules) (search rules) (search rules) (search rules) (search rules)
     (λ c. let t = c.before.before.before in let f = key_fits_lem t.before.before.before.before.before.before.args.body.now
     (sym t.before.key_fits.ensures ∙ t.if-key_fits.true) in omega (arith, f.2, c.before.wide-end.ensures.0))
     (λ c. let t = c.before.before.before.before in let f = key_fits_lem t.before.before.before.before.before.before.args.body.now

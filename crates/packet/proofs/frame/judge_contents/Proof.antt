@@ -14,7 +14,7 @@ judge_contents_spec =
     (λ c. ap judged (sym (judge-short _ c.if-n-lt8.true)))
     (search rules)
     (λ c. simp length-take (omega arith))
-    (λ c κs. search rules) (λ c κs. search rules)
+    (search rules) (search rules)
     (λ c.
     ap judged (sym (judge-check _ c.if-n-lt8.false (λ e. c.if-fcs-pair_at.true (c.fcs.ensures ∙ e ∙ sym c.pair_at.ensures)))))
     (λ c. simp length-take (omega arith))

@@ -9,19 +9,19 @@ use Rattle.packet.proofs.frame.judge_packet.Tie as tie
 pub judge_packet_spec : {M : Type 1} → statement M
 judge_packet_spec =
     tie.close (tie.spec
-    (λ c κs. search rules) (λ c κs. search rules)
+    (search rules) (search rules)
     (λ c.
     let b = c.before in
     let a = b.before.before.before.before.args in
     rest-port a.format a.number a.key.now a.rest.now b.before.pair_at-port.ensures b.barred.ensures c.if-barred.true)
-    (search rules) (search rules) (search rules) (λ c κs. search rules)
+    (search rules) (search rules) (search rules) (search rules)
     (λ c.
     let t = c.before.before.before in
     let b = t.before in
     let a = b.before.before.before.before.args in
     rest-payload a.format a.number a.key.now a.rest.now b.before.pair_at-port.ensures b.barred.ensures t.if-barred.false refl
     (ltb-true _ _ (sym c.before.longer.ensures ∙ c.if-longer.true)))
-    (search rules) (λ c κs. search rules) (search rules)
+    (search rules) (search rules) (search rules)
     (λ c.
     let e = c.before.before in
     let t = e.before.before in

@@ -9,6 +9,6 @@ head_fits_spec =
     tie.close (tie.spec
     (λ c. rw (eq-eqb _ _ c.before.if-format-eq-PLAIN_FORMAT.true, eq-eqb _ _ c.if-key-eq0.true))
     (λ c. rw (eq-eqb _ _ c.before.if-format-eq-PLAIN_FORMAT.true, ne_eqb _ _ c.if-key-eq0.false))
-    (λ c κs. search rules)
+    (search rules)
     (λ c. rw (ne_eqb _ _ c.before.before.if-format-eq-PLAIN_FORMAT.false, eq-eqb _ _ c.before.if-format-eq-KEY_FORMAT.true) c.key_sized.ensures)
     (λ c. rw (ne_eqb _ _ c.before.if-format-eq-PLAIN_FORMAT.false, ne_eqb _ _ c.if-format-eq-KEY_FORMAT.false)))

@@ -16,7 +16,7 @@ put_head_spec =
     (λ c. simp length-set (omega (arith, c.before.before.before.requires.1)))
     (λ c. simp length-set (omega (arith, c.before.before.before.requires.1)))
     (λ c. simp length-set (omega (arith, c.before.before.before.requires.1)))
-    (search rules) (λ c κs. search rules) (search rules)
+    (search rules) (search rules) (search rules)
     (λ c.
     let a = c.before.before.before.before.before.before.before.args in
     key-length a.format a.number a.key.now a.out.now c.before.before.copy.new.dst c.before.before.copy.auto.dst)

@@ -25,7 +25,7 @@ put_packet_spec =
           (omega arith) c.requires.0,
       o.auto.out,
     ))
-    (λ c κs. search rules) (λ c κs. search rules) (search rules) (search rules)
+    (search rules) (search rules) (search rules) (search rules)
     (λ c.
     let o = c.put_opening-n in
     omega (

@@ -17,7 +17,7 @@ laid-two l b at n e = rw e (record { ends = omega arith; holds = rw add-one })
 pub put_two_spec : {M : Type 1} → statement M
 put_two_spec =
     tie.close (tie.spec
-    (λ c κs. search rules) (search rules) (search rules) (search rules) (search rules)
+    (search rules) (search rules) (search rules) (search rules) (search rules)
     (λ c. simp length-set (omega (arith, c.before.before.requires)))
     (search rules) (search rules)
     (λ c. let a = c.before.before.args in laid-two a.out.now c.two-b.result a.at a.n c.two-b.ensures))

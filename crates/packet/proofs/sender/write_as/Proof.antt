@@ -10,14 +10,14 @@ pub write_as_spec : {M : Type 1} → statement M
 write_as_spec =
     tie.close (tie.spec
     (λ c. let a = c.before.before.before.before.args in sym (write-empty _ a.out.now c.if-payload-eq0.true))
-    (λ c κs. search rules)
+    (search rules)
     (λ c. let a = c.before.before.before.before.before.before.args in sym (write-long _ a.out.now c.before.before.if-payload-eq0.false (omega arith)))
-    (λ c κs. search rules)
+    (search rules)
     (λ c.
     let t = c.before.before.before.before in
     let a = t.before.before.before.before.args in
     sym (write-barred _ a.out.now t.if-payload-eq0.false (omega arith) (sym c.before.barred.ensures ∙ c.if-barred.true)))
-    (λ c κs. search rules)
+    (search rules)
     (λ c κs.
     let h = c.before.before in
     let a = c.before.before.before.before.before.before.before.before.before.before.before.args in (

@@ -7,7 +7,7 @@ use Rattle.recording.proofs.spot.channel_behind.Tie as tie
 pub channel_behind_spec : {M : Type 1} → statement M
 channel_behind_spec =
     tie.close (tie.spec
-    (λ c. search rules) (λ c. search rules) (λ c. search rules) (λ c. search rules) (λ c. search rules) (λ c. search rules) (λ c. search rules)
+    (search rules) (search rules) (search rules) (search rules) (search rules) (search rules) (search rules)
     (λ c. rw c.enum_told.given.1 refl)
-    (λ c. search rules) (λ c. search rules) (λ c. search rules) (λ c. search rules) (λ c. search rules)
-    (λ c. search rules))
+    (search rules) (search rules) (search rules) (search rules) (search rules)
+    (search rules))

@@ -9,7 +9,7 @@ use Rattle.recording.proofs.spot.left_of.Tie as tie
 pub left_of_spec : {M : Type 1} → statement M
 left_of_spec =
     tie.close (tie.spec
-    (λ c. search rules) (λ c. search rules) (λ c. search rules) (λ c. search rules) (λ c. search rules) (λ c. search rules) (λ c. search rules)
-    (λ c. search rules) (λ c. search rules) (λ c. search rules) (λ c. search rules) (λ c. search rules) (λ c. search rules) (λ c. search rules)
+    (search rules) (search rules) (search rules) (search rules) (search rules) (search rules) (search rules)
+    (search rules) (search rules) (search rules) (search rules) (search rules) (search rules) (search rules)
     (λ c. (sym (ap left_at c.before.place.given.1), omega arith))
-    (λ c. search rules))
+    (search rules))

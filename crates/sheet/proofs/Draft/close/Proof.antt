@@ -16,7 +16,7 @@ close_spec =
     close-full s.args.self at-if1.if1.false c.before.before.if2.false s.args.well c.before.if3.false c.if4.true)
     (λ c. let at-if2 = c.before.before.before in let at-if1 = at-if2.before.before in let s = at-if1.before.before.before.before in
     close-wide s.args.self at-if1.if1.false at-if2.if2.false s.args.well c.before.before.if3.false c.before.if4.false c.if5.true)
-    (λ c κs. search rules)
+    (search rules)
     (λ c. let at-if3 = c.before.before.before in let at-if2 = at-if3.before in let at-if1 = at-if2.before.before in
     let s = at-if1.before.before.before.before in
     close-counts s.args.self at-if1.if1.false at-if2.if2.false s.args.well at-if3.if3.false c.before.before.if4.false

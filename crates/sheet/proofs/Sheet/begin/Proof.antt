@@ -7,5 +7,5 @@ use Rattle.sheet.proofs.Sheet.begin.Tie as tie
 pub begin_spec : {M : Type 1} → statement M
 begin_spec =
     tie.close (tie.spec
-    (λ c κs. search rules)
+    (search rules)
     (λ c. begin-is c.before.args.self c.tidied.ensures))

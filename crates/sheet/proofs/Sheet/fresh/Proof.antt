@@ -7,5 +7,5 @@ use Rattle.sheet.proofs.Sheet.fresh.Tie as tie
 pub fresh_spec : {M : Type 1} → statement M
 fresh_spec =
     tie.close (tie.spec
-    (λ c κs. search rules)
+    (search rules)
     (λ c. fresh-is c.blank.ensures))

@@ -8,7 +8,7 @@ pub print_spec : {M : Type 1} → statement M
 print_spec =
     tie.close (tie.spec
     (λ c. let s = c.before.before.before in print-beyond s.args.self s.args.i s.args.out.now c.if1.true)
-    (λ c κs. search rules) (λ c κs. search rules) (search rules)
+    (search rules) (search rules) (search rules)
     (λ c. let at-row-at = c.before.before.before.before.before in let at-if2 = at-row-at.before in let at-if1 = at-if2.before in
     let s = at-if1.before.before.before in
     print-line s.args.self s.args.i s.args.out.now at-if1.if1.false at-if2.if2.true at-row-at.row_at.ensures

@@ -7,5 +7,5 @@ use Rattle.sheet.proofs.Sheet.tidied.Tie as tie
 pub tidied_spec : {M : Type 1} → statement M
 tidied_spec =
     tie.close (tie.spec
-    (λ c κs. search rules) (λ c κs. search rules)
+    (search rules) (search rules)
     (λ c. tidied-is c.before.before.before.args.self c.before.clear-all.ensures.0 c.before.clear-all.ensures.1 c.least.ensures))

@@ -9,9 +9,9 @@ use Rattle.sheet.proofs.line.print_row.Tie as tie
 pub print_row_spec : {M : Type 1} → statement M
 print_row_spec =
     tie.close (tie.spec
-    (search rules) (λ c κs. search rules) (search rules) (λ c κs. search rules) (search rules) (λ c κs. search rules) (search rules)
-    (λ c κs. search rules) (search rules) (λ c κs. search rules) (search rules) (λ c κs. search rules) (search rules) (λ c κs. search rules)
-    (search rules) (λ c κs. search rules) (λ c. search rules)
+    (search rules) (search rules) (search rules) (search rules) (search rules) (search rules) (search rules)
+    (search rules) (search rules) (search rules) (search rules) (search rules) (search rules) (search rules)
+    (search rules) (search rules) (search rules)
     (λ c.
     let t = c.before.before in
     let u = t.before.before.before.before in

@@ -9,5 +9,5 @@ use Rattle.sheet.proofs.rows.clear_at.Tie as tie
 pub clear_at_spec : {M : Type 1} → statement M
 clear_at_spec =
     tie.close (tie.spec
-    (λ c κs. search rules) (λ c κs. search rules)
+    (search rules) (search rules)
     (λ c. c.clear.ensures ∙ ap (λ (r : Row). cleared r) c.before.row_at.ensures))

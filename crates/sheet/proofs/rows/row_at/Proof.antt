@@ -9,8 +9,8 @@ row_at_spec =
     tie.close (tie.spec
     (search rules) (search rules)
     (λ c. let s = c.before.before.before in at_in s.args.t1 s.args.n s.args.i c.before.before.if1.true)
-    (λ c κs. search rules)
+    (search rules)
     (λ c. let s = c.before.before.before in
     at-over s.args.t1 s.args.n s.args.i c.blank.ensures c.before.if2.false (search rules))
-    (λ c κs. search rules)
+    (search rules)
     (λ c. at-past c.before.before.args.t1 c.before.before.args.n c.before.before.args.i c.blank2.ensures c.before.if1.false))

@@ -11,7 +11,7 @@ use Rattle.sheet.proofs.tally.fits.Tie as tie
 pub fits_spec : {M : Type 1} → statement M
 fits_spec =
     tie.close (tie.spec
-    (λ c κs. search rules) (λ c κs. search rules) (λ c κs. search rules)
+    (search rules) (search rules) (search rules)
     (λ c. c.all_near.ensures ∙ ap (λ (t : Tally). not (wide t))
     (tally-is c.before.before.before.before.args.row c.before.before.before.before.args.sequence c.before.before.verdict.ensures
     c.before.one.ensures)))

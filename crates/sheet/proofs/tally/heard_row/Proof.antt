@@ -9,9 +9,9 @@ use Rattle.sheet.proofs.tally.heard_row.Tie as tie
 pub heard_row_spec : {M : Type 1} → statement M
 heard_row_spec =
     tie.close (tie.spec
-    (λ c κs. search rules) (λ c κs. search rules)
+    (search rules) (search rules)
     (λ c κs. let s = c.before.before.before in
     ap wide (tally-is s.args.row s.args.sequence c.before.verdict.ensures c.one.ensures) ∙ s.requires)
-    (λ c κs. search rules)
+    (search rules)
     (λ c. heard-is c.before.before.before.before.before.args.row c.before.before.before.before.before.args.sequence
     c.before.before.before.verdict.ensures c.before.before.one.ensures c.before.sum.ensures c.last-by.ensures))

@@ -8,8 +8,8 @@ use Rattle.sheet.proofs.tally.one.Tie as tie
 pub one_spec : {M : Type 1} → statement M
 one_spec =
     tie.close (tie.spec
-    (search rules) (λ c κs. search rules) (search rules) (λ c κs. search rules) (search rules) (λ c κs. search rules) (search rules)
-    (λ c κs. search rules) (search rules) (λ c κs. search rules) (search rules) (λ c κs. search rules)
+    (search rules) (search rules) (search rules) (search rules) (search rules) (search rules) (search rules)
+    (search rules) (search rules) (search rules) (search rules) (search rules)
     (λ c. one-is c.counts.ensures refl c.before.enum_told.given.1)
     (λ c. one-is c.counts2.ensures refl c.before.enum-told2.given.1)
     (λ c. one-is c.counts3.ensures refl c.before.enum-told3.given.1)

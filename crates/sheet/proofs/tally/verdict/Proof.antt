@@ -7,6 +7,6 @@ use Rattle.sheet.proofs.tally.verdict.Tie as tie
 pub verdict_spec : {M : Type 1} → statement M
 verdict_spec =
     tie.close (tie.spec
-    (λ c κs. search rules)
+    (search rules)
     (λ c. verdict-heard c.before.before.args.row c.before.before.args.sequence c.before.if1.true c.rule.ensures)
-    (λ c. search rules))
+    (search rules))

@@ -4,4 +4,4 @@ use Rattle.stream.proofs.frame.key.Statement.{statement}
 use Rattle.stream.proofs.frame.key.Tie as tie
 
 pub key_spec : {M : Type 1} → statement M
-key_spec = tie.close (tie.spec (search rules) (λ c κs. search rules) (λ c. c.part.ensures))
+key_spec = tie.close (tie.spec (search rules) (search rules) (λ c. c.part.ensures))

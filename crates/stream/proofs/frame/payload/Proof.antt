@@ -9,6 +9,6 @@ use Rattle.stream.proofs.frame.payload.Tie as tie
 pub payload_spec : {M : Type 1} → statement M
 payload_spec =
     tie.close (tie.spec
-    (λ c κs. search rules) (λ c κs. search rules)
+    (search rules) (search rules)
     (λ c. let a = c.before.before.before.args in c.part.ensures ∙ ap (λ (n : ℕ). part n a.delivery.length a.recv.now)
     c.before.payload_at.ensures))

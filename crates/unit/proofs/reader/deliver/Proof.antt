@@ -16,7 +16,7 @@ deliver_spec =
     let a = s.args in
     deliver-short a.out.now (payload_of a.size a.unit.now) (payload a.size) a.audio a.o a.fixed (length-payload a.size a.unit.now)
     s.requires.2 c.if-out-m.true)
-    (λ c κs. search rules) (search rules) (search rules) (λ c κs. search rules) (search rules) (search rules) (λ c κs. search rules) (search rules)
+    (search rules) (search rules) (search rules) (search rules) (search rules) (search rules) (search rules) (search rules)
     (λ c. let at-put2 = c.before.before.before.before.before.before in let at-put = at-put2.before.before.before.before in
     let at-if1 = at-put.before.before in let at-payload = at-if1.before in let s = at-payload.before.before.before in
     let a = s.args in delivered a.out.now (payload_of a.size a.unit.now) (payload a.size) a.audio a.o a.fixed

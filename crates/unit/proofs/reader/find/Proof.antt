@@ -28,7 +28,7 @@ find_spec =
     c.if-end-from.true refl)
     (λ c κs. let p = c.before.before.requires in (p.0, p.1, omega arith, p.4))
     (λ c. (omega arith, omega arith, omega arith, c.window-five.ensures, refl))
-    (search rules) (λ c κs. search rules) (search rules) (search rules)
+    (search rules) (search rules) (search rules) (search rules)
     (λ c.
     let a = c.before.before.before.before.before.before.before.args in
     let l = c.before.before.before.loop-j in
@@ -37,7 +37,7 @@ find_spec =
     c.before.same.ensures) c.if-same.true l.invariant.4)
     (search rules)
     (λ c κs. let p = c.before.before.before.before.before.before.before.requires in (p.0, p.1, omega arith, omega arith))
-    (λ c κs. search rules) (search rules)
+    (search rules) (search rules)
     (omega arith)
     (λ c.
     let a = c.before.before.before.before.before.before.before.before.before.args in

@@ -9,8 +9,8 @@ use Rattle.unit.proofs.reader.window.Tie as tie
 pub window_spec : {M : Type 1} → statement M
 window_spec =
     tie.close (tie.spec
-    (λ c κs. search rules) (search rules) (λ c κs. search rules) (search rules) (λ c κs. search rules) (search rules) (λ c κs. search rules)
-    (search rules) (λ c κs. search rules)
+    (search rules) (search rules) (search rules) (search rules) (search rules) (search rules) (search rules)
+    (search rules) (search rules)
     (λ c.
     let a = c.before.before.before.before.before.before.args in
     window-of (payload_of a.size a.unit.now) a.from (omega (arith, length-payload a.size a.unit.now))

@@ -13,7 +13,7 @@ take_spec =
     (λ c. let s = c.before.before.before.before.before.before.before in
     take-unsound s.args.self s.args.recv.now s.args.word.now s.args.piece.now s.args.out.now
     (sym c.before.before.sound.ensures.0 ∙ not-true _ c.before.if1.true) c.refused.ensures)
-    (search rules) (search rules) (λ c. search rules) (λ c. search rules)
+    (search rules) (search rules) (search rules) (search rules)
     (λ c.
     let s = c.before.before.before.before.before.before.before.before.before.before.before in
     take-cramped s.args.self s.args.recv.now s.args.word.now s.args.piece.now s.args.out.now
@@ -26,7 +26,7 @@ take_spec =
       sym at-has-room.has_room.ensures ∙ not-false _ at-if2.if2.false,
       at-sound.sound.ensures.1,
     ))
-    (λ c. search rules) (λ c. search rules) (λ c. search rules)
+    (search rules) (search rules) (search rules)
     (λ c. let at-take-on = c.before.before.before.before.before.before in let at-if2 = at-take-on.before.before.before.before in
     let at-has-room = at-if2.before in let at-if1 = at-has-room.before.before.before in let at-sound = at-if1.before in
     let s = at-sound.before.before.before.before.before in

@@ -7,6 +7,6 @@ use Rattle.channel.proofs.locked.Locked.sound.Tie as tie
 pub sound_spec : {M : Type 1} → statement M
 sound_spec =
     tie.close (tie.spec
-    (λ c. simp (lt-leb _ _ c.if1.true))
-    (λ c. simp (le-leb _ _ c.before.before.if1.false, lt-leb _ _ c.if2.true))
-    (λ c. two-and (le-leb _ _ c.before.before.before.if1.false) (le-leb _ _ c.before.if2.false)))
+    (λ c. simp (lt-leb _ _ c.if-self-gt-WORD.true))
+    (λ c. simp (le-leb _ _ c.if-self-gt-WORD.false, lt-leb _ _ c.if-self-gt3.true))
+    (λ c. two-and (le-leb _ _ c.if-self-gt-WORD.false) (le-leb _ _ c.if-self-gt3.false)))

@@ -1,5 +1,5 @@
 -- `channel::receiver::Receiver::compare` meets its contract, by the law of marker bytes.
-use Rattle.channel.proofs.Hearing.{lock-as, compare-more, compare-again, compare-lost}
+use Rattle.channel.proofs.Ways.{lock-as, compare-more, compare-again, compare-lost}
 use native.Mathlib.Nat.{sub-zero}
 use borrow.Author.Rules.{rules}
 use Rattle.channel.proofs.receiver.Receiver.compare.Statement.{statement}
@@ -10,22 +10,16 @@ compare_spec =
     tie.close (tie.spec
     (search rules) (search rules) (search rules) (search rules) (search rules) (search rules) (search rules) (search rules) (search rules)
     (λ c.
-    let t = c.before.before.before.before in
-    let s = t.before.before.before.before.before.before.before.before in
-    compare-more s.args.self s.args.piece.now s.requires.0 s.requires.1 s.requires.2 s.requires.3 t.before.before.least.ensures
-    (rw (sub-zero t.before.before.least.result) at t.shifted.ensures) c.before.before.if1.true
-    (lock-as c.before.marked.ensures c.end.ensures))
+    compare-more c.args.self c.args.piece.now c.requires.0 c.requires.1 c.requires.2 c.requires.3 c.least-n.ensures
+    (rw (sub-zero c.least-n.result) at c.shifted-hunting.ensures) c.if-marker-lt4.true
+    (lock-as c.marked.ensures c.end.ensures))
     (search rules) (search rules) (search rules)
     (λ c.
-    let t = c.before.before.before.before.before.before in
-    let s = t.before.before.before.before.before.before.before.before in
-    compare-again s.args.self s.args.piece.now s.requires.0 s.requires.1 s.requires.2 s.requires.3 t.before.before.least.ensures
-    (rw (sub-zero t.before.before.least.result) at t.shifted.ensures) c.before.before.before.before.if1.false
-    c.before.before.before.at-marker.ensures c.before.before.if2.true c.before.locked-at.ensures c.on.ensures)
+    compare-again c.args.self c.args.piece.now c.requires.0 c.requires.1 c.requires.2 c.requires.3 c.least-n.ensures
+    (rw (sub-zero c.least-n.result) at c.shifted-hunting.ensures) c.if-marker-lt4.false
+    c.at_marker.ensures c.if-at_marker.true c.locked_at.ensures c.on.ensures)
     (search rules) (search rules)
     (λ c.
-    let t = c.before.before.before.before.before.before in
-    let s = t.before.before.before.before.before.before.before.before in
-    compare-lost s.args.self s.args.piece.now s.requires.0 s.requires.1 s.requires.2 s.requires.3 t.before.before.least.ensures
-    (rw (sub-zero t.before.before.least.result) at t.shifted.ensures) c.before.before.before.before.if1.false
-    c.before.before.before.at-marker.ensures c.before.before.if2.false c.before.lost-at.ensures c.end2.ensures))
+    compare-lost c.args.self c.args.piece.now c.requires.0 c.requires.1 c.requires.2 c.requires.3 c.least-n.ensures
+    (rw (sub-zero c.least-n.result) at c.shifted-hunting.ensures) c.if-marker-lt4.false
+    c.at_marker.ensures c.if-at_marker.false c.lost_at.ensures c.end-2.ensures))

@@ -1,6 +1,6 @@
 -- `channel::receiver::Receiver::fill` meets its contract, by the law of a word's bytes.
 use borrow.Author.Rules.{rules}
-use Rattle.channel.proofs.Hearing.{fill_more, fill-room, fill-within, fill-same, fill-whole}
+use Rattle.channel.proofs.Ways.{fill_more, fill-room, fill-within, fill-same, fill-whole}
 use Rattle.channel.proofs.receiver.Receiver.fill.Statement.{statement}
 use Rattle.channel.proofs.receiver.Receiver.fill.Tie as tie
 
@@ -10,28 +10,21 @@ fill_spec =
     (search rules) (search rules) (search rules) (search rules) (search rules) (search rules) (search rules) (search rules) (search rules)
     (search rules) (search rules) (search rules) (search rules) (search rules)
     (λ c.
-    let t = c.before.before.before.before.before.before.before in
-    let s = t.before.before.before.before.before.before in
-    fill_more s.args.self s.args.word.now s.args.piece.now s.args.at s.requires.0 s.requires.1 s.requires.2 s.requires.3 t.least.ensures
-    c.before.before.before.before.copy.ensures c.before.if1.true c.filled.ensures)
+    fill_more c.args.self c.args.word.now c.args.piece.now c.args.at c.requires.0 c.requires.1 c.requires.2 c.requires.3 c.least-n.ensures
+    c.copy.ensures c.if-count-lt-WORD.true c.filled.ensures)
     (λ c κs.
-    let t = c.before.before.before.before.before.before.before in
-    let s = t.before.before.before.before.before.before in
-    let e = c.before.before.before.before.copy.ensures in
-    let h = c.before.if1.false in (
-      fill-room s.args.self s.args.word.now s.args.piece.now s.args.at s.requires.0 s.requires.1 s.requires.2 s.requires.3
-          t.least.ensures e h,
+    let e = c.copy.ensures in
+    let h = c.if-count-lt-WORD.false in (
+      fill-room c.args.self c.args.word.now c.args.piece.now c.args.at c.requires.0 c.requires.1 c.requires.2 c.requires.3
+          c.least-n.ensures e h,
       (
-        fill-within s.args.self s.args.word.now s.args.piece.now s.args.at s.requires.0 s.requires.1 s.requires.2 s.requires.3
-            t.least.ensures e,
-        fill-same s.args.self s.args.word.now s.args.piece.now s.args.at s.requires.0 s.requires.1 s.requires.2 s.requires.3
-            t.least.ensures e h,
+        fill-within c.args.self c.args.word.now c.args.piece.now c.args.at c.requires.0 c.requires.1 c.requires.2 c.requires.3
+            c.least-n.ensures e,
+        fill-same c.args.self c.args.word.now c.args.piece.now c.args.at c.requires.0 c.requires.1 c.requires.2 c.requires.3
+            c.least-n.ensures e h,
       ),
     ))
     (search rules) (search rules)
     (λ c.
-    let d = c.before.before.before.before.before in
-    let t = d.before.before.before.before.before.before in
-    let s = t.before.before.before.before.before.before in
-    fill-whole s.args.self s.args.word.now s.args.piece.now s.args.at s.requires.0 s.requires.1 s.requires.2 s.requires.3 t.least.ensures
-    d.before.before.before.copy.ensures d.if1.false c.before.before.before.settle.ensures c.whole.ensures))
+    fill-whole c.args.self c.args.word.now c.args.piece.now c.args.at c.requires.0 c.requires.1 c.requires.2 c.requires.3 c.least-n.ensures
+    c.copy.ensures c.if-count-lt-WORD.false c.settle-condition.ensures c.whole.ensures))

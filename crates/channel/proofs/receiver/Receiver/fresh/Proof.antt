@@ -8,4 +8,4 @@ pub fresh_spec : {M : Type 1} → statement M
 fresh_spec =
     tie.close (tie.spec
     (search rules) (search rules)
-    (λ c. rw (c.lost-at.ensures, c.before.fresh.ensures) refl))
+    (λ c. rw (c.lost_at.ensures, c.fresh.ensures) refl))

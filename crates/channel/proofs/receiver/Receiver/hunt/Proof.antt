@@ -1,5 +1,5 @@
 -- `channel::receiver::Receiver::hunt` meets its contract, by the law of hunting.
-use Rattle.channel.proofs.Hearing.{hunt-found, hunt-more}
+use Rattle.channel.proofs.Ways.{hunt-found, hunt-more}
 use borrow.Author.Rules.{rules}
 use Rattle.channel.proofs.receiver.Receiver.hunt.Statement.{statement}
 use Rattle.channel.proofs.receiver.Receiver.hunt.Tie as tie
@@ -9,10 +9,8 @@ hunt_spec =
     tie.close (tie.spec
     (search rules) (search rules) (search rules)
     (λ c.
-    let s = c.before.before.before.before.before.before.before.before.before in
-    hunt-found s.args.self s.args.piece.now s.requires c.before.before.before.before.hunt.ensures c.before.before.if1.true
-    c.before.locked-at.ensures c.on.ensures)
+    hunt-found c.args.self c.args.piece.now c.requires c.hunt-f.ensures c.if-f.true
+    c.locked_at.ensures c.on.ensures)
     (search rules)
     (λ c.
-    let s = c.before.before.before.before.before.before.before.before in
-    hunt-more s.args.self s.args.piece.now s.requires c.before.before.before.hunt.ensures c.before.if1.false c.end.ensures))
+    hunt-more c.args.self c.args.piece.now c.requires c.hunt-f.ensures c.if-f.false c.end.ensures))

@@ -8,4 +8,4 @@ pub locked_at_spec : {M : Type 1} → statement M
 locked_at_spec =
     tie.close (tie.spec
     (search rules)
-    (λ c i. record { locked = true; hunting = c.before.args.hunting; lock = c.fresh.ensures i; frame = c.before.args.frame }))
+    (λ c i. record { locked = true; hunting = c.args.hunting; lock = c.fresh.ensures i; frame = c.args.frame }))

@@ -8,4 +8,4 @@ pub lost_at_spec : {M : Type 1} → statement M
 lost_at_spec =
     tie.close (tie.spec
     (search rules) (search rules)
-    (λ c i. record { locked = false; hunting = c.before.before.args.hunting; lock = c.before.fresh.ensures i; frame = c.fresh2.ensures i }))
+    (λ c i. record { locked = false; hunting = c.args.hunting; lock = c.fresh.ensures i; frame = c.fresh-2.ensures i }))

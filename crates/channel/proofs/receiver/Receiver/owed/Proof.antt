@@ -8,6 +8,6 @@ pub owed_spec : {M : Type 1} → statement M
 owed_spec =
     tie.close (tie.spec
     (search rules)
-    (λ c. owes-some c.before.before.before.before.before.args.self c.before.before.before.if1.true c.before.if2.true)
-    (λ c. owes-none c.before.before.before.before.args.self c.before.before.if1.true c.if2.false)
-    (λ c. search rules))
+    (λ c. owes-some c.args.self c.if-self.true c.if-lock-eq-WORD.true)
+    (λ c. owes-none c.args.self c.if-self.true c.if-lock-eq-WORD.false)
+    (search rules))

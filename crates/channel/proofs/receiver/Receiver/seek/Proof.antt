@@ -1,6 +1,6 @@
 -- `channel::receiver::Receiver::seek` meets its contract.
 use native.Mathlib.Omega.{arith}
-use Rattle.channel.proofs.Hearing.{lock-word, lock-marker, sought-none}
+use Rattle.channel.proofs.Ways.{lock-word, lock-marker, sought-none}
 use borrow.Author.Rules.{rules}
 use Rattle.channel.proofs.receiver.Receiver.seek.Statement.{statement}
 use Rattle.channel.proofs.receiver.Receiver.seek.Tie as tie
@@ -9,15 +9,13 @@ pub seek_spec : {M : Type 1} → statement M
 seek_spec =
     tie.close (tie.spec
     (search rules)
-    (λ c. let s = c.before.before.before.before.before.before in
-    sought-none s.args.self s.args.piece.now c.before.before.before.before.if1.true c.before.if2.true c.on.ensures)
-    (λ c κs.
-    let s = c.before.before.before.before.before in (
-      c.before.before.before.if1.true,
-      omega (arith, c.if2.false, lock-word s.args.self.lock s.requires.0),
-      lock-marker s.args.self.lock s.requires.0,
-      s.requires.1,
+    (λ c. sought-none c.args.self c.args.piece.now c.if-self.true c.if-lock-lt-WORD.true c.on.ensures)
+    (λ c κs. (
+      c.if-self.true,
+      omega (arith, c.if-lock-lt-WORD.false, lock-word c.args.self.lock c.requires.0),
+      lock-marker c.args.self.lock c.requires.0,
+      c.requires.1,
     ))
     (λ c. c.compare.ensures)
-    (λ c κs. c.if1.false)
+    (λ c κs. c.if-self.false)
     (λ c. c.hunt.ensures))

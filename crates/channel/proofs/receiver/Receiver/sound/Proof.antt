@@ -8,5 +8,5 @@ pub sound_spec : {M : Type 1} → statement M
 sound_spec =
     tie.close (tie.spec
     (search rules) (search rules)
-    (λ c. simp (sym c.before.before.sound.ensures ∙ c.before.if1.true) c.sound2.ensures)
-    (λ c. simp (sym c.before.sound.ensures ∙ c.if1.false)))
+    (λ c. simp (sym c.sound.ensures ∙ c.if-sound.true) c.sound-then-sound.ensures)
+    (λ c. simp (sym c.sound.ensures ∙ c.if-sound.false)))

@@ -11,14 +11,14 @@ step_spec =
     tie.close (tie.spec
     (λ c. let s = c.before.before.before.before.before in step_room s.args.self.tape s.args.self.totals s.args.recv.now
     s.args.word.now s.args.piece.now s.args.out.now (omega arith) (omega arith) s.requires.0 s.requires.1 s.requires.2 c.if1.true)
-    (search rules) (search rules) (λ c. search rules) (λ c. search rules)
+    (search rules) (search rules) (search rules) (search rules)
     (λ c. let s = c.before.before.before.before.before.before.before.before.before.before.before.before.before.before.before.before.before in
     step-more s.args.self.tape s.args.self.totals s.args.recv.now s.args.word.now s.args.piece.now s.args.out.now
     (omega arith) (omega arith) s.requires.0 s.requires.1 s.requires.2 c.before.before.before.before.before.before.before.next.result _ _
     c.before.before.before.before.before.before.before.next.ensures
     c.before.before.before.before.before.before.before.before.before.before.before.before.if1.false
     (sym c.before.is-more.ensures ∙ c.if2.true))
-    (search rules) (λ c κs. search rules) (λ c. search rules) (λ c. search rules) (λ c. search rules)
+    (search rules) (search rules) (search rules) (search rules) (search rules)
     (λ c. let s = c.before.before.before.before.before.before.before.before.before.before.before.before.before.before.before.before.before.before.before.before.before.before in step_line s.args.self.tape s.args.self.totals s.args.recv.now s.args.word.now
     s.args.piece.now s.args.out.now (omega arith) (omega arith) s.pre.0 s.pre.1 s.pre.2
     c.before.before.before.before.before.before.before.before.before.before.before.before.next.result _ _

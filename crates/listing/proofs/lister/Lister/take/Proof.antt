@@ -18,7 +18,7 @@ take_spec =
     take-far s.args.self s.args.recv.now s.args.word.now s.args.piece.now s.args.out.now
     (sym c.before.before.before.before.sound.ensures ∙ not-false _ c.before.before.before.if1.false)
     (sym c.before.before.near.ensures ∙ not-true _ c.before.if2.true) c.refused2.ensures)
-    (search rules) (search rules) (λ c. search rules) (λ c. search rules)
+    (search rules) (search rules) (search rules) (search rules)
     (λ c. let at-if2 = c.before.before.before.before.before in let at-near = at-if2.before in let at-if1 = at-near.before in
     let at-sound = at-if1.before in let s = at-sound.before.before.before.before.before.before.before in
     take-cramped s.args.self s.args.recv.now s.args.word.now s.args.piece.now s.args.out.now
@@ -30,7 +30,7 @@ take_spec =
       (sym at-has-room.has_room.ensures ∙ not-false _ at-if3.if3.false),
       (sym at-near.near.ensures ∙ not-false _ at-if2.if2.false),
     ))
-    (λ c. search rules) (λ c. search rules) (λ c. search rules)
+    (search rules) (search rules) (search rules)
     (λ c. let at-take-on = c.before.before.before.before.before.before in let at-if3 = at-take-on.before.before.before.before in
     let at-has-room = at-if3.before in let at-if2 = at-has-room.before.before.before in let at-near = at-if2.before in
     let at-if1 = at-near.before in let at-sound = at-if1.before in let s = at-sound.before.before.before.before.before.before.before in

@@ -6,5 +6,5 @@ use Rattle.missed.proofs.notes.Notes.fresh.Tie as tie
 pub fresh_spec : {M : Type 1} → statement M
 fresh_spec =
     tie.close (tie.spec
-    (λ c κs. search rules) (λ c κs. search rules)
+    (search rules) (search rules)
     (λ c i. record { tape = c.before.fresh.ensures i; ports = c.fresh2.ensures i; range = c.before.before.args.range }))

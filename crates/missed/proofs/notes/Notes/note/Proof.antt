@@ -7,11 +7,11 @@ use Rattle.missed.proofs.notes.Notes.note.Tie as tie
 pub note_spec : {M : Type 1} → statement M
 note_spec =
     tie.close (tie.spec
-    (λ c κs. search rules)
+    (search rules)
     (λ c.
     let s = c.before.before.before.before.before.before.args in
     note-out s.self s.taken s.delivery s.out.now c.before.has.ensures c.if1.true)
-    (λ c κs. search rules) (λ c κs. search rules) (λ c. search rules)
+    (search rules) (search rules) (search rules)
     (λ c.
     let p = c.before.before.before.before.before.before in
     let s = p.before.before.before.before.before.before in

@@ -38,7 +38,7 @@ pub take_spec : {M : Type 1} → statement M
 take_spec =
     tie.close (tie.spec
     returns
-    (λ c κs. search rules) (search rules) (search rules) (λ c κs. search rules) (search rules) (search rules) (search rules)
+    (search rules) (search rules) (search rules) (search rules) (search rules) (search rules) (search rules)
     returns-2
     (search rules) (search rules) (search rules)
     returns-3

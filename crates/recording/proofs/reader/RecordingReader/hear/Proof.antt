@@ -29,7 +29,7 @@ hear_spec =
     (λ c κs. so-asks c.before.before.before.loop.invariant.2 c.before.before.before.before.before.before.before.requires.2)
     (λ c. let at_turn = c.before.before.before.before.before.before in let at-loop = at_turn.before.before.before.before in
     let h = so-within at-loop.loop.invariant.2 at_turn.turn.result at_turn.turn.ensures in search rules)
-    (λ c. search rules) (λ c. search rules)
+    (search rules) (search rules)
     (λ c. let at_turn = c.before.before.before.before.before.before.before in let at-loop = at_turn.before.before.before.before in
     so-done at-loop.loop.invariant.2 at_turn.turn.result at_turn.turn.ensures c.if1.true)
     (λ c. let at_turn = c.before.before.before.before.before.before.before in let at-loop = at_turn.before.before.before.before in

@@ -20,7 +20,7 @@ next_packet_spec =
     fetch-far s.args.self s.args.recv.now s.args.word.now s.args.piece.now
     (sym c.before.before.before.before.sound.ensures ∙ not-false _ c.before.before.before.if1.false)
     (sym c.before.before.near.ensures ∙ not-true _ c.before.if2.true) c.refused2.ensures)
-    (search rules) (search rules) (λ c. search rules) (λ c. search rules)
+    (search rules) (search rules) (search rules) (search rules)
     (λ c. let at-if2 = c.before.before.before.before.before in let at-near = at-if2.before in let at-if1 = at-near.before in
     let at-sound = at-if1.before in let s = at-sound.before.before.before.before.before in
     fetch-cramped s.args.self s.args.recv.now s.args.word.now s.args.piece.now
@@ -31,7 +31,7 @@ next_packet_spec =
     next-asks s.args.self s.args.recv.now s.args.word.now s.args.piece.now
     (sym at-sound.sound.ensures ∙ not-false _ at-if1.if1.false) (sym at-near.near.ensures ∙ not-false _ at-if2.if2.false)
     (sym at-has-room.has_room.ensures ∙ not-false _ c.before.before.if3.false) (omega arith))
-    (λ c. search rules) (λ c. search rules)
+    (search rules) (search rules)
     (λ c. let at-seek = c.before.before.before.before in let at-if3 = at-seek.before.before.before in let at-has-room = at-if3.before in
     let at-if2 = at-has-room.before.before.before in let at-near = at-if2.before in let at-if1 = at-near.before in
     let at-sound = at-if1.before in let s = at-sound.before.before.before.before.before in

@@ -56,5 +56,5 @@ seek_spec =
     (λ c. omega (arith, c.before.before.loop.invariant.2.stays.within))
     (λ c κs. seek-asks c.before.before.before.loop.invariant.2 c.before.before.before.before.before.before.before.requires.2)
     add-i
-    (λ c κs. search rules) (λ c κs. search rules) (λ c. search rules) (λ c. search rules)
+    (search rules) (search rules) (search rules) (search rules)
     returns loop-less loop-again)

@@ -22,7 +22,7 @@ turn_spec =
     head-fine a.self.channel a.self.receiver a.self.spot a.recv.now a.word.now a.piece.now _
     r.run.ensures _ _ _ l.listen.ensures _ k.skip.ensures
     (sym m.is-more.ensures ∙ c.before.before.before.if1.true) c.before.if3.true c.before.before.if2.true s.requires.2)
-    (λ c. search rules) (λ c. search rules)
+    (search rules) (search rules)
     (λ c. let m = c.before.before.before.before.before in let k = m.before in let l = k.before.before.before.before.before.before in
     let r = l.before.before.before.before in let s = r.before.before.before.before.before in let a = s.args in (
       turn-head a.self.channel a.self.receiver a.self.spot a.recv.now a.word.now a.piece.now _
@@ -32,7 +32,7 @@ turn_spec =
           r.run.ensures _ _ _ l.listen.ensures _ k.skip.ensures (sym m.is-more.ensures ∙ c.before.before.before.before.if1.true)
           s.requires.0 s.requires.1 c.before.before.if3.true c.before.before.before.if2.true _ c.head.ensures,
     ))
-    (λ c. search rules) (λ c. search rules)
+    (search rules) (search rules)
     (λ c. let m = c.before.before.before in let k = m.before in let l = k.before.before.before.before.before.before in
     let r = l.before.before.before.before in let s = r.before.before.before.before.before in let a = s.args in (
       turn-run a.self.channel a.self.receiver a.self.spot a.recv.now a.word.now a.piece.now _
@@ -41,7 +41,7 @@ turn_spec =
           r.run.ensures _ _ _ l.listen.ensures _ k.skip.ensures (sym m.is-more.ensures ∙ c.before.before.if1.true)
           s.requires.0 s.requires.1,
     ))
-    (λ c. search rules) (λ c. search rules)
+    (search rules) (search rules)
     (λ c. let m = c.before.before in let k = m.before in let l = k.before.before.before.before.before.before in
     let r = l.before.before.before.before in let s = r.before.before.before.before.before in let a = s.args in (
       turn_end a.self.channel a.self.receiver a.self.spot a.recv.now a.word.now a.piece.now _
@@ -49,7 +49,7 @@ turn_spec =
       turn-stays a.self.channel a.self.receiver a.self.spot a.recv.now a.word.now a.piece.now _
           r.run.ensures _ _ _ l.listen.ensures _ k.skip.ensures s.requires.0 s.requires.1,
     ))
-    (λ c. search rules) (λ c. search rules)
+    (search rules) (search rules)
     (λ c. let m = c.before in let k = m.before in let l = k.before.before.before.before.before.before in
     let r = l.before.before.before.before in let s = r.before.before.before.before.before in let a = s.args in (
       turn-out a.self.channel a.self.receiver a.self.spot a.recv.now a.word.now a.piece.now _

@@ -9,7 +9,7 @@ pub looked_spec : {M : Type 1} → statement M
 looked_spec =
     tie.close (tie.spec
     (λ c. let a = c.before.before.before.args in looked-kept a.self a.recv.now a.from c.if-self-ne0.true)
-    (search rules) (search rules) (search rules) (λ c κs. search rules)
+    (search rules) (search rules) (search rules) (search rules)
     (λ c.
     let a = c.before.before.before.before.before.args in
     looked-new a.self a.recv.now a.from c.before.before.if-self-ne0.false (rw (sub-zero a.self.stored) at c.wrong_behind.ensures)))

@@ -1,7 +1,7 @@
 -- `Lane::hand_on` meets its contract, by the law of a stored word's rest.
 use native.Mathlib.Omega.{arith}
 use borrow.Author.Rules.{rules}
-use Rattle.subchannel.proofs.Hearing.{hand-parity, hand-within, hand-room, hand-none, taken-within, hand-more, hand-said}
+use Rattle.subchannel.proofs.Ways.{hand-parity, hand-within, hand-room, hand-none, taken-within, hand-more, hand-said}
 use Rattle.subchannel.proofs.lane.Lane.hand_on.Statement.{statement}
 use Rattle.subchannel.proofs.lane.Lane.hand_on.Tie as tie
 

@@ -15,7 +15,7 @@ word_byte_spec =
     let p = c.before.before.before in
     let a = p.before.before.before.before.before.args in
     words_more a.self a.y a.word.now p.IsPlace-in.ensures.0 c.before.if1.true c.moved.ensures)
-    (λ c κs. search rules) (search rules)
+    (search rules) (search rules)
     (λ c.
     let m = c.before.before.before in
     let p = m.before.before.before.before in

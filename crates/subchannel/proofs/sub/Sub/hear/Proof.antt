@@ -3,7 +3,7 @@ use mathlib.Core.Path.{sym, ◌∙◌}
 use borrow.Author.Tests.{not-true, not-false}
 use borrow.Author.Rules.{rules}
 use Rattle.subchannel.specs.Call.{memory}
-use Rattle.subchannel.proofs.Hearing.{call-unsound, call-cramped, call-on}
+use Rattle.subchannel.proofs.Ways.{call-unsound, call-cramped, call-on}
 use Rattle.subchannel.proofs.sub.Sub.hear.Statement.{statement}
 use Rattle.subchannel.proofs.sub.Sub.hear.Tie as tie
 

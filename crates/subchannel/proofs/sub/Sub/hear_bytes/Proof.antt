@@ -6,7 +6,7 @@ use lib.ListN.{length}
 use Rattle.interleaver_spec.specs.Running.{matrix, back}
 use Rattle.subchannel.specs.Call.{sub}
 use Rattle.subchannel.specs.Private.{Going}
-use Rattle.subchannel.proofs.Hearing.{able-of, going-first, going_next, going_end, going_done}
+use Rattle.subchannel.proofs.Ways.{able-of, going-first, going_next, going_end, going_done}
 use Rattle.subchannel.proofs.Filling.{goes-all}
 use Rattle.subchannel.proofs.sub.Sub.hear_bytes.Statement.{statement}
 use Rattle.subchannel.proofs.sub.Sub.hear_bytes.Tie as tie

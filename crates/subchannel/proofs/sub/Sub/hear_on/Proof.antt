@@ -2,7 +2,7 @@
 use borrow.Author.Rules.{rules}
 use Rattle.subchannel.specs.Call.{memory}
 use Rattle.subchannel.proofs.Fine.{sound-parts}
-use Rattle.subchannel.proofs.Hearing.{fine-spare, handed-end, bytes-end}
+use Rattle.subchannel.proofs.Ways.{fine-spare, handed-end, bytes-end}
 use Rattle.subchannel.proofs.sub.Sub.hear_on.Statement.{statement}
 use Rattle.subchannel.proofs.sub.Sub.hear_on.Tie as tie
 

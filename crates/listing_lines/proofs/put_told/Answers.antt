@@ -1,0 +1,18 @@
+-- `listing_lines::put_told` meets its contract.
+use borrow.Author.Rules.{rules}
+use Rattle.listing_spec.specs.Lines.{told}
+use Rattle.text.proofs.Putting.{put-case}
+use Rattle.listing_lines.proofs.Writing.{refused-put, broken-put}
+use Rattle.listing_lines.proofs.put_told.Goals as goal
+
+pub returns-in-Packet : goal.returns-in-Packet
+returns-in-Packet c =
+    put-case told c.in-Packet.is c.put_packet.ensures
+
+pub returns-in-Refused : goal.returns-in-Refused
+returns-in-Refused c =
+    put-case told c.in-Refused.is (refused-put _ c.put_text-a.ensures c.put_item.ensures)
+
+pub returns-in-Broken : goal.returns-in-Broken
+returns-in-Broken c =
+    put-case told c.in-Broken.is (broken-put _ c.put_text-a-in-Broken.ensures c.put_item-b.ensures c.put_item-in-Broken.ensures)
