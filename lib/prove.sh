@@ -184,7 +184,7 @@ run() (
     start "$program" "$@"
 )
 
-# run_with_status PROGRAM ARGUMENTS..: runs it, proved. A proved program cannot set its exit status: where it says something on standard error, the status
+# run_with_status PROGRAM ARGUMENTS..: runs it, proved. Our programs end with status 0 themselves: where one says something on standard error, the status
 # is 1. What it says is passed on as it comes. A signal that ends this shell ends the program: it would read on, and take what its successor waits for.
 run_with_status() {
     program='' talk='' ended=0 above=$ending

@@ -1,7 +1,7 @@
 # Read by bin/package: the folder $tree, as it is installed, part by part. usr/ in it is what the archive has too.
 
 # pages that serve engineers stay out
-left='BENCHMARKS DECISIONS MAP PROMISES'
+left='BENCHMARKS DECISIONS MAP PORT PROMISES READING'
 
 # put_programs: the programs, where the scripts look for them, static and without symbols. For x86-64 the toolchain's own C functions go with them, for
 # another processor package/os.c.
