@@ -10,5 +10,5 @@ receiver_of_spec =
     (search rules) (search rules) (search rules) (search rules) (search rules) (search rules) (search rules) (search rules) (search rules)
     (search rules) (search rules) (search rules) (search rules) (search rules) (search rules) (search rules) (search rules)
     (λ c.
-    receiver-is c.args.t1 c.low.ensures
+    receiver-is c.args.s c.low.ensures
     c.low-2.ensures c.low-3.ensures c.low-4.ensures c.frame_by.ensures))
