@@ -16,14 +16,15 @@ use console::{PIECE, Speak, say};
 use naming::{name_line, say_no_bid};
 use office::{Answer, Hearing, Office, Started};
 use output::{print, put};
+use std::env::Env;
+use std::io;
 use std::io::Read;
+use std::process::ExitCode;
 use warnings::Watch;
 
 // How the program stands: the sender, the bytes that wait in the output, and what the boards have seen.
 #[derive(Clone, Copy)]
 struct Stand {
-    // The output could be written so far; else that was said.
-    go: bool,
     office: Office,
     waiting: usize,
     watch: Watch,
@@ -44,43 +45,51 @@ struct Turn {
     stand: Stand,
 }
 
-fn main(rt: HostRuntime) {
-    if console::argument_count(&rt) < 2 {
-        send(&rt, false);
-        return;
+fn main(rt: HostRuntime) -> ExitCode {
+    console::status(run(&rt))
+}
+
+// What the argument asks for.
+fn run(rt: &(impl Env + Input + Print + Speak)) -> io::Result<()> {
+    if console::argument_count(rt) < 2 {
+        return send(rt, false);
     }
-    if console::is_argument(&rt, 1, b"--recording") {
-        if print(&rt, &[0x4F]) {
-            send(&rt, true);
-        }
-        return;
+    if console::is_argument(rt, 1, b"--recording") {
+        print(rt, &[0x4F])?;
+        return send(rt, true);
     }
-    say(&rt, b"usage: bids [--recording] <LINES >STREAM\n");
+    say(rt, b"usage: bids [--recording] <LINES >STREAM\n");
+    Ok(())
 }
 
 // The whole input, sent.
-fn send(rt: &(impl Input + Print + Speak), recording: bool) {
+fn send(rt: &(impl Input + Print + Speak), recording: bool) -> io::Result<()> {
     let mut hold = [0u8; PIECE];
     match Office::start(&mut hold) {
         Started::Ready(office) => send_from(rt, recording, office, &mut hold),
-        Started::Refused(number) => console::say_refused(rt, number),
+        Started::Refused(number) => {
+            console::say_refused(rt, number);
+            Ok(())
+        }
     }
 }
 
 // The same behind the start.
-fn send_from(rt: &(impl Input + Print + Speak), recording: bool, office: Office, hold: &mut [u8]) {
+fn send_from(
+    rt: &(impl Input + Print + Speak),
+    recording: bool,
+    office: Office,
+    hold: &mut [u8],
+) -> io::Result<()> {
     let mut line = [0u8; PIECE];
     let mut out = [0u8; PIECE];
-    let last = read_all(rt, recording, begun(office), &mut line, hold, &mut out);
-    if last.go {
-        finish(rt, recording, last, hold, &mut out);
-    }
+    let last = read_all(rt, recording, begun(office), &mut line, hold, &mut out)?;
+    finish(rt, recording, last, hold, &mut out)
 }
 
 // Before the first line.
 fn begun(office: Office) -> Stand {
     Stand {
-        go: true,
         office,
         waiting: 0,
         watch: warnings::fresh(),
@@ -95,16 +104,16 @@ fn read_all(
     line: &mut [u8],
     hold: &mut [u8],
     out: &mut [u8],
-) -> Stand {
+) -> io::Result<Stand> {
     let mut stand = first;
     for _ in 0..u64::MAX {
-        let step = read_piece(rt, recording, stand, line, hold, out);
+        let step = read_piece(rt, recording, stand, line, hold, out)?;
         stand = step.stand;
         if !step.more {
-            return stand;
+            return Ok(stand);
         }
     }
-    stand
+    Ok(stand)
 }
 
 // A piece read, and sent before more is read.
@@ -115,23 +124,22 @@ fn read_piece(
     line: &mut [u8],
     hold: &mut [u8],
     out: &mut [u8],
-) -> Step {
+) -> io::Result<Step> {
     let mut piece = [0u8; PIECE];
     let Ok(n) = rt.reader().read(&mut piece) else {
         say_unread(rt);
-        return Step { more: false, stand };
+        return Ok(Step { more: false, stand });
     };
     if n == 0 {
-        return Step {
+        return Ok(Step {
             more: false,
-            stand: end(rt, recording, stand, line, hold, out),
-        };
+            stand: end(rt, recording, stand, line, hold, out)?,
+        });
     }
-    let next = send_piece(rt, recording, stand, line, hold, &piece[..n], out);
-    Step {
-        more: next.go,
-        stand: next,
-    }
+    Ok(Step {
+        more: true,
+        stand: send_piece(rt, recording, stand, line, hold, &piece[..n], out)?,
+    })
 }
 
 fn say_unread(rt: &impl Speak) {
@@ -147,10 +155,10 @@ fn send_piece(
     hold: &mut [u8],
     piece: &[u8],
     out: &mut [u8],
-) -> Stand {
-    let next = take(rt, recording, stand, line, hold, piece, out);
-    if recording || !next.go {
-        return next;
+) -> io::Result<Stand> {
+    let next = take(rt, recording, stand, line, hold, piece, out)?;
+    if recording {
+        return Ok(next);
     }
     pass_on(rt, recording, next, out)
 }
@@ -164,22 +172,19 @@ fn take(
     hold: &mut [u8],
     piece: &[u8],
     out: &mut [u8],
-) -> Stand {
+) -> io::Result<Stand> {
     let mut next = stand;
     let mut at: usize = 0;
     while at < piece.len() {
-        let turn = hear(rt, recording, next, line, hold, &piece[at..], out);
+        let turn = hear(rt, recording, next, line, hold, &piece[at..], out)?;
         let to = console::onward(at, turn.taken, piece.len());
         next = turn.stand;
-        if !next.go {
-            return next;
-        }
         if to <= at {
-            return next;
+            return Ok(next);
         }
         at = to;
     }
-    next
+    Ok(next)
 }
 
 // Bytes up to the end of a line.
@@ -191,15 +196,15 @@ fn hear(
     hold: &mut [u8],
     piece: &[u8],
     out: &mut [u8],
-) -> Turn {
+) -> io::Result<Turn> {
     let from = base::least(stand.waiting, out.len());
     let office = stand.office;
     let watch = stand.watch;
     let heard = office.hear(line, hold, piece, &mut out[from..]);
-    Turn {
+    Ok(Turn {
         taken: heard.taken,
-        stand: behind(rt, recording, office.stored, heard, watch, from, line, out),
-    }
+        stand: behind(rt, recording, office.stored, heard, watch, from, line, out)?,
+    })
 }
 
 // The end of the input: it ends a line that is begun.
@@ -210,7 +215,7 @@ fn end(
     line: &mut [u8],
     hold: &mut [u8],
     out: &mut [u8],
-) -> Stand {
+) -> io::Result<Stand> {
     let from = base::least(stand.waiting, out.len());
     let office = stand.office;
     let watch = stand.watch;
@@ -228,7 +233,7 @@ fn behind(
     from: usize,
     line: &[u8],
     out: &[u8],
-) -> Stand
+) -> io::Result<Stand>
     requires { from ≤ length out.now }
 {
     let end = line_end(stored, heard.taken, line.len());
@@ -237,27 +242,37 @@ fn behind(
 }
 
 // With too little room for a line's blocks, what waits goes out.
-fn make_room(rt: &(impl Print + Speak), recording: bool, stand: Stand, out: &[u8]) -> Stand {
+fn make_room(
+    rt: &(impl Print + Speak),
+    recording: bool,
+    stand: Stand,
+    out: &[u8],
+) -> io::Result<Stand> {
     if out.len() - base::least(stand.waiting, out.len()) < Office::OUTPUT {
         return pass_on(rt, recording, stand, out);
     }
-    stand
+    Ok(stand)
 }
 
 // What waits goes out.
-fn pass_on(rt: &(impl Print + Speak), recording: bool, stand: Stand, out: &[u8]) -> Stand {
+fn pass_on(
+    rt: &(impl Print + Speak),
+    recording: bool,
+    stand: Stand,
+    out: &[u8],
+) -> io::Result<Stand> {
     let office = stand.office;
     let watch = stand.watch;
-    Stand {
-        go: put(
-            rt,
-            recording,
-            &out[0..base::least(stand.waiting, out.len())],
-        ),
+    put(
+        rt,
+        recording,
+        &out[0..base::least(stand.waiting, out.len())],
+    )?;
+    Ok(Stand {
         office,
         waiting: 0,
         watch,
-    }
+    })
 }
 
 // How many bytes of a line stand in its buffer, of so many before the call and of those that it took, its end among them.
@@ -283,7 +298,6 @@ fn told(
     let office = heard.office;
     let number = office.lines;
     Stand {
-        go: true,
         office,
         waiting: from + told_bytes(rt, answer, number, line, length - from),
         watch: watched(rt, answer, watch, number, line),
@@ -321,12 +335,18 @@ fn watched(rt: &impl Speak, answer: Answer, watch: Watch, number: u64, line: &[u
 }
 
 // The last block.
-fn finish(rt: &(impl Print + Speak), recording: bool, stand: Stand, hold: &[u8], out: &mut [u8]) {
+fn finish(
+    rt: &(impl Print + Speak),
+    recording: bool,
+    stand: Stand,
+    hold: &[u8],
+    out: &mut [u8],
+) -> io::Result<()> {
     let from = base::least(stand.waiting, out.len());
     let office = stand.office;
     let n = written(office.finish(hold, &mut out[from..]));
     let all = console::onward(from, n, out.len());
-    put(rt, recording, &out[0..all]);
+    put(rt, recording, &out[0..all])
 }
 
 fn written(w: Written) -> usize {

@@ -4,14 +4,16 @@
 //! so on standard error and stops; where the input is no whole recording, it says so behind the last line.
 #![tactic(auto)]
 
-ghost use Rattle.std.specs.Prelude.{◌≤◌, length};
+ghost use Rattle.std.specs.Prelude.{◌≤◌, length, IfOk};
 
 use board::{Readout, Wants};
 use channel::Receiver;
 use console::{LAST_PORT, Speak, is_argument, say};
 use ports_spec::Range;
 use std::env::Env;
+use std::io;
 use std::io::Read;
+use std::process::ExitCode;
 
 // The board behind a call.
 #[derive(Clone, Copy)]
@@ -30,43 +32,49 @@ const PIECE: usize = 4096;
 // Bytes of text that a call may write.
 const ROOM: usize = 8192;
 
-fn main(rt: HostRuntime) {
-    if is_argument(&rt, 2, b"blocks") {
-        choose_ports(&rt, true, 3);
-        return;
+fn main(rt: HostRuntime) -> ExitCode {
+    console::status(run(&rt))
+}
+
+// With blocks, or without.
+fn run(rt: &(impl Env + Input + Print + Speak)) -> io::Result<()> {
+    if is_argument(rt, 2, b"blocks") {
+        return choose_ports(rt, true, 3);
     }
-    choose_ports(&rt, false, 2);
+    choose_ports(rt, false, 2)
 }
 
 // Of all ports, or of those that two arguments from this place on name, the first and the last.
-fn choose_ports(rt: &(impl Env + Input + Print + Speak), blocks: bool, place: usize)
+fn choose_ports(
+    rt: &(impl Env + Input + Print + Speak),
+    blocks: bool,
+    place: usize,
+) -> io::Result<()>
     requires { place ≤ 3 }
 {
     let count = console::argument_count(rt);
     if count == place {
-        choose(rt, blocks, Range::all());
-        return;
+        return choose(rt, blocks, Range::all());
     }
     let first = console::port(rt, place);
     let last = console::port(rt, place + 1);
     if count != place + 2 || first > last || last > LAST_PORT {
         usage(rt);
-        return;
+        return Ok(());
     }
-    choose(rt, blocks, console::range(first, last));
+    choose(rt, blocks, console::range(first, last))
 }
 
 // What the first argument asks for.
-fn choose(rt: &(impl Env + Input + Print + Speak), blocks: bool, range: Range) {
+fn choose(rt: &(impl Env + Input + Print + Speak), blocks: bool, range: Range) -> io::Result<()> {
     if is_argument(rt, 1, b"stream") {
-        show(rt, Readout::fresh(true, blocks, range));
-        return;
+        return show(rt, Readout::fresh(true, blocks, range));
     }
     if is_argument(rt, 1, b"recording") {
-        show(rt, Readout::fresh(false, blocks, range));
-        return;
+        return show(rt, Readout::fresh(false, blocks, range));
     }
     usage(rt);
+    Ok(())
 }
 
 fn usage(rt: &impl Speak) {
@@ -77,7 +85,7 @@ fn usage(rt: &impl Speak) {
 }
 
 // Standard input, piece by piece as it comes.
-fn show(rt: &(impl Input + Print + Speak), fresh: Readout) {
+fn show(rt: &(impl Input + Print + Speak), fresh: Readout) -> io::Result<()> {
     let mut recv = [0u8; Receiver::RAW];
     let mut word = [0u8; Receiver::WORD];
     let mut piece = [0u8; PIECE];
@@ -87,11 +95,10 @@ fn show(rt: &(impl Input + Print + Speak), fresh: Readout) {
     for reads in 0..u64::MAX {
         let Ok(n) = input.read(&mut piece) else {
             say_unread(rt);
-            return;
+            return Ok(());
         };
         if n == 0 {
-            finish(rt, readout);
-            return;
+            return finish(rt, readout);
         }
         let turn = read_piece(
             rt,
@@ -101,12 +108,13 @@ fn show(rt: &(impl Input + Print + Speak), fresh: Readout) {
             &mut word,
             &piece[0..n],
             &mut out,
-        );
+        )?;
         readout = turn.next;
-        if !goes_on(rt, turn) {
-            return;
+        if !goes_on(rt, turn)? {
+            return Ok(());
         }
     }
+    Ok(())
 }
 
 fn say_unread(rt: &impl Speak) {
@@ -122,7 +130,7 @@ fn read_piece(
     word: &mut [u8],
     piece: &[u8],
     out: &mut [u8],
-) -> Turn {
+) -> io::Result<Turn> {
     hint(rt, start.bare, reads, piece);
     read_out(rt, start, recv, word, piece, out)
 }
@@ -141,17 +149,17 @@ fn hint(rt: &impl Speak, bare: bool, reads: u64, begin: &[u8]) {
 }
 
 // Whether more is to be read: not where it was said why not, nor behind a recording's wrong byte, where nothing more is shown.
-fn goes_on(rt: &(impl Print + Speak), turn: Turn) -> bool {
+fn goes_on(rt: &(impl Print + Speak), turn: Turn) -> io::Result<bool> {
     let next = turn.next;
     let tape = next.tape;
     if !turn.go {
-        return false;
+        return Ok(false);
     }
     if tape.is_wrong() {
-        finish(rt, next);
-        return false;
+        finish(rt, next)?;
+        return Ok(false);
     }
-    true
+    Ok(true)
 }
 
 // A piece, until more is wanted.
@@ -162,7 +170,7 @@ fn read_out(
     word: &mut [u8],
     piece: &[u8],
     out: &mut [u8],
-) -> Turn {
+) -> io::Result<Turn> {
     let mut turn = Turn {
         again: true,
         go: false,
@@ -171,13 +179,13 @@ fn read_out(
     };
     let mut i: usize = 0;
     for _ in 0..u64::MAX {
-        turn = call(rt, turn.next, recv, word, &piece[i..], out);
+        turn = call(rt, turn.next, recv, word, &piece[i..], out)?;
         i += turn.taken;
         if !turn.again {
-            return turn;
+            return Ok(turn);
         }
     }
-    turn
+    Ok(turn)
 }
 
 // One call, and what it wrote.
@@ -188,28 +196,21 @@ fn call(
     word: &mut [u8],
     piece: &[u8],
     out: &mut [u8],
-) -> Turn
-    ensures { result.taken ≤ length piece.now }
+) -> io::Result<Turn>
+    ensures { IfOk result (λ t. t.taken ≤ length piece.now) }
 {
     let took = start.take(recv, word, piece, out);
     let taken = took.taken;
     let next = took.next;
     let wants = took.wants;
     let n = took.written;
-    if !print(rt, &out[0..n]) {
-        return Turn {
-            again: false,
-            go: false,
-            taken,
-            next,
-        };
-    }
-    Turn {
+    print(rt, &out[0..n])?;
+    Ok(Turn {
         again: wants_again(wants),
         go: !is_refused(rt, wants),
         taken,
         next,
-    }
+    })
 }
 
 fn wants_again(wants: Wants) -> bool {
@@ -233,20 +234,22 @@ fn is_refused(rt: &impl Speak, wants: Wants) -> bool {
 }
 
 // What is still to be said behind the last byte.
-fn finish(rt: &(impl Print + Speak), readout: Readout) {
+fn finish(rt: &(impl Print + Speak), readout: Readout) -> io::Result<()> {
     let last = readout.finish();
     let text = last.bytes;
-    put(rt, last.length, &text);
+    put(rt, last.length, &text)
 }
 
 // .. the first so many bytes of a text: a line where the input is no whole recording, and else none.
-fn put(rt: &(impl Print + Speak), n: usize, text: &[u8]) {
-    if n > 0 && print(rt, &text[0..base::least(n, text.len())]) {
+fn put(rt: &(impl Print + Speak), n: usize, text: &[u8]) -> io::Result<()> {
+    if n > 0 {
+        print(rt, &text[0..base::least(n, text.len())])?;
         say(rt, b"board: no whole recording\n");
     }
+    Ok(())
 }
 
-// Text to standard output; whether all went there.
-fn print(rt: &(impl Print + Speak), text: &[u8]) -> bool {
+// Text to standard output.
+fn print(rt: &(impl Print + Speak), text: &[u8]) -> io::Result<()> {
     console::print(rt, b"board", text)
 }

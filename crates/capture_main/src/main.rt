@@ -8,7 +8,9 @@ use channel::Receiver;
 use console::{PIECE, Speak, say};
 use packet::Delivery;
 use recording::{Found, RecordingReader};
+use std::io;
 use std::io::Read;
+use std::process::ExitCode;
 
 // What is heard so far, behind a call.
 #[derive(Clone, Copy)]
@@ -23,46 +25,52 @@ struct Turn {
     number: u32,
 }
 
-fn main(rt: HostRuntime) {
+fn main(rt: HostRuntime) -> ExitCode {
+    console::status(hear_all(&rt))
+}
+
+// Standard input, piece by piece as it comes, behind the capture's beginning.
+fn hear_all(rt: &(impl Input + Print + Speak)) -> io::Result<()> {
     let mut out = [0u8; CaptureReader::ENTRY];
     let mut recv = [0u8; Receiver::RAW];
     let mut word = [0u8; Receiver::WORD];
     let mut piece = [0u8; PIECE];
     let begun = capture::begin(&mut out);
-    if !console::put(&rt, b"capture", begun, &out) {
-        return;
+    if !console::put(rt, b"capture", begun, &out)? {
+        return Ok(());
     }
     let mut tape = RecordingReader::fresh();
     let mut number: u32 = 0;
     let mut input = rt.reader();
     for _ in 0..u64::MAX {
         let Ok(n) = input.read(&mut piece) else {
-            console::say_unread(&rt, b"capture");
-            return;
+            console::say_unread(rt, b"capture");
+            return Ok(());
         };
         if n == 0 {
-            finish(&rt, tape);
-            return;
+            finish(rt, tape);
+            return Ok(());
         }
         let turn = hear(
-            &rt,
+            rt,
             tape,
             number,
             &mut recv,
             &mut word,
             &piece[0..n],
             &mut out,
-        );
+        )?;
         tape = turn.tape;
         number = turn.number;
         if !turn.go {
-            return;
+            return Ok(());
         }
         if tape.is_wrong() {
-            finish(&rt, tape);
-            return;
+            finish(rt, tape);
+            return Ok(());
         }
     }
+    Ok(())
 }
 
 // A piece, until more is wanted.
@@ -74,7 +82,7 @@ fn hear(
     word: &mut [u8],
     piece: &[u8],
     out: &mut [u8],
-) -> Turn {
+) -> io::Result<Turn> {
     let mut turn = Turn {
         again: true,
         go: false,
@@ -84,13 +92,13 @@ fn hear(
     };
     let mut i: usize = 0;
     for _ in 0..u64::MAX {
-        turn = call(rt, turn.tape, turn.number, recv, word, &piece[i..], out);
+        turn = call(rt, turn.tape, turn.number, recv, word, &piece[i..], out)?;
         i = console::onward(i, turn.taken, piece.len());
         if !turn.again {
-            return turn;
+            return Ok(turn);
         }
     }
-    turn
+    Ok(turn)
 }
 
 // One call: a packet's record is written, and a refused call ends the work.
@@ -102,19 +110,19 @@ fn call(
     word: &mut [u8],
     piece: &[u8],
     out: &mut [u8],
-) -> Turn {
+) -> io::Result<Turn> {
     let next = start.next_packet(recv, word, piece);
     let taken = next.taken;
     let tape = next.tape;
     let found = next.found;
-    let goes = pass(rt, found, number, recv, out);
-    Turn {
+    let goes = pass(rt, found, number, recv, out)?;
+    Ok(Turn {
         again: goes && !is_more(found),
         go: goes,
         taken,
         tape,
         number: behind(found, number),
-    }
+    })
 }
 
 fn is_more(found: Found) -> bool {
@@ -126,13 +134,19 @@ fn is_more(found: Found) -> bool {
 }
 
 // Whether the recording is heard further: a packet went to standard output, and no call was refused.
-fn pass(rt: &(impl Print + Speak), found: Found, number: u32, recv: &[u8], out: &mut [u8]) -> bool {
+fn pass(
+    rt: &(impl Print + Speak),
+    found: Found,
+    number: u32,
+    recv: &[u8],
+    out: &mut [u8],
+) -> io::Result<bool> {
     match found {
-        Found::More => true,
+        Found::More => Ok(true),
         Found::Packet(delivery) => enter(rt, delivery, number, recv, out),
         Found::Refused(_) => {
             say(rt, b"capture: the recording is too long\n");
-            false
+            Ok(false)
         }
     }
 }
@@ -144,7 +158,7 @@ fn enter(
     number: u32,
     recv: &[u8],
     out: &mut [u8],
-) -> bool {
+) -> io::Result<bool> {
     let packed = capture::packed(recv, delivery);
     let entered = capture::enter(number, packed, out);
     console::put(rt, b"capture", entered, out)

@@ -8,7 +8,9 @@ ghost use Rattle.std.specs.Prelude.{◌≤◌, length};
 use base::{Refusal, Written};
 use ports_spec::Range;
 use std::env::{Env, FillError};
-use std::io::{Eprint, Print};
+use std::io;
+use std::io::{Eprint, ErrorKind};
+use std::process::ExitCode;
 
 /// Who says something on standard error, in bytes that need not be text.
 pub trait Speak: Eprint {
@@ -122,24 +124,47 @@ pub fn onward(at: usize, n: usize, end: usize) -> usize
     from + base::least(n, end - from)
 }
 
-/// Bytes to standard output; whether all went there, else that is said.
-pub fn print(rt: &(impl Print + Speak), program: &[u8], bytes: &[u8]) -> bool {
-    if rt.write_all(bytes).is_ok() {
-        return true;
+/// Bytes to standard output. Where not all of them go there, that is said, but nothing is where its reader has gone.
+pub fn print(rt: &(impl Print + Speak), program: &[u8], bytes: &[u8]) -> io::Result<()> {
+    match rt.write_all(bytes) {
+        Ok(()) => Ok(()),
+        Err(error) => {
+            if error.kind() != ErrorKind::BrokenPipe {
+                say(rt, program);
+                say(rt, b": cannot write standard output\n");
+            }
+            Err(error)
+        }
     }
-    say(rt, program);
-    say(rt, b": cannot write standard output\n");
-    false
 }
 
-/// What was written, to standard output; whether all of it went there, else it is said why.
-pub fn put(rt: &(impl Print + Speak), program: &[u8], written: Written, out: &[u8]) -> bool {
+/// What was written, to standard output; whether there is such, else it is said why not.
+pub fn put(
+    rt: &(impl Print + Speak),
+    program: &[u8],
+    written: Written,
+    out: &[u8],
+) -> io::Result<bool> {
     match written {
-        Written::Wrote(n) => print(rt, program, &out[0..base::least(n, out.len())]),
+        Written::Wrote(n) => {
+            print(rt, program, &out[0..base::least(n, out.len())])?;
+            Ok(true)
+        }
         Written::Refused(number) => {
             say_refusal(rt, program, number);
-            false
+            Ok(false)
         }
+    }
+}
+
+// The status that a shell tells of a program that a pipe without a reader ended.
+const GONE: u8 = 141;
+
+/// The status of a program that ends so: 0 where all went well, and where it was said what did not.
+pub fn status(ended: io::Result<()>) -> ExitCode {
+    match ended {
+        Err(error) if error.kind() == ErrorKind::BrokenPipe => ExitCode::from(GONE),
+        _ => ExitCode::SUCCESS,
     }
 }
 

@@ -4,6 +4,7 @@ use channel::Answer;
 use console::{PIECE, Speak};
 use listing_lines::{Line, Totals};
 use packet::Judged;
+use std::io;
 use std::io::Read;
 use subchannel::Sub;
 
@@ -27,7 +28,7 @@ struct Turn {
 }
 
 // The receiver: pieces as they come, and the totals behind the last.
-pub fn list_all(rt: &(impl Input + Print + Speak), parity: usize, depth: usize) {
+pub fn list_all(rt: &(impl Input + Print + Speak), parity: usize, depth: usize) -> io::Result<()> {
     let mut recv = [0u8; Sub::RAW];
     let mut word = [0u8; Sub::WORD];
     let mut piece = [0u8; PIECE];
@@ -38,13 +39,14 @@ pub fn list_all(rt: &(impl Input + Print + Speak), parity: usize, depth: usize) 
         totals: Totals::none(),
     };
     for _ in 0..u64::MAX {
-        let turn = list_next(rt, sub, counts, &mut recv, &mut word, &mut piece);
+        let turn = list_next(rt, sub, counts, &mut recv, &mut word, &mut piece)?;
         sub = turn.sub;
         counts = turn.counts;
         if !turn.go {
-            return;
+            return Ok(());
         }
     }
+    Ok(())
 }
 
 // The next piece, read and listed.
@@ -55,14 +57,14 @@ fn list_next(
     recv: &mut [u8],
     word: &mut [u8],
     piece: &mut [u8],
-) -> Turn {
+) -> io::Result<Turn> {
     let Ok(n) = rt.reader().read(piece) else {
         crate::say_unread(rt);
-        return stopped(sub, counts);
+        return Ok(stopped(sub, counts));
     };
     if n == 0 {
-        print_totals(rt, counts);
-        return stopped(sub, counts);
+        print_totals(rt, counts)?;
+        return Ok(stopped(sub, counts));
     }
     list(rt, sub, counts, recv, word, &piece[0..n])
 }
@@ -85,7 +87,7 @@ fn list(
     recv: &mut [u8],
     word: &mut [u8],
     piece: &[u8],
-) -> Turn {
+) -> io::Result<Turn> {
     let mut turn = Turn {
         again: true,
         go: false,
@@ -95,13 +97,13 @@ fn list(
     };
     let mut i: usize = 0;
     for _ in 0..u64::MAX {
-        turn = call(rt, turn.sub, turn.counts, recv, word, &piece[i..]);
+        turn = call(rt, turn.sub, turn.counts, recv, word, &piece[i..])?;
         i = console::onward(i, turn.taken, piece.len());
         if !turn.again {
-            return turn;
+            return Ok(turn);
         }
     }
-    turn
+    Ok(turn)
 }
 
 // One call, and its line.
@@ -112,18 +114,18 @@ fn call(
     recv: &mut [u8],
     word: &mut [u8],
     piece: &[u8],
-) -> Turn {
+) -> io::Result<Turn> {
     let heard = start.hear(recv, word, piece);
     let answer = heard.answer;
     let sub = heard.sub;
-    let go = tell(rt, answer);
-    Turn {
+    let go = tell(rt, answer)?;
+    Ok(Turn {
         again: go && !is_more(answer),
         go,
         taken: heard.taken,
         sub,
         counts: counted(before, answer),
-    }
+    })
 }
 
 fn is_more(answer: Answer) -> bool {
@@ -135,11 +137,11 @@ fn is_more(answer: Answer) -> bool {
     }
 }
 
-// Whether a call was not refused, and its line went to standard output.
-fn tell(rt: &(impl Print + Speak), answer: Answer) -> bool {
+// The line of an answer, to standard output; whether its call was not refused.
+fn tell(rt: &(impl Print + Speak), answer: Answer) -> io::Result<bool> {
     if is_refused(answer) {
         console::say(rt, b"fixed: a call was refused\n");
-        return false;
+        return Ok(false);
     }
     let mut text = [0u8; Line::LONGEST];
     let written = listing_lines::print(answer, &mut text);
@@ -189,11 +191,12 @@ fn counted(c: Counts, answer: Answer) -> Counts {
 }
 
 // The last line.
-fn print_totals(rt: &(impl Print + Speak), c: Counts) {
+fn print_totals(rt: &(impl Print + Speak), c: Counts) -> io::Result<()> {
     let t = c.totals;
     let mut text = [0u8; Line::LONGEST];
     let written = listing_lines::print_end(
         c.bytes, t.packets, t.refused, t.damaged, t.lost, &mut text,
     );
-    crate::put(rt, written, &text);
+    crate::put(rt, written, &text)?;
+    Ok(())
 }

@@ -1,8 +1,9 @@
 //! The sender: a stream of any length, group by group.
-ghost use Rattle.std.specs.Prelude.{◌≤◌, length};
+ghost use Rattle.std.specs.Prelude.{◌≤◌, length, IfOk};
 
 use console::Speak;
 use interleaver::Matrix;
+use std::io;
 use std::io::Read;
 use subchannel::Settings;
 use subchannel_sender::{Counted, Group, Sent};
@@ -68,28 +69,28 @@ fn send_full(
     want: usize,
     hold: &[u8],
     out: &mut [u8],
-) -> Stand
+) -> io::Result<Stand>
     requires { (have ≤ want) × (want ≤ length hold.now) }
-    ensures { result.have ≤ want }
+    ensures { IfOk result (λ s. s.have ≤ want) }
 {
     if have < want {
-        return Stand {
+        return Ok(Stand {
             go: true,
             have,
             matrix,
-        };
+        });
     }
-    let behind = send(rt, parity, depth, matrix, &hold[0..want], out);
+    let behind = send(rt, parity, depth, matrix, &hold[0..want], out)?;
     let next = behind.matrix;
-    Stand {
+    Ok(Stand {
         go: behind.go,
         have: 0,
         matrix: next,
-    }
+    })
 }
 
 // The sender: a group whenever its bytes are in.
-pub fn send_all(rt: &(impl Input + Print + Speak), parity: usize, depth: usize) {
+pub fn send_all(rt: &(impl Input + Print + Speak), parity: usize, depth: usize) -> io::Result<()> {
     let mut hold = [0u8; HOLD];
     let mut out = [0u8; Group::LENGTH];
     let mut matrix = interleaver::fresh();
@@ -100,20 +101,20 @@ pub fn send_all(rt: &(impl Input + Print + Speak), parity: usize, depth: usize) 
         have = held.have;
         if held.failed {
             crate::say_unread(rt);
-            return;
+            return Ok(());
         }
         hint(rt, reads, &hold[0..have]);
         if held.ended {
-            finish(rt, parity, depth, matrix, &hold[0..have], &mut out);
-            return;
+            return finish(rt, parity, depth, matrix, &hold[0..have], &mut out);
         }
-        let stand = send_full(rt, parity, depth, matrix, have, want, &hold, &mut out);
+        let stand = send_full(rt, parity, depth, matrix, have, want, &hold, &mut out)?;
         matrix = stand.matrix;
         have = stand.have;
         if !stand.go {
-            return;
+            return Ok(());
         }
     }
+    Ok(())
 }
 
 // The first bytes read: a plain stream begins with no marker. Blocks are sent as they are all the same, and the receiver will not read them as such.
@@ -134,10 +135,13 @@ fn finish(
     matrix: Matrix,
     rest: &[u8],
     out: &mut [u8],
-) {
+) -> io::Result<()> {
     match subchannel_sender::count(parity, depth, rest.len()) {
         Counted::Groups(groups) => send_last(rt, parity, depth, groups, matrix, rest, out),
-        Counted::Refused(number) => crate::say_refused(rt, number),
+        Counted::Refused(number) => {
+            crate::say_refused(rt, number);
+            Ok(())
+        }
     }
 }
 
@@ -149,19 +153,20 @@ fn send_last(
     first: Matrix,
     rest: &[u8],
     out: &mut [u8],
-) {
+) -> io::Result<()> {
     let mut matrix = first;
     let mut at: usize = 0;
     let mut i: usize = 0;
     while i < groups {
-        let behind = send(rt, parity, depth, matrix, &rest[at..], out);
+        let behind = send(rt, parity, depth, matrix, &rest[at..], out)?;
         matrix = behind.matrix;
         at = console::onward(at, behind.taken, rest.len());
         if !behind.go {
-            return;
+            return Ok(());
         }
         i += 1;
     }
+    Ok(())
 }
 
 // One group, to standard output.
@@ -172,17 +177,17 @@ fn send(
     matrix: Matrix,
     stream: &[u8],
     out: &mut [u8],
-) -> Behind {
+) -> io::Result<Behind> {
     let sent = subchannel_sender::send_group(parity, depth, matrix, stream, out);
     put(rt, sent, out)
 }
 
-fn put(rt: &(impl Print + Speak), sent: Sent, out: &[u8]) -> Behind {
+fn put(rt: &(impl Print + Speak), sent: Sent, out: &[u8]) -> io::Result<Behind> {
     let written = sent.written;
     let matrix = sent.matrix;
-    Behind {
-        go: crate::put(rt, written, out),
+    Ok(Behind {
+        go: crate::put(rt, written, out)?,
         taken: sent.taken,
         matrix,
-    }
+    })
 }

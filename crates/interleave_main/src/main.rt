@@ -5,7 +5,10 @@
 
 use console::{PIECE, Speak, say};
 use interleaver::{Back, Matrix, Pulled, Pushed};
+use std::env::Env;
+use std::io;
 use std::io::Read;
+use std::process::ExitCode;
 
 // The sender behind a piece, and whether it goes on.
 #[derive(Clone, Copy)]
@@ -21,21 +24,25 @@ struct Taken {
     back: Back,
 }
 
-fn main(rt: HostRuntime) {
-    let depth = console::number(&rt, 2, 2);
-    if console::argument_count(&rt) != 3 || depth > 64 {
-        usage(&rt);
-        return;
+fn main(rt: HostRuntime) -> ExitCode {
+    console::status(run(&rt))
+}
+
+// What the first argument asks for.
+fn run(rt: &(impl Env + Input + Print + Speak)) -> io::Result<()> {
+    let depth = console::number(rt, 2, 2);
+    if console::argument_count(rt) != 3 || depth > 64 {
+        usage(rt);
+        return Ok(());
     }
-    if console::is_argument(&rt, 1, b"push") {
-        push_all(&rt, depth);
-        return;
+    if console::is_argument(rt, 1, b"push") {
+        return push_all(rt, depth);
     }
-    if console::is_argument(&rt, 1, b"pull") {
-        pull_all(&rt, depth);
-        return;
+    if console::is_argument(rt, 1, b"pull") {
+        return pull_all(rt, depth);
     }
-    usage(&rt);
+    usage(rt);
+    Ok(())
 }
 
 fn usage(rt: &impl Speak) {
@@ -46,7 +53,7 @@ fn usage(rt: &impl Speak) {
 }
 
 // The sender: pieces as they come, and the closing push behind the last.
-fn push_all(rt: &(impl Input + Print + Speak), depth: usize) {
+fn push_all(rt: &(impl Input + Print + Speak), depth: usize) -> io::Result<()> {
     let mut piece = [0u8; PIECE];
     let mut out = [0u8; PIECE];
     let mut matrix = interleaver::fresh();
@@ -54,26 +61,27 @@ fn push_all(rt: &(impl Input + Print + Speak), depth: usize) {
     for _ in 0..u64::MAX {
         let Ok(n) = input.read(&mut piece) else {
             console::say_unread(rt, b"interleave");
-            return;
+            return Ok(());
         };
         if n == 0 {
-            pushed(rt, interleaver::close(matrix, depth, &mut out), &out);
-            return;
+            pushed(rt, interleaver::close(matrix, depth, &mut out), &out)?;
+            return Ok(());
         }
         let sent = pushed(
             rt,
             interleaver::push(matrix, depth, &piece[..n], &mut out),
             &out,
-        );
+        )?;
         matrix = sent.matrix;
         if !sent.go {
-            return;
+            return Ok(());
         }
     }
+    Ok(())
 }
 
 // The receiving side: pieces as they come.
-fn pull_all(rt: &(impl Input + Print + Speak), depth: usize) {
+fn pull_all(rt: &(impl Input + Print + Speak), depth: usize) -> io::Result<()> {
     let mut piece = [0u8; PIECE];
     let mut out = [0u8; PIECE];
     let mut back = interleaver::fresh_back();
@@ -81,39 +89,40 @@ fn pull_all(rt: &(impl Input + Print + Speak), depth: usize) {
     for _ in 0..u64::MAX {
         let Ok(n) = input.read(&mut piece) else {
             console::say_unread(rt, b"interleave");
-            return;
+            return Ok(());
         };
         if n == 0 {
-            return;
+            return Ok(());
         }
         let taken = pulled(
             rt,
             interleaver::pull(back, depth, &piece[..n], &mut out),
             &out,
-        );
+        )?;
         back = taken.back;
         if !taken.go {
-            return;
+            return Ok(());
         }
     }
+    Ok(())
 }
 
 // What a push wrote, to standard output.
-fn pushed(rt: &(impl Print + Speak), answer: Pushed, out: &[u8]) -> Sent {
+fn pushed(rt: &(impl Print + Speak), answer: Pushed, out: &[u8]) -> io::Result<Sent> {
     let written = answer.written;
     let matrix = answer.matrix;
-    Sent {
-        go: console::put(rt, b"interleave", written, out),
+    Ok(Sent {
+        go: console::put(rt, b"interleave", written, out)?,
         matrix,
-    }
+    })
 }
 
 // What a pull wrote.
-fn pulled(rt: &(impl Print + Speak), answer: Pulled, out: &[u8]) -> Taken {
+fn pulled(rt: &(impl Print + Speak), answer: Pulled, out: &[u8]) -> io::Result<Taken> {
     let written = answer.written;
     let back = answer.back;
-    Taken {
-        go: console::put(rt, b"interleave", written, out),
+    Ok(Taken {
+        go: console::put(rt, b"interleave", written, out)?,
         back,
-    }
+    })
 }

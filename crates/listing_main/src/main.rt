@@ -2,12 +2,14 @@
 //! without a last line. Where the last line is `X`, it stands on standard error too. Behind a wrong byte it reads no more.
 #![tactic(auto)]
 
-ghost use Rattle.std.specs.Prelude.{◌≤◌, length};
+ghost use Rattle.std.specs.Prelude.{◌≤◌, length, IfOk};
 
 use channel::Receiver;
 use console::{PIECE, Speak, say};
 use listing::{Lister, Wants};
+use std::io;
 use std::io::Read;
+use std::process::ExitCode;
 
 // A recording behind a call.
 #[derive(Clone, Copy)]
@@ -20,7 +22,12 @@ struct Turn {
     next: Lister,
 }
 
-fn main(rt: HostRuntime) {
+fn main(rt: HostRuntime) -> ExitCode {
+    console::status(list_all(&rt))
+}
+
+// Standard input, piece by piece as it comes.
+fn list_all(rt: &(impl Input + Print + Speak)) -> io::Result<()> {
     let mut recv = [0u8; Receiver::RAW];
     let mut word = [0u8; Receiver::WORD];
     let mut piece = [0u8; PIECE];
@@ -29,24 +36,23 @@ fn main(rt: HostRuntime) {
     let mut input = rt.reader();
     for _ in 0..u64::MAX {
         let Ok(n) = input.read(&mut piece) else {
-            say_unread(&rt);
-            return;
+            say_unread(rt);
+            return Ok(());
         };
         if n == 0 {
-            finish(&rt, recording, &mut out);
-            return;
+            return finish(rt, recording, &mut out);
         }
-        let turn = list(&rt, recording, &mut recv, &mut word, &piece[0..n], &mut out);
+        let turn = list(rt, recording, &mut recv, &mut word, &piece[0..n], &mut out)?;
         recording = turn.next;
         if !turn.go {
-            return;
+            return Ok(());
         }
         let tape = recording.tape;
         if tape.is_wrong() {
-            finish(&rt, recording, &mut out);
-            return;
+            return finish(rt, recording, &mut out);
         }
     }
+    Ok(())
 }
 
 fn say_unread(rt: &impl Speak) {
@@ -61,7 +67,7 @@ fn list(
     word: &mut [u8],
     piece: &[u8],
     out: &mut [u8],
-) -> Turn {
+) -> io::Result<Turn> {
     let mut turn = Turn {
         again: true,
         go: false,
@@ -70,13 +76,13 @@ fn list(
     };
     let mut i: usize = 0;
     for _ in 0..u64::MAX {
-        turn = call(rt, turn.next, recv, word, &piece[i..], out);
+        turn = call(rt, turn.next, recv, word, &piece[i..], out)?;
         i += turn.taken;
         if !turn.again {
-            return turn;
+            return Ok(turn);
         }
     }
-    turn
+    Ok(turn)
 }
 
 // One call, and its lines.
@@ -87,28 +93,21 @@ fn call(
     word: &mut [u8],
     piece: &[u8],
     out: &mut [u8],
-) -> Turn
-    ensures { result.taken ≤ length piece.now }
+) -> io::Result<Turn>
+    ensures { IfOk result (λ t. t.taken ≤ length piece.now) }
 {
     let took = start.take(recv, word, piece, out);
     let taken = took.taken;
     let next = took.next;
     let wants = took.wants;
     let n = took.written;
-    if !print(rt, &out[0..n]) {
-        return Turn {
-            again: false,
-            go: false,
-            taken,
-            next,
-        };
-    }
-    Turn {
+    print(rt, &out[0..n])?;
+    Ok(Turn {
         again: wants_room(wants),
         go: !is_refused(rt, wants),
         taken,
         next,
-    }
+    })
 }
 
 fn wants_room(wants: Wants) -> bool {
@@ -132,16 +131,17 @@ fn is_refused(rt: &impl Speak, wants: Wants) -> bool {
 }
 
 // The last line, and where the input is no whole recording.
-fn finish(rt: &(impl Print + Speak), recording: Lister, out: &mut [u8]) {
+fn finish(rt: &(impl Print + Speak), recording: Lister, out: &mut [u8]) -> io::Result<()> {
     let tape = recording.tape;
     let at = tape.spot;
     let last = recording.finish(out);
-    if console::put(rt, b"listing", last, out) && !tape.may_end() {
+    if console::put(rt, b"listing", last, out)? && !tape.may_end() {
         console::say_wrong(rt, b"listing", at.offset);
     }
+    Ok(())
 }
 
-// Lines to standard output; whether all went there.
-fn print(rt: &(impl Print + Speak), text: &[u8]) -> bool {
+// Lines to standard output.
+fn print(rt: &(impl Print + Speak), text: &[u8]) -> io::Result<()> {
     console::print(rt, b"listing", text)
 }

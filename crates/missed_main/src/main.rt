@@ -7,7 +7,10 @@ use channel::Receiver;
 use console::{LAST_PORT, PIECE, Speak, say};
 use missed::{Notes, Wants};
 use ports_spec::Range;
+use std::env::Env;
+use std::io;
 use std::io::Read;
+use std::process::ExitCode;
 
 // What is noted so far, behind a call.
 #[derive(Clone, Copy)]
@@ -20,21 +23,26 @@ struct Turn {
     notes: Notes,
 }
 
-fn main(rt: HostRuntime) {
-    let first = console::port(&rt, 1);
-    let last = console::port(&rt, 2);
-    if console::argument_count(&rt) != 3 || first > LAST_PORT || last > LAST_PORT {
+fn main(rt: HostRuntime) -> ExitCode {
+    console::status(run(&rt))
+}
+
+// The ports that the arguments name.
+fn run(rt: &(impl Env + Input + Print + Speak)) -> io::Result<()> {
+    let first = console::port(rt, 1);
+    let last = console::port(rt, 2);
+    if console::argument_count(rt) != 3 || first > LAST_PORT || last > LAST_PORT {
         say(
-            &rt,
+            rt,
             b"usage: missed FIRST LAST <RECORDING; FIRST and LAST are ports\n",
         );
-        return;
+        return Ok(());
     }
-    hear_all(&rt, console::range(first, last));
+    hear_all(rt, console::range(first, last))
 }
 
 // The recording, piece by piece.
-fn hear_all(rt: &(impl Input + Print + Speak), range: Range) {
+fn hear_all(rt: &(impl Input + Print + Speak), range: Range) -> io::Result<()> {
     let mut recv = [0u8; Receiver::RAW];
     let mut word = [0u8; Receiver::WORD];
     let mut out = [0u8; Notes::ROOM];
@@ -44,18 +52,19 @@ fn hear_all(rt: &(impl Input + Print + Speak), range: Range) {
     for _ in 0..u64::MAX {
         let Ok(n) = input.read(&mut piece) else {
             console::say_unread(rt, b"missed");
-            return;
+            return Ok(());
         };
         if n == 0 {
             finish(rt, notes);
-            return;
+            return Ok(());
         }
-        let turn = hear(rt, notes, &mut recv, &mut word, &piece[0..n], &mut out);
+        let turn = hear(rt, notes, &mut recv, &mut word, &piece[0..n], &mut out)?;
         notes = turn.notes;
         if !turn.go || is_over(rt, notes) {
-            return;
+            return Ok(());
         }
     }
+    Ok(())
 }
 
 // A piece, until more is wanted.
@@ -66,7 +75,7 @@ fn hear(
     word: &mut [u8],
     piece: &[u8],
     out: &mut [u8],
-) -> Turn {
+) -> io::Result<Turn> {
     let mut turn = Turn {
         again: true,
         go: false,
@@ -75,13 +84,13 @@ fn hear(
     };
     let mut i: usize = 0;
     for _ in 0..u64::MAX {
-        turn = call(rt, turn.notes, recv, word, &piece[i..], out);
+        turn = call(rt, turn.notes, recv, word, &piece[i..], out)?;
         i = console::onward(i, turn.taken, piece.len());
         if !turn.again {
-            return turn;
+            return Ok(turn);
         }
     }
-    turn
+    Ok(turn)
 }
 
 // One call, and its line.
@@ -92,25 +101,18 @@ fn call(
     word: &mut [u8],
     piece: &[u8],
     out: &mut [u8],
-) -> Turn {
+) -> io::Result<Turn> {
     let took = start.take(recv, word, piece, out);
     let taken = took.taken;
     let notes = took.next;
     let wants = took.wants;
-    if !console::print(rt, b"missed", &out[0..base::least(took.written, out.len())]) {
-        return Turn {
-            again: false,
-            go: false,
-            taken,
-            notes,
-        };
-    }
-    Turn {
+    console::print(rt, b"missed", &out[0..base::least(took.written, out.len())])?;
+    Ok(Turn {
         again: wants_again(wants),
         go: !is_refused(rt, wants),
         taken,
         notes,
-    }
+    })
 }
 
 fn wants_again(wants: Wants) -> bool {

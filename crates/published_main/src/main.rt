@@ -4,10 +4,20 @@
 
 use fcs::Register;
 use std::io;
+use std::io::ErrorKind;
+use std::process::ExitCode;
 
-fn main(rt: HostRuntime) {
-    if print_all(&rt).is_err() {
-        let _ = eprintln!(&rt; "published: cannot write standard output");
+// The status that a shell tells of a program that a pipe without a reader ended.
+const GONE: u8 = 141;
+
+fn main(rt: HostRuntime) -> ExitCode {
+    match print_all(&rt) {
+        Err(error) if error.kind() == ErrorKind::BrokenPipe => ExitCode::from(GONE),
+        Err(_) => {
+            let _ = eprintln!(rt; "published: cannot write standard output");
+            ExitCode::SUCCESS
+        }
+        Ok(()) => ExitCode::SUCCESS,
     }
 }
 

@@ -7,7 +7,9 @@ use base::{Refusal, Written};
 use capture::{CaptureReader, Ended};
 use console::{PIECE, Speak, say};
 use packet::{Delivery, Judged, Packet};
+use std::io;
 use std::io::Read;
+use std::process::ExitCode;
 use stream::Heard;
 
 // What is sent so far.
@@ -41,16 +43,23 @@ struct Passed {
 // Stream bytes of a recording, at most.
 const MOST: u64 = 4294967295;
 
-fn main(rt: HostRuntime) {
+fn main(rt: HostRuntime) -> ExitCode {
+    console::status(run(&rt))
+}
+
+// The first flag, and what comes behind it.
+fn run(rt: &(impl Input + Print + Speak)) -> io::Result<()> {
     let mut out = [0u8; Packet::RAW];
     let begun = stream::begin(&mut out);
-    if console::print(&rt, b"replay", &[0x50]) && put(&rt, begun, &out) {
-        replay(&rt, &mut out);
+    console::print(rt, b"replay", &[0x50])?;
+    if put(rt, begun, &out)? {
+        return replay(rt, &mut out);
     }
+    Ok(())
 }
 
 // Standard input, piece by piece as it comes, behind the first flag.
-fn replay(rt: &(impl Input + Print + Speak), out: &mut [u8]) {
+fn replay(rt: &(impl Input + Print + Speak), out: &mut [u8]) -> io::Result<()> {
     let mut store = [0u8; CaptureReader::STORED];
     let mut piece = [0u8; PIECE];
     let mut capture = CaptureReader::fresh();
@@ -62,19 +71,20 @@ fn replay(rt: &(impl Input + Print + Speak), out: &mut [u8]) {
     for _ in 0..u64::MAX {
         let Ok(n) = input.read(&mut piece) else {
             console::say_unread(rt, b"replay");
-            return;
+            return Ok(());
         };
         if n == 0 {
             finish(rt, capture, sent);
-            return;
+            return Ok(());
         }
-        let turn = read(rt, capture, sent, &mut store, &piece[0..n], out);
+        let turn = read(rt, capture, sent, &mut store, &piece[0..n], out)?;
         capture = turn.capture;
         sent = turn.sent;
         if !turn.go {
-            return;
+            return Ok(());
         }
     }
+    Ok(())
 }
 
 // A piece, until more is wanted.
@@ -85,7 +95,7 @@ fn read(
     store: &mut [u8],
     piece: &[u8],
     out: &mut [u8],
-) -> Turn {
+) -> io::Result<Turn> {
     let mut turn = Turn {
         again: true,
         go: false,
@@ -96,13 +106,13 @@ fn read(
     let mut i: usize = 0;
     for _ in 0..u64::MAX {
         let next = turn.capture;
-        turn = call(rt, next, turn.sent, store, &piece[i..], out);
+        turn = call(rt, next, turn.sent, store, &piece[i..], out)?;
         i = console::onward(i, turn.taken, piece.len());
         if !turn.again {
-            return turn;
+            return Ok(turn);
         }
     }
-    turn
+    Ok(turn)
 }
 
 // One call, and the record of its packet.
@@ -113,20 +123,20 @@ fn call(
     store: &mut [u8],
     piece: &[u8],
     out: &mut [u8],
-) -> Turn {
+) -> io::Result<Turn> {
     let told = start.read(store, piece);
     let taken = told.taken;
     let capture = told.capture;
     let heard = told.heard;
-    let passed = pass(rt, heard, sent, store, out);
+    let passed = pass(rt, heard, sent, store, out)?;
     let behind = passed.sent;
-    Turn {
+    Ok(Turn {
         again: passed.again,
         go: passed.go,
         taken,
         capture,
         sent: behind,
-    }
+    })
 }
 
 // An answer: a packet is sent, and a refusal ends the work.
@@ -136,13 +146,13 @@ fn pass(
     sent: Sent,
     store: &[u8],
     out: &mut [u8],
-) -> Passed {
+) -> io::Result<Passed> {
     match heard {
-        Heard::More => Passed {
+        Heard::More => Ok(Passed {
             again: false,
             go: true,
             sent,
-        },
+        }),
         Heard::Said(judged) => judge(rt, judged, sent, store, out),
     }
 }
@@ -153,11 +163,11 @@ fn judge(
     sent: Sent,
     store: &[u8],
     out: &mut [u8],
-) -> Passed {
+) -> io::Result<Passed> {
     match judged {
         Judged::Packet(delivery) => send(rt, delivery, sent, store, out),
-        Judged::Refused(n) => refuse(rt, n, sent),
-        Judged::Broken(_) => refuse(rt, Refusal::ESCAPE, sent),
+        Judged::Refused(n) => Ok(refuse(rt, n, sent)),
+        Judged::Broken(_) => Ok(refuse(rt, Refusal::ESCAPE, sent)),
     }
 }
 
@@ -178,7 +188,7 @@ fn send(
     sent: Sent,
     store: &[u8],
     out: &mut [u8],
-) -> Passed {
+) -> io::Result<Passed> {
     let key = stream::key(store, delivery);
     let payload = stream::payload(store, delivery);
     let appended = stream::append_as(
@@ -192,12 +202,12 @@ fn send(
         payload,
     );
     let behind = counted(sent, appended);
-    let go = fits(rt, behind) && put(rt, appended, out);
-    Passed {
+    let go = fits(rt, behind) && put(rt, appended, out)?;
+    Ok(Passed {
         again: go,
         go,
         sent: behind,
-    }
+    })
 }
 
 // Behind a packet more.
@@ -244,20 +254,24 @@ fn say_refused(rt: &impl Speak, number: u8, record: u64) {
     console::say_why(rt, number);
 }
 
-// Stream bytes in a record; whether all of it went to standard output.
-fn put(rt: &(impl Print + Speak), written: Written, out: &[u8]) -> bool {
+// Stream bytes in a record, to standard output; whether there are such.
+fn put(rt: &(impl Print + Speak), written: Written, out: &[u8]) -> io::Result<bool> {
     match written {
-        Written::Wrote(n) => record(rt, &out[0..base::least(n, out.len())]),
+        Written::Wrote(n) => {
+            record(rt, &out[0..base::least(n, out.len())])?;
+            Ok(true)
+        }
         Written::Refused(number) => {
             say(rt, b"replay: ");
             console::say_refused(rt, number);
-            false
+            Ok(false)
         }
     }
 }
 
-fn record(rt: &(impl Print + Speak), bytes: &[u8]) -> bool {
+fn record(rt: &(impl Print + Speak), bytes: &[u8]) -> io::Result<()> {
     let n = bytes.len();
     let head = [0xF5, 0x5F, (n % 256) as u8, (n / 256 % 256) as u8];
-    console::print(rt, b"replay", &head) && console::print(rt, b"replay", bytes)
+    console::print(rt, b"replay", &head)?;
+    console::print(rt, b"replay", bytes)
 }

@@ -10,6 +10,7 @@ use recording::{Found, RecordingReader};
 use sheet::{Counted, Draft, Sheet};
 use std::env::Env;
 use std::io::{ErrorKind, Read};
+use std::process::ExitCode;
 use std::rt::Files;
 use std::{fs, io};
 
@@ -33,22 +34,24 @@ struct Finished {
     draft: Draft,
 }
 
-fn main(rt: HostRuntime) {
-    let first = console::port(&rt, 2);
-    let last = console::port(&rt, 3);
-    let count = console::argument_count(&rt);
+fn main(rt: HostRuntime) -> ExitCode {
+    console::status(run(&rt))
+}
+
+// The ports and the recordings that the arguments name.
+fn run(rt: &(impl Env + Files + Print + Speak)) -> io::Result<()> {
+    let first = console::port(rt, 2);
+    let last = console::port(rt, 3);
+    let count = console::argument_count(rt);
     if count < 5 || first > LAST_PORT || last > LAST_PORT {
         say(
-            &rt,
+            rt,
             b"usage: sheet progress|quiet FIRST LAST FILE..; FIRST and LAST are ports\n",
         );
-        return;
+        return Ok(());
     }
-    let shown = console::is_argument(&rt, 1, b"progress");
-    print_all(
-        &rt,
-        count_all(&rt, console::range(first, last), shown, count),
-    );
+    let shown = console::is_argument(rt, 1, b"progress");
+    print_all(rt, count_all(rt, console::range(first, last), shown, count))
 }
 
 // The sheet of the recordings that the arguments behind the fourth name.
@@ -226,16 +229,17 @@ fn tell_counted(rt: &impl Speak, name: &[u8], counted: Counted) {
 }
 
 // The lines.
-fn print_all(rt: &(impl Print + Speak), sheet: Sheet) {
+fn print_all(rt: &(impl Print + Speak), sheet: Sheet) -> io::Result<()> {
     let mut text = [0u8; Sheet::LINE];
     let mut i: usize = 0;
     while i < Sheet::PORTS {
         let written = sheet.print(i, &mut text);
-        if !console::put(rt, b"sheet", written, &text) {
-            return;
+        if !console::put(rt, b"sheet", written, &text)? {
+            return Ok(());
         }
         i += 1;
     }
+    Ok(())
 }
 
 // A file's name, and what is to be said of it.

@@ -10,6 +10,7 @@ use base::Written;
 use console::{ARGUMENT, PIECE, Speak, is_argument, say};
 use std::env::Env;
 use std::io::{ErrorKind, Read, Write};
+use std::process::ExitCode;
 use std::rt::Files;
 use std::{fs, io};
 
@@ -38,17 +39,21 @@ struct Asked {
 // Above this a number stays as it is.
 const FAR: usize = 1000000000000;
 
-fn main(rt: HostRuntime) {
-    let count = console::argument_count(&rt);
-    if count == 7 && is_argument(&rt, 1, b"write") {
-        write(&rt);
-        return;
+fn main(rt: HostRuntime) -> ExitCode {
+    console::status(run(&rt))
+}
+
+// What the first argument asks for.
+fn run(rt: &(impl Env + Files + Alloc + Print + Speak)) -> io::Result<()> {
+    let count = console::argument_count(rt);
+    if count == 7 && is_argument(rt, 1, b"write") {
+        return write(rt);
     }
-    if count == 10 && is_argument(&rt, 1, b"read") {
-        read(&rt);
-        return;
+    if count == 10 && is_argument(rt, 1, b"read") {
+        return read(rt);
     }
-    usage(&rt);
+    usage(rt);
+    Ok(())
 }
 
 fn usage(rt: &impl Speak) {
@@ -68,11 +73,11 @@ fn refuse(rt: &impl Speak, number: u8) {
 }
 
 // A unit written.
-fn write(rt: &(impl Env + Files + Alloc + Print + Speak)) {
+fn write(rt: &(impl Env + Files + Alloc + Print + Speak)) -> io::Result<()> {
     let asked = settings(rt);
     if !asked.well {
         usage(rt);
-        return;
+        return Ok(());
     }
     let mut audio = [0u8; PIECE];
     let mut opportunistic = [0u8; PIECE];
@@ -81,8 +86,9 @@ fn write(rt: &(impl Env + Files + Alloc + Print + Speak)) {
     let o = get(rt, 5, &mut opportunistic);
     let f = get(rt, 6, &mut fixed);
     if a.well && o.well && f.well {
-        write_parts(rt, asked, a.n, o.n, f.n, &audio, &opportunistic, &fixed);
+        write_parts(rt, asked, a.n, o.n, f.n, &audio, &opportunistic, &fixed)?;
     }
+    Ok(())
 }
 
 // .. of so many bytes of each part.
@@ -95,7 +101,7 @@ fn write_parts(
     audio: &[u8],
     opportunistic: &[u8],
     fixed: &[u8],
-) {
+) -> io::Result<()> {
     let mut out = [0u8; PIECE];
     let delimiter = asked.delimiter;
     let written = unit::write(
@@ -106,23 +112,25 @@ fn write_parts(
         &fixed[0..base::least(f, fixed.len())],
         &mut out,
     );
-    console::put(rt, b"unit", written, &out);
+    console::put(rt, b"unit", written, &out)?;
+    Ok(())
 }
 
 // A unit read.
-fn read(rt: &(impl Env + Files + Alloc + Speak)) {
+fn read(rt: &(impl Env + Files + Alloc + Speak)) -> io::Result<()> {
     let asked = settings(rt);
     let audio = number(rt, 4);
     let fixed = number(rt, 5);
     if !asked.well || !audio.well || !fixed.well {
         usage(rt);
-        return;
+        return Ok(());
     }
     let mut unit = [0u8; PIECE];
     let got = get(rt, 6, &mut unit);
     if got.well {
-        read_parts(rt, asked, audio.value, fixed.value, got.n, &unit);
+        read_parts(rt, asked, audio.value, fixed.value, got.n, &unit)?;
     }
+    Ok(())
 }
 
 // .. of n bytes, with these told lengths.
@@ -133,7 +141,7 @@ fn read_parts(
     fixed: usize,
     n: usize,
     unit: &[u8],
-) {
+) -> io::Result<()> {
     let mut out = [0u8; PIECE];
     let delimiter = asked.delimiter;
     let found = unit::read(
@@ -146,9 +154,9 @@ fn read_parts(
     );
     if is_read(found) && n > bytes_of(asked.size) {
         say_behind(rt, bytes_of(asked.size));
-        return;
+        return Ok(());
     }
-    share(rt, found, audio, fixed, &out);
+    share(rt, found, audio, fixed, &out)
 }
 
 fn is_read(found: Written) -> bool {
@@ -177,39 +185,45 @@ fn share(
     audio: usize,
     fixed: usize,
     out: &[u8],
-) {
+) -> io::Result<()> {
     match found {
         Written::Wrote(n) => store_all(rt, audio, fixed, &out[0..base::least(n, out.len())]),
-        Written::Refused(number) => refuse(rt, number),
+        Written::Refused(number) => {
+            refuse(rt, number);
+            Ok(())
+        }
     }
 }
 
 // Audio, what lies between, and fixed data.
-fn store_all(rt: &(impl Env + Files + Alloc + Speak), audio: usize, fixed: usize, parts: &[u8]) {
+fn store_all(
+    rt: &(impl Env + Files + Alloc + Speak),
+    audio: usize,
+    fixed: usize,
+    parts: &[u8],
+) -> io::Result<()> {
     let begin = base::least(audio, parts.len());
     let behind = &parts[begin..];
     let end = behind.len() - base::least(fixed, behind.len());
-    if !store(rt, 7, &parts[0..begin]) {
-        return;
-    }
-    if !store(rt, 8, &behind[0..end]) {
-        return;
-    }
-    store(rt, 9, &behind[end..]);
+    store(rt, 7, &parts[0..begin])?;
+    store(rt, 8, &behind[0..end])?;
+    store(rt, 9, &behind[end..])
 }
 
-// Bytes into the file that an argument names; where that fails it was said why.
-fn store(rt: &(impl Env + Files + Alloc + Speak), i: usize, bytes: &[u8]) -> bool {
+// Bytes into the file that an argument names; where that fails it is said why, but nothing is where its reader has gone.
+fn store(rt: &(impl Env + Files + Alloc + Speak), i: usize, bytes: &[u8]) -> io::Result<()> {
     if is_argument(rt, i, b"-") {
-        return true;
+        return Ok(());
     }
     let mut name = [0u8; ARGUMENT];
     let n = console::argument(rt, i, &mut name);
     match write_file(rt, &name[..n], bytes) {
-        Ok(()) => true,
+        Ok(()) => Ok(()),
         Err(error) => {
-            say_failed(rt, &name[..n], error);
-            false
+            if error.kind() != ErrorKind::BrokenPipe {
+                say_failed(rt, &name[..n], error);
+            }
+            Err(error)
         }
     }
 }

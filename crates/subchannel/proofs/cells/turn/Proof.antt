@@ -13,7 +13,7 @@ turn_spec =
     tie.close (tie.spec
     (λ c. let a = c.args in turned-flat a.depth a.place a.again a.cells.now a.byte c.if-depth-lt2.true)
     (search rules)
-    (λ t. (step-inside t.args.depth t.args.place t.if-depth-lt2.left t.pre.0 t.pre.1 t.step-step.ensures).1)
+    (λ t. (step-inside t.args.depth t.args.place t.if-depth-lt2.false t.requires.0 t.requires.1 t.step-step.ensures).1)
     (λ c.
     omega (arith, (step-inside c.args.depth c.args.place c.if-depth-lt2.false c.requires.0 c.requires.1 c.step-step.ensures).3, c.requires.0))
     (λ c.

@@ -20,12 +20,12 @@ next_packet_spec =
     (sym c.near.ensures ∙ c.if-not-near.true) c.refused-then-not-near.ensures)
     (search rules) (search rules) (search rules) (search rules)
     (λ c. fetch-cramped c.args.self c.args.recv.now c.args.word.now c.args.piece.now
-    (sym c.sound.ensures ∙ not-false _ c.if-not-sound.false) (sym c.near.ensures ∙ not-false _ c.if-not-near.false)
+    (sym c.sound.ensures ∙ c.if-not-sound.false) (sym c.near.ensures ∙ c.if-not-near.false)
     (sym c.has_room.ensures ∙ c.if-not-has_room.true) c.refused-then-not-has_room.ensures)
     (λ c κs. next-asks c.args.self c.args.recv.now c.args.word.now c.args.piece.now
-    (sym c.sound.ensures ∙ not-false _ c.if-not-sound.false) (sym c.near.ensures ∙ not-false _ c.if-not-near.false)
+    (sym c.sound.ensures ∙ c.if-not-sound.false) (sym c.near.ensures ∙ c.if-not-near.false)
     (sym c.has_room.ensures ∙ c.if-not-has_room.false) (omega arith))
     (search rules) (search rules)
-    (λ c. fetch-on c.args.self c.args.recv.now c.args.word.now c.args.piece.now (sym c.sound.ensures ∙ not-false _ c.if-not-sound.false)
-    (sym c.near.ensures ∙ not-false _ c.if-not-near.false) (sym c.has_room.ensures ∙ not-false _ c.if-not-has_room.false)
+    (λ c. fetch-on c.args.self c.args.recv.now c.args.word.now c.args.piece.now (sym c.sound.ensures ∙ c.if-not-sound.false)
+    (sym c.near.ensures ∙ c.if-not-near.false) (sym c.has_room.ensures ∙ c.if-not-has_room.false)
     c.seek.ensures))

@@ -12,16 +12,16 @@ eat_spec =
     (search rules)
     (λ c.
     let a = c.args in
-    eats-hunting a.self a.again a.place a.cells.now a.word.now a.b c.if-self.false (c.if-not-self.true)
+    eats-hunting a.self a.again a.place a.cells.now a.word.now a.b c.if-self.false (not-true _ c.if-not-self.true)
     c.hunt_byte.ensures)
     (λ c κs. let p = c.requires in (p.0, c.if-counts-lt-GROUP.true, p.1))
     (search rules)
     (λ c.
     let a = c.args in
-    eats-group a.self a.again a.place a.cells.now a.word.now a.b c.if-self.false (c.if-not-self.false) c.if-counts-lt-GROUP.true
+    eats-group a.self a.again a.place a.cells.now a.word.now a.b c.if-self.false (not-false _ c.if-not-self.false) c.if-counts-lt-GROUP.true
     c.group_byte.ensures)
     (λ c κs. c.requires.0.marker)
     (λ c.
     let a = c.args in
-    eats-mark a.self a.again a.place a.cells.now a.word.now a.b c.if-self.false (c.if-not-self.false) c.if-counts-lt-GROUP.false
+    eats-mark a.self a.again a.place a.cells.now a.word.now a.b c.if-self.false (not-false _ c.if-not-self.false) c.if-counts-lt-GROUP.false
     c.mark_byte-s.ensures))

@@ -13,13 +13,13 @@ word_byte_spec =
     (search rules) (search rules) (search rules) (search rules) (search rules) (search rules) (search rules)
     (λ c.
     let a = c.args in
-    words_more a.self a.y a.word.now c.IsPlace-in.ensures.0 c.if-at-lt-WORD.true c.moved.ensures)
+    words_more a.self a.y a.word.now c.place_in-at.ensures.0 c.if-at-lt-WORD.true c.moved.ensures)
     (search rules) (search rules)
     (λ c.
     let a = c.args in
-    ap length c.mend_in-condition.ensures.1 ∙ mend_in-length a.self.settings.parity (set a.word.now c.IsPlace-in.result a.y)
-    ∙ length-set a.word.now c.IsPlace-in.result a.y)
+    ap length c.mend_in-condition.ensures.1 ∙ mend_in-length a.self.settings.parity (set a.word.now c.place_in-at.result a.y)
+    ∙ length-set a.word.now c.place_in-at.result a.y)
     (λ c.
     let a = c.args in
-    words-whole a.self a.y a.word.now c.IsPlace-in.ensures.0 c.if-at-lt-WORD.false c.mend_in-condition.ensures.0 c.mend_in-condition.ensures.1
+    words-whole a.self a.y a.word.now c.place_in-at.ensures.0 c.if-at-lt-WORD.false c.mend_in-condition.ensures.0 c.mend_in-condition.ensures.1
     c.moved-2.ensures))

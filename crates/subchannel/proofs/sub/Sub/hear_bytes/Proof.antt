@@ -54,9 +54,9 @@ hear_bytes_spec =
     going_end (goes-all _ c.loop-i.invariant.0 c.fill-there.ensures c.filled-full.ensures)
     (omega (
       arith,
-      f.plain-n.ensures.0,
-      f.loop-i-test.true,
-    )) t.eat-e.ensures c.if-e.true)
+      c.plain-n.ensures.0,
+      c.loop-i-test.true,
+    )) c.eat-e.ensures c.if-e.true)
     (λ c.
     omega (
       arith,
@@ -67,11 +67,11 @@ hear_bytes_spec =
       going_next (goes-all _ c.loop-i.invariant.0 c.fill-there.ensures c.filled-full.ensures)
           (omega (
             arith,
-            f.plain-n.ensures.0,
-            f.loop-i-test.true,
-          )) t.eat-e.ensures c.if-e.false,
-      t.eat-e.auto.word ∙ f.fill-there.auto.word ∙ l.loop-i.invariant.1,
-      l.loop-i.invariant.2,
+            c.plain-n.ensures.0,
+            c.loop-i-test.true,
+          )) c.eat-e.ensures c.if-e.false,
+      c.eat-e.auto.word ∙ c.fill-there.auto.word ∙ c.loop-i.invariant.1,
+      c.loop-i.invariant.2,
     ))
     (λ c. c.loop-i.invariant.1)
     (λ c. going_done c.loop-i.invariant.0 c.loop-i-test.false))
