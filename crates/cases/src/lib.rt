@@ -76,10 +76,8 @@ pub fn lend(case: Case, out: &mut [u8]) -> &mut [u8] {
 
 /// Fills a buffer with a byte.
 pub fn fill(out: &mut [u8], b: u8) {
-    let mut i: usize = 0;
-    while i < out.len() {
-        out[i] = b;
-        i += 1;
+    for place in out {
+        *place = b;
     }
 }
 
@@ -153,10 +151,8 @@ pub fn print(told: &mut impl Write, n: u64) -> io::Result<()> {
 
 /// Writes numbers, one behind the other.
 pub fn print_all(told: &mut impl Write, numbers: &[u64]) -> io::Result<()> {
-    let mut i: usize = 0;
-    while i < numbers.len() {
-        print(told, numbers[i])?;
-        i += 1;
+    for n in numbers {
+        print(told, *n)?;
     }
     Ok(())
 }

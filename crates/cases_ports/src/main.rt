@@ -64,10 +64,8 @@ fn forgot(forgot: Forgot) -> u64 {
 
 fn places_of(case: [u8; 85]) -> [Entry; 16] {
     let mut entries = [place(0); 16];
-    let mut i: usize = 0;
-    while i < 16 {
+    for i in 0..16 {
         entries[i] = place(cases::number_at(&case, 5 + 5 * i));
-        i += 1;
     }
     entries
 }
@@ -89,11 +87,8 @@ fn tell(out: &mut impl Write, told: u64, ports: Ports) -> io::Result<()> {
         cases::low(told / 0x1000000),
     ];
     out.write_all(&head)?;
-    let entries = ports.entries;
-    let mut i: usize = 0;
-    while i < 16 {
-        tell_place(out, entries[i])?;
-        i += 1;
+    for entry in ports.entries {
+        tell_place(out, entry)?;
     }
     Ok(())
 }

@@ -49,10 +49,8 @@ fn answer(input: &mut impl Read, told: &mut impl Write) -> io::Result<bool> {
 fn rows(input: &mut impl Read) -> io::Result<[Row; 16]> {
     let first = row(input)?;
     let mut rows = [first; 16];
-    let mut i: usize = 1;
-    while i < 16 {
+    for i in 1..16 {
         rows[i] = row(input)?;
-        i += 1;
     }
     Ok(rows)
 }
@@ -113,11 +111,9 @@ fn code(counted: Counted) -> u64 {
 }
 
 fn tell_rows(told: &mut impl Write, sheet: Sheet, rows: [Row; 16]) -> io::Result<()> {
-    let mut i: usize = 0;
-    while i < 16 {
+    for i in 0..16 {
         tell_row(told, rows[i])?;
         tell_line(told, sheet, i)?;
-        i += 1;
     }
     Ok(())
 }

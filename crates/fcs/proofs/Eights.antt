@@ -1,5 +1,5 @@
 -- Eight bytes enter the register at once as their bits do one by one.
--- left, left-sum, right-sum    numbers shifted, which go with sums
+-- left-sum, right-sum          numbers shifted go with sums
 -- entered-zeros                what falls out of the register goes with sums
 -- first, second, third, fourth, low   the steps by which the code makes them fall out
 -- fall-is                      what it makes of the 64 bits that fall out: both sides go with sums, so there are 64 computed cases
@@ -26,6 +26,7 @@ use Rattle.base.proofs.Lists.{next, over}
 use Rattle.base.proofs.Tests.{all-at}
 use Rattle.fcs.specs.Fcs.{polynomial, entered, register, shifted}
 use Rattle.fcs.specs.Private.{little}
+use Rattle.fcs.proofs.Steps.{left}
 use Rattle.fcs.proofs.Entering.{entered-sum}
 use Rattle.fcs.proofs.Laws.{register-append}
 
@@ -58,9 +59,6 @@ entered-zeros zero a b = refl
 entered-zeros (suc n) a b = ap (λ (x : ℕ). entered n x 0) (shifted_sum a b) ∙ entered-zeros n (shifted a 0) (shifted b 0)
 
 -- ---- the code's four lines, and what it takes of the last
-abbrev pub left : ℕ → ℕ → ℕ
-left k w = w * 2 ^ k % 2 ^ 64
-
 pub left-sum : (k : ℕ) → Additive (left k)
 left-sum k a b =
     ap (λ (x : ℕ). x % 2 ^ 64)

@@ -1,6 +1,6 @@
 -- A byte enters the register at once as its eight bits do one by one.
 -- entered-sum                 what is added to the register before falls out with it
--- folded, folded-lt, spread   the code's step for the register's low byte: 256 computed cases
+-- folded, folded-lt           the code's step for the register's low byte: 256 computed cases
 -- byte-enters                 the whole step: the byte is added, the low byte is spread, the high byte moves down and is added
 use mathlib.Core.Path.{◌≡◌, refl, sym, ap, ap₂, ◌∙◌}
 use Prim.Native.Nat.{ℕ, zero, suc, ◌*◌, ◌/◌, ◌%◌, ◌^◌, ◌<◌}
@@ -12,6 +12,7 @@ use Rattle.base.specs.Choice.{pick}
 use Rattle.base.proofs.Bits.{bit, bit-ind, xor-half, xor-odd, xor-swap, xor-parts}
 use Rattle.base.proofs.Tests.{all-at}
 use Rattle.fcs.specs.Fcs.{polynomial, entered, shifted}
+use Rattle.fcs.proofs.Steps.{spread}
 
 -- one bit: adding b to the register first, or its low bit to the bit and the rest of it behind
 shifted_sum : (r b : ℕ) → shifted (bit_xor r b) 0 ≡ bit_xor (shifted r (b % 2)) (b / 2)
@@ -50,10 +51,6 @@ entered-none (suc n) r b = ap₂ (λ (d c : ℕ). entered n (shifted r d) c) (sh
 -- the bits that call for the polynomial as the low byte x falls out: each bit of x, and each that an earlier polynomial turned
 abbrev pub folded : ℕ → ℕ
 folded x = bit_xor x (x * 16 % 256)
-
--- what they add to the register: the polynomial for each bit, moved down by the bits behind it
-abbrev pub spread : ℕ → ℕ
-spread y = bit_xor (bit_xor (y * 256) (y * 8)) (y / 16)
 
 pub folded-lt : (n : ℕ) → folded (n % 256) < 256
 folded-lt n = xor_lt 8 (n % 256) _ (mod-lt n (omega arith)) (mod-lt _ (omega arith))

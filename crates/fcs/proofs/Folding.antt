@@ -1,8 +1,7 @@
 -- Four eights wait: the first of them, instead of falling out, is added to those behind it.
 -- Fit                      the four are numbers of 64 bits
 -- waiting                  the register once the four have fallen out
--- low, high                the first one's two parts
---                          .. and what they have in that: both sides go with sums, so there are 64 computed cases
+-- added                    what the first one is added as: both sides go with sums, so there are 64 computed cases
 -- fit-more, folded-next    a turn of the loop: a fifth comes
 -- folded-first             the first four
 -- eights-over              where the loops end
@@ -19,7 +18,8 @@ use Rattle.base.proofs.Bits.{xor_assoc, xor-four, Additive, agree}
 use Rattle.base.proofs.Tests.{all-at}
 use Rattle.fcs.specs.Fcs.{entered, register}
 use Rattle.fcs.specs.Private.{little}
-use Rattle.fcs.proofs.Eights.{entered-zeros, left, left-sum, right-sum, eight-enters, eight-next}
+use Rattle.fcs.proofs.Steps.{low_by, high_by, low, high}
+use Rattle.fcs.proofs.Eights.{entered-zeros, left-sum, right-sum, eight-enters, eight-next}
 
 -- 64 bits fall out, alone and added to a register
 abbrev fell : ℕ → ℕ
@@ -70,20 +70,14 @@ five-sum a b =
     ∙ ap fell (entered-zeros 64 _ _)
     ∙ entered-zeros 64 _ _
 
--- 176 bits behind: its low 16 bits reach the third as the highest, the others the fourth
-abbrev pub low : ℕ → ℕ
-low a = left 48 a
-
-abbrev pub high : ℕ → ℕ
-high a = a / 2 ^ 16
-
+-- it is added to them in two parts
 unfoldable added : ℕ → ℕ
 added a = four a (low a) (high a) a
 
 added-sum : Additive added
 unfolding added
 added-sum a b =
-    ap₂ (λ (l h : ℕ). four (bit_xor a b) l h (bit_xor a b)) (left-sum 48 a b) (right-sum 16 a b) ∙ four-sum a (low a) (high a) a b (low b) (high b) b
+    ap₂ (λ (l h : ℕ). four (bit_xor a b) l h (bit_xor a b)) (left-sum low_by a b) (right-sum high_by a b) ∙ four-sum a (low a) (high a) a b (low b) (high b) b
 
 single : (i : ℕ) → i < 64 → five (2 ^ i) ≡ added (2 ^ i)
 unfolding five added entered

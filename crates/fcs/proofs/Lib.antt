@@ -1,4 +1,5 @@
 pub mod Laws
+pub mod Steps
 pub mod Entering
 pub mod Eights
 pub mod Folding

@@ -32,7 +32,7 @@ module _ {S : Type 0} (d : ℕ) (e : S → ℕ → Option ℕ × S) where
   pub passes : d < 2 → (s : S) (bs : List ℕ) → run (passing d e) s bs ≡ (bs, s)
   passes h s [] = refl
   passes h s (b ∷ bs) =
-      ap (λ (t : Bool). let q = pick t (some b, s) (e s b) in tell q.0 (run (passing d e) q.1 bs)) (lt-ltb d 2 h)
+      ap (λ (t : Bool). let q = pick t (some b, s) (e s b) in tell q.0 (run (passing d e) q.1 bs)) (lt-ltb d _ (omega arith))
       ∙ ap (λ (x : List ℕ × S). (b ∷ x.0, x.1)) (passes h s bs)
 
   pub deeper : 2 ≤ d → (s : S) (bs : List ℕ) → run (passing d e) s bs ≡ run e s bs

@@ -7,7 +7,7 @@
 -- kept, ending_of       bytes of a line stored; what becomes of the line
 -- desk_all              an input: what is said of its lines, and the desk behind it
 -- sent_by, complaints_by what was sent, and the complaints, of all that is said
-use Rattle.std.specs.Prelude.{ℕ, ◌+◌, ◌-◌, ◌*◌, ◌/◌, min, List, [], ◌∷◌, ◌++◌, eqb, length, take, drop}
+use Rattle.std.specs.Prelude.{ℕ, ◌+◌, ◌-◌, min, List, [], ◌∷◌, ◌++◌, eqb, length, take, drop}
 use Rattle.std.proofs.Math.Option.{Option, some, none}
 use Rattle.std.proofs.lemmas.List.Edits.{sets}
 use Rattle.base.specs.Choice.{pick}
@@ -15,7 +15,7 @@ use Rattle.base.specs.Calls.{owes_none, hands_none, all}
 use Rattle.base.specs.Written.{copied}
 use Rattle.packet_spec.specs.Escape.{flag}
 use Rattle.stream.specs.Sender.{raw_of}
-use Rattle.channel_spec.specs.Sender.{message_bytes, marked, sent, wholes, rest_of}
+use Rattle.channel_spec.specs.Sender.{marked, sent, wholes, rest_of}
 use Rattle.bid.specs.Line.{feed, line_limit, Verdict, no_bid, refused, accepted, verdict}
 use Rattle.bid.specs.Input.{numbered, packets_of}
 use Rattle.office.specs.declared.Office.{Office}

@@ -33,6 +33,7 @@ use Rattle.ports_spec.specs.declared.Forgot.TheVariants.{Forgotten, Refused as U
 use Rattle.ports_spec.specs.Distance.{ruled, last_behind}
 use Rattle.ports_spec.specs.Ports.{place_limit, freed, fresh_table, entry, unheld, holds, place_of, free_place, last_of, twice, unfit, last_at}
 use Rattle.ports_spec.specs.Ports.{further, taken, without, noting, forgetting}
+use Rattle.ports_spec.proofs.Holding.{holds-is, holds_not}
 
 -- ---- the two calls as their tests go
 abbrev pub noting_by : Bool → Bool → Bool → List Entry → ℕ → ℕ → Noted × List Entry
@@ -71,12 +72,6 @@ module _ (es : List Entry) (port : ℕ) (P : Forgot × List Entry → Type 0) wh
       go false false h = away
 
 -- ---- places
-holds-is : (port : ℕ) (e : Entry) → holds port e ≡ true → e.port ≡ port
-holds-is port e h = eqb-true _ _ (and_parts e.held (eqb e.port port) h).1
-
-holds_not : (q : ℕ) (e : Entry) → e.port ≢ q → holds q e ≡ false
-holds_not q e n = rw (ne_eqb e.port q n) (and-false e.held)
-
 pub place-holds : (es : List Entry) (port : ℕ) → place_of port es < length es → holds port (get_or es (place_of port es) freed) ≡ true
 unfolding place_of
 place-holds [] port h = absurd (not-suc-le-zero h)

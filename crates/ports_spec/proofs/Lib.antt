@@ -1,4 +1,5 @@
 pub mod Every
+pub mod Holding
 pub mod Keeping
 pub mod Laws
 pub mod Numbers

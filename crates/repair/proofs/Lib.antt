@@ -5,6 +5,7 @@ pub mod Locate
 pub mod Eliminate
 pub mod Exists
 pub mod Values
+pub mod Settled
 pub mod Meeting
 pub mod Promising
 pub mod Loops

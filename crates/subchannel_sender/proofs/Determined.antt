@@ -11,9 +11,8 @@ use Rattle.base.proofs.Determining.{same, same_answer, same-output, buffer, skip
 use Rattle.base.proofs.Writing.{write_keeps, refused-keeps, pick-keeps}
 use Rattle.parity.specs.Calls.{root_limit}
 use Rattle.interleaver_spec.specs.Running.{depth_limit}
-use Rattle.interleaver_spec.specs.declared.Matrix.{Matrix}
 use Rattle.subchannel_spec.specs.Sender.{sent}
-use Rattle.subchannel_sender.specs.Sending.{sending, group_sending}
+use Rattle.subchannel_sender.specs.Sending.{sending}
 use Rattle.subchannel_sender.proofs.send.Kinds as send-kinds
 use Rattle.subchannel_sender.proofs.send.Reads as send-reads
 use Rattle.subchannel_sender.proofs.send_group.Kinds as send-group-kinds

@@ -4,14 +4,13 @@
 -- filled_messages, groups-count, four-long, push-long   how many messages and groups, and how long
 -- group-next                  a group: the marker, and then its bytes through the interleaver
 use Prim.Native.Nat.{ℕ, zero, suc, ◌+◌, ◌-◌, ◌*◌, ◌/◌, ◌≤◌}
-use native.Mathlib.Nat.{suc-mul, sub-zero, suc-sub-suc, le_of_suc-le-suc}
+use native.Mathlib.Nat.{suc-mul, sub-zero, le_of_suc-le-suc}
 use native.Mathlib.Omega.{arith}
 use mathlib.Core.Path.{◌≡◌, refl, sym, ◌∙◌, ap}
-use mathlib.Core.List.{List, [], ◌∷◌, ◌++◌, map, append_assoc, append-nil, map-append}
+use mathlib.Core.List.{List, [], ◌∷◌, ◌++◌, map, append_assoc, map-append}
 use lib.ListN.{length, take, drop, replicate, length-append, length-replicate, length-drop, length-map, take-append-drop, replicate-append-replicate}
 use lib.Seq.{take_at, drop_at, take-append-le, drop-append-le, length-take-le}
 use Rattle.base.specs.Calls.{joined, run}
-use Rattle.base.specs.Written.{copied}
 use Rattle.base.proofs.Calls.{run-append}
 use Rattle.base.proofs.Lists.{over, drop-same, map_same}
 use Rattle.base.proofs.Tests.{by_le}

@@ -11,15 +11,14 @@ use Prim.Native.Nat.{ℕ, zero, suc, ◌+◌, ◌-◌, ◌*◌, ◌/◌, ◌%◌
 use native.Mathlib.Nat.{suc-mul, mul_assoc, add-mul-div_right, mul-add-mod_self_right}
 use native.Mathlib.Omega.{arith}
 use mathlib.Core.Path.{◌≡◌, refl, sym, ◌∙◌, ap}
-use mathlib.Core.Bool.{Bool, true, false}
+use mathlib.Core.Bool.{true, false}
 use mathlib.Core.List.{List, [], ◌∷◌, ◌++◌}
-use lib.Dec.{ltb}
 use lib.ListN.{length, take, drop, length-append, length-take}
 use lib.Seq.{take_all, take-take}
 use borrow.Author.Tests.{lt-ltb, le-ltb}
 use Rattle.base.specs.Choice.{pick}
 use Rattle.base.specs.Calls.{joined, run}
-use Rattle.base.specs.Written.{Outcome, outcome, refused, write, copied}
+use Rattle.base.specs.Written.{Outcome, outcome, refused, copied}
 use Rattle.base.specs.declared.Written.TheVariants.{Wrote}
 use Rattle.base.proofs.Lists.{drop-take}
 use Rattle.base.proofs.Tests.{by_le}
@@ -28,10 +27,9 @@ use Rattle.parity.specs.Calls.{root_limit}
 use Rattle.interleaver_spec.specs.Running.{depth_limit, fresh, push, beyond}
 use Rattle.interleaver_spec.specs.declared.Matrix.{Matrix}
 use Rattle.channel_spec.specs.Sender.{marker}
-use Rattle.subchannel_spec.specs.Sender.{message_bytes, group_words, group_bytes, word_of, missing, closing_words, sent}
+use Rattle.subchannel_spec.specs.Sender.{message_bytes, group_words, word_of, missing, closing_words, sent}
 use Rattle.subchannel_sender.specs.Sending.{message_of, words_from, group_next, group_stream, group_written, group_sending, group_count, counting, groups_by}
 use Rattle.subchannel_sender.specs.Private.{group_length, groups_from, GroupIs}
-use Rattle.subchannel_sender.specs.declared.Counted.{Counted}
 use Rattle.subchannel_sender.specs.declared.Counted.TheVariants.{Groups, Refused}
 use Rattle.subchannel_sender.proofs.Laying.{message-full, four-long, push-long}
 use Rattle.subchannel_sender.proofs.Storing.{push-placed, groups-next, groups-long, sent_is}

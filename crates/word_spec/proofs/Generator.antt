@@ -46,7 +46,7 @@ monic-root a g t e = rw e (ap (λ (h : ℕ). h ∷ drop 1 (times_root a (1 ∷ t
 pub generator-monic : (r : ℕ) → generator r ≡ 1 ∷ drop 1 (generator r)
 unfolding generator
 generator-monic zero = refl
-generator-monic (suc r) = monic-root (pow alpha (suc r)) (generator r) (drop 1 (generator r)) (generator-monic r)
+generator-monic (suc r) = monic-root _ (generator r) (drop 1 (generator r)) (generator-monic r)
 
 -- ---- the roots
 root-factor : (a b v : ℕ) → add (mul b v) (mul v a) ≡ mul (add a b) v

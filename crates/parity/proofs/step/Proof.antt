@@ -12,7 +12,8 @@ use Rattle.parity.proofs.step.Tie as tie
 use Rattle.parity.specs.Calls.{root_limit}
 
 abbrev invariant-loop-lane : tie.invariant-loop-lane
-invariant-loop-lane c p next₀ j₀ next j = (j ≤ root_limit) × (length next ≡ root_limit) × (take j next ++ stepped c (drop j p) (drop j next) ≡ stepped c p next₀)
+invariant-loop-lane c p next₀ j₀ next j =
+    (j ≤ root_limit) × (length next ≡ root_limit) × (take j next ++ stepped c (drop j p) (drop j next) ≡ stepped c p next₀)
 
 abbrev decreases-loop-lane : tie.decreases-loop-lane
 decreases-loop-lane c p next₀ j₀ next j = root_limit - j

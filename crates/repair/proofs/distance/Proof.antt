@@ -24,12 +24,12 @@ distance_spec =
     (search rules) (search rules) (search rules) (search rules) (search rules)
     (λ c.
     elim c.if-a-i.branch [
-      then-a-i w ↦ (
+      | then-a-i w ↦ (
         omega arith,
         omega arith,
         rw w.n-is (distance-more c.loop-i.n c.loop-i.i c.args.a.now c.args.b.now c.loop-i.invariant.2 (omega arith) (omega arith) w.if-a-i.true),
       )
-    | else-a-i w ↦ (
+      | else-a-i w ↦ (
         omega arith,
         omega arith,
         rw w.n-is (distance-same c.loop-i.n c.loop-i.i c.args.a.now c.args.b.now c.loop-i.invariant.2 (omega arith) (omega arith) w.if-a-i.false),

@@ -1,7 +1,5 @@
 -- `send_group` meets its contract: refused with 10, 30, 32, 23, or the group is written.
 use mathlib.Core.Path.{sym, ap, ◌∙◌}
-use mathlib.Core.List.{List}
-use Prim.Native.Nat.{ℕ}
 use lib.ListN.{length}
 use borrow.Author.Rules.{rules}
 use Rattle.base.specs.Written.{outcome}

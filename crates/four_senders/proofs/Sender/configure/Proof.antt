@@ -1,7 +1,6 @@
 -- `Sender::configure` meets its contract: refused with 10, 42, 30, 32, or told.
 use mathlib.Core.Path.{sym, ◌∙◌}
 use borrow.Author.Rules.{rules}
-use borrow.Author.Tests.{not-true, not-false}
 use Rattle.four_senders.proofs.Calling.{configured-unsound, configured-none, configured-roots, configured-depth, configured-told}
 use Rattle.four_senders.proofs.Sender.configure.Statement.{statement}
 use Rattle.four_senders.proofs.Sender.configure.Tie as tie
@@ -11,37 +10,28 @@ configure_spec =
     tie.close (tie.spec
     (search rules) (search rules)
     (λ c.
-    let t = c.before in
-    let a = t.before.before.args in
-    c.unconfigured.ensures ∙ configured-unsound a.self a.number a.parity a.depth (sym t.before.sound.ensures ∙ not-true _ t.if1.true))
+    let a = c.args in
+    c.unconfigured.ensures ∙ configured-unsound a.self a.number a.parity a.depth (sym c.sound.ensures ∙ c.if-not-sound.true))
     (search rules)
     (λ c.
-    let t = c.before in
-    let e = t.before in
-    let a = e.before.before.args in
-    c.unconfigured2.ensures
-    ∙ configured-none a.self a.number a.parity a.depth (sym e.before.sound.ensures ∙ not-false _ e.if1.false) t.if2.true)
+    let a = c.args in
+    c.unconfigured-then-number-gt3.ensures
+    ∙ configured-none a.self a.number a.parity a.depth (sym c.sound.ensures ∙ c.if-not-sound.false) c.if-number-gt3.true)
     (search rules)
     (λ c.
-    let t = c.before in
-    let e = t.before.before in
-    let a = e.before.before.args in
-    c.unconfigured3.ensures
-    ∙ configured-roots a.self a.number a.parity a.depth (sym e.before.sound.ensures ∙ not-false _ e.if1.false) t.before.if2.false
-    t.if3.true)
+    let a = c.args in
+    c.unconfigured-then-parity-gt-PARITY.ensures
+    ∙ configured-roots a.self a.number a.parity a.depth (sym c.sound.ensures ∙ c.if-not-sound.false) c.if-number-gt3.false
+    c.if-parity-gt-PARITY.true)
     (search rules)
     (λ c.
-    let t = c.before in
-    let e = t.before.before.before in
-    let a = e.before.before.args in
-    c.unconfigured4.ensures
-    ∙ configured-depth a.self a.number a.parity a.depth (sym e.before.sound.ensures ∙ not-false _ e.if1.false)
-    t.before.before.if2.false
-    t.before.if3.false t.if4.true)
+    let a = c.args in
+    c.unconfigured-then-depth-gt-DEPTH.ensures
+    ∙ configured-depth a.self a.number a.parity a.depth (sym c.sound.ensures ∙ c.if-not-sound.false)
+    c.if-number-gt3.false
+    c.if-parity-gt-PARITY.false c.if-depth-gt-DEPTH.true)
     (search rules)
     (λ c.
-    let t = c.before in
-    let e = t.before.before.before in
-    let a = e.before.before.args in
-    configured-told a.self a.number a.parity a.depth (sym e.before.sound.ensures ∙ not-false _ e.if1.false) t.before.before.if2.false
-    t.before.if3.false t.if4.false c.put.ensures))
+    let a = c.args in
+    configured-told a.self a.number a.parity a.depth (sym c.sound.ensures ∙ c.if-not-sound.false) c.if-number-gt3.false
+    c.if-parity-gt-PARITY.false c.if-depth-gt-DEPTH.false c.put.ensures))

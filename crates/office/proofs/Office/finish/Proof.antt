@@ -3,7 +3,6 @@ use native.Mathlib.Nat.{sub-zero}
 use native.Mathlib.Omega.{arith}
 use mathlib.Core.Path.{sym, ◌∙◌}
 use borrow.Author.Rules.{rules}
-use borrow.Author.Tests.{not-true, not-false}
 use Rattle.office.proofs.Taking.{sound-held, finish-unsound, finish-cramped, finish-on}
 use Rattle.office.proofs.Office.finish.Statement.{statement}
 use Rattle.office.proofs.Office.finish.Tie as tie
@@ -19,5 +18,5 @@ finish_spec =
     (search rules) (search rules)
     (λ c. omega (arith, sound-held c.args.self (sym c.sound.ensures ∙ c.if-not-sound.false), c.if-hold-lt-HOLD.false))
     (search rules) (search rules)
-    (λ c. finish-on c.args.self c.args.hold.now c.args.out.now (sym c.sound.ensures ∙ c.if-not-sound.false c.if-hold-lt-HOLD.false
+    (λ c. finish-on c.args.self c.args.hold.now c.args.out.now (sym c.sound.ensures ∙ c.if-not-sound.false) c.if-hold-lt-HOLD.false
     (simp sub-zero at c.send.ensures)))

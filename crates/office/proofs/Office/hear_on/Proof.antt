@@ -4,31 +4,22 @@ use Rattle.office.proofs.Taking.{stored-fits, heard-more, heard-line, sound-stor
 use Rattle.office.proofs.Office.hear_on.Statement.{statement}
 use Rattle.office.proofs.Office.hear_on.Tie as tie
 
--- what is sought, and the call, from where bytes are kept
-abbrev sought : tie.After-keep-stored → tie.After-up_to-n
-sought c = c.before.before.before
-
-abbrev begun : tie.After-keep-stored → tie.Start
-begun c = (sought c).before.before.before.before.before
-
 pub hear_on_spec : {M : Type 1} → statement M
 hear_on_spec =
     tie.close (tie.spec
     (search rules) (search rules) (search rules) (search rules)
     (λ c κs. (sound-stored c.args.self c.requires.0, roomy-line c.args.line.now c.args.hold.now c.requires.1))
     (search rules)
-    (λ c. let k = c.before.before.before in let s = begun k in
-    heard-more s.args.self s.args.line.now s.args.hold.now s.args.piece.now (sound-stored s.args.self s.pre.0)
-    (sought k).up_to-n.ensures.0 k.keep-stored.ensures.0 k.keep-stored.ensures.1 c.if-n-piece.true s.args.out.now)
+    (λ c. let a = c.args in
+    heard-more a.self a.line.now a.hold.now a.piece.now (sound-stored a.self c.requires.0)
+    c.up_to-n.ensures.0 c.keep-stored.ensures.0 c.keep-stored.ensures.1 c.if-n-piece.true a.out.now)
     (search rules) (search rules)
-    (λ c. let k = c.before.before.before.before in let s = begun k in
-    stored-fits s.args.self s.args.line.now s.args.hold.now s.args.piece.now (sound-stored s.args.self s.pre.0)
-    (sought k).up_to-n.ensures.0 k.keep-stored.ensures.0 k.keep-stored.ensures.1 (roomy-line s.args.line.now s.args.hold.now s.pre.1))
-    (λ c κs. let s = begun c.before.before.before.before.before.before.before in
-    (sound-held s.args.self s.pre.0, roomy-hold s.args.line.now s.args.hold.now s.pre.1, s.pre.2))
+    (λ c. let a = c.args in
+    stored-fits a.self a.line.now a.hold.now a.piece.now (sound-stored a.self c.requires.0)
+    c.up_to-n.ensures.0 c.keep-stored.ensures.0 c.keep-stored.ensures.1 (roomy-line a.line.now a.hold.now c.requires.1))
+    (λ c κs. (sound-held c.args.self c.requires.0, roomy-hold c.args.line.now c.args.hold.now c.requires.1, c.requires.2))
     (search rules) (search rules) (search rules) (search rules) (search rules)
-    (λ c. let k = c.before.before.before in
-    let s = begun k in
-    heard-line s.args.self s.args.line.now s.args.hold.now s.args.piece.now (sound-stored s.args.self s.pre.0)
-    (sought k).up_to-n.ensures.0 k.keep-stored.ensures.0 k.keep-stored.ensures.1 c.if-n-piece.false s.args.out.now c.end_line-ended.ensures
+    (λ c. let a = c.args in
+    heard-line a.self a.line.now a.hold.now a.piece.now (sound-stored a.self c.requires.0)
+    c.up_to-n.ensures.0 c.keep-stored.ensures.0 c.keep-stored.ensures.1 c.if-n-piece.false a.out.now c.end_line-ended.ensures
     c.numbered.ensures))

@@ -9,7 +9,7 @@ pub of_answer_spec : {M : Type 1} → statement M
 of_answer_spec =
     tie.close (tie.spec
     (search rules) (search rules) (search rules) (search rules) (search rules) (search rules) (search rules) (search rules)
-    (λ c. c.bare.ensures ∙ sym (ap of_answer c.before.enum_told.given.1))
-    (λ c. c.of-judged.ensures ∙ sym (ap of_answer c.before.before.answer.given.1))
-    (λ c. c.of-block.ensures ∙ sym (ap of_answer c.before.before.answer2.given.1))
-    (λ c. c.bare2.ensures ∙ sym (ap of_answer c.before.enum-told2.given.1)))
+    (λ c. c.bare.ensures ∙ sym (ap of_answer c.in-More.is))
+    (λ c. c.of_judged.ensures ∙ sym (ap of_answer c.in-Said.is))
+    (λ c. c.of_block.ensures ∙ sym (ap of_answer c.in-Block.is))
+    (λ c. c.bare-in-LockLost.ensures ∙ sym (ap of_answer c.in-LockLost.is)))

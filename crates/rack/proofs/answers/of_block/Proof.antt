@@ -10,6 +10,6 @@ pub of_block_spec : {M : Type 1} → statement M
 of_block_spec =
     tie.close (tie.spec
     (search rules) (search rules) (search rules) (search rules) (search rules) (search rules)
-    (λ c. c.bare.ensures ∙ sym (ap of_block c.before.enum_told.given.1))
-    (λ c. repaired-told c.none.ensures c.before.before.condition.given.1)
-    (λ c. c.bare2.ensures ∙ sym (ap of_block c.before.enum-told2.given.1)))
+    (λ c. c.bare.ensures ∙ sym (ap of_block c.in-Clean.is))
+    (λ c. repaired-told c.none.ensures c.in-Repaired.is)
+    (λ c. c.bare-in-Beyond.ensures ∙ sym (ap of_block c.in-Beyond.is)))

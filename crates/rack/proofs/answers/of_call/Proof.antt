@@ -8,6 +8,6 @@ pub of_call_spec : {M : Type 1} → statement M
 of_call_spec =
     tie.close (tie.spec
     (search rules)
-    (λ c. simp (eq-eqb _ _ c.if1.true))
+    (λ c. simp (eq-eqb _ _ c.if-number.true))
     (search rules)
-    (λ c. simp (ne_eqb _ _ c.if1.false)))
+    (λ c. simp (ne_eqb _ _ c.if-number.false)))

@@ -9,5 +9,5 @@ pub of_heard_spec : {M : Type 1} → statement M
 of_heard_spec =
     tie.close (tie.spec
     (search rules) (search rules) (search rules) (search rules)
-    (λ c. c.bare.ensures ∙ sym (ap of_heard c.before.enum_told.given.1))
-    (λ c. c.of-judged.ensures ∙ sym (ap of_heard c.before.before.heard.given.1)))
+    (λ c. c.bare.ensures ∙ sym (ap of_heard c.in-More.is))
+    (λ c. c.of_judged.ensures ∙ sym (ap of_heard c.in-Said.is)))

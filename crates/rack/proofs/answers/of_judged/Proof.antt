@@ -10,6 +10,6 @@ pub of_judged_spec : {M : Type 1} → statement M
 of_judged_spec =
     tie.close (tie.spec
     (search rules) (search rules) (search rules) (search rules) (search rules) (search rules) (search rules) (search rules)
-    (λ c. packet-told c.payload-at.ensures c.before.before.judged.given.1)
-    (λ c. c.bare.ensures ∙ sym (ap of_judged c.before.before.judged2.given.1))
-    (λ c. broken-told c.none.ensures c.before.before.judged3.given.1))
+    (λ c. packet-told c.payload_at.ensures c.in-Packet.is)
+    (λ c. c.bare.ensures ∙ sym (ap of_judged c.in-Refused.is))
+    (λ c. broken-told c.none.ensures c.in-Broken.is))

@@ -10,15 +10,13 @@ aas_channel_read_spec =
     tie.close (tie.spec
     (search rules) (search rules) (search rules) (search rules) (search rules) (search rules)
     (λ c.
-    let h = c.before.before.before.before.before.before.before.before.before.before in
-    let a = h.before.before.before.before.before.args in
-    heard-kept a.state.now a.recv.now a.word.now a.piece.now h.receiver-of.ensures
-    c.before.before.before.before.before.before.before.hear.ensures c.before.before.of-answer.ensures
-    (sym c.before.of-call.ensures ∙ c.if1.true))
+    let a = c.args in
+    heard-kept a.state.now a.recv.now a.word.now a.piece.now c.receiver_of-receiver.ensures
+    c.hear-heard.ensures c.of_answer-told.ensures
+    (sym c.of_call.ensures ∙ c.if-of_call.true))
     (search rules) (search rules) (search rules)
     (λ c.
-    let h = c.before.before.before.before.before.before.before.before.before.before.before.before in
-    let a = h.before.before.before.before.before.args in
-    heard-written a.state.now a.recv.now a.word.now a.piece.now h.receiver-of.ensures
-    c.before.before.before.before.before.before.before.before.before.hear.ensures c.before.before.before.before.of-answer.ensures
-    (sym c.before.before.before.of-call.ensures ∙ c.before.before.if1.false) c.numbers.ensures))
+    let a = c.args in
+    heard-written a.state.now a.recv.now a.word.now a.piece.now c.receiver_of-receiver.ensures
+    c.hear-heard.ensures c.of_answer-told.ensures
+    (sym c.of_call.ensures ∙ c.if-of_call.false) c.numbers.ensures))

@@ -10,6 +10,6 @@ numbers_spec =
     (search rules) (search rules) (search rules) (search rules) (search rules) (search rules) (search rules) (search rules) (search rules)
     (search rules) (search rules)
     (λ c.
-    let a = c.before.before.before.before.before.before.before.before.before.before.before.before.before.before.before.args in
-    channel-is a.taken a.told a.receiver c.before.before.before.before.before.flag-number.ensures
-    c.before.before.before.before.flag-number2.ensures))
+    let a = c.args in
+    channel-is a.taken a.told a.receiver c.flag_number.ensures
+    c.flag_number-2.ensures))

@@ -10,5 +10,5 @@ receiver_of_spec =
     (search rules) (search rules) (search rules) (search rules) (search rules) (search rules) (search rules) (search rules) (search rules)
     (search rules) (search rules) (search rules) (search rules) (search rules) (search rules) (search rules) (search rules)
     (λ c.
-    receiver-is c.before.before.before.before.before.args.t1 c.before.before.before.before.low.ensures
-    c.before.before.before.low2.ensures c.before.before.low3.ensures c.before.low4.ensures c.frame-by.ensures))
+    receiver-is c.args.s c.low.ensures
+    c.low-2.ensures c.low-3.ensures c.low-4.ensures c.frame_by.ensures))

@@ -10,15 +10,13 @@ aas_stream_read_spec =
     tie.close (tie.spec
     (search rules) (search rules) (search rules) (search rules) (search rules) (search rules) (search rules) (search rules) (search rules)
     (λ c.
-    let h = c.before.before.before.before.before.before.before in
-    let a = h.before.before.before.before.args in
-    read_kept a.state.now a.recv.now a.piece.now h.frame-by.ensures c.before.before.before.before.before.read.ensures
-    c.before.before.of-heard.ensures
-    (sym c.before.of-call.ensures ∙ c.if1.true))
+    let a = c.args in
+    read_kept a.state.now a.recv.now a.piece.now c.frame_by-frame.ensures c.read-read.ensures
+    c.of_heard-told.ensures
+    (sym c.of_call.ensures ∙ c.if-of_call.true))
     (search rules) (search rules)
     (λ c.
-    let h = c.before.before.before.before.before.before.before.before.before in
-    let a = h.before.before.before.before.args in
-    read-written a.state.now a.recv.now a.piece.now h.frame-by.ensures
-    c.before.before.before.before.before.before.before.read.ensures c.before.before.before.before.of-heard.ensures
-    (sym c.before.before.before.of-call.ensures ∙ c.before.before.if1.false) c.numbers.ensures))
+    let a = c.args in
+    read-written a.state.now a.recv.now a.piece.now c.frame_by-frame.ensures
+    c.read-read.ensures c.of_heard-told.ensures
+    (sym c.of_call.ensures ∙ c.if-of_call.false) c.numbers.ensures))

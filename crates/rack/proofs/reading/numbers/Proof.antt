@@ -8,4 +8,4 @@ pub numbers_spec : {M : Type 1} → statement M
 numbers_spec =
     tie.close (tie.spec
     (search rules) (search rules) (search rules) (search rules) (search rules) (search rules)
-    (λ c. let a = c.before.before.before.before.before.before.before.args in stream-is a.taken a.told a.frame c.flag-number.ensures))
+    (λ c. let a = c.args in stream-is a.taken a.told a.frame c.flag_number.ensures))

@@ -8,8 +8,8 @@ pub aas_parity_make_spec : {M : Type 1} → statement M
 aas_parity_make_spec =
     tie.close (tie.spec
     (search rules) (search rules) (search rules) (search rules) (search rules)
-    (λ c. let a = c.before.before.before.before.before.before.before.before.args in
-    made-number a.r a.message.now a.out.now c.before.before.before.before.make.ensures c.enum_told.given.1)
+    (λ c. let a = c.args in
+    made-number a.r a.message.now a.out.now c.make-written.ensures c.in-Wrote.is)
     (search rules)
-    (λ c. let a = c.before.before.before.before.before.before.before.before.before.args in
-    made-number a.r a.message.now a.out.now c.before.before.before.before.before.make.ensures c.before.written.given.1))
+    (λ c. let a = c.args in
+    made-number a.r a.message.now a.out.now c.make-written.ensures c.in-Refused.is))

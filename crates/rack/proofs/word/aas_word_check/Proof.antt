@@ -8,7 +8,7 @@ pub aas_word_check_spec : {M : Type 1} → statement M
 aas_word_check_spec =
     tie.close (tie.spec
     (search rules) (search rules) (search rules) (search rules) (search rules)
-    (λ c. let a = c.before.before.before.before.args in checked-number a.r a.word.now c.before.before.check.ensures c.enum_told.given.1)
-    (λ c. let a = c.before.before.before.before.args in checked-number a.r a.word.now c.before.before.check.ensures c.enum-told2.given.1)
-    (λ c. let a = c.before.before.before.before.before.args in
-    checked-number a.r a.word.now c.before.before.before.check.ensures c.before.checked.given.1))
+    (λ c. let a = c.args in checked-number a.r a.word.now c.check-checked.ensures c.in-Clean.is)
+    (λ c. let a = c.args in checked-number a.r a.word.now c.check-checked.ensures c.in-Damaged.is)
+    (λ c. let a = c.args in
+    checked-number a.r a.word.now c.check-checked.ensures c.in-Refused.is))

@@ -10,33 +10,28 @@ pub aas_word_repair_spec : {M : Type 1} → statement M
 aas_word_repair_spec =
     tie.close (tie.spec
     (search rules) (search rules) (search rules)
-    (λ c. let at-repair = c.before.before.before.before.before in let s = at-repair.before.before.before in
-    let a = s.args in omega (
+    (λ c. let a = c.args in omega (
       arith,
-      few a.r a.word.now at-repair.repair.result at-repair.repair.new.1.0 at-repair.repair.ensures
-          c.before.mended.given.1,
+      few a.r a.word.now c.repair-mended.result c.repair-mended.new.word c.repair-mended.ensures
+          c.in-Repaired.is,
     ))
     (search rules) (search rules) (search rules) (search rules)
     (λ c.
-    let s = c.before.before.before.before.before.before in
-    let a = s.before.args in
-    mended-number a.r a.word.now (bytes_of a.word.now (λ i. (s.slice-known.given i).fits)) c.before.before.before.before.repair.ensures
-    c.enum_told.given.1)
+    let a = c.args in
+    mended-number a.r a.word.now (bytes_of a.word.now (λ i. (c.slice_known-1.given i).fits)) c.repair-mended.ensures
+    c.in-Clean.is)
     (search rules)
     (λ c.
-    let s = c.before.before.before.before.before.before.before in
-    let a = s.before.args in
-    mended-number a.r a.word.now (bytes_of a.word.now (λ i. (s.slice-known.given i).fits))
-    c.before.before.before.before.before.repair.ensures c.before.mended.given.1)
+    let a = c.args in
+    mended-number a.r a.word.now (bytes_of a.word.now (λ i. (c.slice_known-1.given i).fits))
+    c.repair-mended.ensures c.in-Repaired.is)
     (search rules)
     (λ c.
-    let s = c.before.before.before.before.before.before in
-    let a = s.before.args in
-    mended-number a.r a.word.now (bytes_of a.word.now (λ i. (s.slice-known.given i).fits)) c.before.before.before.before.repair.ensures
-    c.enum-told2.given.1)
+    let a = c.args in
+    mended-number a.r a.word.now (bytes_of a.word.now (λ i. (c.slice_known-1.given i).fits)) c.repair-mended.ensures
+    c.in-Beyond.is)
     (search rules)
     (λ c.
-    let s = c.before.before.before.before.before.before.before in
-    let a = s.before.args in
-    mended-number a.r a.word.now (bytes_of a.word.now (λ i. (s.slice-known.given i).fits))
-    c.before.before.before.before.before.repair.ensures c.before.mended2.given.1))
+    let a = c.args in
+    mended-number a.r a.word.now (bytes_of a.word.now (λ i. (c.slice_known-1.given i).fits))
+    c.repair-mended.ensures c.in-Refused.is))

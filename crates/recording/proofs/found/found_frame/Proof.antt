@@ -7,5 +7,5 @@ use Rattle.recording.proofs.found.found_frame.Tie as tie
 
 pub found_frame_spec : {M : Type 1} → statement M
 found_frame_spec =
-    tie.close (tie.spec (search rules) (search rules) (search rules) (λ c. sym (ap found_frame c.before.judged.given.1))
-    (λ c. sym (ap found_frame c.enum_told.given.1)) (λ c. sym (ap found_frame c.enum-told2.given.1)))
+    tie.close (tie.spec (search rules) (search rules) (search rules) (λ c. sym (ap found_frame c.in-Packet.is))
+    (λ c. sym (ap found_frame c.in-Refused.is)) (λ c. sym (ap found_frame c.in-Broken.is)))

@@ -8,10 +8,8 @@ pub listen_plain_spec : {M : Type 1} → statement M
 listen_plain_spec =
     tie.close (tie.spec
     (search rules) (search rules) (search rules) (search rules)
-    (λ c. let s = c.before.before.before.before.before.before.before.before.before.before.before.before in
-    listen-more s.args.receiver s.args.piece.now s.args.recv.now s.requires.0 s.requires.1
-    c.before.before.before.before.before.read.ensures c.enum_told.given.1)
+    (λ c. listen-more c.args.receiver c.args.piece.now c.args.recv.now c.requires.0 c.requires.1
+    c.read-read.ensures c.in-More.is)
     (search rules)
-    (λ c. let s = c.before.before.before.before.before.before.before.before.before.before.before.before.before in
-    listen-said s.args.receiver s.args.piece.now s.args.recv.now s.requires.0 s.requires.1
-    c.before.before.before.before.before.before.read.ensures _ c.before.heard.given.1))
+    (λ c. listen-said c.args.receiver c.args.piece.now c.args.recv.now c.requires.0 c.requires.1
+    c.read-read.ensures _ c.in-Said.is))

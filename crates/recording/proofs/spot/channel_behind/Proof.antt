@@ -8,6 +8,6 @@ pub channel_behind_spec : {M : Type 1} → statement M
 channel_behind_spec =
     tie.close (tie.spec
     (search rules) (search rules) (search rules) (search rules) (search rules) (search rules) (search rules)
-    (λ c. rw c.enum_told.given.1 refl)
+    (λ c. rw c.in-Mode.is refl)
     (search rules) (search rules) (search rules) (search rules) (search rules)
     (search rules))

@@ -11,5 +11,5 @@ left_of_spec =
     tie.close (tie.spec
     (search rules) (search rules) (search rules) (search rules) (search rules) (search rules) (search rules)
     (search rules) (search rules) (search rules) (search rules) (search rules) (search rules) (search rules)
-    (λ c. (sym (ap left_at c.before.place.given.1), omega arith))
+    (λ c. (sym (ap left_at c.in-Inside.is), omega arith))
     (search rules))

@@ -8,6 +8,6 @@ pub place_of_spec : {M : Type 1} → statement M
 place_of_spec =
     tie.close (tie.spec
     (search rules) (search rules)
-    (λ c. left-none _ c.if1.true)
+    (λ c. left-none _ c.if-n-eq0.true)
     (search rules)
-    (λ c. left-some _ c.if1.false))
+    (λ c. left-some _ c.if-n-eq0.false))

@@ -8,7 +8,7 @@ pub place_on_spec : {M : Type 1} → statement M
 place_on_spec =
     tie.close (tie.spec
     (search rules)
-    (λ c. on-here _ _ c.before.left-of.ensures.0 c.if1.true)
+    (λ c. on-here _ _ c.left_of-left.ensures.0 c.if-n-eq0.true)
     (search rules) (search rules) (search rules)
-    (λ c. on-inside _ _ c.before.before.left-of.ensures.0 c.before.if1.false c.if2.true)
-    (λ c. on-end _ _ c.before.before.left-of.ensures.0 c.before.if1.false c.if2.false))
+    (λ c. on-inside _ _ c.left_of-left.ensures.0 c.if-n-eq0.false c.if-n-left.true)
+    (λ c. on-end _ _ c.left_of-left.ensures.0 c.if-n-eq0.false c.if-n-left.false))

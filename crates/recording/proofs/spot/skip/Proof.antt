@@ -8,5 +8,5 @@ pub skip_spec : {M : Type 1} → statement M
 skip_spec =
     tie.close (tie.spec
     (search rules) (search rules) (search rules)
-    (λ c. let a = c.before.before.before.args in
-    λ i. record { place = c.before.before.place-on.ensures i; offset = a.spot.offset + a.n; count = a.spot.count + a.n }))
+    (λ c. let a = c.args in
+    λ i. record { place = c.place_on-next.ensures i; offset = a.spot.offset + a.n; count = a.spot.count + a.n }))

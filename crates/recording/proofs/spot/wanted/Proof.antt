@@ -8,6 +8,6 @@ pub wanted_spec : {M : Type 1} → statement M
 wanted_spec =
     tie.close (tie.spec
     (search rules)
-    (λ c. rw (eq-eqb _ _ c.before.if1.true) c.on.ensures)
+    (λ c. rw (eq-eqb _ _ c.if-b-want.true) c.on.ensures)
     (search rules)
-    (λ c. rw (ne_eqb _ _ c.before.if1.false) c.wrong.ensures))
+    (λ c. rw (ne_eqb _ _ c.if-b-want.false) c.wrong.ensures))

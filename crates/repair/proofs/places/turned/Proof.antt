@@ -5,7 +5,6 @@ use Prim.Native.Nat.{ℕ, ◌+◌}
 use native.Mathlib.Omega.{arith}
 use lib.ListN.{length, take, drop, length-set}
 use lib.Seq.{drop-length}
-use borrow.Author.Rules.{rules}
 use Rattle.repair.proofs.Loops.{turned-next, turned-done}
 use Rattle.repair.proofs.places.turned.Statement.{statement}
 use Rattle.repair.proofs.places.turned.Tie as tie

@@ -11,40 +11,28 @@ use Rattle.subchannel.proofs.cells.turn.Tie as tie
 pub turn_spec : {M : Type 1} → statement M
 turn_spec =
     tie.close (tie.spec
-    (λ c. let a = c.before.args in turned-flat a.depth a.place a.again a.cells.now a.byte c.if1.true)
+    (λ c. let a = c.args in turned-flat a.depth a.place a.again a.cells.now a.byte c.if-depth-lt2.true)
     (search rules)
-    (λ t. let s = t.before.before in (step-inside s.args.depth s.args.place t.before.if1.left s.pre.0 s.pre.1 t.step.ensures).1)
+    (λ t. (step-inside t.args.depth t.args.place t.if-depth-lt2.false t.requires.0 t.requires.1 t.step-step.ensures).1)
     (λ c.
-    let t = c.before in
-    let s = t.before.before in
-    omega (arith, (step-inside s.args.depth s.args.place t.before.if1.false s.requires.0 s.requires.1 t.step.ensures).3, s.requires.0))
+    omega (arith, (step-inside c.args.depth c.args.place c.if-depth-lt2.false c.requires.0 c.requires.1 c.step-step.ensures).3, c.requires.0))
     (λ c.
-    let t = c.before.before in
-    let s = t.before.before in
-    let a = s.args in
-    let i = step-inside a.depth a.place t.before.if1.false s.requires.0 s.requires.1 t.step.ensures in
-    turned-full a.depth a.place a.again a.cells.now a.byte t.before.if1.false i.0 i.2
-    (again-full a.depth a.place a.again a.cells.now c.before.if2.true) refl)
+    let a = c.args in
+    let i = step-inside a.depth a.place c.if-depth-lt2.false c.requires.0 c.requires.1 c.step-step.ensures in
+    turned-full a.depth a.place a.again a.cells.now a.byte c.if-depth-lt2.false i.0 i.2
+    (again-full a.depth a.place a.again a.cells.now c.if-again.true) refl)
     (λ c.
-    let t = c.before in
-    let s = t.before.before in
-    omega (arith, below s.args.depth s.args.place t.before.if1.false s.requires.1, s.requires.0))
-    (λ c. let s = c.before.before.before in omega (arith, s.requires.0))
+    omega (arith, below c.args.depth c.args.place c.if-depth-lt2.false c.requires.1, c.requires.0))
+    (λ c. omega (arith, c.requires.0))
     (λ c.
-    let t = c.before.before in
-    let s = t.before.before in
-    omega (arith, (step-inside s.args.depth s.args.place t.before.if1.false s.requires.0 s.requires.1 t.step.ensures).3, s.requires.0))
+    omega (arith, (step-inside c.args.depth c.args.place c.if-depth-lt2.false c.requires.0 c.requires.1 c.step-step.ensures).3, c.requires.0))
     (λ c.
-    let t = c.before.before.before in
-    let s = t.before.before in
-    let a = s.args in
-    let i = step-inside a.depth a.place t.before.if1.false s.requires.0 s.requires.1 t.step.ensures in
-    turned-full a.depth a.place a.again a.cells.now a.byte t.before.if1.false i.0 i.2
-    (last-full a.depth a.place a.again a.cells.now _ c.before.before.if2.false (eq-eqb _ _ c.before.if3.true)) refl)
+    let a = c.args in
+    let i = step-inside a.depth a.place c.if-depth-lt2.false c.requires.0 c.requires.1 c.step-step.ensures in
+    turned-full a.depth a.place a.again a.cells.now a.byte c.if-depth-lt2.false i.0 i.2
+    (last-full a.depth a.place a.again a.cells.now _ c.if-again.false (eq-eqb _ _ c.if-place-depth.true)) refl)
     (λ c.
-    let t = c.before.before in
-    let s = t.before.before in
-    let a = s.args in
-    let i = step-inside a.depth a.place t.before.if1.false s.requires.0 s.requires.1 t.step.ensures in
-    turned-kept a.depth a.place a.again a.cells.now a.byte t.before.if1.false i.0 i.2
-    (last-full a.depth a.place a.again a.cells.now _ c.before.if2.false (ne_eqb _ _ c.if3.false))))
+    let a = c.args in
+    let i = step-inside a.depth a.place c.if-depth-lt2.false c.requires.0 c.requires.1 c.step-step.ensures in
+    turned-kept a.depth a.place a.again a.cells.now a.byte c.if-depth-lt2.false i.0 i.2
+    (last-full a.depth a.place a.again a.cells.now _ c.if-again.false (ne_eqb _ _ c.if-place-depth.false))))

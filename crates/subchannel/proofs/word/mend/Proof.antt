@@ -10,25 +10,17 @@ mend_spec =
     tie.close (tie.spec
     (search rules) (search rules) (search rules) (search rules) (search rules) (search rules)
     (λ c.
-    let r = c.before.before.before.before in
-    let s = r.before.before.before in
-    mended-told s.args.parity s.args.word.now (bytes_of s.args.word.now (λ i. (r.before.before.slice-known.given i).fits))
-    r.repair.ensures c.enum_told.given.1)
+    mended-told c.args.parity c.args.word.now (bytes_of c.args.word.now (λ i. (c.slice_known-1.given i).fits))
+    c.repair.ensures c.in-Clean.is)
     (search rules)
     (λ c.
-    let r = c.before.before.before.before.before in
-    let s = r.before.before.before in
-    mended-told s.args.parity s.args.word.now (bytes_of s.args.word.now (λ i. (r.before.before.slice-known.given i).fits))
-    r.repair.ensures c.before.n.given.1)
+    mended-told c.args.parity c.args.word.now (bytes_of c.args.word.now (λ i. (c.slice_known-1.given i).fits))
+    c.repair.ensures c.in-Repaired.is)
     (search rules)
     (λ c.
-    let r = c.before.before.before.before in
-    let s = r.before.before.before in
-    mended-told s.args.parity s.args.word.now (bytes_of s.args.word.now (λ i. (r.before.before.slice-known.given i).fits))
-    r.repair.ensures c.enum-told2.given.1)
+    mended-told c.args.parity c.args.word.now (bytes_of c.args.word.now (λ i. (c.slice_known-1.given i).fits))
+    c.repair.ensures c.in-Beyond.is)
     (search rules)
     (λ c.
-    let r = c.before.before.before.before in
-    let s = r.before.before.before in
-    mended-told s.args.parity s.args.word.now (bytes_of s.args.word.now (λ i. (r.before.before.slice-known.given i).fits))
-    r.repair.ensures c.enum-told3.given.1))
+    mended-told c.args.parity c.args.word.now (bytes_of c.args.word.now (λ i. (c.slice_known-1.given i).fits))
+    c.repair.ensures c.in-Refused.is))

@@ -12,6 +12,6 @@ mend_in_spec =
     tie.close (tie.spec
     (search rules) (search rules) (search rules) (search rules) (search rules)
     (λ c.
-    let e = c.before.before.mend.ensures in
-    let w = c.before.before.before.before.before.args.word.now in
+    let e = c.mend.ensures in
+    let w = c.args.word.now in
     (e.0, ap (λ x. x ++ drop word_bytes w) e.1)))

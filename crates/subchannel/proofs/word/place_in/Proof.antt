@@ -9,5 +9,5 @@ use Rattle.subchannel.proofs.word.place_in.Tie as tie
 pub place_in_spec : {M : Type 1} → statement M
 place_in_spec =
     tie.close (tie.spec
-    (λ c. (sym (ap (λ t. pick t c.before.args.count 0) (lt-ltb _ _ c.if1.true)), c.if1.true))
-    (λ c. (sym (ap (λ t. pick t c.before.args.count 0) (le-ltb _ _ c.if1.false)), omega arith)))
+    (λ c. (sym (ap (λ t. pick t c.args.count 0) (lt-ltb _ _ c.if-count-lt-WORD.true)), c.if-count-lt-WORD.true))
+    (λ c. (sym (ap (λ t. pick t c.args.count 0) (le-ltb _ _ c.if-count-lt-WORD.false)), omega arith)))

@@ -8,4 +8,4 @@ pub bare_spec : {M : Type 1} → statement M
 bare_spec =
     tie.close (tie.spec
     (search rules)
-    (λ c. bare-told c.before.args.number c.none.ensures))
+    (λ c. bare-told c.args.number c.none.ensures))

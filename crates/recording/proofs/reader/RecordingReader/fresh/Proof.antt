@@ -8,4 +8,4 @@ pub fresh_spec : {M : Type 1} → statement M
 fresh_spec =
     tie.close (tie.spec
     (search rules) (search rules)
-    (λ c i. record { spot = c.before.fresh.ensures i; channel = false; receiver = c.fresh2.ensures i }))
+    (λ c i. record { spot = c.fresh.ensures i; channel = false; receiver = c.fresh-2.ensures i }))

@@ -6,10 +6,10 @@ use Rattle.recording.proofs.reader.RecordingReader.head.Tie as tie
 pub head_spec : {M : Type 1} → statement M
 head_spec =
     tie.close (tie.spec
-    (λ c κs. c.before.before.requires)
+    (λ c κs. c.requires)
     (search rules)
     (λ c i. record {
-      spot = c.before.step.ensures i;
-      channel = c.channel-behind.ensures i;
-      receiver = c.before.before.before.before.args.self.receiver;
+      spot = c.step.ensures i;
+      channel = c.channel_behind.ensures i;
+      receiver = c.args.self.receiver;
     }))

@@ -9,12 +9,9 @@ pub listen_spec : {M : Type 1} → statement M
 listen_spec =
     tie.close (tie.spec
     (search rules) (search rules) (search rules)
-    (λ c. let s = c.before.before.before.before.before.before.before.before.before.before.before.before in
-    listen-on s.args.self.channel (memory s.args.self.receiver s.args.recv.now s.args.word.now) s.args.piece.now
-    c.before.before.before.before.before.before.before.if1.true s.requires.0 s.requires.1 c.before.before.before.before.hear.ensures)
-    (λ c κs. let s = c.before.before.before.before.before.before in
-    plain-fine s.args.self.receiver s.args.recv.now s.args.word.now s.requires.0 s.requires.1)
+    (λ c. listen-on c.args.self.channel (memory c.args.self.receiver c.args.recv.now c.args.word.now) c.args.piece.now
+    c.if-self.true c.requires.0 c.requires.1 c.hear.ensures)
+    (λ c κs. plain-fine c.args.self.receiver c.args.recv.now c.args.word.now c.requires.0 c.requires.1)
     (search rules)
-    (λ c. let s = c.before.before.before.before.before.before.before.before.before in
-    listen-off s.args.self.channel s.args.self.receiver s.args.recv.now s.args.word.now s.args.piece.now
-    c.before.before.before.before.if1.false c.before.before.listen-plain.ensures))
+    (λ c. listen-off c.args.self.channel c.args.self.receiver c.args.recv.now c.args.word.now c.args.piece.now
+    c.if-self.false c.listen_plain.ensures))

@@ -11,49 +11,43 @@ pub turn_spec : {M : Type 1} → statement M
 turn_spec =
     tie.close (tie.spec
     (search rules) (search rules) (search rules) (search rules)
-    (λ c κs. let s = c.before.before.before.before.before.before.before.before in (s.requires.0, s.requires.1))
-    (λ c κs. let s = c.before.before.before.before.before.before.before.before.before.before.before.before.before.before in
-    skip-fine s.args.self.channel s.args.self.receiver s.args.self.spot s.args.recv.now s.args.word.now s.args.piece.now _
-    c.before.before.before.before.before.before.before.before.before.run.ensures _ _ _
-    c.before.before.before.before.before.listen.ensures s.requires.2 (omega arith))
+    (λ c κs. (c.requires.0, c.requires.1))
+    (λ c κs. skip-fine c.args.self.channel c.args.self.receiver c.args.self.spot c.args.recv.now c.args.word.now c.args.piece.now _
+    c.run-n.ensures _ _ _
+    c.listen-h.ensures c.requires.2 (omega arith))
     (search rules) (search rules)
-    (λ c κs. let m = c.before.before.before.before in let k = m.before in let l = k.before.before.before.before.before.before in
-    let r = l.before.before.before.before in let s = r.before.before.before.before.before in let a = s.args in
+    (λ c κs. let a = c.args in
     head-fine a.self.channel a.self.receiver a.self.spot a.recv.now a.word.now a.piece.now _
-    r.run.ensures _ _ _ l.listen.ensures _ k.skip.ensures
-    (sym m.is-more.ensures ∙ c.before.before.before.if1.true) c.before.if3.true c.before.before.if2.true s.requires.2)
+    c.run-n.ensures _ _ _ c.listen-h.ensures _ c.skip.ensures
+    (sym c.is_more.ensures ∙ c.if-is_more.true) c.if-n-eq0.true c.if-n-piece.true c.requires.2)
     (search rules) (search rules)
-    (λ c. let m = c.before.before.before.before.before in let k = m.before in let l = k.before.before.before.before.before.before in
-    let r = l.before.before.before.before in let s = r.before.before.before.before.before in let a = s.args in (
+    (λ c. let a = c.args in (
       turn-head a.self.channel a.self.receiver a.self.spot a.recv.now a.word.now a.piece.now _
-          r.run.ensures _ _ _ l.listen.ensures _ k.skip.ensures (sym m.is-more.ensures ∙ c.before.before.before.before.if1.true)
-          c.before.before.if3.true c.before.before.before.if2.true _ c.head.ensures,
+          c.run-n.ensures _ _ _ c.listen-h.ensures _ c.skip.ensures (sym c.is_more.ensures ∙ c.if-is_more.true)
+          c.if-n-eq0.true c.if-n-piece.true _ c.head.ensures,
       head-stays a.self.channel a.self.receiver a.self.spot a.recv.now a.word.now a.piece.now _
-          r.run.ensures _ _ _ l.listen.ensures _ k.skip.ensures (sym m.is-more.ensures ∙ c.before.before.before.before.if1.true)
-          s.requires.0 s.requires.1 c.before.before.if3.true c.before.before.before.if2.true _ c.head.ensures,
+          c.run-n.ensures _ _ _ c.listen-h.ensures _ c.skip.ensures (sym c.is_more.ensures ∙ c.if-is_more.true)
+          c.requires.0 c.requires.1 c.if-n-eq0.true c.if-n-piece.true _ c.head.ensures,
     ))
     (search rules) (search rules)
-    (λ c. let m = c.before.before.before in let k = m.before in let l = k.before.before.before.before.before.before in
-    let r = l.before.before.before.before in let s = r.before.before.before.before.before in let a = s.args in (
+    (λ c. let a = c.args in (
       turn-run a.self.channel a.self.receiver a.self.spot a.recv.now a.word.now a.piece.now _
-          r.run.ensures _ _ _ l.listen.ensures _ k.skip.ensures (sym m.is-more.ensures ∙ c.before.before.if1.true) c.if3.false,
+          c.run-n.ensures _ _ _ c.listen-h.ensures _ c.skip.ensures (sym c.is_more.ensures ∙ c.if-is_more.true) c.if-n-eq0.false,
       run-stays a.self.channel a.self.receiver a.self.spot a.recv.now a.word.now a.piece.now _
-          r.run.ensures _ _ _ l.listen.ensures _ k.skip.ensures (sym m.is-more.ensures ∙ c.before.before.if1.true)
-          s.requires.0 s.requires.1,
+          c.run-n.ensures _ _ _ c.listen-h.ensures _ c.skip.ensures (sym c.is_more.ensures ∙ c.if-is_more.true)
+          c.requires.0 c.requires.1,
     ))
     (search rules) (search rules)
-    (λ c. let m = c.before.before in let k = m.before in let l = k.before.before.before.before.before.before in
-    let r = l.before.before.before.before in let s = r.before.before.before.before.before in let a = s.args in (
+    (λ c. let a = c.args in (
       turn_end a.self.channel a.self.receiver a.self.spot a.recv.now a.word.now a.piece.now _
-          r.run.ensures _ _ _ l.listen.ensures _ k.skip.ensures (sym m.is-more.ensures ∙ c.before.if1.true) c.if2.false,
+          c.run-n.ensures _ _ _ c.listen-h.ensures _ c.skip.ensures (sym c.is_more.ensures ∙ c.if-is_more.true) c.if-n-piece.false,
       turn-stays a.self.channel a.self.receiver a.self.spot a.recv.now a.word.now a.piece.now _
-          r.run.ensures _ _ _ l.listen.ensures _ k.skip.ensures s.requires.0 s.requires.1,
+          c.run-n.ensures _ _ _ c.listen-h.ensures _ c.skip.ensures c.requires.0 c.requires.1,
     ))
     (search rules) (search rules)
-    (λ c. let m = c.before in let k = m.before in let l = k.before.before.before.before.before.before in
-    let r = l.before.before.before.before in let s = r.before.before.before.before.before in let a = s.args in (
+    (λ c. let a = c.args in (
       turn-out a.self.channel a.self.receiver a.self.spot a.recv.now a.word.now a.piece.now _
-          r.run.ensures _ _ _ l.listen.ensures _ k.skip.ensures (sym m.is-more.ensures ∙ c.if1.false),
+          c.run-n.ensures _ _ _ c.listen-h.ensures _ c.skip.ensures (sym c.is_more.ensures ∙ c.if-is_more.false),
       turn-stays a.self.channel a.self.receiver a.self.spot a.recv.now a.word.now a.piece.now _
-          r.run.ensures _ _ _ l.listen.ensures _ k.skip.ensures s.requires.0 s.requires.1,
+          c.run-n.ensures _ _ _ c.listen-h.ensures _ c.skip.ensures c.requires.0 c.requires.1,
     )))

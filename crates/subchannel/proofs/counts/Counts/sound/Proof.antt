@@ -8,9 +8,9 @@ use Rattle.subchannel.proofs.counts.Counts.sound.Tie as tie
 pub sound_spec : {M : Type 1} → statement M
 sound_spec =
     tie.close (tie.spec
-    (λ c. simp (lt-leb _ _ c.if1.true))
-    (λ c. simp (le-leb _ _ c.before.before.if1.false, lt-leb _ _ c.if2.true))
-    (λ c. simp (le-leb _ _ c.before.before.before.before.if1.false, le-leb _ _ c.before.before.if2.false, lt-leb _ _ c.if3.true))
+    (λ c. simp (lt-leb _ _ c.if-self-gt-GROUP.true))
+    (λ c. simp (le-leb _ _ c.if-self-gt-GROUP.false, lt-leb _ _ c.if-self-gt3.true))
+    (λ c. simp (le-leb _ _ c.if-self-gt-GROUP.false, le-leb _ _ c.if-self-gt3.false, lt-leb _ _ c.if-self-gt-WORD.true))
     (search rules)
-    (λ c. three-and (le-leb _ _ c.before.before.before.before.before.if1.false) (le-leb _ _ c.before.before.before.if2.false)
-    (le-leb _ _ c.before.if3.false)))
+    (λ c. three-and (le-leb _ _ c.if-self-gt-GROUP.false) (le-leb _ _ c.if-self-gt3.false)
+    (le-leb _ _ c.if-self-gt-WORD.false)))

@@ -9,13 +9,9 @@ hunt_byte_spec =
     tie.close (tie.spec
     (search rules) (search rules) (search rules)
     (λ c.
-    let t = c.before.before.before in
-    let s = t.before.before in
-    let a = s.before.before.before.args in
-    hunts-found a.self a.b s.shift.ensures t.before.at-marker.ensures t.if1.true c.zero.ensures)
+    let a = c.args in
+    hunts-found a.self a.b c.shift-hunting.ensures c.at_marker.ensures c.if-at_marker.true c.zero.ensures)
     (search rules)
     (λ c.
-    let t = c.before in
-    let s = t.before.before in
-    let a = s.before.before.before.args in
-    hunts-on a.self a.b s.shift.ensures t.before.at-marker.ensures t.if1.false c.moved.ensures))
+    let a = c.args in
+    hunts-on a.self a.b c.shift-hunting.ensures c.at_marker.ensures c.if-at_marker.false c.moved.ensures))

@@ -11,6 +11,6 @@ kept_byte_spec =
     tie.close (tie.spec
     (search rules) (search rules)
     (λ c.
-    let s = c.before.before.before.before.args.self in
+    let s = c.args.self in
     let n = s.counts in
     c.moved.ensures ∙ (λ i. moved s s.hunting (counts (add-one n.group i) n.marker n.word n.handed))))

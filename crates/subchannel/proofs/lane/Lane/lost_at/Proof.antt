@@ -9,4 +9,4 @@ pub lost_at_spec : {M : Type 1} → statement M
 lost_at_spec =
     tie.close (tie.spec
     (search rules) (search rules)
-    (λ c i. let a = c.before.before.before.args in lane a.self.settings false true a.hunting (c.before.zero.ensures i) (c.fresh.ensures i)))
+    (λ c i. let a = c.args in lane a.self.settings false true a.hunting (c.zero.ensures i) (c.fresh.ensures i)))

@@ -9,19 +9,13 @@ mark_byte_spec =
     tie.close (tie.spec
     (search rules) (search rules) (search rules) (search rules)
     (λ c.
-    let t = c.before.before in
-    let s = t.before.before in
-    let a = s.before.before.before.args in
-    marks-more a.self a.b s.shift.ensures t.if1.true c.moved.ensures)
+    let a = c.args in
+    marks-more a.self a.b c.shift-hunting.ensures c.if-counts-lt4.true c.moved.ensures)
     (search rules) (search rules)
     (λ c.
-    let t = c.before.before.before in
-    let s = t.before.before in
-    let a = s.before.before.before.args in
-    marks-on a.self a.b s.shift.ensures c.before.before.at-marker.ensures c.before.if2.true t.if1.false c.moved2.ensures)
+    let a = c.args in
+    marks-on a.self a.b c.shift-hunting.ensures c.at_marker.ensures c.if-at_marker.true c.if-counts-lt4.false c.moved-then-at_marker.ensures)
     (search rules)
     (λ c.
-    let t = c.before.before.before in
-    let s = t.before.before in
-    let a = s.before.before.before.args in
-    marks-lost a.self a.b s.shift.ensures c.before.before.at-marker.ensures c.before.if2.false t.if1.false c.lost-at.ensures))
+    let a = c.args in
+    marks-lost a.self a.b c.shift-hunting.ensures c.at_marker.ensures c.if-at_marker.false c.if-counts-lt4.false c.lost_at.ensures))

@@ -9,9 +9,7 @@ owed_spec =
     tie.close (tie.spec
     (search rules) (search rules) (search rules)
     (λ c.
-    let t = c.before.before.before.before in
-    owes-some t.before.before.before.before.args.self t.before.if1.false t.if2.true c.before.before.if3.true)
+    owes-some c.args.self c.if-self.false c.if-self-2.true c.if-counts-eq-WORD.true)
     (λ c.
-    let t = c.before.before in
-    owes-none t.before.before.before.before.args.self t.before.if1.false t.if2.true c.if3.false)
+    owes-none c.args.self c.if-self.false c.if-self-2.true c.if-counts-eq-WORD.false)
     (search rules))

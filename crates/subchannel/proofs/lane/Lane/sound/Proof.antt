@@ -11,13 +11,11 @@ pub sound_spec : {M : Type 1} → statement M
 sound_spec =
     tie.close (tie.spec
     (search rules)
-    (λ c. simp (sym c.before.sound.ensures ∙ not-true _ c.if1.true))
+    (λ c. simp (sym c.sound.ensures ∙ c.if-not-sound.true))
     (search rules)
-    (λ c κs. within-parity c.before.before.before.before.before.before.before.args.self.settings (sym c.before.within.ensures ∙ c.if2.true))
+    (λ c κs. within-parity c.args.self.settings (sym c.within.ensures ∙ c.if-within.true))
     (λ c.
-    let e = c.before.before.before in
-    one-and (sym e.before.sound.ensures ∙ not-false _ e.if1.false)
-    (one-and (sym c.before.before.within.ensures ∙ c.before.if2.true) c.sound2.ensures))
+    one-and (sym c.sound.ensures ∙ c.if-not-sound.false)
+    (one-and (sym c.within.ensures ∙ c.if-within.true) c.sound-then-within.ensures))
     (λ c.
-    let e = c.before.before in
-    second-fails _ (sym e.before.sound.ensures ∙ not-false _ e.if1.false) (sym c.before.within.ensures ∙ c.if2.false)))
+    second-fails _ (sym c.sound.ensures ∙ c.if-not-sound.false) (sym c.within.ensures ∙ c.if-within.false)))

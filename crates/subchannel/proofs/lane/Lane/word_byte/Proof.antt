@@ -12,19 +12,14 @@ word_byte_spec =
     tie.close (tie.spec
     (search rules) (search rules) (search rules) (search rules) (search rules) (search rules) (search rules)
     (λ c.
-    let p = c.before.before.before in
-    let a = p.before.before.before.before.before.args in
-    words_more a.self a.y a.word.now p.IsPlace-in.ensures.0 c.before.if1.true c.moved.ensures)
+    let a = c.args in
+    words_more a.self a.y a.word.now c.place_in-at.ensures.0 c.if-at-lt-WORD.true c.moved.ensures)
     (search rules) (search rules)
     (λ c.
-    let m = c.before.before.before in
-    let p = m.before.before.before.before in
-    let a = p.before.before.before.before.before.args in
-    ap length m.mend-in.ensures.1 ∙ mend_in-length a.self.settings.parity (set a.word.now p.IsPlace-in.result a.y)
-    ∙ length-set a.word.now p.IsPlace-in.result a.y)
+    let a = c.args in
+    ap length c.mend_in-condition.ensures.1 ∙ mend_in-length a.self.settings.parity (set a.word.now c.place_in-at.result a.y)
+    ∙ length-set a.word.now c.place_in-at.result a.y)
     (λ c.
-    let m = c.before.before.before in
-    let p = m.before.before.before.before in
-    let a = p.before.before.before.before.before.args in
-    words-whole a.self a.y a.word.now p.IsPlace-in.ensures.0 m.before.before.if1.false m.mend-in.ensures.0 m.mend-in.ensures.1
-    c.moved2.ensures))
+    let a = c.args in
+    words-whole a.self a.y a.word.now c.place_in-at.ensures.0 c.if-at-lt-WORD.false c.mend_in-condition.ensures.0 c.mend_in-condition.ensures.1
+    c.moved-2.ensures))

@@ -12,23 +12,17 @@ hear_spec =
     tie.close (tie.spec
     (search rules)
     (λ c.
-    let a = c.before.before.before.before.before.args in
-    call-unsound (memory a.self a.recv.now a.word.now) a.piece.now (sym c.before.sound.ensures ∙ not-true _ c.if1.true))
+    let a = c.args in
+    call-unsound (memory a.self a.recv.now a.word.now) a.piece.now (sym c.sound.ensures ∙ c.if-not-sound.true))
     (search rules) (search rules) (search rules)
     (λ c.
-    let e = c.before.before.before.before in
-    let a = e.before.before.before.before.before.args in
-    call-cramped (memory a.self a.recv.now a.word.now) a.piece.now (sym e.before.sound.ensures ∙ not-false _ e.if1.false)
-    (sym c.before.has_room.ensures ∙ not-true _ c.if2.true))
+    let a = c.args in
+    call-cramped (memory a.self a.recv.now a.word.now) a.piece.now (sym c.sound.ensures ∙ c.if-not-sound.false)
+    (sym c.has_room.ensures ∙ c.if-not-has_room.true))
     (λ c κs.
-    let t = c.before.before in
-    let e = t.before.before.before.before in
-    (sym e.before.sound.ensures ∙ not-false _ e.if1.false, sym t.before.has_room.ensures ∙ not-false _ t.if2.false))
+    (sym c.sound.ensures ∙ c.if-not-sound.false, sym c.has_room.ensures ∙ c.if-not-has_room.false))
     (search rules) (search rules)
     (λ c.
-    let h = c.before.before.before.before in
-    let t = h.before.before.before in
-    let e = t.before.before.before.before in
-    let a = e.before.before.before.before.before.args in
-    call-on (memory a.self a.recv.now a.word.now) a.piece.now (sym e.before.sound.ensures ∙ not-false _ e.if1.false)
-    (sym t.before.has_room.ensures ∙ not-false _ t.if2.false) h.hear-on.ensures))
+    let a = c.args in
+    call-on (memory a.self a.recv.now a.word.now) a.piece.now (sym c.sound.ensures ∙ c.if-not-sound.false)
+    (sym c.has_room.ensures ∙ c.if-not-has_room.false) c.hear_on.ensures))

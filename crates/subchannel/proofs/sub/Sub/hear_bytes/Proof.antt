@@ -11,78 +11,67 @@ use Rattle.subchannel.proofs.Filling.{goes-all}
 use Rattle.subchannel.proofs.sub.Sub.hear_bytes.Statement.{statement}
 use Rattle.subchannel.proofs.sub.Sub.hear_bytes.Tie as tie
 
-abbrev invariant-loop : tie.invariant-loop
-invariant-loop passed first word₀ piece cells₀ state₀ again₀ place₀ i₀ word cells state again place i =
+abbrev invariant-loop-i : tie.invariant-loop-i
+invariant-loop-i passed first word₀ piece cells₀ state₀ again₀ place₀ i₀ word cells state again place i =
     Going (sub state₀ (back again₀ (matrix place₀ cells₀))) word₀ piece i (sub state (back again (matrix place cells))) word
     × (length word ≡ length word₀) × (length piece < 2 ^ 64)
 
-abbrev decreases-loop : tie.decreases-loop
-decreases-loop passed first word₀ piece cells₀ state₀ again₀ place₀ i₀ word cells state again place i = length piece - i
+abbrev decreases-loop-i : tie.decreases-loop-i
+decreases-loop-i passed first word₀ piece cells₀ state₀ again₀ place₀ i₀ word cells state again place i = length piece - i
 
 pub hear_bytes_spec : {M : Type 1} → statement M
 hear_bytes_spec =
-    tie.close (tie.spec invariant-loop decreases-loop
-    (λ c. let s = c.before.before in (going-first _ _ _ s.requires.0 s.requires.1, refl, omega arith))
-    (λ c. omega (arith, c.loop-test.true))
-    (λ c. omega (arith, c.loop-test.true))
-    (λ c κs. let g = c.before.loop.invariant.0 in (g.fine.group, g.fine.word))
+    tie.close (tie.spec invariant-loop-i decreases-loop-i
+    (λ c. (going-first _ _ _ c.requires.0 c.requires.1, refl, omega arith))
+    (λ c. omega (arith, c.loop-i-test.true))
+    (λ c. omega (arith, c.loop-i-test.true))
+    (λ c κs. let g = c.loop-i.invariant.0 in (g.fine.group, g.fine.word))
     (λ c κs.
-    let p = c.before.before.plain.ensures in
-    let g = c.before.before.before.before.loop.invariant.0 in
-    (p.1, g.fine.depth, g.fine.place, g.fine.room, omega (arith, p.0, c.before.before.before.loop-test.true)))
-    (λ c κs. let p = c.before.before.before.before.before.plain.ensures in (p.1.group, p.1.word))
+    let p = c.plain-n.ensures in
+    let g = c.loop-i.invariant.0 in
+    (p.1, g.fine.depth, g.fine.place, g.fine.room, omega (arith, p.0, c.loop-i-test.true)))
+    (λ c κs. let p = c.plain-n.ensures in (p.1.group, p.1.word))
     (λ c. omega (
       arith,
-      c.before.before.before.before.before.before.plain.ensures.0,
-      c.before.before.before.before.before.before.before.loop-test.true,
-      c.before.before.before.before.before.before.before.before.loop.invariant.2,
+      c.plain-n.ensures.0,
+      c.loop-i-test.true,
+      c.loop-i.invariant.2,
     ))
     (λ c. omega (
       arith,
-      c.before.before.before.before.before.before.before.before.before.plain.ensures.0,
-      c.before.before.before.before.before.before.before.before.before.before.loop-test.true,
+      c.plain-n.ensures.0,
+      c.loop-i-test.true,
     ))
     (λ c κs.
-    let f = c.before.before.before in
-    let g = goes-all _ f.before.before.before.before.before.before.before.before.loop.invariant.0 f.before.before.before.fill.ensures
-    f.filled.ensures in
+    let g = goes-all _ c.loop-i.invariant.0 c.fill-there.ensures
+    c.filled-full.ensures in
     (able-of g.fine, g.fine.place))
-    (λ c. let at_plain = c.before.before.before.before.before.before.before.before.before.before.before.before.before in
-    let at-loop-test = at_plain.before in let at-loop = at-loop-test.before in
-    omega (arith, at_plain.plain.ensures.0, at-loop-test.loop-test.true, at-loop.loop.invariant.2))
+    (λ c. omega (arith, c.plain-n.ensures.0, c.loop-i-test.true, c.loop-i.invariant.2))
     (λ c.
-    let t = c.before.before.before.before in
-    t.eat.auto.1.1.1.1.0 ∙ t.before.before.before.before.before.before.before.fill.auto.1.1.1.1.0
-    ∙ t.before.before.before.before.before.before.before.before.before.before.before.before.loop.invariant.1)
+    c.eat-e.auto.word ∙ c.fill-there.auto.word
+    ∙ c.loop-i.invariant.1)
     (λ c.
-    let t = c.before.before.before.before in
-    let f = t.before.before.before.before in
-    let l = f.before.before.before.before.before.before.before.before in
-    going_end (goes-all _ l.loop.invariant.0 f.before.before.before.fill.ensures f.filled.ensures)
+    going_end (goes-all _ c.loop-i.invariant.0 c.fill-there.ensures c.filled-full.ensures)
     (omega (
       arith,
-      f.before.before.before.before.before.before.plain.ensures.0,
-      f.before.before.before.before.before.before.before.loop-test.true,
-    )) t.eat.ensures c.if1.true)
+      c.plain-n.ensures.0,
+      c.loop-i-test.true,
+    )) c.eat-e.ensures c.if-e.true)
     (λ c.
-    let f = c.before.before.before.before.before.before.before.before in
     omega (
       arith,
-      f.before.before.before.before.before.before.plain.ensures.0,
-      f.before.before.before.before.before.before.before.loop-test.true,
+      c.plain-n.ensures.0,
+      c.loop-i-test.true,
     ))
-    (λ c.
-    let t = c.before.before.before.before in
-    let f = t.before.before.before.before in
-    let l = f.before.before.before.before.before.before.before.before in (
-      going_next (goes-all _ l.loop.invariant.0 f.before.before.before.fill.ensures f.filled.ensures)
+    (λ c. (
+      going_next (goes-all _ c.loop-i.invariant.0 c.fill-there.ensures c.filled-full.ensures)
           (omega (
             arith,
-            f.before.before.before.before.before.before.plain.ensures.0,
-            f.before.before.before.before.before.before.before.loop-test.true,
-          )) t.eat.ensures c.if1.false,
-      t.eat.auto.1.1.1.1.0 ∙ f.before.before.before.fill.auto.1.1.1.1.0 ∙ l.loop.invariant.1,
-      l.loop.invariant.2,
+            c.plain-n.ensures.0,
+            c.loop-i-test.true,
+          )) c.eat-e.ensures c.if-e.false,
+      c.eat-e.auto.word ∙ c.fill-there.auto.word ∙ c.loop-i.invariant.1,
+      c.loop-i.invariant.2,
     ))
-    (λ c. c.before.loop.invariant.1)
-    (λ c. going_done c.before.loop.invariant.0 c.loop-test.false))
+    (λ c. c.loop-i.invariant.1)
+    (λ c. going_done c.loop-i.invariant.0 c.loop-i-test.false))

@@ -10,4 +10,4 @@ pub refused_spec : {M : Type 1} → statement M
 refused_spec =
     tie.close (tie.spec
     (search rules)
-    (λ c i. telling_of (Refused c.before.args.number, c.untold.ensures i)))
+    (λ c i. telling_of (Refused c.args.number, c.untold.ensures i)))

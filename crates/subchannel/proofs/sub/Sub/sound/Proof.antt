@@ -10,5 +10,5 @@ pub sound_spec : {M : Type 1} → statement M
 sound_spec =
     tie.close (tie.spec
     (search rules) (search rules)
-    (λ c. one-and (sym c.before.before.sound.ensures ∙ c.before.if1.true) (ap not c.is-beyond.ensures))
-    (λ c. simp (sym c.before.sound.ensures ∙ c.if1.false)))
+    (λ c. one-and (sym c.sound.ensures ∙ c.if-sound.true) (ap not c.is_beyond.ensures))
+    (λ c. simp (sym c.sound.ensures ∙ c.if-sound.false)))

@@ -13,10 +13,10 @@ pub told_spec : {M : Type 1} → statement M
 told_spec =
     tie.close (tie.spec
     (search rules)
-    (λ c. c.refused.ensures ∙ rw (lt-ltb root_limit _ c.before.if1.true) refl)
+    (λ c. c.refused.ensures ∙ rw (lt-ltb root_limit _ c.if-parity-gt-PARITY.true) refl)
     (search rules)
-    (λ c. c.refused2.ensures ∙ rw (le-ltb root_limit _ c.before.before.if1.false, lt-ltb depth_limit _ c.before.if2.true) refl)
+    (λ c. c.refused-then-depth-gt-DEPTH.ensures ∙ rw (le-ltb root_limit _ c.if-parity-gt-PARITY.false, lt-ltb depth_limit _ c.if-depth-gt-DEPTH.true) refl)
     (search rules)
     (λ c.
     (λ i. telling_of (Done, c.with.ensures i))
-    ∙ rw (le-ltb root_limit _ c.before.before.if1.false, le-ltb depth_limit _ c.before.if2.false) refl))
+    ∙ rw (le-ltb root_limit _ c.if-parity-gt-PARITY.false, le-ltb depth_limit _ c.if-depth-gt-DEPTH.false) refl))

@@ -10,6 +10,5 @@ with_spec =
     tie.close (tie.spec
     (search rules) (search rules) (search rules) (search rules)
     (λ c i.
-    let h = c.before.before.before in
-    sub (lane h.before.args.settings false false (h.fresh.ensures i) (c.before.before.zero.ensures i) (c.before.fresh2.ensures i))
-    (c.fresh-back.ensures i)))
+    sub (lane c.args.settings false false (c.fresh.ensures i) (c.zero.ensures i) (c.fresh-2.ensures i))
+    (c.fresh_back.ensures i)))
