@@ -8,7 +8,7 @@ named='' mortal=''
 prove() {
     [ -z "$installed" ] || return 0
     find_rt || return 1
-    made=${2:-target/stamp/$1}
+    made=${2:-crates/$1/out/rlib/stamp}
     [ ! -f "$top/crates/$1/src/main.rt" ] || made=target/bin/$1
     ! is_proved "$1" "$made" || return 0
     # beside this shell, so that a signal ends both at once
@@ -22,14 +22,13 @@ prove() {
     return "$status"
 }
 
-# find_rt: the toolchain is there, $rt in the folder $kit, and for which $machine; else it says so.
+# find_rt: the toolchain is there, $rt in the folder $kit; else it says so.
 find_rt() {
     rt=$(command -v rt) && rt=$(readlink -f "$rt") || {
         echo "$called: the Rattle toolchain's rt is not on the path" >&2
         return 1
     }
-    kit=${RATTLE_HOME:-${rt%/*/*}}
-    machine=$(uname -m)
+    kit=${rt%/*/*}
 }
 
 # is_proved CRATE FILE: whether target/started has the fingerprints of these sources and of this file.
@@ -38,14 +37,15 @@ is_proved() {
     { read -r kept <"$top/target/started/$1" && [ "$kept" = "$(fingerprint_of "$1") $(sha256sum <"$top/$2")" ]; } 2>/dev/null
 }
 
-# fingerprint_of CRATE: one of all that its proof hangs on: the toolchain, crates.txt, each file of the crate and of those that it stands on.
+# fingerprint_of CRATE: one of all that its proof hangs on: the toolchain, crates.txt, each file of the crate and of those that it stands on, but for the
+# edits, and for what rt keeps.
 fingerprint_of() (
     cd "$top" || exit 1
     # shellcheck disable=SC2046 # words, an argument each
     {
-        echo "$machine"
         sha256sum "$kit/KIT-ID" "$rt"
-        find crates.txt $(folders_below "$1") -name must-fail -prune -o \( -type f -o -type l \) -exec sha256sum {} + | LC_ALL=C sort
+        find crates.txt $(folders_below "$1") -regex 'crates/[^/]*/\(must-fail\|out\)' -prune -o \( -type f -o -type l \) -exec sha256sum {} + |
+            LC_ALL=C sort
     } 2>/dev/null | sha256sum
 )
 
@@ -59,7 +59,7 @@ folders_below() {
             for (i = 1; i <= n; i++) if (words[i] in on) visit(words[i])
         }
         { sub(/#.*/, ""); at = index($0, ":") }
-        at { name = substr($0, 1, at - 1); gsub(/[ \t]/, "", name); on[name] = substr($0, at + 1) }
+        at { name = substr($0, 1, at - 1); sub(/ .*/, "", name); on[name] = substr($0, at + 1) }
         END { visit(crate) }' crates.txt
 }
 
@@ -67,8 +67,7 @@ folders_below() {
 # together, and two proofs in one place disturb each other.
 prove_anew() {
     cd "$top" && mkdir -p target/started && room=$(mktemp -d) || exit 1
-    memory=''
-    trap 'rm -rf "$room" $memory' EXIT
+    trap 'rm -rf "$room"' EXIT
     trap 'end_proof; exit 1' HUP INT TERM
     {
         if command -v flock >/dev/null && ! flock -n 9; then
@@ -77,35 +76,61 @@ prove_anew() {
             wait $!
             ! is_proved "$1" "$2" || exit 0
         fi
-        . lib/memory.sh
         before='' now=$(fingerprint_of "$1")
         # a source that was saved meanwhile may not be in it
         until [ "$now" = "$before" ]; do
             before=$now
-            check_and_make "$1" "$2" || exit 1
+            check_and_make "$1" || exit 1
+            take_made "$1" "$2" || exit 1
             now=$(fingerprint_of "$1")
         done
-        print=$(sha256sum <"$2") && echo "$now $print" >"target/started/$1.$$" && mv "target/started/$1.$$" "target/started/$1"
+        note_made "$1" "$2" "$now"
     } 9<"$top"
 }
 
-# check_and_make CRATE FILE: the crate proved and its file made, by rt; where that is refused, what it says is shown.
+# check_and_make CRATE: the crate proved, and its program or its library made in its folder, by rt; where that is refused, what it says is shown.
 check_and_make() {
     all=$(folders_below "$1" | wc -l)
-    case $2 in target/bin/*) remove_altered "$1" "$2" ;; esac
-    # a pipe's status is that of `tell_progress`: that all is proved is a last line. It runs beside this shell, which a signal then ends at once
-    { in_own_group rt check "$1" && case $2 in *.a) make_archive "$1" ;; esac && echo "$1: ALL PROVED"; } 3>&2 </dev/null 2>&1 |
-        tell_progress "$all" >"$room/told" &
+    # a pipe's status is that of `tell_progress`: that all is made is a last line. It runs beside this shell, which a signal then ends at once
+    ask_rt "$1" </dev/null 2>&1 >/dev/null | tell_progress "$all" >"$room/told" &
     wait $!
     [ "$(tail -n 1 "$room/told")" = "$1: ALL PROVED" ] || {
         cat "$room/told" >&2
         return 1
     }
+    # where nothing had changed, rt says nothing of a proof
+    ! grep -q '^logic=proved' "$room/told" || { mkdir -p target/log && cp "$room/told" "target/log/$1.say"; }
 }
 
-make_archive() {
-    echo "$called: all is proved; the archive is made" >&3
-    in_own_group rt staticlib "$1"
+# ask_rt CRATE: what rt says comes on standard error. It makes a program only to run it: it runs here, on nothing, and what it writes is thrown away.
+ask_rt() {
+    cd "crates/$1" || exit 1
+    if [ -f src/main.rt ]; then
+        in_own_group "$rt" run
+    else
+        { in_own_group "$rt" lib && echo "$1: ALL PROVED"; } >&2
+    fi
+}
+
+# take_made CRATE FILE: what rt has made in the crate's folder stands at its place under target/, where rt moves nothing; of a program its object too.
+take_made() {
+    case $2 in
+    target/bin/*)
+        put_in_place "crates/$1/out/$1" "$2" || return 1
+        rm -f "target/obj/$1.o"
+        [ ! -f "crates/$1/out/$1.o" ] || put_in_place "crates/$1/out/$1.o" "target/obj/$1.o"
+        ;;
+    *.a) put_in_place "crates/$1/out/lib$1.a" "$2" ;;
+    esac
+}
+
+# put_in_place FILE PLACE: a copy, by one move.
+put_in_place() { mkdir -p "${2%/*}" && cp "$1" "$2.$$" && mv -f "$2.$$" "$2"; }
+
+# note_made CRATE FILE FINGERPRINT: of these sources this file was made, proved.
+note_made() {
+    mkdir -p target/started
+    print=$(sha256sum <"$2") && echo "$3 $print" >"target/started/$1.$$" && mv "target/started/$1.$$" "target/started/$1"
 }
 
 # in_own_group COMMAND..: in a group of processes of its own, by whose number it can be ended with all that it has begun.
@@ -124,46 +149,32 @@ end_proof() {
     wait
 }
 
-# remove_altered CRATE FILE: rt does not look at a program that it has made. One that is missing, was written behind rt's own stamp, or is not what
-# was started from these sources before, is taken away with that stamp, so that rt makes it anew.
-remove_altered() {
-    kept=''
-    { read -r kept <"target/started/$1"; } 2>/dev/null || :
-    if [ -f "$2" ] && [ -z "$(find "$2" -newer "target/stamp/$1" 2>/dev/null)" ]; then
-        case $kept in
-        "$before $(sha256sum <"$2")") return 0 ;;
-        "$before "*) ;;
-        *) return 0 ;;
-        esac
-    fi
-    rm -f "$2" "target/stamp/$1"
-}
-
-# tell_progress CRATES: hands rt's lines on, and tells of each crate that is proved anew; which of how many it is.
+# tell_progress CRATES: hands rt's lines on, and tells of each crate that is proved anew; how many there are at most. What a program says that rt runs
+# is left out.
 tell_progress() {
-    at=0
+    at=0 runs=''
     while IFS= read -r line; do
-        printf '%s\n' "$line"
+        [ -z "$runs" ] || continue
         case $line in
-        "rt: "*" proved ("*)
+        "rt: running out/"*)
+            runs=${line#rt: running out/}
+            line="${runs%%;*}: ALL PROVED"
+            ;;
+        "rt: chose --jobs "*" for "*)
             at=$((at + 1))
-            crate=${line#rt: }
-            case $line in *"(unchanged"*) ;; *) echo "$called: crate $at of $1: $crate" >&2 ;; esac
+            echo "$called: proving ${line##* }: $at, of $1 at most" >&2
             ;;
         esac
+        printf '%s\n' "$line"
     done
 }
 
-# start FILE ARGUMENTS..: a program compiled for x86-64 takes this shell's place, by the toolchain's C library; on another processor its emulator runs
-# it. With STACK_KIB=n on a stack of n KiB.
+# start FILE ARGUMENTS..: a program takes this shell's place, by the toolchain's C library. With STACK_KIB=n on a stack of n KiB.
 start() {
     [ -z "$installed" ] || exec $mortal "$@" # a package's programs need no C library but what is in them
-    tools=$kit/on/$machine/toolchain
-    emulator=$tools/bin/qemu-x86_64
-    [ -x "$emulator" ] || emulator=
     # shellcheck disable=SC3045 # POSIX has it not; the shells of Debian have
     [ -z "${STACK_KIB:-}" ] || ulimit -s "$STACK_KIB"
-    exec $mortal ${emulator:+"$emulator"} "$tools/lib/ld-linux-x86-64.so.2" --library-path "$tools/lib" "$@"
+    exec $mortal "$kit/toolchain/lib/ld-linux-x86-64.so.2" --library-path "$kit/toolchain/lib" "$@"
 }
 
 # run CRATE ARGUMENTS..: its program, which `prove` has seen in this shell.
@@ -173,7 +184,7 @@ run() (
     start "$program" "$@"
 )
 
-# run_with_status PROGRAM ARGUMENTS..: runs it, proved. A proved program cannot set its exit status: where it says something on standard error, the status
+# run_with_status PROGRAM ARGUMENTS..: runs it, proved. Our programs end with status 0 themselves: where one says something on standard error, the status
 # is 1. What it says is passed on as it comes. A signal that ends this shell ends the program: it would read on, and take what its successor waits for.
 run_with_status() {
     program='' talk='' ended=0 above=$ending

@@ -1,12 +1,35 @@
-/* The toolchain has the functions below, for x86-64 alone: a program's arguments, errno and files by name, which C offers to nobody by a plain call.
-   For another processor they stand here once more, each under its contract, which is that of the library `os` (its file c.rt). A slice comes
-   as two parameters, a pointer and a length; a path is 4,096 bytes, and a 0 is among them.
+/* The toolchain has the functions below, for x86-64 alone: memory, a program's arguments, and errno, which C offers to nobody by a plain call.
+   For another processor they stand here once more, each under its contract, which is that of the libraries `libc` (its file heap.rt) and `os` (c.rt).
+   A slice comes as two parameters, a pointer and a length.
    Nothing proves this file, as nothing proves the toolchain's: tests/package compares programs linked with the one and with the other. */
-#define _POSIX_C_SOURCE 200809L
 #include <errno.h>
-#include <fcntl.h>
+#include <stdlib.h>
 #include <string.h>
 #include "os.h"
+
+/* Where there is no memory, this byte is pointed to. */
+static uint8_t nothing;
+
+static struct tried tried(void *place) {
+    struct tried answer = {place != NULL, place != NULL ? place : &nothing};
+    return answer;
+}
+
+/* New memory of n bytes, or of as many as its alignment, which divides 16, where n is 0: C would answer no place for none. */
+struct tried rattle_alloc(size_t n, size_t alignment) {
+    return tried(malloc(n > 0 ? n : alignment));
+}
+
+/* The block at a place made one of n bytes, perhaps at another one; its first bytes are as they were. Where that fails, the block is as it was. */
+struct tried rattle_realloc(uint8_t *place, size_t kept, size_t n, size_t alignment) {
+    (void)kept;
+    return tried(realloc(place, n > 0 ? n : alignment));
+}
+
+/* What either answered is given back. */
+void rattle_dealloc(uint8_t *place) {
+    free(place);
+}
 
 /* The arguments, as they stand from the start to the end of a program. */
 static size_t count;
@@ -16,36 +39,6 @@ static char **arguments;
 __attribute__((constructor)) static void keep(int given, char **words) {
     count = given > 0 ? (size_t)given : 0;
     arguments = words;
-}
-
-/* A file by name, in whatever way: no terminal becomes the program's own by it, and no program that is started later has it. */
-static int32_t opened(const uint8_t *path, int how, uint32_t mode) {
-    return open((const char *)path, how | O_NOCTTY | O_CLOEXEC, (mode_t)mode);
-}
-
-/* To be read: its descriptor, or -1. */
-int32_t rattle_open_to_read(const uint8_t *path) {
-    return opened(path, O_RDONLY, 0);
-}
-
-/* Made, with that mode as far as the system allows it, and open to be written: its descriptor, or -1, also where there is something of that name. */
-int32_t rattle_open_new(const uint8_t *path, uint32_t mode) {
-    return opened(path, O_WRONLY | O_CREAT | O_EXCL, mode);
-}
-
-/* To be written from its start, and emptied; made where there is none: its descriptor, or -1. */
-int32_t rattle_open_to_overwrite(const uint8_t *path, uint32_t mode) {
-    return opened(path, O_WRONLY | O_CREAT | O_TRUNC, mode);
-}
-
-/* To be written at its end, whatever stands there: its descriptor, or -1, also where there is none. */
-int32_t rattle_open_to_append(const uint8_t *path) {
-    return opened(path, O_WRONLY | O_APPEND, 0);
-}
-
-/* To be read and written, its bytes as they are: its descriptor, or -1, also where there is none. */
-int32_t rattle_open_to_update(const uint8_t *path) {
-    return opened(path, O_RDWR, 0);
 }
 
 /* The calling thread's errno. */

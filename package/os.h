@@ -1,12 +1,17 @@
 /* The functions that package/os.c has for processors other than x86-64; package/cases.c calls them. */
+#include <stdbool.h>
 #include <stddef.h>
 #include <stdint.h>
 
-int32_t rattle_open_to_read(const uint8_t *path);
-int32_t rattle_open_new(const uint8_t *path, uint32_t mode);
-int32_t rattle_open_to_overwrite(const uint8_t *path, uint32_t mode);
-int32_t rattle_open_to_append(const uint8_t *path);
-int32_t rattle_open_to_update(const uint8_t *path);
+/* whether there is memory, and where; where there is none, a byte that is nobody's */
+struct tried {
+    bool ok;
+    uint8_t *place;
+};
+
+struct tried rattle_alloc(size_t n, size_t alignment);
+struct tried rattle_realloc(uint8_t *place, size_t kept, size_t n, size_t alignment);
+void rattle_dealloc(uint8_t *place);
 int32_t rattle_errno(void);
 void rattle_set_errno(int32_t error);
 size_t rattle_arg_count(void);

@@ -1,32 +1,19 @@
 # Read by bin/package: the folder $tree, as it is installed, part by part. usr/ in it is what the archive has too.
 
 # pages that serve engineers stay out
-left='BENCHMARKS DECISIONS MAP PROMISES'
+left='BENCHMARKS DECISIONS MAP PORT PROMISES READING'
 
 # put_programs: the programs, where the scripts look for them, static and without symbols. For x86-64 the toolchain's own C functions go with them, for
 # another processor package/os.c.
 put_programs() {
     home=$tree/usr/lib/tirunqesh
     mkdir -p "$home/target/bin"
-    functions=$kit/lib/libos_c.a
+    functions="$kit/c/libos_c.a $kit/c/liblibc_c.a"
     [ "$architecture" = amd64 ] || functions=package/os.c
     for program in $programs; do
-        object_for "$architecture" "$program"
-        [ "$architecture" = amd64 ] || plain_calls "$program" "$object"
-        $cc -O2 -static-pie -s -Wl,--gc-sections -Wl,--build-id=none -o "$home/target/bin/$program" "$object" "$functions" || fail "$program: not linked"
-    done
-}
-
-# plain_calls PROGRAM OBJECT: a structure of the C library may be laid out in another way than the module says, which was made for x86-64. Only functions
-# that have none are allowed.
-plain_calls() {
-    "${prefix}nm" -u "$2" >"$room/calls" || fail "$1: what it calls is not known"
-    for name in $(awk '{ print $2 }' "$room/calls"); do
-        case $name in
-        rattle_* | read | write | close | fsync | fdatasync | isatty | unlink | rename | mkdir | rmdir) ;;
-        memcpy | memmove | memset | memcmp | bcmp | __xpg_strerror_r) ;;
-        *) fail "$1 calls $name: see first whether it takes a structure, and whether $architecture lays that out as x86-64 does (package/tree.sh)" ;;
-        esac
+        code_for "$architecture" "$program" "target/obj/$program.o"
+        # shellcheck disable=SC2086 # words, an argument each
+        $cc -O2 -static-pie -s -Wl,--gc-sections -Wl,--build-id=none -o "$home/target/bin/$program" "$code" $functions || fail "$program: not linked"
     done
 }
 
@@ -59,13 +46,8 @@ as_installed() {
 
 # put_rack: the functions for C, their header, their pages.
 put_rack() {
-    library=$home/librack.a
-    if [ "$architecture" = amd64 ]; then
-        cp target/staticlib/librack.a "$library" # as it was proved
-    else
-        object_for "$architecture" rack
-        (cd "$room" && "${prefix}ar" rcsD "$library" rack.o) || fail "rack: no archive"
-    fi
+    code_for "$architecture" rack_c target/staticlib/librack.a
+    cp "$code" "$home/librack.a"
     mkdir -p "$tree/usr/include/tirunqesh" "$tree/usr/lib/$triplet/pkgconfig" "$room/man3" "$tree/usr/share/man/man3"
     cp rack/rack.h "$tree/usr/include/tirunqesh/"
     sed "s/VERSION/$version/" package/tirunqesh-rack.pc >"$tree/usr/lib/$triplet/pkgconfig/tirunqesh-rack.pc"
@@ -100,12 +82,19 @@ put_proof() {
         echo "gate's last line: $gate"
         awk '/^## / { on = /^## What is proved/; next } on' README.md | as_installed page ''
         [ "$architecture" = amd64 ] || echo "
-For $architecture: the programs are compiled from the modules of which the toolchain's compiler made the objects that were proved for x86-64, by the same
-compiler; with them goes package/os.c in place of the toolchain's own C functions. Nothing proves compiler, C library and os.c."
+For $architecture: the toolchain made the programs, and proved each once more for this processor, over the libraries that were proved here; with them goes
+package/os.c in place of the toolchain's own C functions. Nothing proves compiler, C library and os.c."
         echo
         echo "What the toolchain said of each program when it was proved here; of the functions of C whose contracts were assumed it names three a library at"
         echo "most, and how many there are:"
-        for program in $programs rack; do sed -n "s/^\(axioms .*\|logic=.*\)$/    $program: \1/p" "target/log/$program.say"; done
+        for program in $programs rack_c; do
+            case $architecture,$program in
+            amd64,*) told=target/log/$program.say ;;
+            *,rack_c) told=target/package/$architecture/librack.a.say ;;
+            *) told=target/package/$architecture/$program.o.say ;;
+            esac
+            sed -n "s/^\(axioms .*\|logic=.* target=.*\)$/    $program: \1/p" "$told"
+        done
         echo
         echo "What was packed (SHA-256):"
         (cd "$tree" && find usr -type f ! -path '*/PROOF.txt' | LC_ALL=C sort | xargs sha256sum) | sed 's/^/    /'

@@ -133,7 +133,8 @@ module _ (r d : ℕ) (hr : r ≤ root_limit) (bs : List ℕ) where
   pushed-count : length (pushed r d bs) ≡ q + closing_words d
   pushed-count =
       length-append (map (word_of r) (messages_of r bs)) _
-      ∙ (λ i. (length-map (messages_of r bs) (word_of r) ∙ ap length stream-messages ∙ messages-count q bs) i + length-replicate (closing_words d) (flag_word r) i)
+      ∙ (λ i. (length-map (messages_of r bs) (word_of r) ∙ ap length stream-messages ∙ messages-count q bs) i
+      + length-replicate (closing_words d) (flag_word r) i)
 
   all_are : words_of r d bs ≡ words_from r (q + (closing_words d + more)) bs
   all_are =

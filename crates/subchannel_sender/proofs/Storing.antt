@@ -170,7 +170,8 @@ words-room r bs group from at (suc k, e, s) a l =
 pub words-next : (r : ℕ) → r ≤ root_limit → (bs group : List ℕ) (from at n : ℕ) {y : List ℕ} → WordsLeft r bs from group at → at < 4 * word_bytes
     → length group ≡ 4 * word_bytes → from ≤ length bs → n ≡ min (message_bytes r) (length bs - from)
     → y ≡ copied (word_of r (message_of r (take (length bs - from) (drop from bs)))) (take (4 * word_bytes - at) (drop at group))
-    → (length (put_mid at (4 * word_bytes - at) group y) ≡ 4 * word_bytes) × WordsLeft r bs (from + n) (put_mid at (4 * word_bytes - at) group y) (at + word_bytes)
+    → (length (put_mid at (4 * word_bytes - at) group y) ≡ 4 * word_bytes)
+    × WordsLeft r bs (from + n) (put_mid at (4 * word_bytes - at) group y) (at + word_bytes)
 words-next r h bs group from at n {y} (zero, e, s) a l f en ey = absurd (omega arith)
 words-next r h bs group from at n {y} (suc k, e, s) a l f en ey =
     let x : List ℕ = word_of r (message_of r (drop from bs)) in
@@ -351,7 +352,8 @@ module _ (r d : ℕ) (hr : r ≤ root_limit) (hd : d ≤ depth_limit) (bs out : 
   long = ap length (sym sent_is) ∙ groups-long r d hr g fresh bs
 
   within : write (sent-stream r d bs) out ≡ sending r d bs out
-  within = λ i. pick (sym (le-ltb root_limit r hr) i) (refused 30 out) (pick (sym (le-ltb depth_limit d hd) i) (refused 32 out) (write (sent-stream r d bs) out))
+  within =
+      λ i. pick (sym (le-ltb root_limit r hr) i) (refused 30 out) (pick (sym (le-ltb depth_limit d hd) i) (refused 32 out) (write (sent-stream r d bs) out))
 
   pub send-short : length out / group_length < g → refused 23 out ≡ sending r d bs out
   send-short h = sym (write-short (sent-stream r d bs) out (omega (arith, long))) ∙ within

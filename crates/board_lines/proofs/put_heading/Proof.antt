@@ -8,4 +8,4 @@ pub put_heading_spec : {M : Type 1} → statement M
 put_heading_spec =
     tie.close (tie.spec
     (search rules) (search rules) (search rules)
-    (λ c. heading-put _ _ c.before.before.before.before.before.before.put_item.ensures c.before.before.put-item2.ensures))
+    (λ c. heading-put _ _ c.put_item-a.ensures c.put_item.ensures))

@@ -9,15 +9,7 @@ put_lead_spec =
     tie.close (tie.spec
     (search rules) (search rules) (search rules)
     (λ c.
-    let t = c.before.before in
-    let u = t.before.before in
-    let v = u.before.before.before.before in
-    let w = v.before.before.before in
-    lead-restricted w.args.noted w.args.delivery u.if1.true v.put-ahead.ensures t.put-restricted.ensures)
+    lead-restricted c.args.noted c.args.delivery c.if-delivery-eq-KEY_FORMAT.true c.put_ahead-a.ensures c.put_restricted.ensures)
     (search rules) (search rules)
     (λ c.
-    let t = c.before.before in
-    let u = t.before.before in
-    let v = u.before.before.before.before in
-    let w = v.before.before.before in
-    lead-own w.args.noted w.args.delivery u.if1.false v.put-ahead.ensures t.put-own.ensures))
+    lead-own c.args.noted c.args.delivery c.if-delivery-eq-KEY_FORMAT.false c.put_ahead-a.ensures c.put_own.ensures))

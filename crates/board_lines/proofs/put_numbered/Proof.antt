@@ -9,8 +9,4 @@ put_numbered_spec =
     tie.close (tie.spec
     (search rules) (search rules) (search rules) (search rules) (search rules)
     (λ c.
-    let t = c.before.before in
-    let u = t.before.before.before in
-    let v = u.before in
-    let w = v.before.before in
-    numbered-put w.args.b v.sixteenth.ensures u.sixteenth2.ensures t.put-text.ensures))
+    numbered-put c.args.b c.sixteenth-high.ensures c.sixteenth-low.ensures c.put_text.ensures))

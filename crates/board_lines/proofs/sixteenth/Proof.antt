@@ -8,6 +8,6 @@ pub sixteenth_spec : {M : Type 1} → statement M
 sixteenth_spec =
     tie.close (tie.spec
     (search rules)
-    (λ c. simp (lt-ltb _ _ c.if1.true))
+    (λ c. simp (lt-ltb _ _ c.if-n-lt10.true))
     (search rules)
-    (λ c. simp (le-ltb _ _ c.if1.false)))
+    (λ c. simp (le-ltb _ _ c.if-n-lt10.false)))

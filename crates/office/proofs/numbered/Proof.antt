@@ -5,4 +5,8 @@ use Rattle.office.proofs.numbered.Statement.{statement}
 use Rattle.office.proofs.numbered.Tie as tie
 
 pub numbered_spec : {M : Type 1} → statement M
-numbered_spec = tie.close (tie.spec (search rules) (λ c. simp (lt-ltb _ _ c.if-lines-lt18446744073709551615.true)) (λ c. simp (le-ltb _ _ c.if-lines-lt18446744073709551615.false)))
+numbered_spec =
+    tie.close (tie.spec
+    (search rules)
+    (λ c. simp (lt-ltb _ _ c.if-lines-lt18446744073709551615.true))
+    (λ c. simp (le-ltb _ _ c.if-lines-lt18446744073709551615.false)))

@@ -3,4 +3,4 @@ use Rattle.std.proofs.Common.{◌≤◌, length}
 use Rattle.sheet_main.proofs.hear.Given as goal
 
 abbrev pub invariant-loop : goal.invariant-loop
-invariant-loop g l = l.i ≤ length l.piece
+invariant-loop l = l.i ≤ length l.piece

@@ -38,8 +38,12 @@ send_group_spec =
     c.if-parity-gt-PARITY.false c.if-depth-gt-DEPTH.false c.if-out-lt-LENGTH.true)
     (search rules) (search rules)
     (λ c κs.
-    let a = c.args in
-    (c.if-depth-gt-DEPTH.false, sym c.is_beyond.ensures ∙ c.if-is_beyond.false, ap length c.group_of-group.ensures ∙ four-long a.parity c.if-parity-gt-PARITY.false _, c.if-out-lt-LENGTH.false))
+    let a = c.args in (
+      c.if-depth-gt-DEPTH.false,
+      sym c.is_beyond.ensures ∙ c.if-is_beyond.false,
+      ap length c.group_of-group.ensures ∙ four-long a.parity c.if-parity-gt-PARITY.false _,
+      c.if-out-lt-LENGTH.false,
+    ))
     (search rules) (search rules) (search rules) (search rules)
     (λ c.
     let a = c.args in

@@ -9,4 +9,4 @@ pub lead_spec : {M : Type 1} → statement M
 lead_spec =
     tie.close (tie.spec
     (search rules) (search rules)
-    (λ c. piece-put c.before.put-lead.ensures (lead-short c.before.before.before.args.noted c.before.before.before.args.delivery)))
+    (λ c. piece-put c.put_lead-length.ensures (lead-short c.args.noted c.args.delivery)))

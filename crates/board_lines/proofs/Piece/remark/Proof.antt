@@ -9,4 +9,4 @@ pub remark_spec : {M : Type 1} → statement M
 remark_spec =
     tie.close (tie.spec
     (search rules) (search rules)
-    (λ c. piece-put c.before.put-remark.ensures (remark-short c.before.before.before.args.blocks c.before.before.before.args.answer)))
+    (λ c. piece-put c.put_remark-length.ensures (remark-short c.args.blocks c.args.answer)))

@@ -8,4 +8,4 @@ pub shown_byte_spec : {M : Type 1} → statement M
 shown_byte_spec =
     tie.close (tie.spec
     (search rules) (search rules)
-    (λ c. piece-put c.before.put-shown.ensures (shown-short c.before.before.before.args.b)))
+    (λ c. piece-put c.put_shown-length.ensures (shown-short c.args.b)))

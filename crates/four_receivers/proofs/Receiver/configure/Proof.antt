@@ -12,35 +12,23 @@ configure_spec =
     tie.close (tie.spec
     (search rules) (search rules)
     (λ c.
-    let t = c.before in
-    let s = t.before.before in
-    let a = s.args in
-    configured-unsound a.self a.cells.now a.number a.parity a.depth (sym t.before.sound.ensures ∙ not-true _ t.if1.true)
+    let a = c.args in
+    configured-unsound a.self a.cells.now a.number a.parity a.depth (sym c.sound.ensures ∙ c.if-not-sound.true)
     c.unconfigured.ensures)
     (search rules)
     (λ c.
-    let t = c.before in
-    let e = t.before in
-    let a = e.before.before.args in
-    configured-none a.self a.cells.now a.number a.parity a.depth (sym e.before.sound.ensures ∙ not-false _ e.if1.false) t.if2.true
-    c.unconfigured2.ensures)
+    let a = c.args in
+    configured-none a.self a.cells.now a.number a.parity a.depth (sym c.sound.ensures ∙ c.if-not-sound.false) c.if-number-gt3.true
+    c.unconfigured-then-number-gt3.ensures)
     (search rules) (search rules) (search rules) (search rules) (search rules)
-    (λ c. let t = c.before.before.before.before.before.before.before in omega (arith, t.if2.false))
+    (λ c. omega (arith, c.if-number-gt3.false))
     (search rules) (search rules)
     (λ c.
-    let k = c.before.before in
-    let t = k.before.before in
-    let u = t.before in
-    let e = u.before in
-    let a = e.before.before.args in
-    configured-refused a.self a.cells.now a.number a.parity a.depth (sym e.before.sound.ensures ∙ not-false _ e.if1.false)
-    u.if2.false
-    _ t.told.ensures k.answer.given.1 c.unconfigured3.ensures)
+    let a = c.args in
+    configured-refused a.self a.cells.now a.number a.parity a.depth (sym c.sound.ensures ∙ c.if-not-sound.false)
+    c.if-number-gt3.false
+    _ c.told-told.ensures c.in-Refused.is c.unconfigured-in-Refused.ensures)
     (λ c.
-    let k = c.before.before.before.before.before.before in
-    let t = k.before.before in
-    let u = t.before in
-    let e = u.before in
-    let a = e.before.before.args in
-    configured-told a.self a.cells.now a.number a.parity a.depth (sym e.before.sound.ensures ∙ not-false _ e.if1.false) u.if2.false
-    t.told.ensures k.enum_told.given.1 c.before.of.ensures c.put.ensures))
+    let a = c.args in
+    configured-told a.self a.cells.now a.number a.parity a.depth (sym c.sound.ensures ∙ c.if-not-sound.false) c.if-number-gt3.false
+    c.told-told.ensures c.in-Done.is c.of.ensures c.put.ensures))

@@ -9,4 +9,4 @@ pub fresh_spec : {M : Type 1} → statement M
 fresh_spec =
     tie.close (tie.spec
     (search rules) (search rules)
-    (λ c i. let e = c.of.ensures ∙ ap seat c.before.untold.ensures in record { a = e i; b = e i; c = e i; d = e i }))
+    (λ c i. let e = c.of-seat.ensures ∙ ap seat c.untold.ensures in record { a = e i; b = e i; c = e i; d = e i }))

@@ -6,9 +6,9 @@ use Rattle.four_receivers.proofs.Receiver.get.Tie as tie
 pub get_spec : {M : Type 1} → statement M
 get_spec =
     tie.close (tie.spec
-    (λ c. get_at c.before.before.before.before.before.args.self c.if1.true)
-    (λ c. get_at c.before.before.before.before.before.before.args.self c.if2.true)
-    (λ c. get_at c.before.before.before.before.before.before.before.args.self c.if3.true)
+    (λ c. get_at c.args.self c.if-number-eq0.true)
+    (λ c. get_at c.args.self c.if-number-eq1.true)
+    (λ c. get_at c.args.self c.if-number-eq2.true)
     (λ c.
-    let a = c.before.before.before.before.before.before.before.args in
-    get-last a.self a.number c.before.before.if1.false c.before.if2.false c.if3.false))
+    let a = c.args in
+    get-last a.self a.number c.if-number-eq0.false c.if-number-eq1.false c.if-number-eq2.false))

@@ -12,43 +12,31 @@ hear_spec =
     tie.close (tie.spec
     (search rules) (search rules)
     (λ c.
-    let t = c.before in
-    let a = t.before.before.before.before.before.args in
+    let a = c.args in
     hear-unsound a.self a.cells.now a.number a.recv.now a.word.now a.piece.now
-    (sym t.before.sound.ensures ∙ not-true _ t.if1.true) c.unheard.ensures)
+    (sym c.sound.ensures ∙ c.if-not-sound.true) c.unheard.ensures)
     (search rules) (search rules)
     (λ c.
-    let t = c.before in
-    let e = t.before.before in
-    let a = e.before.before.before.before.before.args in
+    let a = c.args in
     hear-unknown a.self a.cells.now a.number a.recv.now a.word.now a.piece.now
-    (sym e.before.sound.ensures ∙ not-false _ e.if1.false) (sym t.before.known.ensures ∙ not-true _ t.if2.true) c.unheard2.ensures)
+    (sym c.sound.ensures ∙ c.if-not-sound.false) (sym c.known.ensures ∙ c.if-not-known.true) c.unheard-then-not-known.ensures)
     (search rules)
     (λ c.
-    let t = c.before in
-    let a = t.before.before.before.before.before.before.before.args in
-    omega (arith, known-within a.self a.number (sym t.before.known.ensures ∙ not-false _ t.if2.false)))
+    let a = c.args in
+    omega (arith, known-within a.self a.number (sym c.known.ensures ∙ c.if-not-known.false)))
     (λ c.
-    let t = c.before in
-    let a = t.before.before.before.before.before.before.before.args in
-    omega (arith, known-within a.self a.number (sym t.before.known.ensures ∙ not-false _ t.if2.false)))
+    let a = c.args in
+    omega (arith, known-within a.self a.number (sym c.known.ensures ∙ c.if-not-known.false)))
     (search rules) (search rules)
     (λ c.
-    let t = c.before.before.before.before.before.before.before.before.before.before.before.before.before.before in
-    let a = t.before.before.before.before.before.before.before.args in
-    omega (arith, known-within a.self a.number (sym t.before.known.ensures ∙ not-false _ t.if2.false)))
+    let a = c.args in
+    omega (arith, known-within a.self a.number (sym c.known.ensures ∙ c.if-not-known.false)))
     (λ c.
-    let t = c.before.before.before.before.before.before.before.before.before.before.before.before.before.before in
-    let a = t.before.before.before.before.before.before.before.args in
-    omega (arith, known-within a.self a.number (sym t.before.known.ensures ∙ not-false _ t.if2.false)))
+    let a = c.args in
+    omega (arith, known-within a.self a.number (sym c.known.ensures ∙ c.if-not-known.false)))
     (search rules) (search rules) (search rules) (search rules)
     (λ c.
-    let h = c.before.before.before.before.before.before.before.before.before.before in
-    let w = h.before.before.before in
-    let g = w.before.before in
-    let t = g.before in
-    let e = t.before.before in
-    let a = e.before.before.before.before.before.args in
+    let a = c.args in
     hear-known a.self a.cells.now a.number a.recv.now a.word.now a.piece.now
-    (sym e.before.sound.ensures ∙ not-false _ e.if1.false) (sym t.before.known.ensures ∙ not-false _ t.if2.false) g.get.ensures
-    w.with.ensures h.hear.ensures c.before.of.ensures c.put.ensures))
+    (sym c.sound.ensures ∙ c.if-not-sound.false) (sym c.known.ensures ∙ c.if-not-known.false) c.get-seat.ensures
+    c.with-sub.ensures c.hear-heard.ensures c.of.ensures c.put.ensures))

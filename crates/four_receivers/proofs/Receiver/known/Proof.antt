@@ -10,6 +10,6 @@ use Rattle.four_receivers.proofs.Receiver.known.Tie as tie
 pub known_spec : {M : Type 1} → statement M
 known_spec =
     tie.close (tie.spec
-    (λ c. simp (lt-leb _ _ c.if1.true))
+    (λ c. simp (lt-leb _ _ c.if-number-gt3.true))
     (search rules)
-    (λ c. let g = c.before.before in one-and (le-leb _ _ g.before.if1.false) (ap (λ (x : Seat). x.lane.settings.told) g.get.ensures)))
+    (λ c. one-and (le-leb _ _ c.if-number-gt3.false) (ap (λ (x : Seat). x.lane.settings.told) c.get-seat.ensures)))

@@ -10,22 +10,16 @@ pub sound_spec : {M : Type 1} → statement M
 sound_spec =
     tie.close (tie.spec
     (search rules)
-    (λ c. simp (sym c.before.sound.ensures ∙ not-true _ c.if1.true))
+    (λ c. simp (sym c.sound.ensures ∙ c.if-not-sound.true))
     (search rules)
     (λ c.
-    let e = c.before.before in
-    one-and (sym e.before.sound.ensures ∙ not-false _ e.if1.false) (simp (sym c.before.sound2.ensures ∙ not-true _ c.if2.true)))
+    one-and (sym c.sound.ensures ∙ c.if-not-sound.false) (simp (sym c.sound-2.ensures ∙ c.if-not-sound-2.true)))
     (search rules)
     (λ c.
-    let f = c.before.before in
-    let e = f.before.before in
-    one-and (sym e.before.sound.ensures ∙ not-false _ e.if1.false)
-    (one-and (sym f.before.sound2.ensures ∙ not-false _ f.if2.false) (simp (sym c.before.sound3.ensures ∙ not-true _ c.if3.true))))
+    one-and (sym c.sound.ensures ∙ c.if-not-sound.false)
+    (one-and (sym c.sound-2.ensures ∙ c.if-not-sound-2.false) (simp (sym c.sound-3.ensures ∙ c.if-not-sound-3.true))))
     (search rules)
     (λ c.
-    let g = c.before in
-    let f = g.before.before in
-    let e = f.before.before in
-    one-and (sym e.before.sound.ensures ∙ not-false _ e.if1.false)
-    (one-and (sym f.before.sound2.ensures ∙ not-false _ f.if2.false)
-    (one-and (sym g.before.sound3.ensures ∙ not-false _ g.if3.false) c.sound4.ensures))))
+    one-and (sym c.sound.ensures ∙ c.if-not-sound.false)
+    (one-and (sym c.sound-2.ensures ∙ c.if-not-sound-2.false)
+    (one-and (sym c.sound-3.ensures ∙ c.if-not-sound-3.false) c.sound-4.ensures))))

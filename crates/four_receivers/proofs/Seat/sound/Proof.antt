@@ -9,4 +9,4 @@ pub sound_spec : {M : Type 1} → statement M
 sound_spec =
     tie.close (tie.spec
     (search rules) (search rules)
-    (λ c. c.sound.ensures ∙ ap sound c.before.with.ensures))
+    (λ c. c.sound.ensures ∙ ap sound c.with-sub.ensures))

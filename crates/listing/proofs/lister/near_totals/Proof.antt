@@ -9,11 +9,11 @@ pub near_totals_spec : {M : Type 1} → statement M
 near_totals_spec =
     tie.close (tie.spec
     (search rules)
-    (λ c. rw (lt-leb _ _ c.if1.true) refl)
-    (λ c. rw (le-leb _ _ c.before.before.if1.false, lt-leb _ _ c.if2.true) refl)
-    (λ c. rw (le-leb _ _ c.before.before.before.before.if1.false, le-leb _ _ c.before.before.if2.false, lt-leb _ _ c.if3.true) refl)
+    (λ c. rw (lt-leb _ _ c.if-most-totals.true) refl)
+    (λ c. rw (le-leb _ _ c.if-most-totals.false, lt-leb _ _ c.if-most-totals-2.true) refl)
+    (λ c. rw (le-leb _ _ c.if-most-totals.false, le-leb _ _ c.if-most-totals-2.false, lt-leb _ _ c.if-most-totals-3.true) refl)
     (λ c. rw (
-      le-leb _ _ c.before.before.before.before.before.if1.false,
-      le-leb _ _ c.before.before.before.if2.false,
-      le-leb _ _ c.before.if3.false,
+      le-leb _ _ c.if-most-totals.false,
+      le-leb _ _ c.if-most-totals-2.false,
+      le-leb _ _ c.if-most-totals-3.false,
     ) refl))

@@ -8,8 +8,6 @@ pub put_spec : {M : Type 1} → statement M
 put_spec =
     tie.close (tie.spec
     (search rules) (search rules) (search rules) (search rules)
-    (λ c. let at-print = c.before.before.before.before.before in let s = at-print.before.before.before in
-    put_is s.args.answer s.args.out.now s.requires at-print.print.ensures _ c.before.n.given.1)
+    (λ c. put_is c.args.answer c.args.out.now c.requires c.print.ensures _ c.in-Wrote.is)
     (search rules)
-    (λ c. let at-print = c.before.before.before.before in let s = at-print.before.before.before in
-    absurd (put-not s.args.answer s.args.out.now s.requires at-print.print.ensures c.enum_told.given.1)))
+    (λ c. absurd (put-not c.args.answer c.args.out.now c.requires c.print.ensures c.in-Refused.is)))

@@ -15,7 +15,7 @@ print_noted_spec =
     tie.close (tie.spec
     (search rules) (search rules) (search rules) (search rules) (search rules)
     (λ c.
-    let s = c.before.before.before.before.before.before.before.before.before.args in
-    c.before.before.deliver.ensures
+    let s = c.args in
+    c.deliver.ensures
     ∙ ap (λ (bs : List ℕ). write bs s.out.now)
-    (put-taken c.before.before.before.before.before.before.put-noted.ensures (omega (arith, line-short s.port s.sequence s.noted)))))
+    (put-taken c.put_noted-n.ensures (omega (arith, line-short s.port s.sequence s.noted)))))

@@ -9,6 +9,5 @@ put_noted_spec =
     tie.close (tie.spec
     (search rules) (search rules) (search rules) (search rules)
     (λ c.
-    let s = c.before.before in
-    noted-put _ _ _ s.before.before.before.before.before.before.before.before.put_item.ensures
-    s.before.before.before.before.put-item2.ensures s.put-noted-text.ensures))
+    noted-put _ _ _ c.put_item-a.ensures
+    c.put_item-b.ensures c.put_noted_text.ensures))

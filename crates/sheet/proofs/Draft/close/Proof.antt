@@ -7,17 +7,11 @@ use Rattle.sheet.proofs.Draft.close.Tie as tie
 pub close_spec : {M : Type 1} → statement M
 close_spec =
     tie.close (tie.spec
-    (λ c. let s = c.before.before.before.before in close-before s.args.self s.args.well c.if1.true)
-    (λ c. let s = c.before.before.before.before.before.before in
-    close-after s.args.self c.before.before.if1.false s.args.well c.if2.true)
-    (λ c. let at-if1 = c.before.before.before in let s = at-if1.before.before.before.before in
-    close-wrong s.args.self at-if1.if1.false c.before.if2.false s.args.well c.if3.true)
-    (λ c. let at-if1 = c.before.before.before.before in let s = at-if1.before.before.before.before in
-    close-full s.args.self at-if1.if1.false c.before.before.if2.false s.args.well c.before.if3.false c.if4.true)
-    (λ c. let at-if2 = c.before.before.before in let at-if1 = at-if2.before.before in let s = at-if1.before.before.before.before in
-    close-wide s.args.self at-if1.if1.false at-if2.if2.false s.args.well c.before.before.if3.false c.before.if4.false c.if5.true)
+    (λ c. close-before c.args.self c.args.well c.if-before-gt-PORTS.true)
+    (λ c. close-after c.args.self c.if-before-gt-PORTS.false c.args.well c.if-after-gt-PORTS.true)
+    (λ c. close-wrong c.args.self c.if-before-gt-PORTS.false c.if-after-gt-PORTS.false c.args.well c.if-not-well.true)
+    (λ c. close-full c.args.self c.if-before-gt-PORTS.false c.if-after-gt-PORTS.false c.args.well c.if-not-well.false c.if-self.true)
+    (λ c. close-wide c.args.self c.if-before-gt-PORTS.false c.if-after-gt-PORTS.false c.args.well c.if-not-well.false c.if-self.false c.if-self-2.true)
     (search rules)
-    (λ c. let at-if3 = c.before.before.before in let at-if2 = at-if3.before in let at-if1 = at-if2.before.before in
-    let s = at-if1.before.before.before.before in
-    close-counts s.args.self at-if1.if1.false at-if2.if2.false s.args.well at-if3.if3.false c.before.before.if4.false
-    c.before.if5.false c.tidied.ensures))
+    (λ c. close-counts c.args.self c.if-before-gt-PORTS.false c.if-after-gt-PORTS.false c.args.well c.if-not-well.false c.if-self.false
+    c.if-self-2.false c.tidied.ensures))

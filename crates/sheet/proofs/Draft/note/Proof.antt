@@ -8,8 +8,7 @@ pub note_spec : {M : Type 1} → statement M
 note_spec =
     tie.close (tie.spec
     (search rules)
-    (λ c. note-out c.before.before.args.range c.before.before.args.self c.before.before.args.port c.before.before.args.sequence
-    c.before.has.ensures c.if1.true)
+    (λ c. note-out c.args.range c.args.self c.args.port c.args.sequence
+    c.has.ensures c.if-not-has.true)
     (search rules)
-    (λ c. let s = c.before.before.before in
-    note-in s.args.range s.args.self s.args.port s.args.sequence c.before.before.has.ensures c.before.if1.false c.add.ensures))
+    (λ c. note-in c.args.range c.args.self c.args.port c.args.sequence c.has.ensures c.if-not-has.false c.add.ensures))

@@ -8,4 +8,4 @@ pub begin_spec : {M : Type 1} → statement M
 begin_spec =
     tie.close (tie.spec
     (search rules)
-    (λ c. begin-is c.before.args.self c.tidied.ensures))
+    (λ c. begin-is c.args.self c.tidied-after.ensures))

@@ -8,4 +8,4 @@ pub fresh_spec : {M : Type 1} → statement M
 fresh_spec =
     tie.close (tie.spec
     (search rules)
-    (λ c. fresh-is c.blank.ensures))
+    (λ c. fresh-is c.blank-free.ensures))

@@ -8,4 +8,4 @@ pub tidied_spec : {M : Type 1} → statement M
 tidied_spec =
     tie.close (tie.spec
     (search rules) (search rules)
-    (λ c. tidied-is c.before.before.before.args.self c.before.clear-all.ensures.0 c.before.clear-all.ensures.1 c.least.ensures))
+    (λ c. tidied-is c.args.self c.clear_all-rows.ensures.0 c.clear_all-rows.ensures.1 c.least-ports.ensures))

@@ -13,14 +13,5 @@ print_row_spec =
     (search rules) (search rules) (search rules) (search rules) (search rules) (search rules) (search rules)
     (search rules) (search rules) (search rules)
     (λ c.
-    let t = c.before.before in
-    let u = t.before.before.before.before in
-    let v = u.before.before.before in
-    let w = v.before.before.before in
-    let x = w.before.before.before in
-    let y = x.before.before.before in
-    let z = y.before.before.before in
-    let a = z.before.before.before in
-    let b = a.before.before.before in
-    delivers b.args.out.now (row_put _ _ _ _ _ _ a.put_item.ensures z.put-item2.ensures y.put-item3.ensures x.put-item4.ensures
-    w.put-item5.ensures v.put-item6.ensures u.put-item7.ensures) (row-short _ _ _ _ _ _) t.deliver.ensures))
+    delivers c.args.out.now (row_put _ _ _ _ _ _ c.put_item-a.ensures c.put_item-b.ensures c.put_item-c.ensures c.put_item-d.ensures
+    c.put_item-e.ensures c.put_item-f.ensures c.put_item-n.ensures) (row-short _ _ _ _ _ _) c.deliver.ensures))

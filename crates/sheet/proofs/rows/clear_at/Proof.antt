@@ -10,4 +10,4 @@ pub clear_at_spec : {M : Type 1} → statement M
 clear_at_spec =
     tie.close (tie.spec
     (search rules) (search rules)
-    (λ c. c.clear.ensures ∙ ap (λ (r : Row). cleared r) c.before.row_at.ensures))
+    (λ c. c.clear.ensures ∙ ap (λ (r : Row). cleared r) c.row_at.ensures))

@@ -11,17 +11,14 @@ pub find_spec : {M : Type 1} → statement M
 find_spec =
     tie.close (tie.spec
     (search rules) (search rules)
-    (λ c. let at-row-at = c.before.before.before in let at_place = at-row-at.before in let s = at_place.before in
-    found-old s.args.port s.args.n (take s.args.n s.args.rows)
-    (length-take-le s.args.n s.args.rows (omega (arith, s.requires, at_place.place.ensures.1))) at_place.place.ensures.0
-    at-row-at.row_at.ensures c.before.before.if1.true c.if2.true)
+    (λ c. found-old c.args.port c.args.n (take c.args.n c.args.rows)
+    (length-take-le c.args.n c.args.rows (omega (arith, c.requires, c.place-at.ensures.1))) c.place-at.ensures.0
+    c.row_at-row.ensures c.if-at-n.true c.if-row-port.true)
     (search rules)
-    (λ c. let at-row-at = c.before.before.before.before in let at_place = at-row-at.before in let s = at_place.before in
-    found-other s.args.port s.args.n (take s.args.n s.args.rows)
-    (length-take-le s.args.n s.args.rows (omega (arith, s.requires, at_place.place.ensures.1))) at_place.place.ensures.0
-    at-row-at.row_at.ensures c.before.if2.false c.unfound.ensures)
+    (λ c. found-other c.args.port c.args.n (take c.args.n c.args.rows)
+    (length-take-le c.args.n c.args.rows (omega (arith, c.requires, c.place-at.ensures.1))) c.place-at.ensures.0
+    c.row_at-row.ensures c.if-row-port.false c.unfound.ensures)
     (search rules)
-    (λ c. let at_place = c.before.before.before in let s = at_place.before in
-    found-end s.args.port s.args.n (take s.args.n s.args.rows)
-    (length-take-le s.args.n s.args.rows (omega (arith, s.requires, at_place.place.ensures.1))) at_place.place.ensures.0
-    c.before.before.row_at.ensures c.before.if1.false c.unfound2.ensures))
+    (λ c. found-end c.args.port c.args.n (take c.args.n c.args.rows)
+    (length-take-le c.args.n c.args.rows (omega (arith, c.requires, c.place-at.ensures.1))) c.place-at.ensures.0
+    c.row_at-row.ensures c.if-at-n.false c.unfound-2.ensures))

@@ -8,9 +8,8 @@ pub row_at_spec : {M : Type 1} → statement M
 row_at_spec =
     tie.close (tie.spec
     (search rules) (search rules)
-    (λ c. let s = c.before.before.before in at_in s.args.t1 s.args.n s.args.i c.before.before.if1.true)
+    (λ c. at_in c.args.rows c.args.n c.args.i c.if-i-n.true)
     (search rules)
-    (λ c. let s = c.before.before.before in
-    at-over s.args.t1 s.args.n s.args.i c.blank.ensures c.before.if2.false (search rules))
+    (λ c. at-over c.args.rows c.args.n c.args.i c.blank.ensures c.if-i-lt-PORTS.false (search rules))
     (search rules)
-    (λ c. at-past c.before.before.args.t1 c.before.before.args.n c.before.before.args.i c.blank2.ensures c.before.if1.false))
+    (λ c. at-past c.args.rows c.args.n c.args.i c.blank-2.ensures c.if-i-n.false))

@@ -5,4 +5,4 @@ use Rattle.sheet.proofs.rows.unfound.Statement.{statement}
 use Rattle.sheet.proofs.rows.unfound.Tie as tie
 
 pub unfound_spec : {M : Type 1} → statement M
-unfound_spec = tie.close (tie.spec (search rules) (search rules) (λ c. unfound-is _ _ _ c.blank.ensures))
+unfound_spec = tie.close (tie.spec (search rules) (search rules) (λ c. unfound-is _ _ _ c.blank-row.ensures))

@@ -13,5 +13,5 @@ fits_spec =
     tie.close (tie.spec
     (search rules) (search rules) (search rules)
     (λ c. c.all_near.ensures ∙ ap (λ (t : Tally). not (wide t))
-    (tally-is c.before.before.before.before.args.row c.before.before.before.before.args.sequence c.before.before.verdict.ensures
-    c.before.one.ensures)))
+    (tally-is c.args.row c.args.sequence c.verdict-noted.ensures
+    c.one.ensures)))

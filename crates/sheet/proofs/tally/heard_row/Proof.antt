@@ -10,8 +10,7 @@ pub heard_row_spec : {M : Type 1} → statement M
 heard_row_spec =
     tie.close (tie.spec
     (search rules) (search rules)
-    (λ c κs. let s = c.before.before.before in
-    ap wide (tally-is s.args.row s.args.sequence c.before.verdict.ensures c.one.ensures) ∙ s.requires)
+    (λ c κs. ap wide (tally-is c.args.row c.args.sequence c.verdict-noted.ensures c.one-more.ensures) ∙ c.requires)
     (search rules)
-    (λ c. heard-is c.before.before.before.before.before.args.row c.before.before.before.before.before.args.sequence
-    c.before.before.before.verdict.ensures c.before.before.one.ensures c.before.sum.ensures c.last-by.ensures))
+    (λ c. heard-is c.args.row c.args.sequence
+    c.verdict-noted.ensures c.one-more.ensures c.sum-tally.ensures c.last_by.ensures))

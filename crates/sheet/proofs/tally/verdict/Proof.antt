@@ -8,5 +8,5 @@ pub verdict_spec : {M : Type 1} → statement M
 verdict_spec =
     tie.close (tie.spec
     (search rules)
-    (λ c. verdict-heard c.before.before.args.row c.before.before.args.sequence c.before.if1.true c.rule.ensures)
+    (λ c. verdict-heard c.args.row c.args.sequence c.if-row.true c.rule.ensures)
     (search rules))

@@ -9,10 +9,6 @@ pub finish_spec : {M : Type 1} → statement M
 finish_spec =
     tie.close (tie.spec
     (search rules) (search rules) (search rules)
-    (λ c. let at-if1 = c.before.before.before.before in let at-may-end = at-if1.before in
-    let s = at-may-end.before.before.before.before.before in
-    finish-is s.args.self s.args.out.now (sym at-if1.if1.true ∙ at-may-end.may-end.ensures) c.before.before.print-end.ensures)
+    (λ c. finish-is c.args.self c.args.out.now (sym c.if-may_end.true ∙ c.may_end.ensures) c.print_end.ensures)
     (search rules) (search rules)
-    (λ c. let at-if1 = c.before.before.before.before in let at-may-end = at-if1.before in
-    let s = at-may-end.before.before.before.before.before in
-    finish-is s.args.self s.args.out.now (sym at-if1.if1.false ∙ at-may-end.may-end.ensures) c.before.before.print-wrong.ensures))
+    (λ c. finish-is c.args.self c.args.out.now (sym c.if-may_end.false ∙ c.may_end.ensures) c.print_wrong.ensures))

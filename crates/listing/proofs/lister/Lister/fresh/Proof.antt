@@ -7,4 +7,4 @@ pub fresh_spec : {M : Type 1} → statement M
 fresh_spec =
     tie.close (tie.spec
     (search rules) (search rules)
-    (λ c i. record { tape = c.before.fresh.ensures i; totals = c.none.ensures i }))
+    (λ c i. record { tape = c.fresh.ensures i; totals = c.none.ensures i }))

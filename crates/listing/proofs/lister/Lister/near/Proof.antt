@@ -9,6 +9,6 @@ pub near_spec : {M : Type 1} → statement M
 near_spec =
     tie.close (tie.spec
     (search rules)
-    (λ c. rw (lt-leb _ _ c.if1.true) refl)
+    (λ c. rw (lt-leb _ _ c.if-n-at.true) refl)
     (search rules)
-    (λ c. rw (le-leb _ _ c.before.if1.false) c.near-totals.ensures))
+    (λ c. rw (le-leb _ _ c.if-n-at.false) c.near_totals.ensures))

@@ -7,4 +7,4 @@ pub fresh_spec : {M : Type 1} → statement M
 fresh_spec =
     tie.close (tie.spec
     (search rules) (search rules)
-    (λ c i. record { tape = c.before.fresh.ensures i; ports = c.fresh2.ensures i; range = c.before.before.args.range }))
+    (λ c i. record { tape = c.fresh.ensures i; ports = c.fresh-2.ensures i; range = c.args.range }))

@@ -1,4 +1,6 @@
 -- `missed::notes::Notes::note` meets its contract: the line of a packet of the range, and nothing of any other.
+use mathlib.Core.Bool.{not}
+use mathlib.Core.Path.{ap}
 use borrow.Author.Rules.{rules}
 use Rattle.missed.proofs.Taking.{note-out, note-in}
 use Rattle.missed.proofs.notes.Notes.note.Statement.{statement}
@@ -9,11 +11,9 @@ note_spec =
     tie.close (tie.spec
     (search rules)
     (λ c.
-    let s = c.before.before.before.before.before.before.args in
-    note-out s.self s.taken s.delivery s.out.now c.before.has.ensures c.if1.true)
+    let s = c.args in
+    note-out s.self s.taken s.delivery s.out.now c.has.ensures (ap not c.if-not-has.true))
     (search rules) (search rules) (search rules)
     (λ c.
-    let p = c.before.before.before.before.before.before in
-    let s = p.before.before.before.before.before.before in
-    note-in s.args.self s.args.taken s.args.delivery s.args.out.now p.before.has.ensures p.if1.false s.requires
-    c.before.before.before.before.before.note.ensures c.before.before.put-noted.ensures))
+    note-in c.args.self c.args.taken c.args.delivery c.args.out.now c.has.ensures (ap not c.if-not-has.false) c.requires
+    c.note-told.ensures c.put_noted-written.ensures))

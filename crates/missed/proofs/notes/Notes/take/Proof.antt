@@ -5,34 +5,28 @@ use Rattle.missed.proofs.Taking.{take_short, take_more, take-packet, take-refuse
 use Rattle.missed.proofs.notes.Notes.take.Statement.{statement}
 use Rattle.missed.proofs.notes.Notes.take.Tie as tie
 
-returns : tie.Need-returns
+returns : tie.Need-returns-then-out-lt-ROOM
 returns c =
-    let s = c.before.before.before.before.before.args in
-    take_short s.self s.recv.now s.word.now s.piece.now s.out.now (omega (arith, c.if1.true))
+    let s = c.args in
+    take_short s.self s.recv.now s.word.now s.piece.now s.out.now (omega (arith, c.if-out-lt-ROOM.true))
 
-returns-2 : tie.Need-returns-2
+returns-2 : tie.Need-returns-in-More
 returns-2 c =
-    let n = c.before.before.before.before.before.before.before in
-    let p = n.before.before.before.before.before.before in
-    let s = p.before.before.before.before.before.args in
-    take_more s.self s.recv.now s.word.now s.piece.now s.out.now (omega (arith, p.if1.false)) n.next-packet.ensures
-    c.enum_told.given.1
+    let s = c.args in
+    take_more s.self s.recv.now s.word.now s.piece.now s.out.now (omega (arith, c.if-out-lt-ROOM.false)) c.next_packet-heard.ensures
+    c.in-More.is
 
-returns-3 : tie.Need-returns-3
+returns-3 : tie.Need-returns-in-Packet
 returns-3 c =
-    let n = c.before.before.before.before.before.before.before.before.before.before.before.before in
-    let p = n.before.before.before.before.before.before in
-    let s = p.before.before.before.before.before.args in
-    take-packet s.self s.recv.now s.word.now s.piece.now s.out.now (omega (arith, p.if1.false)) n.next-packet.ensures _
-    c.before.before.before.before.before.found.given.1 c.before.before.note.ensures
+    let s = c.args in
+    take-packet s.self s.recv.now s.word.now s.piece.now s.out.now (omega (arith, c.if-out-lt-ROOM.false)) c.next_packet-heard.ensures _
+    c.in-Packet.is c.note.ensures
 
-returns-4 : tie.Need-returns-4
+returns-4 : tie.Need-returns-in-Refused
 returns-4 c =
-    let n = c.before.before.before.before.before.before.before.before in
-    let p = n.before.before.before.before.before.before in
-    let s = p.before.before.before.before.before.args in
-    take-refused s.self s.recv.now s.word.now s.piece.now s.out.now (omega (arith, p.if1.false)) n.next-packet.ensures _
-    c.before.found2.given.1
+    let s = c.args in
+    take-refused s.self s.recv.now s.word.now s.piece.now s.out.now (omega (arith, c.if-out-lt-ROOM.false)) c.next_packet-heard.ensures _
+    c.in-Refused.is
 
 pub take_spec : {M : Type 1} → statement M
 take_spec =
