@@ -3,6 +3,7 @@ pub mod Text
 pub mod Line
 pub mod Marks
 pub mod Split
+pub mod Left
 pub mod Ranges
 pub mod Every
 pub mod Typed

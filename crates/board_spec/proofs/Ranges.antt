@@ -1,12 +1,11 @@
 -- A range of ports: answers without the packets of other ports.
 -- regarded-joined    answers one behind the other
--- regarded-twice     what a range leaves is left by it again: the packets outside may as well never have been sent ..
--- regarded-all       .. and where there is none, all is left
+-- regarded-twice     what a range leaves is left by it again: the packets outside may as well never have been sent
 -- regarded-inside    each packet left is inside
 -- regarded-frames    the frames left are those of the packets inside; refused and broken ones stay
 -- regarded-blocks, regarded-losses   blocks and lost locks stay, each
 -- regarded-every     the range of all leaves all, where ports have 16 bits
--- AllInside, frames_in   each packet's port is inside; the frames of the packets inside, and every refused or broken one
+-- frames_in          the frames of the packets inside, and every refused or broken one
 use Prim.Native.Nat.{suc, ◌<◌}
 use native.Mathlib.Omega.{arith}
 use mathlib.Core.Path.{◌≡◌, refl, sym, ◌∙◌, ap}
@@ -25,6 +24,7 @@ use Rattle.ports_spec.specs.Range.{every_port, inside}
 use Rattle.ports_spec.proofs.Every.{inside-every}
 use Rattle.board_spec.specs.Meaning.{regards, regarded}
 use Rattle.board_spec.specs.Typed.{packets_among, packets_in}
+use Rattle.board_spec.proofs.Left.{AllInside, regarded-all}
 
 module _ (r : Range) where
   -- ---- an answer, by: is it regarded
@@ -58,20 +58,8 @@ module _ (r : Range) where
       ∙ sym (first-left e es h))
       (λ h. ap (regarded r) (first-gone e es h) ∙ regarded-twice es ∙ sym (first-gone e es h))
 
-  -- each packet's port is inside
-  abbrev pub AllInside : List Packet → Type 0
-  AllInside ps = Each (λ p. inside r p.port ≡ true) ps
-
-  pub regarded-all : (es : List Event) → AllInside (packets_among (frames es)) → regarded r es ≡ es
-  unfolding regarded packets_among
-  regarded-all [] h = refl
-  regarded-all (said (packet p) ∷ es) h = rw h.0 (ap (λ (x : List Event). said (packet p) ∷ x) (regarded-all es h.1))
-  regarded-all (said (refusal n) ∷ es) h = ap (λ (x : List Event). said (refusal n) ∷ x) (regarded-all es h)
-  regarded-all (said (broken n) ∷ es) h = ap (λ (x : List Event). said (broken n) ∷ x) (regarded-all es h)
-  regarded-all (block c ∷ es) h = ap (λ (x : List Event). block c ∷ x) (regarded-all es h)
-  regarded-all (lost ∷ es) h = ap (λ (x : List Event). lost ∷ x) (regarded-all es h)
-
-  pub regarded-inside : (es : List Event) → AllInside (packets_among (frames (regarded r es)))
+  -- each packet left is inside
+  pub regarded-inside : (es : List Event) → AllInside r (packets_among (frames (regarded r es)))
   unfolding regarded packets_among
   regarded-inside [] = tt
   regarded-inside (said (packet p) ∷ es) =

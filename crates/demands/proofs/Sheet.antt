@@ -39,7 +39,8 @@ use Rattle.sheet_spec.specs.Meaning.{lines, any_wide, port_limit, counts, wrong,
 use Rattle.sheet_spec.specs.Rows.{blank}
 use Rattle.sheet_spec.specs.Recording.{marks, brings}
 use Rattle.sheet_spec.proofs.Tallies as tallies
-use Rattle.sheet_spec.proofs.Ports.{Rising, In, Among, ports-rise, ports-are}
+use Rattle.sheet_spec.proofs.Rises.{Rising}
+use Rattle.sheet_spec.proofs.Ports.{In, Among, ports-rise, ports-are}
 use Rattle.sheet_spec.proofs.Within.{Ported, within-every, numbers-range, ports-range}
 use Rattle.sheet_spec.proofs.Counted.{Fit, fresh-fit, month-fit, refused-stays, counts_with}
 use Rattle.sheet.specs.declared.Sheet.{Sheet}

@@ -33,15 +33,13 @@ near-is a b h =
     by_le (a + b) far (λ l. le-leb a (far - b) (omega (arith, h, l)) ∙ ap not (sym (le-ltb far (a + b) l)))
     (λ l. lt-leb a (far - b) (omega (arith, h, l)) ∙ ap not (sym (lt-ltb far (a + b) l)))
 
-hit : (a n : Bool) → n ≡ not a → not n ≡ true → a ≡ true
+hit : (a n : Bool) → n ≡ not a → n ≡ false → a ≡ true
 hit true n e h = refl
-hit false true e h = absurd (false≢true h)
-hit false false e h = absurd (false≢true e)
+hit false n e h = absurd (false≢true (sym h ∙ e))
 
-clear : (a n : Bool) → n ≡ not a → not n ≡ false → a ≡ false
+clear : (a n : Bool) → n ≡ not a → n ≡ true → a ≡ false
 clear false n e h = refl
-clear true true e h = absurd (true≢false e)
-clear true false e h = absurd (true≢false h)
+clear true n e h = absurd (true≢false (sym h ∙ e))
 
 module _ (a b : Tally) where
   abbrev D : Bool
@@ -59,22 +57,22 @@ module _ (a b : Tally) where
   abbrev E : Bool
   E = ltb far (a.total + b.total)
 
-  pub not-1 : {n : Bool} → n ≡ not D → not n ≡ true → false ≡ not (wide (plus a b))
+  pub not-1 : {n : Bool} → n ≡ not D → n ≡ false → false ≡ not (wide (plus a b))
   not-1 {n} e h = rw (hit D n e h) refl
 
-  module _ {n : Bool} (e : n ≡ not D) (f : not n ≡ false) where
-    pub not-2 : {m : Bool} → m ≡ not R → not m ≡ true → false ≡ not (wide (plus a b))
+  module _ {n : Bool} (e : n ≡ not D) (f : n ≡ true) where
+    pub not-2 : {m : Bool} → m ≡ not R → m ≡ false → false ≡ not (wide (plus a b))
     not-2 {m} g h = rw (clear D n e f, hit R m g h) refl
 
-    module _ {m : Bool} (g : m ≡ not R) (h : not m ≡ false) where
-      pub not-3 : {k : Bool} → k ≡ not L → not k ≡ true → false ≡ not (wide (plus a b))
+    module _ {m : Bool} (g : m ≡ not R) (h : m ≡ true) where
+      pub not-3 : {k : Bool} → k ≡ not L → k ≡ false → false ≡ not (wide (plus a b))
       not-3 {k} i j = rw (clear D n e f, clear R m g h, hit L k i j) refl
 
-      module _ {k : Bool} (i : k ≡ not L) (j : not k ≡ false) where
-        pub not-4 : {l : Bool} → l ≡ not M → not l ≡ true → false ≡ not (wide (plus a b))
+      module _ {k : Bool} (i : k ≡ not L) (j : k ≡ true) where
+        pub not-4 : {l : Bool} → l ≡ not M → l ≡ false → false ≡ not (wide (plus a b))
         not-4 {l} o p = rw (clear D n e f, clear R m g h, clear L k i j, hit M l o p) refl
 
-        pub all-5 : {l q : Bool} → l ≡ not M → not l ≡ false → q ≡ not E → q ≡ not (wide (plus a b))
+        pub all-5 : {l q : Bool} → l ≡ not M → l ≡ true → q ≡ not E → q ≡ not (wide (plus a b))
         all-5 {l} {q} o p r = r ∙ rw (clear D n e f, clear R m g h, clear L k i j, clear M l o p) refl
 
 -- ---- five that do

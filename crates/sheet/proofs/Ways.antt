@@ -107,20 +107,18 @@ module _ (d : Draft) (port s : ℕ) where
       same : wide (heard_row f.row s).tally ≡ wide (heard_row (row_for port rs) s).tally
       same = ap (λ (x : Found). wide (heard_row x.row s).tally) e
 
-      wide_by : (a b : Bool) → b ≡ not a → not b ≡ true → a ≡ true
+      wide_by : (a b : Bool) → b ≡ not a → b ≡ false → a ≡ true
       wide_by true b e h = refl
-      wide_by false true e h = absurd (false≢true h)
-      wide_by false false e h = absurd (false≢true e)
+      wide_by false b e h = absurd (false≢true (sym h ∙ e))
 
-      fits_by : (a b : Bool) → b ≡ not a → not b ≡ false → a ≡ false
+      fits_by : (a b : Bool) → b ≡ not a → b ≡ true → a ≡ false
       fits_by false b e h = refl
-      fits_by true true e h = absurd (true≢false e)
-      fits_by true false e h = absurd (true≢false h)
+      fits_by true b e h = absurd (true≢false (sym h ∙ e))
 
-      pub note-small : not t ≡ false → wide (heard_row f.row s).tally ≡ false
+      pub note-small : t ≡ true → wide (heard_row f.row s).tally ≡ false
       note-small h = fits_by (wide (heard_row f.row s).tally) t fits h
 
-      pub note-wide : not t ≡ true → drafted d d.after d.full true ≡ adding d port s
+      pub note-wide : t ≡ false → drafted d d.after d.full true ≡ adding d port s
       unfolding adding
       note-wide h =
           rw (
@@ -130,7 +128,7 @@ module _ (d : Draft) (port s : ℕ) where
                 ∙ wide_by (wide (heard_row f.row s).tally) t fits h,
           ) refl
 
-      pub note-put : not t ≡ false → {x : Row} {z : List Row} → x ≡ heard_row f.row s → z ≡ tab 16 (put_at rs f.at f.new x)
+      pub note-put : t ≡ true → {x : Row} {z : List Row} → x ≡ heard_row f.row s → z ≡ tab 16 (put_at rs f.at f.new x)
           → drafted d (record { ports = f.behind; rows = z }) d.full d.wide ≡ adding d port s
       unfolding adding
       note-put h {x} {z} ex ez =
@@ -142,21 +140,13 @@ module _ (d : Draft) (port s : ℕ) where
 
 -- .. and of any port
 module _ (r : Range) (d : Draft) (port s : ℕ) {t : Bool} (e : t ≡ inside r port) where
-  pub note-out : not t ≡ true → d ≡ noting r d port s
+  pub note-out : t ≡ false → d ≡ noting r d port s
   unfolding noting
-  note-out h = ap (λ (b : Bool). pick b (adding d port s) d) (sym (out t h) ∙ e)
-    where
-      out : (b : Bool) → not b ≡ true → b ≡ false
-      out true h = absurd (false≢true h)
-      out false h = refl
+  note-out h = ap (λ (b : Bool). pick b (adding d port s) d) (sym h ∙ e)
 
-  pub note-in : not t ≡ false → {x : Draft} → x ≡ adding d port s → x ≡ noting r d port s
+  pub note-in : t ≡ true → {x : Draft} → x ≡ adding d port s → x ≡ noting r d port s
   unfolding noting
-  note-in h f = f ∙ ap (λ (b : Bool). pick b (adding d port s) d) (sym (within t h) ∙ e)
-    where
-      within : (b : Bool) → not b ≡ false → b ≡ true
-      within true h = refl
-      within false h = absurd (true≢false h)
+  note-in h f = f ∙ ap (λ (b : Bool). pick b (adding d port s) d) (sym h ∙ e)
 
 -- ---- a recording's end
 module _ (d : Draft) where
@@ -170,26 +160,26 @@ module _ (d : Draft) where
     close-after well h = rw (le-ltb port_limit d.before.ports few, lt-ltb port_limit d.after.ports h) refl
 
     module _ (less : d.after.ports ≤ port_limit) where
-      pub close-wrong : (well : Bool) → not well ≡ true → closed Wrong d.before ≡ closing d well
+      pub close-wrong : (well : Bool) → well ≡ false → closed Wrong d.before ≡ closing d well
       unfolding closing
-      close-wrong true h = absurd (false≢true h)
+      close-wrong true h = absurd (true≢false h)
       close-wrong false h = rw (le-ltb port_limit d.before.ports few, le-ltb port_limit d.after.ports less) refl
 
-      pub close-full : (well : Bool) → not well ≡ false → d.full ≡ true → closed (Refused 40) d.before ≡ closing d well
+      pub close-full : (well : Bool) → well ≡ true → d.full ≡ true → closed (Refused 40) d.before ≡ closing d well
       unfolding closing
       close-full true h f = rw (le-ltb port_limit d.before.ports few, le-ltb port_limit d.after.ports less, f) refl
-      close-full false h f = absurd (true≢false h)
+      close-full false h f = absurd (false≢true h)
 
-      pub close-wide : (well : Bool) → not well ≡ false → d.full ≡ false → d.wide ≡ true → closed (Refused 44) d.before ≡ closing d well
+      pub close-wide : (well : Bool) → well ≡ true → d.full ≡ false → d.wide ≡ true → closed (Refused 44) d.before ≡ closing d well
       unfolding closing
       close-wide true h f g = rw (le-ltb port_limit d.before.ports few, le-ltb port_limit d.after.ports less, f, g) refl
-      close-wide false h f g = absurd (true≢false h)
+      close-wide false h f g = absurd (false≢true h)
 
-      pub close-counts : (well : Bool) {s : Sheet} → not well ≡ false → d.full ≡ false → d.wide ≡ false → s ≡ tidied d.after
+      pub close-counts : (well : Bool) {s : Sheet} → well ≡ true → d.full ≡ false → d.wide ≡ false → s ≡ tidied d.after
           → closed Counts s ≡ closing d well
       unfolding closing
       close-counts true h f g e = rw (le-ltb port_limit d.before.ports few, le-ltb port_limit d.after.ports less, f, g) (ap (closed Counts) e)
-      close-counts false h f g e = absurd (true≢false h)
+      close-counts false h f g e = absurd (false≢true h)
 
 -- ---- a row's line
 module _ (s : Sheet) (i : ℕ) (out : List ℕ) where

@@ -1,4 +1,5 @@
 pub mod Tallies
+pub mod Rises
 pub mod Ports
 pub mod Within
 pub mod Running

@@ -1,35 +1,25 @@
 -- The ports of a month, in rising order.
--- Rising, In             a list that rises, and a port in it
--- added-rises, all-rises     it does when a port, or those of packets, are added
--- added-own, added-old, added-from   and has that port, the old ones, and no other
+-- In                     a port in a list
+-- all-rises              a list that rises does so when the ports of packets are added
+-- added-own, added-old, added-from   a list to which a port is added has that port, the old ones, and no other
 -- Among, ports-are       the ports of a month are those of its packets; ports-rise: and rise
 -- ports-with             those of a month with one recording more
 -- absent-before, absent-now  a port that is not among them has no numbers
--- Above, above-out, rising-out   all are above a number; what is below all of them is not among them
+-- above-out, rising-out  what is below all of them is not among them
 -- all_append, all_snoc   packets one behind the other, and one more
-use Prim.Native.Nat.{ℕ, ◌+◌, ◌<◌, ◌≤◌}
+use Prim.Native.Nat.{ℕ, ◌<◌}
 use native.Mathlib.Omega.{arith}
 use mathlib.Core.Path.{◌≡◌, refl, sym, ap, subst, ◌∙◌}
 use mathlib.Core.Bool.{Bool, true, false}
-use mathlib.Core.Logic.{◌⊎◌, inl, inr, ⊎_elim, ◌↔◌, ◌≢◌}
+use mathlib.Core.Logic.{◌⊎◌, inl, inr, ⊎_elim, ◌↔◌}
 use mathlib.Core.List.{List, [], ◌∷◌, ◌++◌, append-nil, append_assoc}
-use borrow.Author.Tests.{ne_eqb, eqb-true, eqb-false, ltb-true, ltb-false}
+use borrow.Author.Tests.{ne_eqb, eqb-true}
 use lib.Dec.{eqb, ltb}
 use Rattle.base.specs.Choice.{pick}
 use Rattle.base.specs.Calls.{joined}
-use Rattle.base.proofs.Tests.{by_le}
 use Rattle.sheet_spec.specs.Tally.{nothing, plus, told, sum}
 use Rattle.sheet_spec.specs.Meaning.{Mark, Month, numbers_of, numbers, added, added_all, ports_of, with}
-
--- all are above a number
-unfoldable pub Above : ℕ → List ℕ → Type 0
-Above p [] = Unit {0}
-Above p (q ∷ qs) = (p < q) × Above p qs
-
--- each is above those before it
-unfoldable pub Rising : List ℕ → Type 0
-Rising [] = Unit {0}
-Rising (p ∷ ps) = Above p ps × Rising ps
+use Rattle.sheet_spec.proofs.Rises.{Above, Rising, above_on, added-rises}
 
 -- a port in a list
 unfoldable pub In : ℕ → List ℕ → Type 0
@@ -37,37 +27,6 @@ In q [] = ⊥
 In q (p ∷ ps) = (p ≡ q) ⊎ In q ps
 
 -- ---- one port more
-above_on : (p q : ℕ) (ps : List ℕ) → p < q → Above q ps → Above p ps
-unfolding Above
-above_on p q [] h k = tt
-above_on p q (r ∷ ps) h k = (omega (arith, h, k.0), above_on p q ps h k.1)
-
-above-added : (p q : ℕ) (ps : List ℕ) → p < q → Above p ps → Above p (added q ps)
-unfolding Above added
-above-added p q [] h k = (h, tt)
-above-added p q (r ∷ ps) h k = go (eqb r q) (ltb q r) (above-added p q ps h k.1)
-  where
-    go : (a b : Bool) → Above p (added q ps) → Above p (pick a (r ∷ ps) (pick b (q ∷ r ∷ ps) (r ∷ added q ps)))
-    go true b x = k
-    go false true x = (h, k)
-    go false false x = (k.0, x)
-
-strict : (a b : ℕ) → a ≤ b → a ≢ b → a < b
-strict a b k n = by_le b a (λ l. absurd (n (omega arith))) (λ l. l)
-
-pub added-rises : (q : ℕ) (ps : List ℕ) → Rising ps → Rising (added q ps)
-unfolding Rising Above added
-added-rises q [] h = (tt, tt)
-added-rises q (p ∷ ps) h = go (eqb p q) refl (ltb q p) refl (added-rises q ps h.1)
-  where
-    go : (a : Bool) → eqb p q ≡ a → (b : Bool) → ltb q p ≡ b → Rising (added q ps) → Rising (pick a (p ∷ ps) (pick b (q ∷ p ∷ ps) (p ∷ added q ps)))
-    go true e b f x = h
-    go false e true f x = ((ltb-true q p f, above_on q p ps (ltb-true q p f) h.0), h)
-    go false e false f x =
-        let n : p ≢ q = eqb-false p q e in
-        let k : p ≤ q = ltb-false q p f in
-        (above-added p q ps (strict p q k n) h.0, x)
-
 pub added-own : (q : ℕ) (ps : List ℕ) → In q (added q ps)
 unfolding In added
 added-own q [] = inl refl

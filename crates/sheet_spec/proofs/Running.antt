@@ -3,10 +3,10 @@
 -- running         what they are by the definition: run_is
 -- run-starts, run_ends   they start as the month's lines, and end as those of the month with the recording
 -- note-map, running_row   one packet more; a port's row by the definition
-use Prim.Native.Nat.{ℕ, ◌+◌}
+use Prim.Native.Nat.{ℕ}
 use mathlib.Core.Path.{◌≡◌, refl, sym, ap, subst, ◌∙◌}
 use mathlib.Core.Bool.{Bool, true, false}
-use mathlib.Core.Logic.{◌⊎◌, inl, inr, ⊎_elim, ◌≢◌}
+use mathlib.Core.Logic.{inl, inr, ⊎_elim, ◌≢◌}
 use mathlib.Core.List.{List, [], ◌∷◌, ◌++◌, map, append-nil, append_assoc}
 use borrow.Author.Tests.{eq-eqb, ne_eqb, lt-ltb, le-ltb}
 use lib.Dec.{eqb}
@@ -18,7 +18,8 @@ use Rattle.sheet_spec.specs.Tally.{nothing}
 use Rattle.sheet_spec.specs.Meaning.{Mark, Month, numbers_of, numbers, added, added_all, ports_of, line, lines, with}
 use Rattle.sheet_spec.specs.Rows.{row, blank, heard_row, note_in, cleared}
 use Rattle.sheet_spec.proofs.Tallies.{after, heard-after, none_after, numbers-with}
-use Rattle.sheet_spec.proofs.Ports.{Above, Rising, In, above-out, rising-out, all-rises, all_snoc, ports-rise, ports-with, absent-before, absent-now}
+use Rattle.sheet_spec.proofs.Rises.{Above, Rising}
+use Rattle.sheet_spec.proofs.Ports.{In, above-out, rising-out, all-rises, all_snoc, ports-rise, ports-with, absent-before, absent-now}
 
 -- ---- a packet among rows that are a function of their port
 module _ (port s : ℕ) (t u : ℕ → Tally) (h k : ℕ → Bool) (l m : ℕ → ℕ) where

@@ -8,8 +8,8 @@ pub owed_packet_spec : {M : Type 1} → statement M
 owed_packet_spec =
     tie.close (tie.spec
     (search rules) (search rules)
-    (λ c. let s = c.before.before.before.before in packet-alone s.args.noted s.args.delivery c.before.before.before.lead.ensures
-    c.before.if1.true c.alone.ensures)
+    (λ c. packet-alone c.args.noted c.args.delivery c.lead-piece.ensures
+    c.if-delivery-eq-KEY_FORMAT.true c.alone.ensures)
     (search rules)
-    (λ c. let s = c.before.before.before.before in packet-text s.args.noted s.args.delivery c.before.before.before.lead.ensures
-    c.before.if1.false c.with-text.ensures))
+    (λ c. packet-text c.args.noted c.args.delivery c.lead-piece.ensures
+    c.if-delivery-eq-KEY_FORMAT.false c.with_text.ensures))

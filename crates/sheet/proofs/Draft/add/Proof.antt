@@ -11,10 +11,10 @@ add_spec =
     (search rules)
     (λ c. note-full c.args.self c.args.port c.args.sequence c.if-n-gt-PORTS.false c.find-found.ensures c.if-ports-gt-PORTS.true)
     (search rules)
-    (λ c. note-wide c.args.self c.args.port c.args.sequence c.if-n-gt-PORTS.false c.find-found.ensures c.if-ports-gt-PORTS.false c.fits2.ensures
+    (λ c. note-wide c.args.self c.args.port c.args.sequence c.if-n-gt-PORTS.false c.find-found.ensures c.if-ports-gt-PORTS.false c.fits.ensures
     c.if-not-fits.true)
-    (λ c κs. note-small c.args.self c.args.port c.args.sequence c.if-n-gt-PORTS.false c.find-found.ensures c.if-ports-gt-PORTS.false c.fits2.ensures
+    (λ c κs. note-small c.args.self c.args.port c.args.sequence c.if-n-gt-PORTS.false c.find-found.ensures c.if-ports-gt-PORTS.false c.fits.ensures
     c.if-not-fits.false)
     (search rules)
-    (λ c. note-put c.args.self c.args.port c.args.sequence c.if-n-gt-PORTS.false c.find-found.ensures c.if-ports-gt-PORTS.false c.fits2.ensures
+    (λ c. note-put c.args.self c.args.port c.args.sequence c.if-n-gt-PORTS.false c.find-found.ensures c.if-ports-gt-PORTS.false c.fits.ensures
     c.if-not-fits.false c.heard_row-heard.ensures c.put_all-rows.ensures))

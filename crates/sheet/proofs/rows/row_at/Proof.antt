@@ -8,8 +8,8 @@ pub row_at_spec : {M : Type 1} → statement M
 row_at_spec =
     tie.close (tie.spec
     (search rules) (search rules)
-    (λ c. at_in c.args.t1 c.args.n c.args.i c.if-i-n.true)
+    (λ c. at_in c.args.rows c.args.n c.args.i c.if-i-n.true)
     (search rules)
-    (λ c. at-over c.args.t1 c.args.n c.args.i c.blank.ensures c.if-i-lt-PORTS.false (search rules))
+    (λ c. at-over c.args.rows c.args.n c.args.i c.blank.ensures c.if-i-lt-PORTS.false (search rules))
     (search rules)
-    (λ c. at-past c.args.t1 c.args.n c.args.i c.blank-2.ensures c.if-i-n.false))
+    (λ c. at-past c.args.rows c.args.n c.args.i c.blank-2.ensures c.if-i-n.false))

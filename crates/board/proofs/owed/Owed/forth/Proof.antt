@@ -9,8 +9,7 @@ use Rattle.board.proofs.owed.Owed.forth.Tie as tie
 pub forth_spec : {M : Type 1} → statement M
 forth_spec =
     tie.close (tie.spec
-    (λ c. let s = c.before.before.before.before in omega (arith, ltb-true s.args.self.out s.args.self.piece.length s.requires.0, s.requires.1))
-    (λ c. let s = c.before.before.before.before.before.before in forth-on s.args.self s.args.recv.now (omega arith) c.if1.true)
+    (λ c. omega (arith, ltb-true c.args.self.out c.args.self.piece.length c.requires.0, c.requires.1))
+    (λ c. forth-on c.args.self c.args.recv.now (omega arith) c.if-next-piece.true)
     (search rules)
-    (λ c. let s = c.before.before.before.before.before.before.before in
-    forth-next s.args.self s.args.recv.now c.before.if1.false (omega arith) c.next-piece.ensures))
+    (λ c. forth-next c.args.self c.args.recv.now c.if-next-piece.false (omega arith) c.next_piece.ensures))

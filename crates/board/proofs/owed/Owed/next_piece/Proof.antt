@@ -10,15 +10,13 @@ pub next_piece_spec : {M : Type 1} → statement M
 next_piece_spec =
     tie.close (tie.spec
     (search rules)
-    (λ c. let s = c.before.before.before.before in next-none s.args.self s.args.recv.now (not-true _ c.before.if1.true)
+    (λ c. next-none c.args.self c.args.recv.now (not-true _ c.if-not-self.true)
     c.nothing.ensures)
     (search rules) (search rules) (search rules) (search rules)
     (λ c.
-    let s = c.before.before.before.before.before.before.before.before in
-    next-byte s.args.self s.args.recv.now (not-false _ c.before.before.before.before.before.if1.false)
-    c.before.before.before.payload.ensures c.before.before.if2.true c.shown-byte.ensures (omega arith))
+    next-byte c.args.self c.args.recv.now (not-false _ c.if-not-self.false)
+    c.payload-payload.ensures c.if-at-payload.true c.shown_byte.ensures (omega arith))
     (search rules) (search rules)
     (λ c.
-    let s = c.before.before.before.before.before.before.before.before in
-    next-feed s.args.self s.args.recv.now (not-false _ c.before.before.before.before.before.if1.false)
-    c.before.before.before.payload.ensures c.before.before.if2.false c.alone.ensures c.before.line-feed.ensures))
+    next-feed c.args.self c.args.recv.now (not-false _ c.if-not-self.false)
+    c.payload-payload.ensures c.if-at-payload.false c.alone.ensures c.line_feed.ensures))

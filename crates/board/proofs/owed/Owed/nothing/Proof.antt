@@ -6,4 +6,4 @@ use Rattle.board.proofs.owed.Owed.nothing.Statement.{statement}
 use Rattle.board.proofs.owed.Owed.nothing.Tie as tie
 
 pub nothing_spec : {M : Type 1} → statement M
-nothing_spec = tie.close (tie.spec (search rules) (search rules) (λ c. c.alone.ensures ∙ ap alone c.before.none.ensures))
+nothing_spec = tie.close (tie.spec (search rules) (search rules) (λ c. c.alone.ensures ∙ ap alone c.none.ensures))

@@ -9,51 +9,49 @@ use Rattle.board.proofs.Putting.{Putting, put-start, put_on, put-out, put_full}
 use Rattle.board.proofs.owed.Owed.put.Statement.{statement}
 use Rattle.board.proofs.owed.Owed.put.Tie as tie
 
-abbrev invariant-loop : tie.invariant-loop
-invariant-loop recv out₀ owed₀ w₀ out owed w = (length out ≡ length out₀) × Putting owed₀ recv out₀ out owed w
+abbrev invariant-loop-w : tie.invariant-loop-w
+invariant-loop-w recv out₀ owed₀ w₀ out owed w = (length out ≡ length out₀) × Putting owed₀ recv out₀ out owed w
 
-abbrev decreases-loop : tie.decreases-loop
-decreases-loop recv out₀ owed₀ w₀ out owed w = length out - w
+abbrev decreases-loop-w : tie.decreases-loop-w
+decreases-loop-w recv out₀ owed₀ w₀ out owed w = length out - w
 
 pub put_spec : {M : Type 1} → statement M
 put_spec =
     tie.close (tie.spec
-    invariant-loop
-    decreases-loop
+    invariant-loop-w
+    decreases-loop-w
     (λ c.
-    let s = c.before.before in
-    let h = leb-true s.args.self.piece.length longest s.requires.0 in
-    (refl, put-start s.args.self s.args.recv.now s.args.out.now (omega (arith, h, s.requires.1)) h))
+    let h = leb-true c.args.self.piece.length longest c.requires.0 in
+    (refl, put-start c.args.self c.args.recv.now c.args.out.now (omega (arith, h, c.requires.1)) h))
     (λ c κs. tt)
-    (λ c. c.before.before.before.loop.invariant.0)
-    (λ c. put-out c.before.before.before.loop.invariant.1 (sym c.before.owes.ensures ∙ not-true _ c.if1.true))
+    (λ c. c.loop-w.invariant.0)
+    (λ c. put-out c.loop-w.invariant.1 (sym c.owes.ensures ∙ c.if-not-owes.true))
     (λ c.
-    let l = c.before.before.before.before.before.loop in
+    let l = c.loop-w in
     omega (
       arith,
       ltb-true l.owed.out l.owed.piece.length
-          (sym c.before.before.before.owes.ensures ∙ not-false _ c.before.before.if1.false),
+          (sym c.owes.ensures ∙ c.if-not-owes.false),
       l.invariant.1.short,
     ))
-    (λ c. c.before.before.before.before.loop-test.true)
+    (λ c. c.loop-w-test.true)
     (λ c κs. (
-      sym c.before.before.before.owes.ensures ∙ not-false _ c.before.before.if1.false,
-      c.before.before.before.before.before.loop.invariant.1.short,
+      sym c.owes.ensures ∙ c.if-not-owes.false,
+      c.loop-w.invariant.1.short,
     ))
-    (λ c. omega (arith, c.before.before.before.before.before.loop-test.true))
-    (λ c. let at-loop-test = c.before.before.before.before.before in let at-loop = at-loop-test.before in
-    omega (
+    (λ c. omega (arith, c.loop-w-test.true))
+    (λ c. omega (
       arith,
-      at-loop-test.loop-test.true,
-      length-set at-loop.loop.out at-loop.loop.w
-          (get_or at-loop.loop.owed.piece.bytes at-loop.loop.owed.out 0),
+      c.loop-w-test.true,
+      length-set c.loop-w.out c.loop-w.w
+          (get_or c.loop-w.owed.piece.bytes c.loop-w.owed.out 0),
     ))
     (λ c.
-    let l = c.before.before.before.before.before.before.loop in (
+    let l = c.loop-w in (
       length-set l.out l.w (get_or l.owed.piece.bytes l.owed.out 0) ∙ l.invariant.0,
-      put_on l.invariant.1 (sym c.before.before.before.before.owes.ensures ∙ not-false _ c.before.before.before.if1.false)
-          (omega (arith, c.before.before.before.before.before.loop-test.true, l.invariant.0)) (omega arith) refl
-          c.forth.ensures,
+      put_on l.invariant.1 (sym c.owes.ensures ∙ c.if-not-owes.false)
+          (omega (arith, c.loop-w-test.true, l.invariant.0)) (omega arith) refl
+          c.forth-owed.ensures,
     ))
-    (λ c. c.before.loop.invariant.0)
-    (λ c. put_full c.before.loop.invariant.1 (omega (arith, c.loop-test.false, c.before.loop.invariant.0))))
+    (λ c. c.loop-w.invariant.0)
+    (λ c. put_full c.loop-w.invariant.1 (omega (arith, c.loop-w-test.false, c.loop-w.invariant.0))))

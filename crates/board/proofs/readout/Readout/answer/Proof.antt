@@ -11,12 +11,10 @@ answer_spec =
     tie.close (tie.spec
     (search rules) (search rules) (search rules) (search rules) (search rules) (search rules) (search rules) (search rules) (search rules)
     (search rules) (search rules) (search rules) (search rules)
-    (λ c. let s = c.before.before.before.before in answer-none s.args.self s.args.answer c.before.before.enum_told.given.1
-    c.before.nothing.ensures c.owing.ensures)
-    (λ c. c.tell.ensures ∙ ap (answered_by c.before.before.before.before.args.self) (sym c.before.before.answer.given.1))
-    (λ c. let s = c.before.before.before.before.before in
-    answer-other s.args.self s.args.answer (subst Other (sym c.before.before.before.enum-told2.given.1) tt)
-    c.before.before.remark.ensures c.before.alone.ensures c.owing2.ensures)
-    (λ c. let s = c.before.before.before.before.before in
-    answer-other s.args.self s.args.answer (subst Other (sym c.before.before.before.enum-told3.given.1) tt)
-    c.before.before.remark2.ensures c.before.alone2.ensures c.owing3.ensures))
+    (λ c. answer-none c.args.self c.args.answer c.in-More.is
+    c.nothing.ensures c.owing.ensures)
+    (λ c. c.tell.ensures ∙ ap (answered_by c.args.self) (sym c.in-Said.is))
+    (λ c. answer-other c.args.self c.args.answer (subst Other (sym c.in-Block.is) tt)
+    c.remark.ensures c.alone.ensures c.owing-in-Block.ensures)
+    (λ c. answer-other c.args.self c.args.answer (subst Other (sym c.in-LockLost.is) tt)
+    c.remark-in-LockLost.ensures c.alone-in-LockLost.ensures c.owing-in-LockLost.ensures))

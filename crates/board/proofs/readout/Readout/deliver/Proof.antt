@@ -12,20 +12,18 @@ deliver_spec =
     tie.close (tie.spec
     (search rules) (search rules) (search rules)
     (λ c.
-    let s = c.before.before.before.before.before in
-    packet-outside s.args.self s.args.delivery (sym c.before.before.before.has.ensures ∙ not-true _ c.before.before.if1.true)
-    c.before.nothing.ensures c.owing.ensures)
+    packet-outside c.args.self c.args.delivery (sym c.has.ensures ∙ c.if-not-has.true)
+    c.nothing.ensures c.owing.ensures)
     (search rules) (search rules)
     (λ c.
-    let s = c.before.before.before.before.before.before.before.before in
-    let n = c.before.before.note.ensures in
-    packet-inside s.args.self s.args.delivery (sym c.before.before.before.before.before.before.has.ensures
-    ∙ not-false _ c.before.before.before.before.before.if1.false)
+    let n = c.note-told.ensures in
+    packet-inside c.args.self c.args.delivery (sym c.has.ensures
+    ∙ c.if-not-has.false)
     (λ i. record {
-      bare = s.args.self.bare;
-      blocks = s.args.self.blocks;
-      range = s.args.self.range;
-      tape = s.args.self.tape;
+      bare = c.args.self.bare;
+      blocks = c.args.self.blocks;
+      range = c.args.self.range;
+      tape = c.args.self.tape;
       ports = (n i).ports;
-      owed = (c.owed-packet.ensures ∙ ap (λ x. owed_packet x.noted s.args.delivery) n) i;
+      owed = (c.owed_packet.ensures ∙ ap (λ x. owed_packet x.noted c.args.delivery) n) i;
     })))

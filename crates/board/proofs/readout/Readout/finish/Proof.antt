@@ -9,10 +9,10 @@ pub finish_spec : {M : Type 1} → statement M
 finish_spec =
     tie.close (tie.spec
     (search rules)
-    (λ c. finish-bare c.before.before.before.before.args.self c.before.if1.true c.none.ensures)
+    (λ c. finish-bare c.args.self c.if-self.true c.none.ensures)
     (search rules) (search rules)
-    (λ c. finish-well c.before.before.before.before.before.before.args.self c.before.before.before.if1.false
-    (sym c.before.before.may-end.ensures ∙ c.before.if2.true) c.none2.ensures)
+    (λ c. finish-well c.args.self c.if-self.false
+    (sym c.may_end.ensures ∙ c.if-may_end.true) c.none-then-may_end.ensures)
     (search rules)
-    (λ c. finish-wrong c.before.before.before.before.before.before.args.self c.before.before.before.if1.false
-    (sym c.before.before.may-end.ensures ∙ c.before.if2.false) c.wrong-at.ensures))
+    (λ c. finish-wrong c.args.self c.if-self.false
+    (sym c.may_end.ensures ∙ c.if-may_end.false) c.wrong_at.ensures))

@@ -8,10 +8,10 @@ fresh_spec =
     tie.close (tie.spec
     (search rules) (search rules) (search rules)
     (λ c i. record {
-      bare = c.before.before.before.args.bare;
-      blocks = c.before.before.before.args.blocks;
-      range = c.before.before.before.args.range;
-      tape = c.before.before.fresh.ensures i;
-      ports = c.before.fresh2.ensures i;
+      bare = c.args.bare;
+      blocks = c.args.blocks;
+      range = c.args.range;
+      tape = c.fresh.ensures i;
+      ports = c.fresh-2.ensures i;
       owed = c.nothing.ensures i;
     }))

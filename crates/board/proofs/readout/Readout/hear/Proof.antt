@@ -8,11 +8,8 @@ pub hear_spec : {M : Type 1} → statement M
 hear_spec =
     tie.close (tie.spec
     (search rules) (search rules) (search rules)
-    (λ c. let s = c.before.before.before.before.before.before.before.before.before.before.before in
-    heard-bare s.args.self s.args.recv.now s.args.word.now s.args.piece.now s.requires.0 s.requires.1
-    c.before.before.before.before.before.before.before.if1.true c.before.before.before.before.hear-bare.ensures)
+    (λ c. heard-bare c.args.self c.args.recv.now c.args.word.now c.args.piece.now c.requires.0 c.requires.1
+    c.if-self.true c.hear_bare.ensures)
     (search rules) (search rules) (search rules)
-    (λ c. let at_next = c.before.before.before.before in let at-if1 = at_next.before.before.before.before in
-    let s = at-if1.before.before.before.before in
-    heard-taped s.args.self s.args.recv.now s.args.word.now s.args.piece.now s.requires.0 s.requires.1 at-if1.if1.false
-    at_next.next.ensures))
+    (λ c. heard-taped c.args.self c.args.recv.now c.args.word.now c.args.piece.now c.requires.0 c.requires.1 c.if-self.false
+    c.next.ensures))

@@ -9,5 +9,4 @@ hear_bare_spec =
     tie.close (tie.spec
     (search rules) (search rules) (search rules)
     (λ c.
-    let s = c.before.before.before.before.before.before.before.before.before.before.before.before.before.before in
-    bare-is s.args.self.tape s.args.recv.now s.args.word.now s.args.piece.now c.before.before.before.before.before.hear.ensures))
+    bare-is c.args.self.tape c.args.recv.now c.args.word.now c.args.piece.now c.hear-heard.ensures))

@@ -5,4 +5,4 @@ use Rattle.board.proofs.readout.Readout.near.Statement.{statement}
 use Rattle.board.proofs.readout.Readout.near.Tie as tie
 
 pub near_spec : {M : Type 1} → statement M
-near_spec = tie.close (tie.spec (λ c. rw c.if1.true refl) (search rules) (λ c. rw c.before.if1.false refl))
+near_spec = tie.close (tie.spec (λ c. rw c.if-self.true refl) (search rules) (λ c. rw c.if-self.false refl))

@@ -9,30 +9,30 @@ pub sound_spec : {M : Type 1} → statement M
 sound_spec =
     tie.close (tie.spec
     (search rules) (search rules)
-    (λ c. (rw (sym c.before.sound2.ensures ∙ not-true _ c.if1.true) refl, c.before.before.sound.ensures.1))
+    (λ c. (rw (sym c.sound.ensures ∙ c.if-not-sound.true) refl, c.sound-whole.ensures.1))
     (search rules)
     (λ c. (
       rw (
-        sym c.before.before.before.sound2.ensures ∙ not-false _ c.before.before.if1.false,
-        sym c.before.near.ensures
-            ∙ not-true _ c.if2.true,
+        sym c.sound.ensures ∙ c.if-not-sound.false,
+        sym c.near.ensures
+            ∙ c.if-not-near.true,
       ) refl,
-      c.before.before.before.before.sound.ensures.1,
+      c.sound-whole.ensures.1,
     ))
     (search rules)
     (λ c. (
       rw (
-        sym c.before.before.before.before.before.sound2.ensures ∙ not-false _ c.before.before.before.before.if1.false,
-        sym c.before.before.before.near.ensures ∙ not-false _ c.before.before.if2.false,
-        sym c.before.sound3.ensures ∙ not-true _ c.if3.true,
+        sym c.sound.ensures ∙ c.if-not-sound.false,
+        sym c.near.ensures ∙ c.if-not-near.false,
+        sym c.sound-2.ensures ∙ c.if-not-sound-2.true,
       ) refl,
-      c.before.before.before.before.before.before.sound.ensures.1,
+      c.sound-whole.ensures.1,
     ))
     (λ c. (
       rw (
-        sym c.before.before.before.before.before.sound2.ensures ∙ not-false _ c.before.before.before.before.if1.false,
-        sym c.before.before.before.near.ensures ∙ not-false _ c.before.before.if2.false,
-        sym c.before.sound3.ensures ∙ not-false _ c.if3.false,
-      ) c.before.before.before.before.before.before.sound.ensures.0,
-      c.before.before.before.before.before.before.sound.ensures.1,
+        sym c.sound.ensures ∙ c.if-not-sound.false,
+        sym c.near.ensures ∙ c.if-not-near.false,
+        sym c.sound-2.ensures ∙ c.if-not-sound-2.false,
+      ) c.sound-whole.ensures.0,
+      c.sound-whole.ensures.1,
     )))

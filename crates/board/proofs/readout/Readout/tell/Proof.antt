@@ -12,10 +12,8 @@ tell_spec =
     tie.close (tie.spec
     (search rules) (search rules) (search rules) (search rules) (search rules) (search rules) (search rules) (search rules) (search rules)
     (search rules)
-    (λ c. c.deliver.ensures ∙ ap (λ j. answered_by c.before.before.before.before.args.self (Said j)) (sym c.before.before.judged.given.1))
-    (λ c. let s = c.before.before.before.before.before in
-    answer-other s.args.self (Said s.args.judged) (subst (λ j. Other (Said j)) (sym c.before.before.before.enum_told.given.1) tt)
-    c.before.before.remark.ensures c.before.alone.ensures c.owing.ensures)
-    (λ c. let s = c.before.before.before.before.before in
-    answer-other s.args.self (Said s.args.judged) (subst (λ j. Other (Said j)) (sym c.before.before.before.enum-told2.given.1) tt)
-    c.before.before.remark2.ensures c.before.alone2.ensures c.owing2.ensures))
+    (λ c. c.deliver.ensures ∙ ap (λ j. answered_by c.args.self (Said j)) (sym c.in-Packet.is))
+    (λ c. answer-other c.args.self (Said c.args.judged) (subst (λ j. Other (Said j)) (sym c.in-Refused.is) tt)
+    c.remark.ensures c.alone.ensures c.owing.ensures)
+    (λ c. answer-other c.args.self (Said c.args.judged) (subst (λ j. Other (Said j)) (sym c.in-Broken.is) tt)
+    c.remark-in-Broken.ensures c.alone-in-Broken.ensures c.owing-in-Broken.ensures))
