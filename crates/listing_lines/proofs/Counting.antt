@@ -1,9 +1,8 @@
 -- Totals as the code counts them.
--- counts-packet, counts-refusal, counts-damaged, counts-lost, counts-nothing   an answer counts in its total, and in no other
 -- counting-below   where no total is the highest number, an answer is counted
 use Prim.Native.Nat.{ℕ, ◌+◌, ◌<◌}
 use native.Mathlib.Nat.{add-zero}
-use mathlib.Core.Path.{◌≡◌, refl, sym, ap, ◌∙◌}
+use mathlib.Core.Path.{◌≡◌, sym}
 use borrow.Author.Tests.{lt-ltb}
 use Rattle.channel_spec.specs.declared.Answer.{Answer}
 use Rattle.listing_spec.specs.Lines.{total_of}
@@ -12,34 +11,10 @@ use Rattle.listing_spec.specs.declared.Total.TheVariants.{Packets, Refusals, Dam
 use Rattle.base.specs.Highest.{highest}
 use Rattle.listing_lines.specs.declared.totals.Totals.{Totals}
 use Rattle.listing_lines.specs.Counts.{counted_in, counted, more, raised, counting, Below}
+use Rattle.listing_lines.proofs.ByKind.{all}
 
 more-is : (n : ℕ) → n < highest → more n ≡ n + 1
 more-is n h = simp (lt-ltb n highest h)
-
--- four totals
-abbrev all_of : ℕ → ℕ → ℕ → ℕ → Totals
-all_of p r d l = record { packets = p; refused = r; damaged = d; lost = l }
-
--- .. each by a path
-all : {p p' r r' d d' l l' : ℕ} → p ≡ p' → r ≡ r' → d ≡ d' → l ≡ l'
-    → all_of p r d l ≡ all_of p' r' d' l'
-all a b c e i = record { packets = a i; refused = b i; damaged = c i; lost = e i }
-
-module _ (t : Totals) (a : Answer) where
-  pub counts-packet : {n : ℕ} → total_of a ≡ Packets → n ≡ more t.packets → all_of n t.refused t.damaged t.lost ≡ counting t a
-  counts-packet e f = all f refl refl refl ∙ ap (raised t) (sym e)
-
-  pub counts-refusal : {n : ℕ} → total_of a ≡ Refusals → n ≡ more t.refused → all_of t.packets n t.damaged t.lost ≡ counting t a
-  counts-refusal e f = all refl f refl refl ∙ ap (raised t) (sym e)
-
-  pub counts-damaged : {n : ℕ} → total_of a ≡ Damaged → n ≡ more t.damaged → all_of t.packets t.refused n t.lost ≡ counting t a
-  counts-damaged e f = all refl refl f refl ∙ ap (raised t) (sym e)
-
-  pub counts-lost : {n : ℕ} → total_of a ≡ Lost → n ≡ more t.lost → all_of t.packets t.refused t.damaged n ≡ counting t a
-  counts-lost e f = all refl refl refl f ∙ ap (raised t) (sym e)
-
-  pub counts-nothing : total_of a ≡ Nothing → t ≡ counting t a
-  counts-nothing e = ap (raised t) (sym e)
 
 raised_below : (t : Totals) (x : Total) → Below t → raised t x ≡ counted_in t x
 raised_below t Packets h = all (more-is t.packets h.0) (sym (add-zero t.refused)) (sym (add-zero t.damaged)) (sym (add-zero t.lost))

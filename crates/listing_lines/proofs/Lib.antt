@@ -1,4 +1,5 @@
 pub mod Short
 pub mod Writing
+pub mod ByKind
 pub mod Counting
 pub mod Determined

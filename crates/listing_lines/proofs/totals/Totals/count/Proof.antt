@@ -1,7 +1,7 @@
 -- `listing_lines::totals::Totals::count` meets its contract.
 use borrow.Author.Rules.{rules}
 use mathlib.Core.Path.{sym, ◌∙◌}
-use Rattle.listing_lines.proofs.Counting.{counts-packet, counts-refusal, counts-damaged, counts-lost, counts-nothing}
+use Rattle.listing_lines.proofs.ByKind.{counts-packet, counts-refusal, counts-damaged, counts-lost, counts-nothing}
 use Rattle.listing_lines.proofs.totals.Totals.count.Statement.{statement}
 use Rattle.listing_lines.proofs.totals.Totals.count.Tie as tie
 
