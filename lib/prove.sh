@@ -216,7 +216,11 @@ run_with_status() {
     set_traps
     case $ended in
     0 | 1) ;;
-    141) ended=1 ;; # who read the output has gone: nothing is said
+    141) # who read the output has gone: nothing is said, but where whoever started this wants no signal of it
+        ended=1
+        # shellcheck disable=SC2016 # the new shell's own number
+        [ -z "$(sh -c 'kill -s PIPE $$; echo ignored' 2>/dev/null)" ] || echo "$called: cannot write standard output" >&2
+        ;;
     *) echo "$called: $1 ended with status $ended" >&2 && ended=1 ;;
     esac
     return "$ended"
