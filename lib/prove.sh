@@ -211,20 +211,22 @@ run_with_status() {
     program=$!
     wait "$program" || ended=$?
     exec 5<&- 6>&- 7<&-
-    wait "$passing" || ended=1
+    wait "$passing" || [ "$ended" -eq 141 ] || ended=1
     ending=$above
     set_traps
     case $ended in
     0 | 1) ;;
-    141) # who read the output has gone: nothing is said, but where whoever started this wants no signal of it
+    141) # who read the output has gone: nothing is said, but where the signal for that is ignored, which a program cannot know
         ended=1
-        # shellcheck disable=SC2016 # the new shell's own number
-        [ -z "$(sh -c 'kill -s PIPE $$; echo ignored' 2>/dev/null)" ] || echo "$called: cannot write standard output" >&2
+        ! ignores_pipe || echo "$named${1%_main}: cannot write standard output" >&2
         ;;
     *) echo "$called: $1 ended with status $ended" >&2 && ended=1 ;;
     esac
     return "$ended"
 }
+
+# ignores_pipe: whether a write to a pipe without a reader ends nobody here.
+ignores_pipe() { sh -c 'kill -s PIPE "$$"' 2>/dev/null; }
 
 # pass_lines_on: those of standard input to standard error; fails where there was one that is no warning.
 pass_lines_on() {
