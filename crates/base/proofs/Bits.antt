@@ -5,7 +5,7 @@
 -- xor-four              .. of four the middle two change places
 -- xor-parts             a number is the sum of its bits from k on and its k low bits
 -- Additive              a function that goes with sums
--- at-zero, agree        it is zero at zero; two of them are equal below 2^k where they are equal at 1, 2, 4, .. 2^(k-1). So an identity that is
+-- at_zero, agree        it is zero at zero; two of them are equal below 2^k where they are equal at 1, 2, 4, .. 2^(k-1). So an identity that is
 --                       additive in each of its variables needs only those cases, which are computed
 use mathlib.Core.Path.{◌≡◌, refl, sym, ap, ap₂, ◌∙◌}
 use Prim.Native.Nat.{ℕ, zero, suc, ◌+◌, ◌*◌, ◌/◌, ◌%◌, ◌^◌, ◌<◌}

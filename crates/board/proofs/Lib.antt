@@ -1,5 +1,6 @@
 pub mod Sources
 pub mod Left
+pub mod Lines
 pub mod Means
 pub mod Ends
 pub mod Returns

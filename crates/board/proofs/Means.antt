@@ -1,13 +1,11 @@
 -- What a call writes and leaves is what the bytes mean.
--- lines_for        the lines of an answer, by the range
--- owing-left      what is owed of an answer is its lines
 -- meant-append    bytes one after the other
 -- takes-means     a call
 -- shows-means, all-means   calls one after the other: any cutting, any room
 -- ahead, ahead-twice   behind a text, behind two
 -- MeansBy, Means  what a call's result means, by what it wants
 -- owed_whole, takes_whole, Settled   the piece keeps within its bytes; where all has been read nothing is owed
-use Prim.Native.Nat.{ℕ, ◌+◌, ◌≤◌}
+use Prim.Native.Nat.{ℕ, ◌≤◌}
 use native.Mathlib.Omega.{arith}
 use mathlib.Core.Path.{◌≡◌, refl, sym, ◌∙◌, ap, subst}
 use mathlib.Core.Bool.{Bool, true, false}
@@ -19,67 +17,30 @@ use Rattle.base.specs.Choice.{pick}
 use borrow.Author.Tests.{ltb-true}
 use Rattle.base.specs.Calls.{joined, With, tell, and_then, drain, rest, told}
 use Rattle.base.proofs.Calls.{law, settled, all_append}
-use Rattle.packet_spec.specs.Contents.{Packet, key_format, payload_at}
-use Rattle.packet_spec.specs.Frame.{packet, refusal, broken, delivery, part}
+use Rattle.packet_spec.specs.Contents.{key_format}
+use Rattle.packet_spec.specs.Frame.{packet, refusal, broken, delivery}
 use Rattle.channel_spec.specs.Meaning.{Event, said, block, lost}
 use Rattle.channel.specs.Call.{roomy}
-use Rattle.bid.specs.Line.{feed}
 use Rattle.listing_spec.specs.Lines.{given}
 use Rattle.ports_spec.specs.declared.Entry.{Entry}
 use Rattle.ports_spec.specs.declared.Noted.{Noted}
 use Rattle.ports_spec.specs.declared.Range.{Range}
 use Rattle.ports_spec.specs.Ports.{noting}
 use Rattle.ports_spec.specs.Range.{inside}
-use Rattle.board_spec.specs.Text.{shown_text}
-use Rattle.board_spec.specs.Meaning.{Line, written_all, packet_lines, event_lines, table_behind, board_lines, regards, regarded}
+use Rattle.board_spec.specs.Meaning.{Line, written_all, event_lines, table_behind, board_lines, regarded}
 use Rattle.board_spec.specs.Parts.{lead, remark}
-use Rattle.board_spec.proofs.Split.{all-written, lines_split, remark-is, lead-some}
+use Rattle.board_spec.proofs.Split.{all-written}
 use Rattle.board_spec.proofs.Ranges.{regarded-joined}
 use Rattle.board_lines.specs.Piece.{piece_of}
 use Rattle.board.specs.declared.readout.Wants.{Wants}
 use Rattle.board.specs.declared.readout.Wants.TheVariants.{More, Again, Refused}
 use Rattle.board.specs.Source.{Source, memory_in, source_owes, source_hand, source_eat, source_all, source_hear}
-use Rattle.board.specs.Owed.{alone, nothing, with_text, owed_packet, owing, left}
+use Rattle.board.specs.Owed.{alone, nothing, with_text, owing, left}
 use Rattle.board.specs.Call.{Screen, screen, readout_of, recv_on, owed_on, Part, partly, table_for, heard_by, takes_on, sound_state, takes_by, takes}
 use Rattle.board.specs.Runs.{table_all, shown_by, meant, Shows, more, again, ShowsAll, done, piece}
 use Rattle.board.proofs.Sources.{source-hand-one, ThereIn, source-there}
-use Rattle.board.proofs.Left.{Whole, piece-whole, left-none, left-new, left_by}
-
--- ---- what is owed of an answer is its lines
--- a piece alone
-alone-left : (bs recv : List ℕ) → left (alone (piece_of bs)) recv ≡ bs
-alone-left [] recv = left-none (alone (piece_of [])) recv refl
-alone-left (b ∷ bs) recv = left-new (b ∷ bs) (alone (piece_of (b ∷ bs))) recv refl refl (omega arith) ∙ append-nil (b ∷ bs)
-
--- a packet, by: is it for subscribers
-packet-left : (v : Noted) (p : Packet) (recv : List ℕ) → part (payload_at (length p.key)) (length p.payload) recv ≡ p.payload → (t : Bool)
-    → left (pick t (alone (piece_of (lead v (delivery p)))) (with_text (piece_of (lead v (delivery p))) (delivery p))) recv
-    ≡ lead v (delivery p) ++ pick t [] (shown_text p.payload ++ (feed ∷ []))
-packet-left v p recv h true = alone-left (lead v (delivery p)) recv ∙ sym (append-nil (lead v (delivery p)))
-packet-left v p recv h false =
-    left-new (lead v (delivery p)) (with_text (piece_of (lead v (delivery p))) (delivery p)) recv refl refl (lead-some v (delivery p))
-    ∙ ap (λ (t : List ℕ). lead v (delivery p) ++ (shown_text t ++ (feed ∷ []))) h
-
--- the lines of an answer, by the range
-abbrev pub lines_for : Bool → Range → List Entry → Event → List Line
-lines_for b r t e = pick (regards r e) (event_lines b t e) []
-
-pub owing-left : (b : Bool) (r : Range) (t : List Entry) (e : Event) (s : Source) → ThereIn e s
-    → left (owing b r t (given e)) (memory_in s.deck).recv ≡ written_all (lines_for b r t e)
-unfolding written_all
-owing-left b r t (said (packet p)) s h = go (inside r p.port)
-  where
-    go : (f : Bool) → left (pick f (owed_packet (noting t p.port p.sequence).0 (delivery p)) nothing) (memory_in s.deck).recv
-        ≡ written_all (pick f (packet_lines (noting t p.port p.sequence).0 p) [])
-    go true =
-        packet-left (noting t p.port p.sequence).0 p (memory_in s.deck).recv h.0 (eqb p.format key_format)
-        ∙ sym (lines_split (noting t p.port p.sequence).0 p)
-    go false = left-none nothing (memory_in s.deck).recv refl
-owing-left b r t (said (refusal n)) s h = alone-left (remark b (given (said (refusal n)))) (memory_in s.deck).recv
-    ∙ sym (remark-is b t (said (refusal n)) tt)
-owing-left b r t (said (broken n)) s h = alone-left (remark b (given (said (broken n)))) (memory_in s.deck).recv ∙ sym (remark-is b t (said (broken n)) tt)
-owing-left b r t (block c) s h = alone-left (remark b (given (block c))) (memory_in s.deck).recv ∙ sym (remark-is b t (block c) tt)
-owing-left b r t lost s h = alone-left (remark b (given lost)) (memory_in s.deck).recv ∙ sym (remark-is b t lost tt)
+use Rattle.board.proofs.Lines.{lines_for, owing-left, lines-first, table-first}
+use Rattle.board.proofs.Left.{Whole, piece-whole, left-none, left_by}
 
 -- ---- all that is to be shown
 table-append : (t : List Entry) (xs ys : List Event) → table_all t (xs ++ ys) ≡ table_all (table_all t xs) ys
@@ -103,25 +64,6 @@ ahead-twice xs ys r = λ i. (sym (append_assoc xs ys r.0) i, r.1)
 shown-ahead : (xs ys : List ℕ) (b : Bool) (r : Range) (t : List Entry) (x : List Event × Source) → shown_by (xs ++ ys) b r t x ≡ ahead xs (shown_by ys b r t x)
 shown-ahead xs ys b r t x =
     λ i. (append_assoc xs ys (written_all (board_lines b t (regarded r x.0))) i, screen b r nothing (table_all t (regarded r x.0)) x.1)
-
--- an answer first: its lines, and those of the others by the table behind it
-lines-first : (b : Bool) (r : Range) (t : List Entry) (e : Event) (es : List Event)
-    → board_lines b t (regarded r (e ∷ es)) ≡ lines_for b r t e ++ board_lines b (table_for r t e) (regarded r es)
-unfolding board_lines regarded
-lines-first b r t e es = go (regards r e)
-  where
-    go : (f : Bool) → board_lines b t (pick f (e ∷ regarded r es) (regarded r es))
-        ≡ pick f (event_lines b t e) [] ++ board_lines b (pick f (table_behind t e) t) (regarded r es)
-    go true = refl
-    go false = refl
-
-table-first : (r : Range) (t : List Entry) (e : Event) (es : List Event) → table_all t (regarded r (e ∷ es)) ≡ table_all (table_for r t e) (regarded r es)
-unfolding regarded
-table-first r t e es = go (regards r e)
-  where
-    go : (f : Bool) → table_all t (pick f (e ∷ regarded r es) (regarded r es)) ≡ table_all (pick f (table_behind t e) t) (regarded r es)
-    go true = refl
-    go false = refl
 
 shown-answer : (text : List ℕ) (b : Bool) (r : Range) (t : List Entry) (e : Event) (x : List Event × Source)
     → shown_by text b r t (tell (some e) x) ≡ ahead text (shown_by (written_all (lines_for b r t e)) b r (table_for r t e) x)

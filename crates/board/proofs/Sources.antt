@@ -36,14 +36,16 @@ module _ (m : Deck) where
       → source_hear (source true m) bs ≡ ((hear_on (memory_in m) bs).0, (hear_on (memory_in m) bs).1, source true (with_memory m (hear_on (memory_in m) bs).2))
   unfolding source_owes source_hand source_eat
   hear-bare =
-      hear-seen owed hand_on eat_byte hand-one source_owes source_hand source_eat source-hand-one (λ (c : Memory). source true (with_memory m c)) (λ (a : Event). a)
+      hear-seen owed hand_on eat_byte hand-one source_owes source_hand source_eat source-hand-one (λ (c : Memory). source true (with_memory m c))
+      (λ (a : Event). a)
       (λ o. o)
       (λ l. l) refl (λ a. refl) refl (λ a xs. refl) (λ c. refl) (λ c n e. refl) (λ c b. refl) (memory_in m)
 
   pub all-bare : (bs : List ℕ) → source_all (source true m) bs ≡ ((hear_all (memory_in m) bs).0, source true (with_memory m (hear_all (memory_in m) bs).1))
   unfolding source_owes source_hand source_eat
   all-bare =
-      all_seen owed hand_on eat_byte hand-one source_owes source_hand source_eat source-hand-one (λ (c : Memory). source true (with_memory m c)) (λ (a : Event). a)
+      all_seen owed hand_on eat_byte hand-one source_owes source_hand source_eat source-hand-one (λ (c : Memory). source true (with_memory m c))
+      (λ (a : Event). a)
       (λ o. o)
       (λ l. l) refl (λ a. refl) refl (λ a xs. refl) (λ c. refl) (λ c n e. refl) (λ c b. refl) (memory_in m)
 

@@ -41,7 +41,8 @@ module _ (r : Range) where
       kept false p e h = h
 
       go : (v : Verdict) → verdict l ≡ v → written_all (map as_bid (packets_in r (packets (map verdict ls)))) ≡ as_shown (lines_in r (accepting ls))
-          → written_all (map as_bid (packets_in r (packets (v ∷ map verdict ls)))) ≡ as_shown (lines_in r (pick (is_accepted v) (l ∷ accepting ls) (accepting ls)))
+          → written_all (map as_bid (packets_in r (packets (v ∷ map verdict ls)))) ≡ as_shown
+          (lines_in r (pick (is_accepted v) (l ∷ accepting ls) (accepting ls)))
       go no_bid e h = h
       go (refused n) e h = h
       go (accepted p) e h =

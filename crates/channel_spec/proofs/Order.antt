@@ -99,7 +99,10 @@ lost-with g v q bs cs h n =
 module _ (stray : List ℕ) (ws : List (List ℕ)) (some : ws ≢ []) (words : Each IsWord ws) (first : FirstMarker stray (framed ws)) where
   -- behind whole words bytes follow: they are heard where a marker is read
   behind-words : (g : Hunting) × (v : List ℕ) × (q : Reading)
-      × ((bs : List ℕ) → hears fresh_channel ((stray ++ framed ws) ++ bs) ≡ (words_give ws waiting ++ (hears (in_mark g v 0 q) bs).0, (hears (in_mark g v 0 q) bs).1))
+      × ((bs : List ℕ) → hears fresh_channel ((stray ++ framed ws) ++ bs) ≡ (
+        words_give ws waiting ++ (hears (in_mark g v 0 q) bs).0,
+        (hears (in_mark g v 0 q) bs).1,
+      ))
   behind-words =
       let m = behind-mark ws zeros [] waiting in (
         m.0,

@@ -59,7 +59,8 @@ framed-read (w ∷ ws) h f u r =
     word_read w [] the_marker r (framed ws) (lit< tt) (let e : length w ≡ word_bytes = h.0 in omega arith)
     ∙ ap (λ (x : List Event × Chan). ((whole w r).0 ++ x.0, x.1)) (framed-read ws h.1 the_marker (mend w) (whole w r).1)
 
-pub from_start : (stray cs : List ℕ) → FirstMarker stray (marker ++ cs) → hears fresh_channel (stray ++ (marker ++ cs)) ≡ hears (in_word the_marker [] waiting) cs
+pub from_start : (stray cs : List ℕ) → FirstMarker stray (marker ++ cs)
+    → hears fresh_channel (stray ++ (marker ++ cs)) ≡ hears (in_word the_marker [] waiting) cs
 from_start =
     found (λ f. hears (hunting f)) (hears (in_word the_marker [] waiting)) (λ f b bs e. ap (λ t. hears (hunt t (shift f b)) bs) e) (λ f bs. refl)
 

@@ -5,7 +5,7 @@
 -- both, none-owing, past-both, as_before   what the laws of all of them share
 -- hear-..    on the channel
 -- fixed-..   on a fixed sub-channel (request W7); that its calls end
--- read-..    on the plain stream
+-- read-.., read_first    on the plain stream
 -- next-..    on a recording's bytes
 -- packet-..  .. for its next packet
 -- take-wanting, show-wanting   where a recording is listed, where a board is written
@@ -373,7 +373,8 @@ module _ (h : capture.Held) (f : capture.Fine h) (bs : List ℕ) where
   pub import-first : (t : Told) (n : ℕ) (g : capture.Held) → capture.read_call h bs ≡ (some t, n, g)
       → ((capture.read_all h bs).0 ≡ t ∷ (capture.read_all g (drop n bs)).0) × ((capture.read_all h bs).1 ≡ (capture.read_all g (drop n bs)).1)
   import-first t n g e =
-      both (law owes_none hands_none capture.take_byte none-owed h bs ∙ ap (λ r. told owes_none hands_none capture.take_byte r bs) (sym (import-agrees h bs f) ∙ e))
+      both (law owes_none hands_none capture.take_byte none-owed h bs
+      ∙ ap (λ r. told owes_none hands_none capture.take_byte r bs) (sym (import-agrees h bs f) ∙ e))
 
   pub import-stops : (t : Told) (n : ℕ) (g : capture.Held) → capture.read_call h bs ≡ (some t, suc n, g) → (capture.read_all h (take n bs)).0 ≡ []
   import-stops t n g e = stops owes_none hands_none capture.take_byte none-owed h bs t n g (sym (import-agrees h bs f) ∙ e)

@@ -107,7 +107,8 @@ pub hear-entered : (c : Memory) (bs : List ℕ) (p : Packet) → let recv = (hea
     → Bytes recv → (i : ℕ) (out : List ℕ) → entering i (packed_part (delivery p) recv) out ≡ write (record_of i (packed p)) out
 hear-entered c bs p e b = let x = hear_call c bs in own-entered p x.2.recv (subst (λ (o : Option Event). With OwnMemory o x.2) e (memory-own c bs) b)
 
-pub fixed-entered : (c : fixed.Memory) (bs : List ℕ) (p : Packet) → let recv = (fixed.hear_call c bs).2.recv in (fixed.hear_call c bs).0 ≡ some (said (packet p))
+pub fixed-entered : (c : fixed.Memory) (bs : List ℕ) (p : Packet)
+    → let recv = (fixed.hear_call c bs).2.recv in (fixed.hear_call c bs).0 ≡ some (said (packet p))
     → Bytes recv → (i : ℕ) (out : List ℕ) → entering i (packed_part (delivery p) recv) out ≡ write (record_of i (packed p)) out
 fixed-entered c bs p e b =
     let x = fixed.hear_call c bs in own-entered p x.2.recv (subst (λ (o : Option Event). With OwnSub o x.2) e (sub-own c bs) b)

@@ -239,7 +239,8 @@ module _ (room : ℕ) (g : Page) (bs : List ℕ) where
       ap (paged g.range g.ports) (safe-on g.deck bs 0 (record { fine = f; offset = omega (arith, o) }))
       ∙ sym (hear-means g.range g.deck bs g.ports) in
       let is : takes room g bs ≡ part_by y.0 y.1 y.2 =
-      ap (λ (t : Bool). pick t (part_by (some (unheard 23)) 0 g) (part_by (page_call g bs).0 (page_call g bs).1 (page_call g bs).2)) (le-ltb room longest enough)
+      ap (λ (t : Bool). pick t (part_by (some (unheard 23)) 0 g) (part_by (page_call g bs).0 (page_call g bs).1 (page_call g bs).2))
+      (le-ltb room longest enough)
       ∙ ap (λ (z : Option Note × ℕ × Page). part_by z.0 z.1 z.2) heard in
       let w = wanting page_owes page_hand page_eat page-hand-one g bs in
       let p = part-is y.0 y.1 y.2 in

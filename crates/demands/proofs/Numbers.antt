@@ -32,19 +32,25 @@ use Rattle.demands.specs.Printed.{printed}
 use Rattle.demands.specs.Requested.{requested}
 
 pub numbers : wrong table ≡ []
-unfolding fcs register entered contents with_check judge closed closed_by judge_contents judge_body scan last wrong_from right plain escape escape_byte mul shift_add
+unfolding fcs register entered contents with_check judge closed closed_by judge_contents judge_body scan last wrong_from right plain escape escape_byte mul
+    shift_add
     double add pow remainder divide generator times_root onto scale
 numbers = refl
 
 pub as-printed : wrong printed ≡ []
-unfolding fcs register entered contents with_check escape escape_byte judge closed closed_by judge_contents judge_body scan last wrong_from right plain class told
-    lines count end_line wrong_line decimal decimal_by heard last_line listed listing apart in_stream next_at noted_line noting forgetting place_of free_place twice mul
+unfolding fcs register entered contents with_check escape escape_byte judge closed closed_by judge_contents judge_body scan last wrong_from right plain
+    class told
+    lines count end_line wrong_line decimal decimal_by heard last_line listed listing apart in_stream next_at noted_line noting forgetting place_of
+    free_place twice mul
     shift_add double add pow horner eval clean remainder divide generator times_root onto scale
 as-printed = refl
 
 pub as-requested : wrong requested ≡ []
-unfolding digits number is_header named heads start step unfit records read entry judge_body plain row_line decimal decimal_by marks fcs register entered with_check
-    judge_contents escape escape_byte mul shift_add double add pow remainder divide generator times_root onto scale bits pack sequence announced payload lent weave
-    begins opened laid_out unit_bits unit hidden written heads-heard unwoven header_of payload_of read_parts read_unit told_from told-numbers sum numbers_of Numbers-of
+unfolding digits number is_header named heads start step unfit records read entry judge_body plain row_line decimal decimal_by marks fcs register entered
+    with_check
+    judge_contents escape escape_byte mul shift_add double add pow remainder divide generator times_root onto scale bits pack sequence announced payload
+    lent weave
+    begins opened laid_out unit_bits unit hidden written heads-heard unwoven header_of payload_of read_parts read_unit told_from told-numbers sum numbers_of
+    Numbers-of
     added added_all any_wide
 as-requested = refl

@@ -1,5 +1,5 @@
--- x
--- fcs-fcs-paper   x
+-- What a public function answers, by `Follows`: the form in which the statements in `paper`'s words are to stand.
+-- fcs-fcs-paper   the check of the bytes lent
 use mathlib.Core.Path.{◌≡◌}
 use Rattle.fcs.specs.Fcs as check
 use Rattle.demands.specs.Means.{Follows}

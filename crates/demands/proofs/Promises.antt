@@ -157,7 +157,7 @@ use Rattle.recording.proofs.reader.Hearing.is_more as recording-is-more
 use Rattle.board.proofs.readout.Readout.fresh as board-fresh
 use Rattle.board.proofs.readout.Readout.take as board-take
 use Rattle.board.proofs.readout.Readout.finish as board-finish
-use Rattle.unit.proofs.write as Unit-write
+use Rattle.unit.proofs.write as unit-write
 use Rattle.unit.proofs.read as unit-read
 use Rattle.listing.proofs.lister.Lister.fresh as listing-fresh
 use Rattle.listing.proofs.lister.Lister.take as listing-take
@@ -647,10 +647,10 @@ pub listing-finish-means : Means listing-finish.Statement.statement listing-fini
 listing-finish-means = (λ M. listing-finish.Met.met, λ κs a. tt, λ κs a z ws. (λ p. p, λ p. p))
 
 -- ---- Layer 2 units
-pub unit-write-means : Means Unit-write.Statement.statement Unit-write.Kinds.ps Unit-write.Kinds.r Unit-write.Reads.Asked Unit-write.Reads.Learnt
+pub unit-write-means : Means unit-write.Statement.statement unit-write.Kinds.ps unit-write.Kinds.r unit-write.Reads.Asked unit-write.Reads.Learnt
     λ κs size delimiter audio opportunistic fixed out w.
     outcome w out.exit.now ≡ units.written size delimiter audio.now opportunistic.now fixed.now out.entry.now
-unit-write-means = (λ M. Unit-write.Met.met, λ κs a. tt, λ κs a z ws. (λ p. p, λ p. p))
+unit-write-means = (λ M. unit-write.Met.met, λ κs a. tt, λ κs a z ws. (λ p. p, λ p. p))
 
 pub unit-read-means : Means unit-read.Statement.statement unit-read.Kinds.ps unit-read.Kinds.r unit-read.Reads.Asked unit-read.Reads.Learnt
     λ κs size delimiter audio fixed unit out w.

@@ -156,7 +156,11 @@ printed =
       73 ∷ 73 ∷ 82 ∷ 77 ∷ 1 ∷ 77 ∷ 2 ∷ 77 ∷ 32766 ∷ 76 ∷ 76 ∷ 76 ∷ [],
     ) ∷
     -- "negative is late and leaves the last number"
-    (43, last_behind 0 1 ∷ last_behind 7 7 ∷ last_behind 65535 2 ∷ last_behind 0 32767 ∷ last_behind 0 32768 ∷ last_behind 7 6 ∷ [], 1 ∷ 7 ∷ 2 ∷ 32767 ∷ 0 ∷ 7 ∷ []) ∷
+    (
+      43,
+      last_behind 0 1 ∷ last_behind 7 7 ∷ last_behind 65535 2 ∷ last_behind 0 32767 ∷ last_behind 0 32768 ∷ last_behind 7 6 ∷ [],
+      1 ∷ 7 ∷ 2 ∷ 32767 ∷ 0 ∷ 7 ∷ [],
+    ) ∷
     -- 43, 40, and a first packet
     (
       44,

@@ -145,7 +145,8 @@ module _ (cs : List ℕ) (long : 8 ≤ length cs) where
           let f = key_fits_lem (body cs) e in
           ⊎_elim (⊎_elim (λ h. omega (arith, h, f.0, key-same)) (λ h. omega (arith, h, f.1, key-same))) (λ h. omega (arith, h, f.2, body-length, key-same))
 
-      go : (t : Bool) → eqb (get_or (body cs) 0 0) plain_format ≡ t → (u : Bool) → eqb (get_or (body cs) 0 0) key_format ≡ u → (v : Bool) → key_fits (body cs) ≡ v
+      go : (t : Bool) → eqb (get_or (body cs) 0 0) plain_format ≡ t → (u : Bool) → eqb (get_or (body cs) 0 0) key_format ≡ u → (v : Bool)
+          → key_fits (body cs) ≡ v
           → Exact ByFrame (pick t (judge_packet (plainly (body cs))) (pick u (pick v (judge_packet (keyed (body cs))) (refusal 12)) (refusal 6))) (body_rows cs)
       go true e u g v k =
           let f : get_or cs 0 0 ≡ plain_format = sym first-same ∙ eqb-true _ _ e in

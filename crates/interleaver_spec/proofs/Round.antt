@@ -106,7 +106,8 @@ module _ (d : ℕ) (deep : 2 ≤ d) (most : d ≤ depth_limit) where
   in-again : (rs : List ℕ) → run (pull d) fresh_back rs ≡ run (gave d) fresh_back rs
   in-again = deeper d (gave d) deep fresh_back
 
-  pub output-is : (bs : List ℕ) (u t : ℕ) → u ≤ t → t < u + size d → u % size d ≡ cell d t → t < length bs → get_or (run (push d) fresh bs).0 t 0 ≡ get_or bs u 0
+  pub output-is : (bs : List ℕ) (u t : ℕ) → u ≤ t → t < u + size d → u % size d ≡ cell d t → t < length bs
+      → get_or (run (push d) fresh bs).0 t 0 ≡ get_or bs u 0
   output-is bs u t l k e h = ap (λ (x : List ℕ × Matrix). get_or x.0 t 0) (out bs) ∙ sent_is d deep fresh.cells room bs u t l k e h
 
   pub output-zero : (bs : List ℕ) (t : ℕ) → t < cell d t → t < length bs → get_or (run (push d) fresh bs).0 t 0 ≡ 0

@@ -34,7 +34,8 @@ pub found-more : (c : ℕ) (l : List ℕ) (at i : ℕ) {found : Bool} → at + i
 found-more c l at i h e =
     by_le i n
     (λ (k : i ≤ n).
-    let q : i + length (up_to c (drop (at + i) l)) ≡ n = ap (λ (x : List ℕ). i + length (up_to c x)) (sym (drop-drop i at l)) ∙ up-to-behind c i (drop at l) k in
+    let q : i + length (up_to c (drop (at + i) l)) ≡ n = ap (λ (x : List ℕ). i + length (up_to c x)) (sym (drop-drop i at l))
+    ∙ up-to-behind c i (drop at l) k in
     ap (λ (f : Bool). f || eqb b c) (e ∙ le-ltb n i k)
     ∙ by-eq b c (λ s. eq-eqb b c s ∙ sym (lt-ltb n (i + 1) (omega (arith, q, ap length (up-to-here c l (at + i) h s)))))
     (λ m. ne_eqb b c m ∙ sym (le-ltb n (i + 1) (omega (arith, q, ap length (up-to-more c l (at + i) h m))))))
@@ -46,11 +47,13 @@ found-more c l at i h e =
     b : ℕ
     b = get_or l (at + i) 0
 
-pub passed-more : (c i : ℕ) (l : List ℕ) {f : Bool} → i ≤ length (up_to c l) → f ≡ ltb (length (up_to c (drop i l))) 16 → f ≡ false → i + 16 ≤ length (up_to c l)
+pub passed-more : (c i : ℕ) (l : List ℕ) {f : Bool} → i ≤ length (up_to c l) → f ≡ ltb (length (up_to c (drop i l))) 16 → f ≡ false
+    → i + 16 ≤ length (up_to c l)
 passed-more c i l h e t = omega (arith, ltb-false (length (up_to c (drop i l))) 16 (sym e ∙ t), up-to-behind c i l h)
 
 -- the bytes passed, and fewer than sixteen before the first c behind them
-pub passed-found : (c i : ℕ) (l : List ℕ) {f : Bool} → i ≤ length (up_to c l) → f ≡ ltb (length (up_to c (drop i l))) 16 → f ≡ true → length (up_to c l) < i + 16
+pub passed-found : (c i : ℕ) (l : List ℕ) {f : Bool} → i ≤ length (up_to c l) → f ≡ ltb (length (up_to c (drop i l))) 16 → f ≡ true
+    → length (up_to c l) < i + 16
 passed-found c i l h e t = omega (arith, ltb-true (length (up_to c (drop i l))) 16 (sym e ∙ t), up-to-behind c i l h)
 
 -- ---- a bit for each byte: as many are not set below the lowest that is as bytes stand before the first c
@@ -80,7 +83,8 @@ module _ (c : ℕ) (l : List ℕ) (at : ℕ) (room : at + 16 ≤ length l) where
   unfolding up_to count_trailing_zeros
   seen_none = (omega arith, sym (ap (λ (x : List ℕ). length (up_to c x)) (over lent 16 (omega (arith, lent_length)))))
 
-  pub seen_more : (i k : ℕ) {bits d : ℕ} → 0 < i → i ≤ 16 → suc k ≡ 16 - (i - 1) → d ≡ pick (eqb (get_or l (at + (i - 1)) 0) c) 1 0 → Seen c k bits (drop i lent)
+  pub seen_more : (i k : ℕ) {bits d : ℕ} → 0 < i → i ≤ 16 → suc k ≡ 16 - (i - 1) → d ≡ pick (eqb (get_or l (at + (i - 1)) 0) c) 1 0
+      → Seen c k bits (drop i lent)
       → Seen c (16 - (i - 1)) (bits * 2 + d) (drop (i - 1) lent)
   seen_more i k {bits} {d} h small e f inv =
       let same : i - 1 + 1 ≡ i = omega arith in

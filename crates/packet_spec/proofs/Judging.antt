@@ -85,7 +85,8 @@ module _ (bs : List ℕ) where
     body-keyed k = rw (not_plain, eq-eqb _ _ e, k)
 
 -- what key_fits asks, in numbers
-pub key_fits_lem : (bs : List ℕ) → key_fits bs ≡ true → (key_least ≤ key_length bs) × (key_length bs ≤ key_most) × (key_at + key_length bs + rest_least ≤ length bs)
+pub key_fits_lem : (bs : List ℕ) → key_fits bs ≡ true → (key_least ≤ key_length bs) × (key_length bs ≤ key_most)
+    × (key_at + key_length bs + rest_least ≤ length bs)
 key_fits_lem bs e =
     let k = key_length bs in
     let p = and_parts (key_sized k) (leb (key_at + k + rest_least) (length bs)) e in

@@ -1,4 +1,5 @@
 -- Calls: what a call that writes answers, and what it leaves in the output lent to it.
+-- Defined here: Result, Outcome, keeps, unless.
 use Rattle.std.specs.Prelude.{ℕ, ◌++◌, length, drop, ltb}
 use Rattle.std.proofs.Math.Option.{Option, none, some}
 use Rattle.paper.specs.Base.{Bytes, ◌⇒◌, ◌else◌}

@@ -81,7 +81,8 @@ pub repaired-told : {c : Condition} {d : Delivery} {k : ℕ} → d ≡ no_delive
 repaired-told {k = k} p e = ap (λ (d : Delivery). record { number = 259; delivery = d; place = 0; repaired = k }) p ∙ sym (ap of_block e)
 
 -- ---- states
-pub receiver-is : (s : List ℕ) {a b c d : ℕ} {f : FrameReader} → a ≡ get_or s 17 0 % 256 → b ≡ get_or s 18 0 % 256 → c ≡ get_or s 19 0 % 256 → d ≡ get_or s 20 0 % 256
+pub receiver-is : (s : List ℕ) {a b c d : ℕ} {f : FrameReader} → a ≡ get_or s 17 0 % 256 → b ≡ get_or s 18 0 % 256 → c ≡ get_or s 19 0 % 256
+    → d ≡ get_or s 20 0 % 256
     → f ≡ frame_of s
     → record {
       locked = is_set (get_or s 13 0);

@@ -95,13 +95,15 @@ module _ (c : Memory) where
   pub plain-hear : (bs : List ℕ)
       → ear_hear (ear false c) bs ≡ (as_event (read_on (held_in c) bs).0, (read_on (held_in c) bs).1, ear false (with_held c (read_on (held_in c) bs).2))
   plain-hear bs =
-      hear-seen owes_none hands_none take_byte none-owed ear_owes ear_hand ear_eat ear-hand-one plain said as_event (map said) refl (λ a. refl) refl (λ a xs. refl)
+      hear-seen owes_none hands_none take_byte none-owed ear_owes ear_hand ear_eat ear-hand-one plain said as_event (map said) refl (λ a. refl) refl
+      (λ a xs. refl)
       plain-pend plain-hand plain-eat (held_in c) bs
 
   pub plain-all : (bs : List ℕ)
       → all ear_owes ear_hand ear_eat (ear false c) bs ≡ (map said (read_all (held_in c) bs).0, ear false (with_held c (read_all (held_in c) bs).1))
   plain-all bs =
-      all_seen owes_none hands_none take_byte none-owed ear_owes ear_hand ear_eat ear-hand-one plain said as_event (map said) refl (λ a. refl) refl (λ a xs. refl)
+      all_seen owes_none hands_none take_byte none-owed ear_owes ear_hand ear_eat ear-hand-one plain said as_event (map said) refl (λ a. refl) refl
+      (λ a xs. refl)
       plain-pend plain-hand plain-eat (held_in c) bs
 
 -- ---- as the code hears it

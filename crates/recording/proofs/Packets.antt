@@ -22,7 +22,8 @@ use Rattle.recording.specs.declared.reader.NextPacket.{NextPacket}
 use Rattle.recording.specs.declared.found.Found.TheVariants as found
 use Rattle.recording.specs.Deck.{Deck, fresh, deck_owes, deck_hand, deck_eat, deck_all}
 use Rattle.recording.specs.Call.{far, deck_of, tape_of, near_spot}
-use Rattle.recording.specs.Packets.{Item, packet_in, packets_in, packet_hand, packet_eat, packet_all, packet_hear, packet_by, packet_call, PacketIs, EveryPacket}
+use Rattle.recording.specs.Packets.{Item, packet_in, packets_in, packet_hand, packet_eat, packet_all, packet_hear, packet_by, packet_call, PacketIs}
+use Rattle.recording.specs.Packets.{EveryPacket}
 use Rattle.recording.specs.Private.{SoughtIs}
 use Rattle.recording.proofs.Ears.{deck-hand-one}
 use Rattle.recording.proofs.Kept.{Kept, packet-kept}

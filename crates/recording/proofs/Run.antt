@@ -45,7 +45,8 @@ module _ (ys : List ℕ) where
   more-rest p b xs (some a, n, d) = refl
   more-rest p b xs (none, n, d) = sym (after_one n (deck_hear (deck (skips (next p b) (take n xs)) d) (drop n xs ++ ys)))
 
-  hand-rest : (p : Spot) (d : Ear) (n : ℕ) (xs : List ℕ) → ear_owes d ≡ suc n → deck_hear (deck p d) (xs ++ ys) ≡ with_rest p xs ys ((ear_hand d).0, 0, (ear_hand d).1)
+  hand-rest : (p : Spot) (d : Ear) (n : ℕ) (xs : List ℕ) → ear_owes d ≡ suc n
+      → deck_hear (deck p d) (xs ++ ys) ≡ with_rest p xs ys ((ear_hand d).0, 0, (ear_hand d).1)
   hand-rest p d n xs e =
       hear-hand deck_owes deck_hand deck_eat deck-hand-one (deck p d) n (xs ++ ys) e
       ∙ ap (unless (ear_hand d).0 0 (deck p (ear_hand d).1)) (after_none (deck_hear (deck p (ear_hand d).1) (xs ++ ys)))

@@ -1,5 +1,5 @@
 -- One byte of a recording that is no stream byte, by its place.
--- mode-plain, mode-else, at-..                 where the recording stands behind it
+-- mode-plain, mode-else, at-.., at_mark, at_second, at_low, at_high                 where the recording stands behind it
 -- left-none, left-some, on-..                  places in a record
 -- next-near                                    a byte is one byte at most
 use Prim.Native.Nat.{ℕ, ◌+◌, ◌-◌, ◌*◌, ◌≤◌, ◌<◌}

@@ -136,7 +136,8 @@ put-suc r rs at new x j =
     (λ n. rw (ne_eqb j at n, ne_eqb (suc j) (suc at) (λ z. n (omega (arith, z)))) (above j l n))))
     (λ l. rw (lt-ltb (suc j) (suc at) (omega (arith, l)), lt-ltb j at l) refl)
   where
-    above : (j : ℕ) → at ≤ j → j ≢ at → pick new (get_or (r ∷ rs) (suc j - 1) (blank 0)) (get_or (r ∷ rs) (suc j) (blank 0)) ≡ pick new (get_or rs (j - 1) (blank 0))
+    above : (j : ℕ) → at ≤ j → j ≢ at → pick new (get_or (r ∷ rs) (suc j - 1) (blank 0)) (get_or (r ∷ rs) (suc j) (blank 0)) ≡ pick new
+        (get_or rs (j - 1) (blank 0))
         (get_or rs j (blank 0))
     above zero l n = absurd (n (omega (arith, l)))
     above (suc k) l n =

@@ -123,7 +123,8 @@ module _ (raw : ℕ) (l recv : List ℕ) (n at : ℕ) (e : at ≡ min raw raw_li
         er ∙ sym (ap length f ∙ length-append (take n l) (before (drop n l)) ∙ ap (λ (m : ℕ). m + length (before (drop n l))) lent),
         ey
             ∙ ap₂ (λ (a : ℕ) (x : List ℕ). sets recv a x) e
-            (before-all (take n l) (omega (arith, lent)) ∙ sym (ap (λ (m : ℕ). take (raw_limit - m) (before l)) (sym e) ∙ ap (take (raw_limit - at)) f ∙ stored)),
+            (before-all (take n l) (omega (arith, lent))
+            ∙ sym (ap (λ (m : ℕ). take (raw_limit - m) (before l)) (sym e) ∙ ap (take (raw_limit - at)) f ∙ stored)),
       )
     where
       stored : take (raw_limit - at) (take n l ++ before (drop n l)) ≡ take n l

@@ -28,7 +28,8 @@ use Rattle.stream.specs.declared.frame.FrameReader.{FrameReader}
 use Rattle.stream.specs.declared.frame.Read.{Read}
 use Rattle.stream.specs.declared.frame.Turn.{Turn}
 use Rattle.stream.specs.declared.frame.Heard.TheVariants.{More, Said}
-use Rattle.stream.specs.Call.{Held, held, begun, place_limit, noticed, last_raw, store, shut, take_by, read_on, sound, read_by, read_call, read_of, ReadIs, Fine}
+use Rattle.stream.specs.Call.{Held, held, begun, place_limit, noticed, last_raw, store, shut, take_by, read_on, sound, read_by, read_call, read_of, ReadIs}
+use Rattle.stream.specs.Call.{Fine}
 use Rattle.stream.specs.Private.{before, counted_by, counted, placed, looked, gathered_by, gathered, closes, TurnBy, TurnIs}
 use Rattle.stream.proofs.Places.{noticed-none, noticed-more, noticed-within, before-some, before-stored, seen_by, looked-is}
 use Rattle.stream.proofs.Fine.{fine-is, fine-take}

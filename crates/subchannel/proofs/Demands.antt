@@ -44,7 +44,8 @@ cut-so c f recv word a b pieces cut = yields-so (c recv word a b pieces cut) f
 
 module _ (r d : ℕ) (hr : r ≤ root_limit) (hd : d ≤ depth_limit) where
   module _ (recv word : List ℕ) (a : raw_limit ≤ length recv) (b : word_bytes ≤ length word) where
-    heard : (ps : List (List ℕ)) → Yields hear_call (memory (told_sub r d) recv word) ps λ es c. (es, c) ≡ hear_all (memory (told_sub r d) recv word) (joined ps)
+    heard : (ps : List (List ℕ)) → Yields hear_call (memory (told_sub r d) recv word) ps λ es c. (es, c) ≡ hear_all (memory (told_sub r d) recv word)
+        (joined ps)
     heard = hear-settled (memory (told_sub r d) recv word) refl (fine-told r d hr hd recv word a b)
 
     -- from the same buffers two ways of cutting yield the same, to the last byte of both

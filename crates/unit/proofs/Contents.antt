@@ -103,7 +103,8 @@ module _ (n : ℕ) (d audio opp fixed : List ℕ) (room : length audio + length 
           ap (λ (i : ℕ). get_or opp i 0) e.0 ∙ right d opp (j - length two) e.1 ∙ some ∙ in-marked e.2
 
       module _ (five : length d ≡ 5) (h : j < n - length fixed - length opp) where
-        pub in-delimiter : n - length fixed - length opp - 5 ≤ j → get_or d (j - (n - length fixed - length opp - 5)) 0 ≡ get_or (laid_out n d audio opp fixed) j 0
+        pub in-delimiter : n - length fixed - length opp - 5 ≤ j
+            → get_or d (j - (n - length fixed - length opp - 5)) 0 ≡ get_or (laid_out n d audio opp fixed) j 0
         in-delimiter m =
             let e = within-delimiter (length two) (length d) (length opp) (n - length fixed) j marked-end five h m in
             ap (λ (i : ℕ). get_or d i 0) e.0 ∙ left d opp (j - length two) e.1 ∙ some ∙ in-marked e.2

@@ -72,7 +72,8 @@ module _ (u : List ℕ) (i : ℕ) (l : i + 8 ≤ length u) where
   one : (k : ℕ) → k < 8 → drop (i + k) u ≡ get_or u (i + k) 0 ∷ drop (i + suc k) u
   one k h = let e : suc (i + k) ≡ i + suc k = omega arith in drop-cons u (i + k) 0 (omega arith) ∙ ap (λ (n : ℕ). get_or u (i + k) 0 ∷ drop n u) e
 
-  eight-at : take 8 (drop i u) ≡ get_or u (i + 0) 0 ∷ get_or u (i + 1) 0 ∷ get_or u (i + 2) 0 ∷ get_or u (i + 3) 0 ∷ get_or u (i + 4) 0 ∷ get_or u (i + 5) 0 ∷ get_or u
+  eight-at : take 8 (drop i u) ≡ get_or u (i + 0) 0 ∷ get_or u (i + 1) 0 ∷ get_or u (i + 2) 0 ∷ get_or u (i + 3) 0 ∷ get_or u (i + 4) 0 ∷ get_or u
+      (i + 5) 0 ∷ get_or u
       (i + 6) 0 ∷ get_or u (i + 7) 0 ∷ []
   eight-at =
       let z : i ≡ i + 0 = omega arith in
@@ -81,6 +82,7 @@ module _ (u : List ℕ) (i : ℕ) (l : i + 8 ≤ length u) where
       (rw (one 4 (omega arith)) (rw (one 5 (omega arith)) (rw (one 6 (omega arith)) (rw (one 7 (omega arith)) refl))))))
 
   -- eight bits that are these members, as a byte
-  pub byte_at : {a b c d e f g h : ℕ} → a ≡ get_or u (i + 0) 0 → b ≡ get_or u (i + 1) 0 → c ≡ get_or u (i + 2) 0 → d ≡ get_or u (i + 3) 0 → e ≡ get_or u (i + 4) 0
+  pub byte_at : {a b c d e f g h : ℕ} → a ≡ get_or u (i + 0) 0 → b ≡ get_or u (i + 1) 0 → c ≡ get_or u (i + 2) 0 → d ≡ get_or u (i + 3) 0
+      → e ≡ get_or u (i + 4) 0
       → f ≡ get_or u (i + 5) 0 → g ≡ get_or u (i + 6) 0 → h ≡ get_or u (i + 7) 0 → number 0 (a ∷ b ∷ c ∷ d ∷ e ∷ f ∷ g ∷ h ∷ []) ≡ number 0 (take 8 (drop i u))
   byte_at pa pb pc pd pe pf pg ph = rw (pa, pb, pc, pd, pe, pf, pg, ph) (ap (number 0) (sym eight-at))

@@ -153,7 +153,8 @@ module _ {l cw : ℕ} {d audio opp fixed : List ℕ} {i n first : ℕ} where
       pub between-fits : ((i - first) % s ≡ 0 → ⊥) → (i - first) / s + 1 ≤ i
       between-fits r = omega (arith, under (i - first) s step-some r)
 
-      pub bit-between : ((i - first) % s ≡ 0 → ⊥) → get_or (bits (laid_out n d audio opp fixed)) (i - ((i - first) / s + 1)) 0 ≡ get_or (unit_bits l cw body) i 0
+      pub bit-between : ((i - first) % s ≡ 0 → ⊥)
+          → get_or (bits (laid_out n d audio opp fixed)) (i - ((i - first) / s + 1)) 0 ≡ get_or (unit_bits l cw body) i 0
       bit-between r =
           same k.on (i - ((i - first) / s + 1)) ∙ ap (λ (x : ℕ). get_or (bits body) (i - (x + 1)) 0) is-place
           ∙ unit-between l cw body (some k.on) (length-of k.on) i from_start few-before (λ e. r (is-rest ∙ e))

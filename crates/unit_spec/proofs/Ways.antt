@@ -1,7 +1,7 @@
 -- The ways through the two definitions, by the tests that lead there.
 -- mixed, whole                    the sequence, and the unit
 -- Writes, written_is, writes      where a unit is written; what is then written; and that it is so where the answer is Wrote
--- no_name, wrong-told, wrong-fit, not-found, read_plain, read_found   what a payload is read as
+-- no_name, wrong-told, wrong-fit, not_found, read_plain, read_found   what a payload is read as
 -- bad-length, bad-unit, read_is   .. and a unit
 use mathlib.Core.Path.{◌≡◌, refl}
 use mathlib.Core.Bool.{Bool, true, false}

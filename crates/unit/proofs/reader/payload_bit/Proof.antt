@@ -18,7 +18,12 @@ at-start c = let p = c.before.before.requires in record { fit = p.0; long = p.1;
 
 at-step : (c : tie.After-step-gap) → let b = c.before.before.before in
     Of (λ l u t. Onward l u t b.start-first.result c.before.heads-heads.result c.step-gap.result) b.before.before
-at-step c = let e = c.before.before in record { on = at-start e.before; past = e.if-t-first.false; many = c.before.heads-heads.ensures; apart = c.step-gap.ensures }
+at-step c = let e = c.before.before in record {
+  on = at-start e.before;
+  past = e.if-t-first.false;
+  many = c.before.heads-heads.ensures;
+  apart = c.step-gap.ensures;
+}
 
 pub payload_bit_spec : {M : Type 1} → statement M
 payload_bit_spec =

@@ -23,5 +23,9 @@ same_spec =
     (λ c. let l = c.before.before.loop-k in begins-not _ _ l.k (omega arith) (omega arith) c.if-delimiter-k.true l.invariant.2)
     (search rules)
     (omega arith)
-    (λ c. let l = c.before.before.loop-k in (l.invariant.0, l.invariant.1, begins-next _ _ l.k (omega arith) (omega arith) c.if-delimiter-k.false l.invariant.2))
+    (λ c. let l = c.before.before.loop-k in (
+      l.invariant.0,
+      l.invariant.1,
+      begins-next _ _ l.k (omega arith) (omega arith) c.if-delimiter-k.false l.invariant.2,
+    ))
     (λ c. let l = c.before.loop-k in begins-done _ _ l.k (omega arith) l.invariant.2))

@@ -20,7 +20,12 @@ at-start c = record { fit = (begun c).requires.0; fill = (begun c).requires.1; a
 
 at-heads : (c : tie.After-heads-heads) → let e = c.before.before in let b = e.before in
     Of (λ l cw d a o f i. Onward l cw d a o f i b.before.payload-n.result b.start-first.result c.before.step-step.result c.heads-heads.result) (begun b)
-at-heads c = let e = c.before.before in record { on = at-start e.before; past = e.if-i-first.false; apart = c.before.step-step.ensures; many = c.heads-heads.ensures }
+at-heads c = let e = c.before.before in record {
+  on = at-start e.before;
+  past = e.if-i-first.false;
+  apart = c.before.step-step.ensures;
+  many = c.heads-heads.ensures;
+}
 
 pub unit_bit_spec : {M : Type 1} → statement M
 unit_bit_spec =

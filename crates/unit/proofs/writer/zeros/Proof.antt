@@ -13,10 +13,13 @@ zeros_spec =
     (search rules)
     (λ c. zeros-1 c.before.before.args.delimiter (omega arith) c.before.if-delimiter-ne0.false c.if-delimiter-ne0-2.true)
     (search rules)
-    (λ c. zeros-2 c.before.before.before.args.delimiter (omega arith) c.before.before.if-delimiter-ne0.false c.before.if-delimiter-ne0-2.false c.if-delimiter-ne0-3.true)
+    (λ c. zeros-2 c.before.before.before.args.delimiter (omega arith) c.before.before.if-delimiter-ne0.false c.before.if-delimiter-ne0-2.false
+    c.if-delimiter-ne0-3.true)
     (search rules)
-    (λ c. zeros-3 c.before.before.before.before.args.delimiter (omega arith) c.before.before.before.if-delimiter-ne0.false c.before.before.if-delimiter-ne0-2.false
+    (λ c. zeros-3 c.before.before.before.before.args.delimiter (omega arith) c.before.before.before.if-delimiter-ne0.false
+    c.before.before.if-delimiter-ne0-2.false
     c.before.if-delimiter-ne0-3.false c.if-delimiter-ne0-4.true)
     (search rules)
-    (λ c. zeros-4 c.before.before.before.before.args.delimiter (omega arith) c.before.before.before.if-delimiter-ne0.false c.before.before.if-delimiter-ne0-2.false
+    (λ c. zeros-4 c.before.before.before.before.args.delimiter (omega arith) c.before.before.before.if-delimiter-ne0.false
+    c.before.before.if-delimiter-ne0-2.false
     c.before.if-delimiter-ne0-3.false c.if-delimiter-ne0-4.false))
