@@ -6,8 +6,10 @@
 use mathlib.Core.Path.{◌≡◌, sym, ap, ◌∙◌}
 use mathlib.Core.List.{List}
 use Prim.Native.Nat.{ℕ}
-use Rattle.base.specs.declared.Written.{Written}
-use Rattle.base.specs.Written.{Outcome, outcome}
+use Rattle.std.specs.Prelude.{Result}
+use Rattle.base.specs.declared.Refusal.{Refusal}
+use Rattle.base.specs.Written.{Written, as_written, Outcome, outcome}
+use Rattle.base.proofs.Writing.{same-written}
 
 pub same : {A : Type 0} {x y f : A} → x ≡ f → y ≡ f → x ≡ y
 same p q = p ∙ sym q
@@ -19,9 +21,8 @@ pub skip : {B : Type 0} {u v : B} → u ≡ v → ◌≡◌ {A = Unit {0} × B} 
 skip e i = (tt, e i)
 
 -- two outcomes of a call that writes
-module _ {z z' : Written} {x y : List ℕ} {o : Outcome} (p : outcome z x ≡ o) (q : outcome z' y ≡ o) where
-  pub same_answer : z ≡ z'
-  same_answer = ap (λ (o : Outcome). o.answer) (same p q)
+pub same_answer : {z z' : Result ℕ Refusal} {x y : List ℕ} {o : Outcome} → outcome (as_written z) x ≡ o → outcome (as_written z') y ≡ o → z ≡ z'
+same_answer {z} {z'} p q = same-written z z' (ap (λ (o : Outcome). o.answer) (same p q))
 
-  pub same-output : x ≡ y
-  same-output = ap (λ (o : Outcome). o.output) (same p q)
+pub same-output : {z z' : Written} {x y : List ℕ} {o : Outcome} → outcome z x ≡ o → outcome z' y ≡ o → x ≡ y
+same-output p q = ap (λ (o : Outcome). o.output) (same p q)

@@ -4,15 +4,19 @@
 -- count-more, count-done                a turn of the loop that counts, and its end
 -- up-to-short, up-to-is                 they are no more than there are; they are the first ones
 -- up-to-take, up-to-long                of the first n bytes, where c is among them, and where it is not
+-- up-to-place                           how many they are is the place of the first c, as the library counts it
 use Prim.Native.Nat.{ℕ, zero, suc, ◌+◌, ◌≤◌, ◌<◌}
 use native.Mathlib.Omega.{arith}
-use mathlib.Core.Path.{◌≡◌, refl, ap}
+use mathlib.Core.Path.{◌≡◌, ◌∙◌, refl, ap}
 use mathlib.Core.List.{List, [], ◌∷◌}
 use lib.ListN.{length, take, drop, get_or}
-use borrow.Author.Tests.{eq-eqb, ne_eqb}
+use borrow.Author.Tests.{eq-eqb, ne_eqb, lt-ltb, le-ltb}
+use Rattle.std.specs.List.{position_or_len, position}
+use Rattle.std.specs.Option.{unwrap_or}
+use Rattle.std.specs.Prelude.{eqb, Option}
 use Rattle.base.specs.UpTo.{up_to}
 use Rattle.base.proofs.Lists.{next, over}
-use Rattle.base.proofs.Tests.{by-eq}
+use Rattle.base.proofs.Tests.{by-eq, by_le}
 
 module _ (c : ℕ) {bs cs : List ℕ} {b : ℕ} (e : bs ≡ b ∷ cs) where
   pub up-to-stop : b ≡ c → up_to c bs ≡ []
@@ -72,3 +76,17 @@ up-to-long c (suc n) [] h = absurd (omega arith)
 up-to-long c (suc n) (b ∷ l) h =
     by-eq b c (λ e. let k = simp (eq-eqb b c e) at h in absurd (omega (arith, k)))
     (λ m. let k = simp (ne_eqb b c m) at h in simp (ne_eqb b c m) (ap suc (up-to-long c n l (omega (arith, k)))))
+
+-- the library's count of the bytes before the first that is c
+place : (c : ℕ) (l : List ℕ) → position_or_len (λ b. eqb b c) l ≡ length (up_to c l)
+unfolding up_to
+place c [] = refl
+place c (b ∷ l) =
+    let n = position_or_len (λ b. eqb b c) l in
+    by-eq b c (λ e. simp (eq-eqb b c e)) (λ m. simp (ne_eqb b c m) ((let z : 1 + n ≡ suc n = omega arith in z) ∙ ap suc (place c l)))
+
+pub up-to-place : (c : ℕ) (l : List ℕ) {r : Option ℕ} → r ≡ position (λ b. eqb b c) l → unwrap_or r (length l) ≡ length (up_to c l)
+up-to-place c l e =
+    by_le (length l) (position_or_len (λ b. eqb b c) l)
+    (λ h. rw (e, le-ltb _ (length l) h) omega (arith, place c l, up-to-short c l, h))
+    (λ h. rw (e, lt-ltb (position_or_len (λ b. eqb b c) l) (length l) h) (place c l))

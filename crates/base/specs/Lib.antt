@@ -2,6 +2,7 @@ pub mod Choice
 pub mod Bytes
 pub mod Highest
 pub mod UpTo
+pub mod Refusals
 pub mod Written
 pub mod Private
 pub mod Calls

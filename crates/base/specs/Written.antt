@@ -1,11 +1,23 @@
+-- Written, Wrote, Refused   what a call that writes answers: so many bytes, or a refusal by its number in the paper
+-- as_written         the same of what the code answers
 -- Outcome, outcome   what a call that writes answers (answer), and what it leaves in the output lent to it (output)
 -- Keeps              that a refused call leaves the output as it was
 -- refused, write     the two outcomes: every call that writes is promised by them
 -- copied             what copying leaves
-use Rattle.std.specs.Prelude.{ℕ, ◌≡◌, List, ◌++◌, ltb, length, take, drop}
+use Rattle.std.specs.Prelude.{ℕ, ◌≡◌, List, ◌++◌, ltb, length, take, drop, Result, Ok, Err}
 use Rattle.base.specs.Choice.{pick}
-use Rattle.base.specs.declared.Written.{Written}
-use Rattle.base.specs.declared.Written.TheVariants.{Wrote, Refused}
+use Rattle.base.specs.declared.Refusal.{Refusal}
+use Rattle.base.specs.Refusals.{number}
+
+-- so many bytes are written, or the call is refused, by this number of the paper
+pub data Written : Type 0 where
+  Wrote : ℕ → Written
+  Refused : ℕ → Written
+
+-- what the code answers, by the paper's numbers
+abbrev pub as_written : Result ℕ Refusal → Written
+as_written (Ok n) = Wrote n
+as_written (Err r) = Refused (number r)
 
 -- the answer, and the output's bytes
 pub record Outcome : Type 0 where

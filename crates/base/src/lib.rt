@@ -1,119 +1,150 @@
-//! What several crates share: the answer of a call that writes, the copying of bytes, the bytes before the first of a kind.
+//! What several crates share: the refusals, the answer of a call that writes, the copying of bytes, the bytes before the first of a kind.
 #![tactic(auto)]
 
 ghost use Rattle.std.specs.Prelude.{◌≡◌, ◌≤◌, min, length};
 ghost use Rattle.base.specs.Written.{copied};
+ghost use Rattle.base.specs.Refusals.{Names};
 ghost use Rattle.base.specs.UpTo.{up_to};
 
-/// What a call that writes answers.
-#[derive(Clone, Copy)]
-pub enum Written {
-    /// So many bytes are written.
-    Wrote(usize),
-    /// The call is refused, by this number of the paper.
-    Refused(u8),
-}
-
-/// The refusals of the paper and of its requests, by number; 9 and 33 are not used.
-#[derive(Clone, Copy)]
-pub struct Refusal;
-
-impl Refusal {
+/// Why a call, a frame or a file is refused: the refusals of the paper and of its requests, by their numbers; 9 and 33 are not used.
+#[derive(Clone, Copy, Debug, PartialEq, Eq)]
+pub enum Refusal {
     /// A frame has more than 8,272 raw bytes.
-    pub const RAW: u8 = 1;
+    Raw = 1,
     /// The last raw byte is 7D.
-    pub const UNFINISHED: u8 = 2;
+    Unfinished = 2,
     /// 7D is followed by something other than 5E and 5D.
-    pub const ESCAPE: u8 = 3;
+    Escape = 3,
     /// There are fewer than 8 bytes after undoing escapes.
-    pub const SHORT: u8 = 4;
+    Short = 4,
     /// The check differs.
-    pub const CHECK: u8 = 5;
+    Check = 5,
     /// The format byte is neither 0x21 nor 0x26.
-    pub const FORMAT: u8 = 6;
+    Format = 6,
     /// A frame's port is 7D00-7EFF.
-    pub const PORT: u8 = 7;
+    Port = 7,
     /// A frame's payload is above 8,192 bytes as escaped.
-    pub const PAYLOAD: u8 = 8;
+    Payload = 8,
     /// A count of the state is beyond its limit.
-    pub const STATE: u8 = 10;
+    State = 10,
     /// A lent buffer is too short.
-    pub const BUFFER: u8 = 11;
+    Buffer = 11,
     /// A frame's key length is outside 2 to 32, or too few bytes stand behind the key.
-    pub const KEY: u8 = 12;
+    Key = 12,
     /// A payload to be sent is empty.
-    pub const EMPTY: u8 = 20;
+    Empty = 20,
     /// A payload to be sent is above 8,192 bytes as escaped.
-    pub const LONG: u8 = 21;
+    Long = 21,
     /// A port to be sent to is 7D00-7EFF.
-    pub const BARRED: u8 = 22;
+    Barred = 22,
     /// The output is shorter than the result.
-    pub const OUTPUT: u8 = 23;
+    Output = 23,
     /// A format, key length or key number is not to be sent.
-    pub const SENT_KEY: u8 = 24;
+    SentKey = 24,
     /// R is above 64.
-    pub const ROOTS: u8 = 30;
+    Roots = 30,
     /// A message is not 255 - R bytes, or a word is not 255.
-    pub const LENGTH: u8 = 31;
+    Length = 31,
     /// The depth is above 64.
-    pub const DEPTH: u8 = 32;
+    Depth = 32,
     /// A new port finds no free place.
-    pub const FULL: u8 = 40;
+    Full = 40,
     /// A port to be forgotten is not held.
-    pub const UNHELD: u8 = 41;
+    Unheld = 41,
     /// A sub-channel is not one of those configured.
-    pub const SUB_CHANNEL: u8 = 42;
+    SubChannel = 42,
     /// A table of ports has more than 16 places, or holds a port twice.
-    pub const TABLE: u8 = 43;
+    Table = 43,
     /// A number of the sheet would pass 64 bits.
-    pub const WIDE: u8 = 44;
+    Wide = 44,
     /// A unit is too long, has no room for its header, or too few bytes of it are lent.
-    pub const UNIT: u8 = 50;
+    Unit = 50,
     /// A mix of content has no header sequence.
-    pub const MIX: u8 = 51;
+    Mix = 51,
     /// The header matches no sequence.
-    pub const SEQUENCE: u8 = 52;
+    Sequence = 52,
     /// The parts do not fit the unit, or told lengths disagree with its header.
-    pub const PARTS: u8 = 53;
+    Parts = 53,
     /// The delimiter would be found elsewhere, or is not found.
-    pub const DELIMITER: u8 = 54;
+    Delimiter = 54,
     /// A capture does not begin as one.
-    pub const CAPTURE: u8 = 60;
+    Capture = 60,
     /// A record of a capture is cut short, or its lengths are unequal.
-    pub const RECORD: u8 = 61;
+    Record = 61,
     /// A record of a capture is no packet that the sender would accept.
-    pub const NO_PACKET: u8 = 62;
+    NoPacket = 62,
 }
+
+/// A number that is no refusal's.
+#[derive(Clone, Copy, Debug, PartialEq, Eq)]
+pub struct NoRefusal(pub u8);
+
+impl TryFrom<u8> for Refusal {
+    type Error = NoRefusal;
+
+    ghost try_from_gives = { Names };
+
+    fn try_from(number: u8) -> Result<Refusal, NoRefusal> {
+        match number {
+            1 => Ok(Refusal::Raw),
+            2 => Ok(Refusal::Unfinished),
+            3 => Ok(Refusal::Escape),
+            4 => Ok(Refusal::Short),
+            5 => Ok(Refusal::Check),
+            6 => Ok(Refusal::Format),
+            7 => Ok(Refusal::Port),
+            8 => Ok(Refusal::Payload),
+            10 => Ok(Refusal::State),
+            11 => Ok(Refusal::Buffer),
+            12 => Ok(Refusal::Key),
+            20 => Ok(Refusal::Empty),
+            21 => Ok(Refusal::Long),
+            22 => Ok(Refusal::Barred),
+            23 => Ok(Refusal::Output),
+            24 => Ok(Refusal::SentKey),
+            30 => Ok(Refusal::Roots),
+            31 => Ok(Refusal::Length),
+            32 => Ok(Refusal::Depth),
+            40 => Ok(Refusal::Full),
+            41 => Ok(Refusal::Unheld),
+            42 => Ok(Refusal::SubChannel),
+            43 => Ok(Refusal::Table),
+            44 => Ok(Refusal::Wide),
+            50 => Ok(Refusal::Unit),
+            51 => Ok(Refusal::Mix),
+            52 => Ok(Refusal::Sequence),
+            53 => Ok(Refusal::Parts),
+            54 => Ok(Refusal::Delimiter),
+            60 => Ok(Refusal::Capture),
+            61 => Ok(Refusal::Record),
+            62 => Ok(Refusal::NoPacket),
+            _ => Err(NoRefusal(number)),
+        }
+    }
+}
+
+/// What a call that writes answers: so many bytes are written, or why it is refused.
+pub type Written = Result<usize, Refusal>;
 
 /// The smaller of two numbers.
+// Stays beside std's `min`, which the code calls: its laws `least-determined` and `base-least-means` stand.
 pub fn least(a: usize, b: usize) -> usize
     ensures { result ≡ min a b }
 {
-    if a < b { a } else { b }
+    a.min(b)
 }
 
 /// How many bytes stand before the first `c`.
 pub fn up_to(bytes: &[u8], c: u8) -> usize
     ensures { (result ≡ length (up_to c bytes.now)) × (result ≤ length bytes.now) }
 {
-    let mut i: usize = 0;
-    while i < bytes.len() {
-        if bytes[i] == c {
-            return i;
-        }
-        i += 1;
-    }
-    i
+    bytes.iter().position(|b| *b == c).unwrap_or(bytes.len())
 }
 
 /// Stores the bytes of `src` from the start of `dst` on, as many as there is room for.
 pub fn copy(src: &[u8], dst: &mut [u8])
     ensures { dst.new ≡ copied src.now dst.old }
 {
-    let n = least(src.len(), dst.len());
-    let mut i: usize = 0;
-    while i < n {
-        dst[i] = src[i];
-        i += 1;
-    }
+    let n = src.len().min(dst.len());
+    dst[..n].copy_from_slice(&src[..n]);
 }

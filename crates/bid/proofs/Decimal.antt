@@ -1,18 +1,18 @@
 -- Laws of numbers.
--- digit_low, digit-high, digit-next    a byte that is no digit, and a turn of the loop that reads digits
+-- digit-no, digit-yes                  a byte that is no digit, and a turn of the loop that reads digits
 -- digits-over, digits-end              a number too high, and the end
 -- number-none, number-long, number_is  a word by its length
 use Prim.Native.Nat.{ℕ, ◌+◌, ◌-◌, ◌*◌, ◌≤◌, ◌<◌}
 use native.Mathlib.Omega.{arith}
 use mathlib.Core.Path.{◌≡◌, ◌∙◌, ap}
-use mathlib.Core.Bool.{Bool, ◌&&◌}
+use mathlib.Core.Bool.{Bool, true, false, ◌&&◌}
 use mathlib.Core.List.{List, [], ◌∷◌}
 use lib.ListN.{length, drop, get_or}
 use borrow.Author.Tests.{lt-ltb, le-ltb, le-leb, lt-leb}
 use Rattle.base.specs.Choice.{pick}
 use Rattle.base.proofs.Lists.{next, over}
 use Rattle.base.proofs.Tests.{by_le, and-false}
-use Rattle.bid.specs.Line.{digits, value, no_number, number_from, number, digit_limit}
+use Rattle.bid.specs.Line.{is_digit, digits, value, no_number, number_from, number, digit_limit}
 
 value-most : (n : ℕ) (w : List ℕ) → n ≤ value n w
 unfolding value
@@ -20,17 +20,13 @@ value-most n [] = omega arith
 value-most n (b ∷ w) = omega (arith, value-most (n * 10 + (b - 48)) w)
 
 module _ (n : ℕ) (w : List ℕ) (i : ℕ) (h : i < length w) where
-  pub digit_low : get_or w i 0 < 48 → number_from n (drop i w) ≡ no_number
+  pub digit-no : is_digit (get_or w i 0) ≡ false → number_from n (drop i w) ≡ no_number
   unfolding number_from digits value
-  digit_low k = rw (next w i h) (simp (lt-leb _ _ k))
+  digit-no k = rw (next w i h) (simp k)
 
-  pub digit-high : 57 < get_or w i 0 → number_from n (drop i w) ≡ no_number
+  pub digit-yes : is_digit (get_or w i 0) ≡ true → number_from n (drop i w) ≡ number_from (n * 10 + (get_or w i 0 - 48)) (drop (i + 1) w)
   unfolding number_from digits value
-  digit-high k = let l : 48 ≤ get_or w i 0 = omega arith in rw (next w i h) (simp (lt-leb _ _ k, le-leb _ _ l))
-
-  pub digit-next : 48 ≤ get_or w i 0 → get_or w i 0 ≤ 57 → number_from n (drop i w) ≡ number_from (n * 10 + (get_or w i 0 - 48)) (drop (i + 1) w)
-  unfolding number_from digits value
-  digit-next k l = rw (next w i h) (simp (le-leb _ _ k, le-leb _ _ l))
+  digit-yes k = rw (next w i h) (simp k)
 
 pub digits-over : (n : ℕ) (w : List ℕ) → no_number ≤ n → number_from n w ≡ no_number
 unfolding number_from

@@ -6,7 +6,6 @@
 -- Bid-is, bid-found, bid-missed             what a line read shows
 use Prim.Native.Nat.{ℕ, ◌+◌, ◌-◌, ◌≤◌, ◌<◌, min}
 use native.Mathlib.Omega.{arith}
-use native.Mathlib.Nat.{sub-zero}
 use mathlib.Core.Path.{◌≡◌, refl, sym, ◌∙◌, ap}
 use mathlib.Core.Bool.{Bool, true, false, ◌&&◌}
 use mathlib.Core.List.{List, []}
@@ -20,9 +19,14 @@ use Rattle.base.proofs.Lists.{over}
 use Rattle.base.proofs.Parts.{tail-is}
 use Rattle.base.proofs.Tests.{by_le, and-false}
 use Rattle.base.proofs.UpTo.{up-to-is}
-use Rattle.bid.specs.declared.Found.TheVariants.{Bid, NoBid}
+use Rattle.std.specs.Prelude.{Option, Some, None}
+use Rattle.bid.specs.declared.Bid.{Bid}
 use Rattle.bid.specs.Line.{space, past, no_number, number, port, sequence, text, is_bid, text_at, reading}
 use Rattle.bid.proofs.Decimal.{number-none}
+
+-- a line's parts, if it is a bid
+abbrev parts : ℕ → ℕ → ℕ → Option Bid
+parts p s f = Some (record { port = p; sequence = s; from = f })
 
 -- no second part
 no-sequence : (l : List ℕ) → length (up_to space l) ≡ length l → sequence l ≡ no_number
@@ -41,41 +45,42 @@ bid-no-port l h = ap (λ (t : Bool). t && ltb (sequence l) no_number) (le-ltb _ 
 pub bid-both : (l : List ℕ) → port l < no_number → sequence l < no_number → is_bid l ≡ true
 bid-both l h k = ap (λ (t : Bool). t && ltb (sequence l) no_number) (lt-ltb _ _ h) ∙ lt-ltb _ _ k
 
-read_none : (l : List ℕ) → is_bid l ≡ false → NoBid ≡ reading l
+read_none : (l : List ℕ) → is_bid l ≡ false → None ≡ reading l
 unfolding reading
-read_none l e = sym (ap (λ (t : Bool). pick t (Bid (port l) (sequence l) (text_at l)) NoBid) e)
+read_none l e = sym (ap (λ (t : Bool). pick t (parts (port l) (sequence l) (text_at l)) None) e)
 
-pub read_short : (l : List ℕ) {a : ℕ} → a ≡ length (up_to space l) → a ≡ length l → NoBid ≡ reading l
+pub read_short : (l : List ℕ) {a : ℕ} → a ≡ length (up_to space l) → a ≡ length l → None ≡ reading l
 read_short l e h = read_none l (bid-no-sequence l (omega (arith, no-sequence l (sym e ∙ h))))
 
-module _ (l : List ℕ) {a e p s : ℕ} (ea : a ≡ length (up_to space l)) (ep : p ≡ number (take (a - 0) l))
-    (ee : e ≡ length (up_to space (take (length l - (a + 1)) (drop (a + 1) l)))) (es : s ≡ number (take (a + 1 + e - (a + 1)) (drop (a + 1) l))) where
+module _ (l : List ℕ) {a p : ℕ} (ea : a ≡ length (up_to space l)) (ep : p ≡ number (take a l)) where
   port-is : p ≡ port l
-  port-is = ep ∙ ap (λ (n : ℕ). number (take n l)) (sub-zero a ∙ ea) ∙ ap number (sym (up-to-is space l))
+  port-is = ep ∙ ap (λ (n : ℕ). number (take n l)) ea ∙ ap number (sym (up-to-is space l))
 
-  rest-is : drop (a + 1) l ≡ past space l
-  rest-is = ap (λ (n : ℕ). drop (n + 1) l) ea
-
-  end_is : e ≡ length (up_to space (past space l))
-  end_is = ee ∙ ap (λ (x : List ℕ). length (up_to space x)) (tail-is (a + 1) l ∙ rest-is)
-
-  sequence-is : s ≡ sequence l
-  sequence-is =
-      let n : a + 1 + e - (a + 1) ≡ length (up_to space (past space l)) = omega (arith, end_is) in
-      es ∙ (λ i. number (take (n i) (rest-is i))) ∙ ap number (sym (up-to-is space (past space l)))
-
-  pub read-no-port : no_number ≤ p → NoBid ≡ reading l
+  pub read-no-port : no_number ≤ p → None ≡ reading l
   read-no-port h = read_none l (bid-no-port l (omega (arith, port-is)))
 
-  pub read-no-sequence : no_number ≤ s → NoBid ≡ reading l
-  read-no-sequence h = read_none l (bid-no-sequence l (omega (arith, sequence-is)))
+  module _ {e s : ℕ} (ee : e ≡ length (up_to space (take (length l - (a + 1)) (drop (a + 1) l))))
+      (es : s ≡ number (take (a + 1 + e - (a + 1)) (drop (a + 1) l))) where
+    rest-is : drop (a + 1) l ≡ past space l
+    rest-is = ap (λ (n : ℕ). drop (n + 1) l) ea
 
-  pub read-bid : {f : ℕ} → p < no_number → s < no_number → f ≡ min (a + 1 + e + 1) (length l) → Bid p s f ≡ reading l
-  unfolding reading
-  read-bid {f} h k g =
-      let t : f ≡ text_at l = g ∙ (λ i. min (ea i + 1 + end_is i + 1) (length l)) in
-      (λ i. Bid (port-is i) (sequence-is i) (t i))
-      ∙ sym (ap (λ (t : Bool). pick t (Bid (port l) (sequence l) (text_at l)) NoBid) (bid-both l (omega (arith, port-is)) (omega (arith, sequence-is))))
+    end_is : e ≡ length (up_to space (past space l))
+    end_is = ee ∙ ap (λ (x : List ℕ). length (up_to space x)) (tail-is (a + 1) l ∙ rest-is)
+
+    sequence-is : s ≡ sequence l
+    sequence-is =
+        let n : a + 1 + e - (a + 1) ≡ length (up_to space (past space l)) = omega (arith, end_is) in
+        es ∙ (λ i. number (take (n i) (rest-is i))) ∙ ap number (sym (up-to-is space (past space l)))
+
+    pub read-no-sequence : no_number ≤ s → None ≡ reading l
+    read-no-sequence h = read_none l (bid-no-sequence l (omega (arith, sequence-is)))
+
+    pub read-bid : {f : ℕ} → p < no_number → s < no_number → f ≡ min (a + 1 + e + 1) (length l) → parts p s f ≡ reading l
+    unfolding reading
+    read-bid {f} h k g =
+        let t : f ≡ text_at l = g ∙ (λ i. min (ea i + 1 + end_is i + 1) (length l)) in
+        (λ i. parts (port-is i) (sequence-is i) (t i))
+        ∙ sym (ap (λ (t : Bool). pick t (parts (port l) (sequence l) (text_at l)) None) (bid-both l (omega (arith, port-is)) (omega (arith, sequence-is))))
 
 -- the text stands there
 pub text-is : (l : List ℕ) → drop (text_at l) l ≡ text l
@@ -88,24 +93,31 @@ text-is l =
     (λ h. let e : length l ≤ text_at l = omega arith in over l (text_at l) e ∙ sym (d ∙ over l (a + b) (omega arith)))
 
 -- what the call's answer shows
-pub record Bid-is (l : List ℕ) (p s f : ℕ) : Type 0 where
+pub record Bid-is (l : List ℕ) (b : Bid) : Type 0 where
   pub both : is_bid l ≡ true
-  pub port : p ≡ port l
-  pub sequence : s ≡ sequence l
-  pub from : f ≡ text_at l
+  pub port : b.port ≡ port l
+  pub sequence : b.sequence ≡ sequence l
+  pub from : b.from ≡ text_at l
 
-pub bid-found : (l : List ℕ) (p s f : ℕ) → reading l ≡ Bid p s f → Bid-is l p s f
+pub bid-found : (l : List ℕ) (b : Bid) → reading l ≡ Some b → Bid-is l b
 unfolding reading
-bid-found l p s f = go (is_bid l) refl
+bid-found l b = go (is_bid l) refl
   where
-    go : (t : Bool) → is_bid l ≡ t → pick t (Bid (port l) (sequence l) (text_at l)) NoBid ≡ Bid p s f → Bid-is l p s f
-    go true h e = record { both = h; port = cc; sequence = cc; from = cc }
-    go false h e = let z : ◌≡◌ {A = ℕ} 0 1 = cc in absurd (omega arith)
+    go : (t : Bool) → is_bid l ≡ t → pick t (parts (port l) (sequence l) (text_at l)) None ≡ Some b → Bid-is l b
+    go true h e =
+        let same : record { port = port l; sequence = sequence l; from = text_at l } ≡ b = cc in
+        record {
+          both = h;
+          port = ap (λ (x : Bid). x.port) (sym same);
+          sequence = ap (λ (x : Bid). x.sequence) (sym same);
+          from = ap (λ (x : Bid). x.from) (sym same);
+        }
+    go false h e = absurd cc
 
-pub bid-missed : (l : List ℕ) → reading l ≡ NoBid → is_bid l ≡ false
+pub bid-missed : (l : List ℕ) → reading l ≡ None → is_bid l ≡ false
 unfolding reading
 bid-missed l = go (is_bid l) refl
   where
-    go : (t : Bool) → is_bid l ≡ t → pick t (Bid (port l) (sequence l) (text_at l)) NoBid ≡ NoBid → is_bid l ≡ false
+    go : (t : Bool) → is_bid l ≡ t → pick t (parts (port l) (sequence l) (text_at l)) None ≡ None → is_bid l ≡ false
     go true h e = let z : ◌≡◌ {A = ℕ} 0 1 = cc in absurd (omega arith)
     go false h e = h

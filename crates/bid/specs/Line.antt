@@ -7,13 +7,12 @@
 -- Verdict, verdict           no bid, refused by its number, or a packet to be sent
 -- line_limit                  so many first bytes decide that
 -- reading                    what the call that reads a line answers
-use Rattle.std.specs.Prelude.{ℕ, ◌+◌, ◌-◌, ◌*◌, min, Bool, true, ◌&&◌, List, [], ◌∷◌, ltb, leb, length, drop}
+use Rattle.std.specs.Prelude.{ℕ, ◌+◌, ◌-◌, ◌*◌, min, Bool, true, ◌&&◌, List, [], ◌∷◌, ltb, leb, length, drop, Option, Some, None}
 use Rattle.base.specs.Choice.{pick}
 use Rattle.base.specs.UpTo.{up_to}
 use Rattle.packet_spec.specs.Sender.{refusing}
 use Rattle.packet_spec.specs.Contents.{Packet, plain_packet, payload_limit}
-use Rattle.bid.specs.declared.Found.{Found}
-use Rattle.bid.specs.declared.Found.TheVariants.{Bid, NoBid}
+use Rattle.bid.specs.declared.Bid.{Bid}
 
 -- a line feed ends a line
 abbrev pub feed : ℕ
@@ -100,5 +99,5 @@ abbrev pub text_at : List ℕ → ℕ
 text_at l = min (length (up_to space l) + 1 + length (up_to space (past space l)) + 1) (length l)
 
 -- the call that reads a line
-unfoldable pub reading : List ℕ → Found
-reading l = pick (is_bid l) (Bid (port l) (sequence l) (text_at l)) NoBid
+unfoldable pub reading : List ℕ → Option Bid
+reading l = pick (is_bid l) (Some (record { port = port l; sequence = sequence l; from = text_at l })) None

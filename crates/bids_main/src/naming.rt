@@ -25,9 +25,7 @@ pub fn say_no_bid(rt: &impl Speak, number: u64, line: &[u8]) {
 
 // Whether a line begins with a byte order mark, of UTF-8 or of UTF-16.
 fn has_mark(line: &[u8]) -> bool {
-    begins(line, b"\xEF\xBB\xBF") || begins(line, b"\xFF\xFE") || begins(line, b"\xFE\xFF")
-}
-
-fn begins(line: &[u8], first: &[u8]) -> bool {
-    line.starts_with(first)
+    line.starts_with(b"\xEF\xBB\xBF")
+        || line.starts_with(b"\xFF\xFE")
+        || line.starts_with(b"\xFE\xFF")
 }

@@ -15,19 +15,15 @@ pub fn put(rt: &(impl Print + Speak), recording: bool, bytes: &[u8]) -> io::Resu
     if !recording {
         return print(rt, bytes);
     }
-    let mut at: usize = 0;
-    while at < bytes.len() {
-        let end = at + base::least(bytes.len() - at, RECORD);
-        put_record(rt, &bytes[at..end])?;
-        at = end;
+    for record in bytes.chunks(RECORD) {
+        put_record(rt, record)?;
     }
     Ok(())
 }
 
 // A record, behind what says that it is one and how long.
 fn put_record(rt: &(impl Print + Speak), bytes: &[u8]) -> io::Result<()> {
-    let n = bytes.len();
-    let head = [0xF5, 0x5F, (n % 256) as u8, (n / 256 % 256) as u8];
-    print(rt, &head)?;
+    let [low, high, ..] = bytes.len().to_le_bytes();
+    print(rt, &[0xF5, 0x5F, low, high])?;
     print(rt, bytes)
 }

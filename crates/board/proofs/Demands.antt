@@ -1,7 +1,7 @@
 -- What the board shows is what the bytes mean, for every range of ports, every cutting and every room, and the calls come to their end.
 -- shown-bare     the bytes of an opportunistic channel
 -- shown-taped    a recording, and what is said behind its last byte
-use Prim.Native.Nat.{ℕ, ◌+◌, ◌≤◌, ◌<◌}
+use Prim.Native.Nat.{ℕ, ◌≤◌, ◌<◌}
 use native.Mathlib.Omega.{arith}
 use mathlib.Core.Path.{◌≡◌, refl, sym, ◌∙◌, ap, subst}
 use mathlib.Core.Bool.{Bool, true, false}
@@ -21,7 +21,7 @@ use Rattle.board_spec.specs.Meaning.{written_all, shows, board_text, recording_t
 use Rattle.recording.specs.Deck.{fresh}
 use Rattle.recording.specs.Call.{far}
 use Rattle.recording.proofs.Means.{deck-means, fresh-owes}
-use Rattle.board.specs.Source.{source, source_owes, source_all}
+use Rattle.board.specs.Source.{source_owes, source_all}
 use Rattle.board.specs.Owed.{nothing}
 use Rattle.board.specs.Call.{Screen, screen_of, readout_of, fresh_readout, last_by, last_lines, recv_on}
 use Rattle.board.specs.Runs.{meant, ShowsAll, Run, EveryShow}

@@ -38,10 +38,10 @@ use Rattle.recording.specs.Deck.{Deck, deck_hear}
 use Rattle.recording.specs.Call.{far}
 use Rattle.recording.proofs.Kept.{Kept, hear-kept}
 use Rattle.board.specs.declared.owed.Owed.{Owed}
-use Rattle.board.specs.declared.readout.Wants.TheVariants.{More, Again}
+use Rattle.board.specs.Wants.{More, Again}
 use Rattle.board.specs.Source.{Source, source, memory_in, source_owes, source_hand, source_eat, source_all, source_hear}
 use Rattle.board.specs.Owed.{alone, nothing, with_text, owing, forth, forth_by}
-use Rattle.board.specs.Call.{Screen, screen, recv_on, owed_on, Part, part, partly, table_for, heard_by, takes_on, near_by, takes}
+use Rattle.board.specs.Call.{Screen, recv_on, owed_on, Part, part, partly, table_for, heard_by, takes_on, near_by, takes}
 use Rattle.board.specs.Runs.{Shows, more, again, done, piece, Run}
 use Rattle.board.proofs.Sources.{source-hand-one, hear-bare, hear-taped}
 use Rattle.board.proofs.Left.{Whole, piece-whole, forth-short, left_by}

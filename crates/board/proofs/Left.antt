@@ -6,7 +6,7 @@
 -- piece-whole, forth-whole, forth-short   a piece keeps within its bytes, and does so a byte further
 -- left-new, left-next    a new piece, and the next one
 -- owes-left, left-owes   some is owed exactly where some is left
-use Prim.Native.Nat.{ℕ, zero, suc, ◌+◌, ◌-◌, ◌/◌, ◌%◌, ◌≤◌, ◌<◌}
+use Prim.Native.Nat.{ℕ, zero, suc, ◌-◌, ◌/◌, ◌%◌, ◌≤◌, ◌<◌}
 use native.Mathlib.Omega.{arith}
 use mathlib.Core.Path.{◌≡◌, refl, sym, ◌∙◌, ap, subst}
 use mathlib.Core.Bool.{Bool, true, false}

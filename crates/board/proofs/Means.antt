@@ -32,8 +32,8 @@ use Rattle.board_spec.specs.Parts.{lead, remark}
 use Rattle.board_spec.proofs.Split.{all-written}
 use Rattle.board_spec.proofs.Ranges.{regarded-joined}
 use Rattle.board_lines.specs.Piece.{piece_of}
-use Rattle.board.specs.declared.readout.Wants.{Wants}
-use Rattle.board.specs.declared.readout.Wants.TheVariants.{More, Again, Refused}
+use Rattle.board.specs.Wants.{Wants}
+use Rattle.board.specs.Wants.{More, Again, Refused}
 use Rattle.board.specs.Source.{Source, memory_in, source_owes, source_hand, source_eat, source_all, source_hear}
 use Rattle.board.specs.Owed.{alone, nothing, with_text, owing, left}
 use Rattle.board.specs.Call.{Screen, screen, readout_of, recv_on, owed_on, Part, partly, table_for, heard_by, takes_on, sound_state, takes_by, takes}

@@ -2,12 +2,11 @@
 -- take-asks                what its parts ask
 -- take_part                the output is full
 -- take_more, take-answer   all that is owed is out: no answer, or one
--- take-unsound, take-cramped, take-let-on   refused with 10, with 11, or let on
-use Prim.Native.Nat.{ℕ, ◌+◌, ◌-◌, ◌≤◌, ◌<◌}
+use Prim.Native.Nat.{ℕ, ◌≤◌, ◌<◌}
 use native.Mathlib.Omega.{arith}
 use mathlib.Core.Path.{◌≡◌, refl, sym, ◌∙◌, ap, subst}
-use mathlib.Core.Bool.{true, false, ◌&&◌}
-use mathlib.Core.List.{List, [], ◌++◌}
+use mathlib.Core.Bool.{Bool, true, false, ◌&&◌}
+use mathlib.Core.List.{List, ◌++◌}
 use mathlib.Core.Option.{Option, some, none}
 use lib.ListN.{length, take, drop, length-drop}
 use lib.Seq.{take-length, length-take-le}
@@ -16,7 +15,7 @@ use Rattle.base.specs.Choice.{pick}
 use Rattle.base.proofs.Tests.{and_parts}
 use Rattle.packet_spec.specs.Frame.{packet, refusal, broken}
 use Rattle.channel_spec.specs.Meaning.{Event, said, block, lost}
-use Rattle.channel.specs.Call.{sound, roomy}
+use Rattle.channel.specs.Call.{sound}
 use Rattle.channel_spec.specs.Answer.{answered}
 use Rattle.listing_spec.specs.Lines.{longest, given}
 use Rattle.ports.specs.ByValue.{sound_ports}
@@ -26,13 +25,20 @@ use Rattle.recording.specs.Call.{deck_of, is_more}
 use Rattle.board.specs.declared.owed.Owed.{Owed}
 use Rattle.board.specs.declared.owed.Put.{Put}
 use Rattle.board.specs.declared.readout.Readout.{Readout}
-use Rattle.board.specs.declared.readout.Wants.TheVariants.{More, Again, Refused}
-use Rattle.board.specs.declared.readout.Took.{Took}
+use Rattle.std.specs.Prelude.{Result, Ok}
+use Rattle.base.specs.declared.Refusal.{Refusal}
+use Rattle.board.specs.declared.readout.Wants.{Wants as Asked}
+use Rattle.board.specs.declared.readout.Wants.TheVariants as asked
+use Rattle.board.specs.Wants.{as_wants, More, Again}
 use Rattle.board.specs.Source.{source, source_hear}
 use Rattle.board.specs.Owed.{owes, left, forth_by, sound_owed}
-use Rattle.board.specs.Call.{Screen, screen_of, Part, part, partly, heard_by, takes_on, near_by, sound_state, takes_by, takes, took_of, TookIs}
+use Rattle.board.specs.Call.{Screen, screen_of, Part, partly, heard_by, takes_on, near_by, sound_state, took_of, TookIs}
 use Rattle.board.specs.Private.{PutIs, HeardIs, answered_by}
 use Rattle.board.proofs.Left.{Whole, left-none, left-owes, left_by}
+
+-- what is wanted, by: is there no answer
+abbrev wanting : Bool → Result Asked Refusal
+wanting t = pick t (Ok asked.More) (Ok asked.Again)
 
 -- with something else owed, and with the tape further on
 abbrev owing_of : Readout → Owed → Readout
@@ -71,7 +77,7 @@ module _ (r : Readout) (recv word bs out : List ℕ) where
 
       -- the output is full
       pub take_part : {x : Readout} → owes put.owed ≡ true → x ≡ owing_of r put.owed
-          → TookIs (takes_on (length out) s bs) (record { wants = Again; taken = 0; written = put.written; next = x }) recv word out out'
+          → TookIs (takes_on (length out) s bs) (record { wants = Ok asked.Again; taken = 0; written = put.written; next = x }) recv word out out'
       unfolding takes_on
       take_part {x} e f =
           let w = subst Whole (sym p.owed) (left_by put.written r.owed recv whole within).1 in
@@ -95,13 +101,13 @@ module _ (r : Readout) (recv word bs out : List ℕ) where
       heard-took : (o : Option Event) (n : ℕ) (t : RecordingReader) (l k : List ℕ) {x : Readout} → put.written ≡ length T → out' ≡ T ++ drop (length T) out
           → x ≡ answered_by (on_tape r t) (answered o)
           → TookIs (heard_by s (o, n, source r.bare (deck_of t l k)))
-          (record { wants = pick (is_more (answered o)) More Again; taken = n; written = put.written; next = x })
+          (record { wants = wanting (is_more (answered o)); taken = n; written = put.written; next = x })
           l k out out'
       heard-took none n t l k w e f = ((λ i. record { wants = More; taken = n; written = w i; next = f i }), refl, refl, e)
       heard-took (some a) n t l k {x} w e f = (go a f, refl, refl, e)
         where
           go : (a : Event) → x ≡ answered_by (on_tape r t) (given a)
-              → record { wants = pick (is_more (given a)) More Again; taken = n; written = put.written; next = x } ≡ took_of
+              → record { wants = as_wants (wanting (is_more (given a))); taken = n; written = put.written; next = x } ≡ took_of
               (heard_by s (some a, n, source r.bare (deck_of t l k)))
           go (said (packet q)) f = λ i. record { wants = Again; taken = n; written = w i; next = f i }
           go (said (refusal m)) f = λ i. record { wants = Again; taken = n; written = w i; next = f i }
@@ -128,50 +134,28 @@ module _ (r : Readout) (recv word bs out : List ℕ) where
             (le-ltb (length out) (length T) (omega (arith, over, p.written)))
             ∙ ap (heard_by s) heard.1
 
-        took : TookIs (takes_on (length out) s bs) (record { wants = pick (is_more h.answer) More Again; taken = h.taken; written = put.written; next = x })
+        took : TookIs (takes_on (length out) s bs) (record { wants = wanting (is_more h.answer); taken = h.taken; written = put.written; next = x })
             l k out out'
         took =
-            subst (λ (q : Part). TookIs q (record { wants = pick (is_more h.answer) More Again; taken = h.taken; written = put.written; next = x }) l k out
+            subst (λ (q : Part). TookIs q (record { wants = wanting (is_more h.answer); taken = h.taken; written = put.written; next = x }) l k out
             out')
             (sym heard-it)
             (subst (λ a. TookIs (heard_by s (o, h.taken, source r.bare (deck_of h.tape l k)))
-            (record { wants = pick (is_more a) More Again; taken = h.taken; written = put.written; next = x }) l k out out') (sym heard.0)
+            (record { wants = wanting (is_more a); taken = h.taken; written = put.written; next = x }) l k out out') (sym heard.0)
             (heard-took o h.taken h.tape l k out-is
             (p.output ∙ ap (λ n. take n T ++ drop n out) out-is ∙ ap (λ y. y ++ drop (length T) out) (take-length T))
             (next ∙ ap (answered_by (on_tape r h.tape)) heard.0)))
 
         -- no answer ..
         pub take_more : is_more h.answer ≡ true
-            → TookIs (takes_on (length out) s bs) (record { wants = More; taken = h.taken; written = put.written; next = x }) l k out out'
+            → TookIs (takes_on (length out) s bs) (record { wants = Ok asked.More; taken = h.taken; written = put.written; next = x }) l k out out'
         take_more e =
-            subst (λ t. TookIs (takes_on (length out) s bs) (record { wants = pick t More Again; taken = h.taken; written = put.written; next = x }) l k out
+            subst (λ t. TookIs (takes_on (length out) s bs) (record { wants = wanting t; taken = h.taken; written = put.written; next = x }) l k out
             out') e took
 
         -- .. or one
         pub take-answer : is_more h.answer ≡ false
-            → TookIs (takes_on (length out) s bs) (record { wants = Again; taken = h.taken; written = put.written; next = x }) l k out out'
+            → TookIs (takes_on (length out) s bs) (record { wants = Ok asked.Again; taken = h.taken; written = put.written; next = x }) l k out out'
         take-answer e =
-            subst (λ t. TookIs (takes_on (length out) s bs) (record { wants = pick t More Again; taken = h.taken; written = put.written; next = x }) l k out
+            subst (λ t. TookIs (takes_on (length out) s bs) (record { wants = wanting t; taken = h.taken; written = put.written; next = x }) l k out
             out') e took
-
-  -- ---- refused with 10, with 11, or let on
-  refusing : (n : ℕ) {x : Took} → x ≡ record { wants = Refused n; taken = 0; written = 0; next = r } → TookIs (part (Refused n) 0 [] s) x recv word out out
-  refusing n e = (e, refl, refl, refl)
-
-  pub take-unsound : {x : Took} → sound_state r (length bs) ≡ false → x ≡ record { wants = Refused 10; taken = 0; written = 0; next = r }
-      → TookIs (takes (length out) s bs) x recv word out out
-  take-unsound {x} e h = subst (λ t. TookIs (takes_by t (roomy recv word) (length out) s bs) x recv word out out) (sym e) (refusing 10 h)
-
-  pub take-cramped : {x : Took} → sound_state r (length bs) ≡ true → roomy recv word ≡ false
-      → x ≡ record { wants = Refused 11; taken = 0; written = 0; next = r }
-      → TookIs (takes (length out) s bs) x recv word out out
-  take-cramped {x} e f h =
-      subst (λ t. TookIs (takes_by t (roomy recv word) (length out) s bs) x recv word out out) (sym e)
-      (subst (λ t. TookIs (takes_by true t (length out) s bs) x recv word out out) (sym f) (refusing 11 h))
-
-  pub take-let-on : {x : Took} {l k out' : List ℕ} → sound_state r (length bs) ≡ true → roomy recv word ≡ true
-      → TookIs (takes_on (length out) s bs) x l k out out'
-      → TookIs (takes (length out) s bs) x l k out out'
-  take-let-on {x} {l} {k} {out'} e f h =
-      subst (λ t. TookIs (takes_by t (roomy recv word) (length out) s bs) x l k out out') (sym e)
-      (subst (λ t. TookIs (takes_by true t (length out) s bs) x l k out out') (sym f) h)

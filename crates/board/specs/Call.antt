@@ -26,8 +26,8 @@ use Rattle.board_spec.specs.Meaning.{Line, table_behind, regards, ending}
 use Rattle.recording.specs.Call.{fresh_tape, deck_of, tape_of, near_spot}
 use Rattle.board.specs.declared.owed.Owed.{Owed}
 use Rattle.board.specs.declared.readout.Readout.{Readout}
-use Rattle.board.specs.declared.readout.Wants.{Wants}
-use Rattle.board.specs.declared.readout.Wants.TheVariants.{More, Again, Refused}
+use Rattle.board.specs.Wants.{Wants, Got, as_got}
+use Rattle.board.specs.Wants.{More, Again, Refused}
 use Rattle.board.specs.declared.readout.Took.{Took}
 use Rattle.board.specs.Source.{Source, source, memory_in, source_hear}
 use Rattle.board.specs.Owed.{nothing, owing, left, forth_by, sound_owed}
@@ -121,13 +121,13 @@ abbrev pub takes : ℕ → Screen → List ℕ → Part
 takes room s bs = takes_by (sound_state (readout_of s) (length bs)) (roomy (recv_on s) (memory_in s.source.deck).word) room s bs
 
 -- the code's result of a call
-abbrev pub took_of : Part → Took
+abbrev pub took_of : Part → Got
 took_of p = record { wants = p.wants; taken = p.taken; written = length p.text; next = readout_of p.screen }
 
 -- r is the result, l and k the buffers and out' the output of a call
 abbrev pub TookIs : Part → Took → List ℕ → List ℕ → List ℕ → List ℕ → Type 0
 TookIs p r l k out out' =
-    (r ≡ took_of p) × (l ≡ recv_on p.screen) × (k ≡ (memory_in p.screen.source.deck).word) × (out' ≡ p.text ++ drop (length p.text) out)
+    (as_got r ≡ took_of p) × (l ≡ recv_on p.screen) × (k ≡ (memory_in p.screen.source.deck).word) × (out' ≡ p.text ++ drop (length p.text) out)
 
 -- behind the last byte: bare bytes end anywhere
 abbrev pub last_by : Bool → Spot → List Line

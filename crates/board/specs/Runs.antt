@@ -14,7 +14,7 @@ use Rattle.ports_spec.specs.declared.Entry.{Entry}
 use Rattle.ports_spec.specs.declared.Range.{Range}
 use Rattle.board_spec.specs.Meaning.{table_behind, board_lines, regarded, written_all}
 use Rattle.board.specs.declared.readout.Readout.{Readout}
-use Rattle.board.specs.declared.readout.Wants.TheVariants.{More, Again}
+use Rattle.board.specs.Wants.{More, Again}
 use Rattle.board.specs.Source.{Source, source_all}
 use Rattle.board.specs.Owed.{nothing}
 use Rattle.board.specs.Call.{Screen, screen, screen_of, owed_on, takes}

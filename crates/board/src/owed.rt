@@ -9,6 +9,7 @@ use listing_lines::Line;
 use packet::Delivery;
 
 /// Text that is owed: the rest of a piece, and behind it perhaps a packet's text and the line feed that ends it.
+// `text` and `delivery` are no Option: callers hand this state in, and may hold any delivery beside a false `text`.
 #[derive(Clone, Copy)]
 pub struct Owed {
     pub piece: Piece,
@@ -27,13 +28,6 @@ pub struct Owed {
 pub(crate) struct Put {
     pub owed: Owed,
     pub written: usize,
-}
-
-// Whether so many bytes are no more than a piece has.
-fn within(bytes: [u8; Line::LONGEST], n: usize) -> bool
-    ensures { (result ≡ leb n longest) × (length bytes ≡ longest) }
-{
-    n <= bytes.len()
 }
 
 impl Owed {
@@ -82,17 +76,14 @@ impl Owed {
     pub(crate) fn owes(self) -> bool
         ensures { result ≡ owes self }
     {
-        let piece = self.piece;
-        self.out < piece.length
+        self.out < self.piece.length
     }
 
     // Whether the piece keeps within its bytes.
     pub(crate) fn sound(self) -> bool
         ensures { (result ≡ sound_owed self) × (length self.piece.bytes ≡ longest) }
     {
-        let piece = self.piece;
-        let bytes = piece.bytes;
-        within(bytes, piece.length)
+        self.piece.length <= self.piece.bytes.len()
     }
 
     // The next piece: a byte of the text, its line feed, or none.
@@ -102,19 +93,17 @@ impl Owed {
         if !self.text {
             return Owed::nothing();
         }
-        let delivery = self.delivery;
-        let payload = stream::payload(recv, delivery);
-        let at = self.at;
-        if at < payload.len() {
-            return Owed {
-                piece: Piece::shown_byte(payload[at]),
+        let payload = stream::payload(recv, self.delivery);
+        if self.at < payload.len() {
+            Owed {
+                piece: Piece::shown_byte(payload[self.at]),
                 out: 0,
-                text: true,
-                delivery,
-                at: at + 1,
-            };
+                at: self.at + 1,
+                ..self
+            }
+        } else {
+            Owed::alone(Piece::line_feed())
         }
-        Owed::alone(Piece::line_feed())
     }
 
     // One byte further.
@@ -122,19 +111,12 @@ impl Owed {
         requires { (owes self ≡ true) × (self.piece.length ≤ longest) }
         ensures { result ≡ forth self recv.now }
     {
-        let piece = self.piece;
-        let delivery = self.delivery;
-        let next = self.out + 1;
-        if next < piece.length {
-            return Owed {
-                piece,
-                out: next,
-                text: self.text,
-                delivery,
-                at: self.at,
-            };
+        let out = self.out + 1;
+        if out < self.piece.length {
+            Owed { out, ..self }
+        } else {
+            self.next_piece(recv)
         }
-        self.next_piece(recv)
     }
 
     // As much as the output has room for.
@@ -143,18 +125,16 @@ impl Owed {
         ensures { PutIs self recv.now out.old result out.new }
     {
         let mut owed = self;
-        let mut w: usize = 0;
-        while w < out.len() {
+        for w in 0..out.len() {
             if !owed.owes() {
                 return Put { owed, written: w };
             }
-            let piece = owed.piece;
-            let bytes = piece.bytes;
-            let i = owed.out;
-            out[w] = bytes[i];
+            out[w] = owed.piece.bytes[owed.out];
             owed = owed.forth(recv);
-            w += 1;
         }
-        Put { owed, written: w }
+        Put {
+            owed,
+            written: out.len(),
+        }
     }
 }

@@ -7,7 +7,6 @@ ghost use Rattle.packet_spec.specs.declared.Judged.TheVariants.{Packet as Delive
 ghost use Rattle.board_spec.specs.Meaning.{written_all};
 ghost use Rattle.board_lines.specs.Piece.{piece_of};
 ghost use Rattle.recording.specs.Call.{deck_of};
-ghost use Rattle.board.specs.declared.readout.Wants.TheVariants.{Refused};
 ghost use Rattle.board.specs.Source.{source, source_hear};
 ghost use Rattle.board.specs.Owed.{owed_packet};
 ghost use Rattle.board.specs.Call.{fresh_readout, screen_of, near_by, sound_state, last_lines, takes, takes_on, TookIs};
@@ -43,14 +42,13 @@ pub enum Wants {
     More,
     /// Another call, with room and the rest of the bytes.
     Again,
-    /// The call is refused, by this number of the paper.
-    Refused(u8),
 }
 
 /// The result of a call.
 #[derive(Clone, Copy)]
 pub struct Took {
-    pub wants: Wants,
+    /// Or why the call is refused.
+    pub wants: Result<Wants, Refusal>,
     /// Bytes of the piece taken.
     pub taken: usize,
     /// Bytes of the output written.
@@ -64,18 +62,19 @@ fn owed_packet(noted: Noted, delivery: Delivery) -> Owed
 {
     let piece = Piece::lead(noted, delivery);
     if delivery.format == Packet::KEY_FORMAT {
-        return Owed::alone(piece);
+        Owed::alone(piece)
+    } else {
+        Owed::with_text(piece, delivery)
     }
-    Owed::with_text(piece, delivery)
 }
 
 impl Took {
     // The call is refused: nothing is taken and nothing written.
-    fn refused(number: u8, readout: Readout) -> Self
-        ensures { result ≡ record { wants = Refused number; taken = 0; written = 0; next = readout } }
+    fn refused(refusal: Refusal, readout: Readout) -> Self
+        ensures { result ≡ record { wants = Err refusal; taken = 0; written = 0; next = readout } }
     {
         Took {
-            wants: Wants::Refused(number),
+            wants: Err(refusal),
             taken: 0,
             written: 0,
             next: readout,
@@ -102,106 +101,42 @@ impl Readout {
     fn owing(self, owed: Owed) -> Self
         ensures { result ≡ record { bare = self.bare; blocks = self.blocks; range = self.range; tape = self.tape; ports = self.ports; owed = owed } }
     {
-        let range = self.range;
-        let tape = self.tape;
-        let ports = self.ports;
-        Readout {
-            bare: self.bare,
-            blocks: self.blocks,
-            range,
-            tape,
-            ports,
-            owed,
-        }
+        Readout { owed, ..self }
     }
 
     // With the tape further on.
     fn on(self, tape: RecordingReader) -> Self
         ensures { result ≡ record { bare = self.bare; blocks = self.blocks; range = self.range; tape = tape; ports = self.ports; owed = self.owed } }
     {
-        let range = self.range;
-        let ports = self.ports;
-        let owed = self.owed;
-        Readout {
-            bare: self.bare,
-            blocks: self.blocks,
-            range,
-            tape,
-            ports,
-            owed,
-        }
+        Readout { tape, ..self }
     }
 
     // Whether the offset cannot pass its width on n bytes.
     fn near(self, n: usize) -> bool
         ensures { result ≡ near_by self.bare self.tape.spot n }
     {
-        let tape = self.tape;
-        let at = tape.spot;
-        if self.bare {
-            return true;
-        }
-        at.offset <= u64::MAX - n as u64
+        self.bare || self.tape.spot.offset <= u64::MAX - n as u64
     }
 
     // Whether the state passes 10, for n bytes more.
     fn sound(self, n: usize) -> bool
         ensures { (result ≡ sound_state self n) × (length self.owed.piece.bytes ≡ longest) }
     {
-        let tape = self.tape;
-        let receiver = tape.receiver;
-        let ports = self.ports;
-        let owed = self.owed;
-        let whole = owed.sound();
-        if !receiver.sound() {
-            return false;
-        }
-        if !self.near(n) {
-            return false;
-        }
-        if !ports.sound() {
-            return false;
-        }
-        whole
+        self.tape.receiver.sound() && self.near(n) && self.ports.sound() && self.owed.sound()
     }
 
     // A packet of the range is noted, and owed.
     fn deliver(self, delivery: Delivery) -> Self
         ensures { result ≡ answered_by self (Said (Delivered delivery)) }
     {
-        let range = self.range;
-        if !range.has(delivery.port) {
+        if !self.range.has(delivery.port) {
             return self.owing(Owed::nothing());
         }
-        let before = self.ports;
-        let tape = self.tape;
-        let told = before.note(delivery.port, delivery.sequence);
-        let noted = told.noted;
-        let ports = told.ports;
+        let told = self.ports.note(delivery.port, delivery.sequence);
         Readout {
-            bare: self.bare,
-            blocks: self.blocks,
-            range,
-            tape,
-            ports,
-            owed: owed_packet(noted, delivery),
-        }
-    }
-
-    // A frame's answer.
-    fn tell(self, judged: Judged) -> Self
-        ensures { result ≡ answered_by self (Said judged) }
-    {
-        match judged {
-            Judged::Packet(delivery) => self.deliver(delivery),
-            Judged::Refused(_) => self.owing(Owed::alone(Piece::remark(
-                self.blocks,
-                Answer::Said(judged),
-            ))),
-            Judged::Broken(_) => self.owing(Owed::alone(Piece::remark(
-                self.blocks,
-                Answer::Said(judged),
-            ))),
+            ports: told.ports,
+            owed: owed_packet(told.noted, delivery),
+            ..self
         }
     }
 
@@ -211,9 +146,10 @@ impl Readout {
     {
         match answer {
             Answer::More => self.owing(Owed::nothing()),
-            Answer::Said(judged) => self.tell(judged),
-            Answer::Block(_) => self.owing(Owed::alone(Piece::remark(self.blocks, answer))),
-            Answer::LockLost => self.owing(Owed::alone(Piece::remark(self.blocks, answer))),
+            Answer::Said(Judged::Packet(delivery)) => self.deliver(delivery),
+            Answer::Said(Judged::Refused(_) | Judged::Broken(_))
+            | Answer::Block(_)
+            | Answer::LockLost => self.owing(Owed::alone(Piece::remark(self.blocks, answer))),
         }
     }
 
@@ -221,19 +157,13 @@ impl Readout {
     fn hear_bare(self, recv: &mut [u8], word: &mut [u8], piece: &[u8]) -> Hearing
         ensures { BareIs (deck_of self.tape recv.old word.old) piece.now result recv.new word.new }
     {
-        let tape = self.tape;
-        let spot = tape.spot;
-        let before = tape.receiver;
-        let heard = before.hear(recv, word, piece);
-        let answer = heard.answer;
-        let receiver = heard.receiver;
+        let heard = self.tape.receiver.hear(recv, word, piece);
         Hearing {
-            answer,
+            answer: heard.answer,
             taken: heard.taken,
             tape: RecordingReader {
-                spot,
-                channel: tape.channel,
-                receiver,
+                receiver: heard.receiver,
+                ..self.tape
             },
         }
     }
@@ -246,10 +176,10 @@ impl Readout {
             result recv.new word.new }
     {
         if self.bare {
-            return self.hear_bare(recv, word, piece);
+            self.hear_bare(recv, word, piece)
+        } else {
+            self.tape.next(recv, word, piece)
         }
-        let tape = self.tape;
-        tape.next(recv, word, piece)
     }
 
     // A call behind refusals 10 and 11.
@@ -258,30 +188,27 @@ impl Readout {
         ensures { TookIs (takes_on (length out.old) (screen_of self recv.old word.old) piece.now)
             result recv.new word.new out.old out.new }
     {
-        let before = self.owed;
-        let put = before.put(recv, out);
-        let owed = put.owed;
-        if owed.owes() {
+        let put = self.owed.put(recv, out);
+        if put.owed.owes() {
             return Took {
-                wants: Wants::Again,
+                wants: Ok(Wants::Again),
                 taken: 0,
                 written: put.written,
-                next: self.owing(owed),
+                next: self.owing(put.owed),
             };
         }
         let heard = self.hear(recv, word, piece);
-        let answer = heard.answer;
-        let next = self.on(heard.tape).answer(answer);
+        let next = self.on(heard.tape).answer(heard.answer);
         if heard.is_more() {
             return Took {
-                wants: Wants::More,
+                wants: Ok(Wants::More),
                 taken: heard.taken,
                 written: put.written,
                 next,
             };
         }
         Took {
-            wants: Wants::Again,
+            wants: Ok(Wants::Again),
             taken: heard.taken,
             written: put.written,
             next,
@@ -294,10 +221,10 @@ impl Readout {
             result recv.new word.new out.old out.new }
     {
         if !self.sound(piece.len()) {
-            return Took::refused(Refusal::STATE, self);
+            return Took::refused(Refusal::State, self);
         }
         if !Receiver::has_room(recv, word) {
-            return Took::refused(Refusal::BUFFER, self);
+            return Took::refused(Refusal::Buffer, self);
         }
         self.take_on(recv, word, piece, out)
     }
@@ -306,14 +233,10 @@ impl Readout {
     pub fn finish(self) -> Piece
         ensures { result ≡ piece_of (written_all (last_lines self)) }
     {
-        let tape = self.tape;
-        let at = tape.spot;
-        if self.bare {
-            return Piece::none();
+        if self.bare || self.tape.may_end() {
+            Piece::none()
+        } else {
+            Piece::wrong_at(self.tape.spot.offset)
         }
-        if tape.may_end() {
-            return Piece::none();
-        }
-        Piece::wrong_at(at.offset)
     }
 }

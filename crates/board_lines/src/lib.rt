@@ -24,6 +24,7 @@ pub struct Piece {
     pub length: usize,
 }
 
+// Each piece is put by a function of its own: a closure for it in one shared function would be no plainer, as its contract would stand there too.
 impl Piece {
     /// A line feed.
     pub fn line_feed() -> Piece
@@ -87,19 +88,14 @@ fn sixteenth(n: u8) -> u8
     requires { n < 16 }
     ensures { result ≡ sixteenth n }
 {
-    if n < 10 {
-        return 48 + n;
-    }
-    55 + n
+    if n < 10 { b'0' + n } else { b'A' - 10 + n }
 }
 
 // A byte by its number.
 fn put_numbered(text: &mut [u8], b: u8) -> usize
     ensures { Puts text.old 0 (by_number b) text.new result }
 {
-    let high = sixteenth(b / 16);
-    let low = sixteenth(b % 16);
-    let shown = [b'\\', b'x', high, low];
+    let shown = [b'\\', b'x', sixteenth(b / 16), sixteenth(b % 16)];
     put_text(text, 0, &shown)
 }
 
@@ -107,17 +103,11 @@ fn put_numbered(text: &mut [u8], b: u8) -> usize
 fn put_shown(text: &mut [u8], b: u8) -> usize
     ensures { Puts text.old 0 (shown_byte b) text.new result }
 {
-    if b == b'\\' {
-        return put_text(text, 0, b"\\\\");
+    match b {
+        b'\\' => put_text(text, 0, b"\\\\"),
+        b' '..=b'~' => put_text(text, 0, &[b]),
+        _ => put_numbered(text, b),
     }
-    if b < 32 {
-        return put_numbered(text, b);
-    }
-    if b > 126 {
-        return put_numbered(text, b);
-    }
-    let shown = [b];
-    put_text(text, 0, &shown)
 }
 
 // Lines ahead of a packet's own.
@@ -125,15 +115,12 @@ fn put_ahead(text: &mut [u8], noted: Noted, port: u16) -> usize
     ensures { Puts text.old 0 (written_all (ahead_of noted port)) text.new result }
 {
     match noted {
-        Noted::First => 0,
-        Noted::InOrder => 0,
-        Noted::Repeated => 0,
+        Noted::First | Noted::InOrder | Noted::Repeated | Noted::Late => 0,
         Noted::Missing(n) => {
             let a = put_text(text, 0, b"! missing ");
             let b = put_item(text, a, port as u64, b' ');
             put_item(text, b, n as u64, b'\n')
         }
-        Noted::Late => 0,
         Noted::Refused(_) => {
             let a = put_text(text, 0, b"! unwatched ");
             put_item(text, a, port as u64, b'\n')
@@ -154,18 +141,17 @@ fn put_own(text: &mut [u8], at: usize, noted: Noted, port: u16, sequence: u16) -
     ensures { Puts text.old at (own_lead noted port sequence) text.new result }
 {
     match noted {
-        Noted::First => put_heading(text, at, port, sequence),
-        Noted::InOrder => put_heading(text, at, port, sequence),
+        Noted::First | Noted::InOrder | Noted::Missing(_) | Noted::Refused(_) => {
+            put_heading(text, at, port, sequence)
+        }
         Noted::Repeated => {
             let a = put_text(text, at, b"! repeated ");
             put_heading(text, a, port, sequence)
         }
-        Noted::Missing(_) => put_heading(text, at, port, sequence),
         Noted::Late => {
             let a = put_text(text, at, b"! late ");
             put_heading(text, a, port, sequence)
         }
-        Noted::Refused(_) => put_heading(text, at, port, sequence),
     }
 }
 
@@ -202,7 +188,7 @@ fn put_refused(text: &mut [u8], judged: Judged) -> usize
         }
         Judged::Broken(place) => {
             let a = put_text(text, 0, b"! frame refused ");
-            let b = put_item(text, a, Refusal::ESCAPE as u64, b' ');
+            let b = put_item(text, a, Refusal::Escape as u64, b' ');
             put_item(text, b, place as u64, b'\n')
         }
     }
@@ -213,19 +199,12 @@ fn put_block_told(text: &mut [u8], blocks: bool, condition: Condition) -> usize
     ensures { Puts text.old 0 (written_all (block_lines blocks condition)) text.new result }
 {
     match condition {
-        Condition::Clean => {
-            if blocks {
-                return put_text(text, 0, b"! block clean\n");
-            }
-            0
+        Condition::Clean if blocks => put_text(text, 0, b"! block clean\n"),
+        Condition::Repaired(count) if blocks => {
+            let a = put_text(text, 0, b"! block repaired ");
+            put_item(text, a, count as u64, b'\n')
         }
-        Condition::Repaired(count) => {
-            if blocks {
-                let a = put_text(text, 0, b"! block repaired ");
-                return put_item(text, a, count as u64, b'\n');
-            }
-            0
-        }
+        Condition::Clean | Condition::Repaired(_) => 0,
         Condition::Beyond => put_text(text, 0, b"! block beyond repair\n"),
     }
 }

@@ -4,29 +4,27 @@
 //! so on standard error and stops; where the input is no whole recording, it says so behind the last line.
 #![tactic(auto)]
 
-ghost use Rattle.std.specs.Prelude.{◌≤◌, length, IfOk};
+ghost use Rattle.std.specs.Prelude.{◌≤◌};
 
 use board::{Readout, Wants};
 use channel::Receiver;
-use console::{LAST_PORT, Speak, is_argument, say};
+use console::{Speak, is_argument, say};
 use ports_spec::Range;
 use std::env::Env;
 use std::io;
 use std::io::Read;
 use std::process::ExitCode;
 
-// The board behind a call.
-#[derive(Clone, Copy)]
-struct Turn {
-    // The rest of the piece is to be handed in again.
-    again: bool,
-    // It goes on; else it was said why not.
-    go: bool,
-    taken: usize,
-    next: Readout,
+// A board, and the memory that its calls are lent.
+#[derive(Drop)]
+struct Board {
+    readout: Readout,
+    recv: [u8; Receiver::RAW],
+    word: [u8; Receiver::WORD],
+    out: [u8; ROOM],
 }
 
-// Bytes that are read at once.
+// Bytes that are read at once: fewer than console::each_piece reads, so the board reads by itself.
 const PIECE: usize = 4096;
 
 // Bytes of text that a call may write.
@@ -56,13 +54,15 @@ fn choose_ports(
     if count == place {
         return choose(rt, blocks, Range::all());
     }
-    let first = console::port(rt, place);
-    let last = console::port(rt, place + 1);
-    if count != place + 2 || first > last || last > LAST_PORT {
-        usage(rt);
-        return Ok(());
+    match (console::port(rt, place), console::port(rt, place + 1)) {
+        (Some(first), Some(last)) if count == place + 2 && first <= last => {
+            choose(rt, blocks, Range { first, last })
+        }
+        _ => {
+            usage(rt);
+            Ok(())
+        }
     }
-    choose(rt, blocks, console::range(first, last))
 }
 
 // What the first argument asks for.
@@ -86,11 +86,13 @@ fn usage(rt: &impl Speak) {
 
 // Standard input, piece by piece as it comes.
 fn show(rt: &(impl Input + Print + Speak), fresh: Readout) -> io::Result<()> {
-    let mut recv = [0u8; Receiver::RAW];
-    let mut word = [0u8; Receiver::WORD];
+    let mut board = Board {
+        readout: fresh,
+        recv: [0; Receiver::RAW],
+        word: [0; Receiver::WORD],
+        out: [0; ROOM],
+    };
     let mut piece = [0u8; PIECE];
-    let mut out = [0u8; ROOM];
-    let mut readout = fresh;
     let mut input = rt.reader();
     for reads in 0..u64::MAX {
         let Ok(n) = input.read(&mut piece) else {
@@ -98,19 +100,9 @@ fn show(rt: &(impl Input + Print + Speak), fresh: Readout) -> io::Result<()> {
             return Ok(());
         };
         if n == 0 {
-            return finish(rt, readout);
+            return board.finish(rt);
         }
-        let turn = read_piece(
-            rt,
-            reads,
-            readout,
-            &mut recv,
-            &mut word,
-            &piece[0..n],
-            &mut out,
-        )?;
-        readout = turn.next;
-        if !goes_on(rt, turn)? {
+        if !board.read_piece(rt, reads, &piece[..n])? {
             return Ok(());
         }
     }
@@ -119,20 +111,6 @@ fn show(rt: &(impl Input + Print + Speak), fresh: Readout) -> io::Result<()> {
 
 fn say_unread(rt: &impl Speak) {
     console::say_unread(rt, b"board");
-}
-
-// A piece read: the first one may be worth a hint.
-fn read_piece(
-    rt: &(impl Print + Speak),
-    reads: u64,
-    start: Readout,
-    recv: &mut [u8],
-    word: &mut [u8],
-    piece: &[u8],
-    out: &mut [u8],
-) -> io::Result<Turn> {
-    hint(rt, start.bare, reads, piece);
-    read_out(rt, start, recv, word, piece, out)
 }
 
 // The first bytes of a stream: where they are a recording's, that is said. They are read as told all the same.
@@ -148,105 +126,62 @@ fn hint(rt: &impl Speak, bare: bool, reads: u64, begin: &[u8]) {
     }
 }
 
-// Whether more is to be read: not where it was said why not, nor behind a recording's wrong byte, where nothing more is shown.
-fn goes_on(rt: &(impl Print + Speak), turn: Turn) -> io::Result<bool> {
-    let next = turn.next;
-    let tape = next.tape;
-    if !turn.go {
-        return Ok(false);
-    }
-    if tape.is_wrong() {
-        finish(rt, next)?;
-        return Ok(false);
-    }
-    Ok(true)
-}
-
-// A piece, until more is wanted.
-fn read_out(
-    rt: &(impl Print + Speak),
-    start: Readout,
-    recv: &mut [u8],
-    word: &mut [u8],
-    piece: &[u8],
-    out: &mut [u8],
-) -> io::Result<Turn> {
-    let mut turn = Turn {
-        again: true,
-        go: false,
-        taken: 0,
-        next: start,
-    };
-    let mut i: usize = 0;
-    for _ in 0..u64::MAX {
-        turn = call(rt, turn.next, recv, word, &piece[i..], out)?;
-        i += turn.taken;
-        if !turn.again {
-            return Ok(turn);
+impl Board {
+    // A piece read, of which the first may be worth a hint. Whether more is to be read: not where it was said why not, nor behind a recording's
+    // wrong byte, where nothing more is shown.
+    fn read_piece(
+        &mut self,
+        rt: &(impl Print + Speak),
+        reads: u64,
+        piece: &[u8],
+    ) -> io::Result<bool> {
+        hint(rt, self.readout.bare, reads, piece);
+        if !self.read_out(rt, piece)? {
+            return Ok(false);
         }
-    }
-    Ok(turn)
-}
-
-// One call, and what it wrote.
-fn call(
-    rt: &(impl Print + Speak),
-    start: Readout,
-    recv: &mut [u8],
-    word: &mut [u8],
-    piece: &[u8],
-    out: &mut [u8],
-) -> io::Result<Turn>
-    ensures { IfOk result (λ t. t.taken ≤ length piece.now) }
-{
-    let took = start.take(recv, word, piece, out);
-    let taken = took.taken;
-    let next = took.next;
-    let wants = took.wants;
-    let n = took.written;
-    print(rt, &out[0..n])?;
-    Ok(Turn {
-        again: wants_again(wants),
-        go: !is_refused(rt, wants),
-        taken,
-        next,
-    })
-}
-
-fn wants_again(wants: Wants) -> bool {
-    match wants {
-        Wants::More => false,
-        Wants::Again => true,
-        Wants::Refused(_) => false,
-    }
-}
-
-// Whether a call was refused: no recording of less than 2^64 bytes comes to that, and no stream.
-fn is_refused(rt: &impl Speak, wants: Wants) -> bool {
-    match wants {
-        Wants::More => false,
-        Wants::Again => false,
-        Wants::Refused(_) => {
-            say(rt, b"board: the recording is too long\n");
-            true
+        if self.readout.tape.is_wrong() {
+            self.finish(rt)?;
+            return Ok(false);
         }
+        Ok(true)
+    }
+
+    // A piece, until more is wanted: whether the board goes on, else it was said why not.
+    fn read_out(&mut self, rt: &(impl Print + Speak), piece: &[u8]) -> io::Result<bool> {
+        let mut rest = piece;
+        for _ in 0..u64::MAX {
+            let took = self
+                .readout
+                .take(&mut self.recv, &mut self.word, rest, &mut self.out);
+            self.readout = took.next;
+            rest = &rest[took.taken.min(rest.len())..];
+            print(rt, &self.out[..took.written.min(ROOM)])?;
+            match took.wants {
+                Ok(Wants::Again) => {}
+                Ok(Wants::More) => return Ok(true),
+                // No recording of less than 2^64 bytes comes to that, and no stream.
+                Err(_) => {
+                    say_long(rt);
+                    return Ok(false);
+                }
+            }
+        }
+        Ok(true)
+    }
+
+    // What is still to be said behind the last byte: a line where the input is no whole recording, and else none.
+    fn finish(&self, rt: &(impl Print + Speak)) -> io::Result<()> {
+        let last = self.readout.finish();
+        if last.length > 0 {
+            print(rt, &last.bytes[..last.length.min(last.bytes.len())])?;
+            say(rt, b"board: no whole recording\n");
+        }
+        Ok(())
     }
 }
 
-// What is still to be said behind the last byte.
-fn finish(rt: &(impl Print + Speak), readout: Readout) -> io::Result<()> {
-    let last = readout.finish();
-    let text = last.bytes;
-    put(rt, last.length, &text)
-}
-
-// .. the first so many bytes of a text: a line where the input is no whole recording, and else none.
-fn put(rt: &(impl Print + Speak), n: usize, text: &[u8]) -> io::Result<()> {
-    if n > 0 {
-        print(rt, &text[0..base::least(n, text.len())])?;
-        say(rt, b"board: no whole recording\n");
-    }
-    Ok(())
+fn say_long(rt: &impl Speak) {
+    say(rt, b"board: the recording is too long\n");
 }
 
 // Text to standard output.

@@ -19,8 +19,8 @@ use Rattle.packet_spec.specs.Frame.{Told, packet, refusal, broken, judge}
 use Rattle.packet_spec.specs.Sender.{Accepted}
 use Rattle.packet_spec.proofs.Only.{judge-only}
 use Rattle.stream.specs.Meaning.{Reading, waiting, inside, closing, read_at, read, reads}
-use Rattle.repair.specs.declared.Mended.{Mended}
-use Rattle.repair.specs.declared.Mended.TheVariants.{Clean, Repaired, Beyond, Refused}
+use Rattle.repair.specs.Mended.{Mended}
+use Rattle.repair.specs.Mended.{Clean, Repaired, Beyond, Refused}
 use Rattle.repair.specs.Promise.{Promised}
 use Rattle.repair.specs.Way.{repaired}
 use Rattle.repair.proofs.Meeting.{repaired-promised}

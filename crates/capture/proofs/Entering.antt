@@ -2,7 +2,7 @@
 -- part-short, part-long                                 what is fetched behind a delivery
 -- told-most                                             a packet has few bytes
 -- length-record, record-put                             one record, from what its calls leave
--- enter-short, enter-fits, enter-none, enter-broken     what the call answers and leaves
+-- enter-short, enter-fits, enter-none                   what the call answers and leaves
 use mathlib.Core.Path.{◌≡◌, refl, sym, ap, ap₂, ◌∙◌}
 use mathlib.Core.Bool.{Bool}
 use mathlib.Core.List.{List, [], ◌++◌}
@@ -15,17 +15,17 @@ use lib.ListN.{length, take, drop, length-drop}
 use lib.Seq.{drop-drop}
 use Rattle.base.specs.Choice.{pick}
 use Rattle.base.specs.Written.{outcome, refused, write, copied}
-use Rattle.base.specs.declared.Written.TheVariants as written
+use Rattle.base.specs.Written as written
 use Rattle.base.proofs.Parts.{tail-is, tail-put}
 use Rattle.base.proofs.Writing.{copied-fits, wrote-fits, wrote-short}
 use Rattle.packet_spec.specs.Contents.{Packet, payload_at}
-use Rattle.packet_spec.specs.Frame.{Told, packet, refusal, broken, judged}
+use Rattle.packet_spec.specs.Frame.{Told, packet, refusal, broken, delivery, judged}
 use Rattle.packet_spec.specs.declared.Delivery.{Delivery}
 use Rattle.packet_spec.specs.declared.Judged.{Judged}
 use Rattle.packet_spec.specs.declared.Judged.TheVariants.{Packet as Delivered, Refused, Broken}
 use Rattle.capture_spec.specs.File.{record_of}
 use Rattle.capture_spec.specs.Meaning.{entry, entry_limit}
-use Rattle.capture_spec.proofs.Entry.{entry-most}
+use Rattle.capture_spec.proofs.Entry.{entry-ways, entry-most}
 use Rattle.capture.specs.Export.{packed_part, entering_by, entering}
 use Rattle.capture.specs.Private.{head_of}
 
@@ -85,18 +85,6 @@ module _ (i : ℕ) (bs out : List ℕ) {j : Judged} (e : j ≡ judged (entry bs)
         → outcome (written.Wrote (length bs + 16)) z ≡ entering i bs out
     enter-fits h q = wrote-fits (record_of i bs) out (length bs + 16) (length-record i bs) h q ∙ sym enter_one
 
-  pub enter-none : {n : ℕ} → j ≡ Refused n → refused n out ≡ entering i bs out
-  enter-none {n} f = go (entry bs) (sym f ∙ e)
-    where
-      go : (t : Told) → Refused n ≡ judged t → refused n out ≡ entering_by t i bs out
-      go (packet p) q = absurd (let z : ◌≡◌ {A = ℕ} 0 1 = cc in omega arith)
-      go (refusal m) q = let z : n ≡ m = cc in ap (λ (k : ℕ). refused k out) z
-      go (broken m) q = absurd (let z : ◌≡◌ {A = ℕ} 0 1 = cc in omega arith)
-
-  pub enter-broken : {n : ℕ} → j ≡ Broken n → refused 62 out ≡ entering i bs out
-  enter-broken {n} f = go (entry bs) (sym f ∙ e)
-    where
-      go : (t : Told) → Broken n ≡ judged t → refused 62 out ≡ entering_by t i bs out
-      go (packet p) q = absurd (let z : ◌≡◌ {A = ℕ} 0 1 = cc in omega arith)
-      go (refusal m) q = absurd (let z : ◌≡◌ {A = ℕ} 0 1 = cc in omega arith)
-      go (broken m) q = refl
+  pub enter-none : ((d : Delivery) → j ≡ Delivered d → ⊥) → refused 62 out ≡ entering i bs out
+  enter-none f =
+      entry-ways bs (λ (t : Told). j ≡ judged t → refused 62 out ≡ entering_by t i bs out) (λ q. refl) (λ p six is q. absurd (f (delivery p) q)) e

@@ -21,7 +21,8 @@ use Rattle.base.proofs.Lists.{next, over}
 use Rattle.base.proofs.Tests.{by-eq}
 use Rattle.packet_spec.specs.Frame.{Told, refusal, judged}
 use Rattle.packet_spec.specs.declared.Judged.TheVariants.{Refused}
-use Rattle.stream.specs.declared.frame.Heard.TheVariants.{More, Said}
+use Rattle.std.specs.Prelude.{None, Some}
+use Rattle.stream.specs.Call.{answered}
 use Rattle.capture_spec.specs.File.{header}
 use Rattle.capture_spec.specs.Meaning.{entry, entry_limit, four_at}
 use Rattle.capture_spec.proofs.Entry.{entry-ways}
@@ -30,7 +31,7 @@ use Rattle.capture.specs.declared.reader.CaptureReader.TheVariants.{Header, Head
 use Rattle.capture.specs.declared.reader.Read.{Read}
 use Rattle.capture.specs.declared.reader.Step.{Step}
 use Rattle.capture.specs.Call.{Held, held, says, next as behind, whole_by, take_by, take_byte, read_all, read_on, read_call, sound, Fine, read_of, ReadIs}
-use Rattle.capture.specs.Private.{is_some, StepIs}
+use Rattle.capture.specs.Private.{StepIs}
 
 -- ---- counts within their limits, behind each byte
 headed-sound : (m n : ℕ) → sound (pick (eqb m n) (pick (eqb m 0) (says (refusal 62)) (none, Record m 0)) (says (refusal 61))).1 ≡ true
@@ -106,32 +107,32 @@ module _ {h : Held} {piece : List ℕ} {i : ℕ} {c : CaptureReader} {st : List 
   one : read_on h piece ≡ after i (unless got.0 1 got.1 (one_more (read_on got.1 (drop (i + 1) piece))))
   one = g.means ∙ ap (λ (bs : List ℕ). after i (read_on (held c st) bs)) (next piece i l)
 
-  told : (o : Option Told) (t : Held) (x : Option Told × ℕ × Held) → is_some o ≡ true → after i (unless o 1 t x) ≡ (o, i + 1, t)
-  told none t x e = absurd (false≢true e)
+  told : (o : Option Told) (t : Held) (x : Option Told × ℕ × Held) → (answered o ≡ None → ⊥) → after i (unless o 1 t x) ≡ (o, i + 1, t)
+  told none t x e = absurd (e refl)
   told (some a) t x e = refl
 
-  untold : (o : Option Told) (t : Held) (x : Option Told × ℕ × Held) → is_some o ≡ false → after i (unless o 1 t (one_more x)) ≡ after (i + 1) x
+  untold : (o : Option Told) (t : Held) (x : Option Told × ℕ × Held) → answered o ≡ None → after i (unless o 1 t (one_more x)) ≡ after (i + 1) x
   untold none t x e = after_more i x
-  untold (some a) t x e = absurd (false≢true (sym e))
+  untold (some a) t x e = absurd cc
 
-  pub going_end : r.done ≡ true → ReadIs (read_on h piece) (record { heard = r.heard; taken = i + 1; capture = r.capture }) st'
+  pub going_end : (r.heard ≡ None → ⊥) → ReadIs (read_on h piece) (record { heard = r.heard; taken = i + 1; capture = r.capture }) st'
   going_end d =
-      let e = one ∙ told got.0 got.1 _ (ap (λ (x : Step). x.done) (sym s.0) ∙ d) in (
+      let e = one ∙ told got.0 got.1 _ (λ z. d (ap (λ (x : Step). x.heard) s.0 ∙ z)) in (
         (λ j. record { heard = (s.0 j).heard; taken = i + 1; capture = (s.0 j).capture }) ∙ ap read_of (sym e),
         s.1 ∙ ap (λ (x : Option Told × ℕ × Held). x.2.store) (sym e),
       )
 
-  pub going_next : r.done ≡ false → Going h piece (i + 1) (held r.capture st')
+  pub going_next : r.heard ≡ None → Going h piece (i + 1) (held r.capture st')
   going_next d =
       let e : got.1 ≡ held r.capture st' = λ j. held (sym s.0 j).capture (sym s.1 j) in record {
         within = omega (arith, l);
-        means = one ∙ untold got.0 got.1 _ (ap (λ (x : Step). x.done) (sym s.0) ∙ d)
+        means = one ∙ untold got.0 got.1 _ (ap (λ (x : Step). x.heard) (sym s.0) ∙ d)
             ∙ ap (λ (x : Held). after (i + 1) (read_on x (drop (i + 1) piece))) e;
         fine = subst Fine e (fine-take (held c st) (get_or piece i 0) g.fine);
       }
 
 pub going_done : {h : Held} {piece : List ℕ} {i : ℕ} {c : CaptureReader} {st : List ℕ} → Going h piece i (held c st) → length piece ≤ i
-    → ReadIs (read_on h piece) (record { heard = More; taken = i; capture = c }) st
+    → ReadIs (read_on h piece) (record { heard = None; taken = i; capture = c }) st
 going_done {h} {piece} {i} {c} {st} g l =
     let e : read_on h piece ≡ (none, i, held c st) = g.means ∙ ap (λ (bs : List ℕ). after i (read_on (held c st) bs)) (over piece i l)
     ∙ (λ j. (none, add-zero i j, held c st)) in
@@ -139,11 +140,11 @@ going_done {h} {piece} {i} {c} {st} g l =
 
 -- ---- the call
 module _ (h : Held) (bs : List ℕ) where
-  pub call-unsound : sound h.st ≡ false → ReadIs (read_call h bs) (record { heard = Said (Refused 10); taken = 0; capture = h.st }) h.store
+  pub call-unsound : sound h.st ≡ false → ReadIs (read_call h bs) (record { heard = Some (Refused 10); taken = 0; capture = h.st }) h.store
   call-unsound e = rw e (refl, refl)
 
   module _ (s : sound h.st ≡ true) where
-    pub call-cramped : length h.store < entry_limit → ReadIs (read_call h bs) (record { heard = Said (Refused 11); taken = 0; capture = h.st }) h.store
+    pub call-cramped : length h.store < entry_limit → ReadIs (read_call h bs) (record { heard = Some (Refused 11); taken = 0; capture = h.st }) h.store
     call-cramped l = rw (s, lt-leb entry_limit (length h.store) l) (refl, refl)
 
     pub call-on : entry_limit ≤ length h.store → {r : Read} {l : List ℕ} → ReadIs (read_on h bs) r l → ReadIs (read_call h bs) r l

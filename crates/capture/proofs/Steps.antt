@@ -10,8 +10,7 @@ use mathlib.Core.Path.{◌≡◌, refl, sym, ap, subst, ◌∙◌}
 use mathlib.Core.Bool.{Bool, true, false, ◌&&◌}
 use mathlib.Core.List.{List}
 use mathlib.Core.Option.{Option, none}
-use Prim.Native.Nat.{ℕ, ◌+◌, ◌-◌, ◌≤◌, ◌<◌}
-use native.Mathlib.Nat.{sub-zero}
+use Prim.Native.Nat.{ℕ, ◌+◌, ◌≤◌, ◌<◌}
 use native.Mathlib.Omega.{arith}
 use borrow.Author.Tests.{eq-eqb, ne_eqb, lt-ltb, le-ltb, le-leb, lt-leb, ltb-true}
 use lib.Dec.{eqb, leb}
@@ -19,7 +18,7 @@ use lib.ListN.{length, get_or, take, set, length-set}
 use Rattle.base.specs.Choice.{pick}
 use Rattle.packet_spec.specs.Frame.{Told, refusal, judged}
 use Rattle.packet_spec.specs.declared.Judged.{Judged}
-use Rattle.stream.specs.declared.frame.Heard.TheVariants.{Said}
+use Rattle.std.specs.Prelude.{Some}
 use Rattle.capture_spec.specs.File.{header}
 use Rattle.capture_spec.specs.Meaning.{entry, entry_limit, four_at}
 use Rattle.capture.specs.declared.reader.CaptureReader.{CaptureReader}
@@ -47,8 +46,8 @@ module _ {c : CaptureReader} where
     sound-record {n} {d} e = ltb-true d n (sym (ap sound e) ∙ s)
 
 -- an answer
-pub said-is : (t : Told) {j : Judged} {r : Step} → j ≡ judged t → r ≡ record { done = true; heard = Said j; capture = next j } → r ≡ step_of (says t)
-said-is t e f = f ∙ (λ i. record { done = true; heard = Said (e i); capture = next (e i) })
+pub said-is : (t : Told) {j : Judged} {r : Step} → j ≡ judged t → r ≡ record { heard = Some j; capture = next j } → r ≡ step_of (says t)
+said-is t e f = f ∙ (λ i. record { heard = Some (e i); capture = next (e i) })
 
 -- ---- the phases
 -- the header's byte is right
@@ -95,10 +94,10 @@ module _ (n : ℕ) (st : List ℕ) {r : Step} where
   pub whole_long : entry_limit < n → r ≡ step_of (says (refusal 62)) → r ≡ step_of (whole_by n st)
   whole_long h e = e ∙ sym (ap (λ (t : Bool). step_of (says (pick t (refusal 62) (entry (take n st))))) (lt-ltb entry_limit n h))
 
-  pub whole-kept : {j : Judged} → n ≤ entry_limit → j ≡ judged (entry (take (n - 0) st)) → r ≡ record { done = true; heard = Said j; capture = next j }
+  pub whole-kept : {j : Judged} → n ≤ entry_limit → j ≡ judged (entry (take n st)) → r ≡ record { heard = Some j; capture = next j }
       → r ≡ step_of (whole_by n st)
   whole-kept h g e =
-      said-is (entry (take n st)) (g ∙ ap (λ (m : ℕ). judged (entry (take m st))) (sub-zero n)) e
+      said-is (entry (take n st)) g e
       ∙ sym (ap (λ (t : Bool). step_of (says (pick t (refusal 62) (entry (take n st))))) (le-ltb entry_limit n h))
 
 -- ---- the state that was matched

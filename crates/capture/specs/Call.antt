@@ -5,11 +5,12 @@
 -- read_all                   what a byte string means: its answers, and state and store behind it
 -- sound                     whether no count of a state is beyond its limit
 -- read_on, read_by, read_call, read_of, ReadIs   one call, behind refusals 10 and 11, and that the code's results are those
+-- Ended, Whole, Refused, as_ended   what the end of the file says, and the same of what the code answers
 -- ending, finishing, ended_as   the end of the file, and its number
 -- EveryCut                  a file, cut in every way
 -- Fine                      states and stores that pass 10 and 11 (counts, room)
 -- Stands                    that a delivered packet's bytes stand in the store
-use Rattle.std.specs.Prelude.{ℕ, ◌+◌, ◌≤◌, ◌≡◌, Bool, true, false, ◌&&◌, List, eqb, ltb, leb, length, get_or, take, set}
+use Rattle.std.specs.Prelude.{ℕ, ◌+◌, ◌≤◌, ◌≡◌, Bool, true, false, ◌&&◌, List, eqb, ltb, leb, length, get_or, take, set, Result, Ok, Err}
 use Rattle.std.proofs.Math.Option.{Option, some, none}
 use Rattle.base.specs.Bytes.{Bytes}
 use Rattle.base.specs.Calls.{joined, owes_none, hands_none, all, hear, Yields}
@@ -24,8 +25,8 @@ use Rattle.capture.specs.Export.{Fetched}
 use Rattle.capture.specs.declared.reader.CaptureReader.{CaptureReader}
 use Rattle.capture.specs.declared.reader.CaptureReader.TheVariants.{Header, Head, Record, Behind}
 use Rattle.capture.specs.declared.reader.Read.{Read}
-use Rattle.capture.specs.declared.reader.Ended.{Ended}
-use Rattle.capture.specs.declared.reader.Ended.TheVariants.{Whole, Refused}
+use Rattle.base.specs.Refusals.{number}
+use Rattle.base.specs.declared.Refusal.{Refusal}
 
 -- state and store
 pub record Held : Type 0 where
@@ -124,6 +125,16 @@ read_of x = record { heard = answered x.0; taken = x.1; capture = x.2.st }
 -- r is the result, and l the store, of a call
 abbrev pub ReadIs : Option Told × ℕ × Held → Read → List ℕ → Type 0
 ReadIs x r l = (r ≡ read_of x) × (l ≡ x.2.store)
+
+-- the file ends behind its header or behind a record, or it is refused, by this number of the paper
+pub data Ended : Type 0 where
+  Whole : Ended
+  Refused : ℕ → Ended
+
+-- what the code answers, by the paper's numbers
+abbrev pub as_ended : Result (Unit {0}) Refusal → Ended
+as_ended (Ok x) = Whole
+as_ended (Err r) = Refused (number r)
 
 -- the end of the file: 60 the header is not whole, 61 a record cut short, the fault before it
 abbrev pub ending : CaptureReader → Ended

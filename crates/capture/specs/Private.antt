@@ -1,9 +1,9 @@
 -- What private functions alone are promised by.
 -- head_of                    a record's head
 -- asked                     what the sender says of a packet, asked with no room for its output
--- is_some, step_of, StepIs    what a byte gives
-use Rattle.std.specs.Prelude.{ℕ, ◌≡◌, Bool, true, false, List, ◌++◌}
-use Rattle.std.proofs.Math.Option.{Option, some, none}
+-- step_of, StepIs    what a byte gives
+use Rattle.std.specs.Prelude.{ℕ, ◌≡◌, List, ◌++◌}
+use Rattle.std.proofs.Math.Option.{Option}
 use Rattle.packet_spec.specs.Contents.{Packet}
 use Rattle.packet_spec.specs.Frame.{Told, packet, refusal}
 use Rattle.packet_spec.specs.Sender.{refusing}
@@ -21,14 +21,9 @@ head_of i n = four i ++ (four 0 ++ (four n ++ four n))
 abbrev pub asked : Packet → Told
 asked p = refusing p (λ n. refusal 62) (packet p)
 
--- there is one
-abbrev pub is_some : {A : Type 0} → Option A → Bool
-is_some none = false
-is_some (some a) = true
-
 -- an answer, if there is one, and the state behind it
 abbrev pub step_of : Option Told × CaptureReader → Step
-step_of x = record { done = is_some x.0; heard = answered x.0; capture = x.1 }
+step_of x = record { heard = answered x.0; capture = x.1 }
 
 -- .. with the store
 abbrev pub StepIs : Option Told × Held → Step → List ℕ → Type 0

@@ -13,23 +13,8 @@ use packet::{Delivery, Judged, Packet};
 pub fn packed(recv: &[u8], delivery: Delivery) -> &[u8]
     ensures { result.now ≡ packed_part delivery recv.now }
 {
-    let at = packet::payload_at(delivery.key);
-    let length = delivery.length;
-    if recv.len() < at {
-        return &recv[..0];
-    }
-    if recv.len() - at < length {
-        return &recv[..0];
-    }
-    let end = at + length;
-    &recv[0..end]
-}
-
-// A byte as a length.
-fn wide(b: u8) -> usize
-    ensures { (result ≡ b) × (result < 256) }
-{
-    b as usize
+    let end = packet::payload_at(delivery.key).saturating_add(delivery.length);
+    recv.get(..end).unwrap_or(&[])
 }
 
 // Asks the sender, with no room for its output: only that it misses for a packet that it would accept.
@@ -49,20 +34,18 @@ fn ask(format: u8, number: u8, key: &[u8], rest: &[u8]) -> Judged
         &rest[4..],
         &mut nowhere,
     ) {
-        Written::Wrote(_) => Judged::Refused(Refusal::NO_PACKET),
-        Written::Refused(n) => {
-            if n == Refusal::OUTPUT {
-                return Judged::Packet(Delivery {
-                    format,
-                    number,
-                    key: key.len() as u8,
-                    port,
-                    sequence,
-                    length: rest.len() - 4,
-                });
-            }
-            Judged::Refused(Refusal::NO_PACKET)
-        }
+        Ok(_) => Judged::Refused(Refusal::NoPacket as u8),
+        Err(refusal) => match refusal {
+            Refusal::Output => Judged::Packet(Delivery {
+                format,
+                number,
+                key: key.len() as u8,
+                port,
+                sequence,
+                length: rest.len() - 4,
+            }),
+            _ => Judged::Refused(Refusal::NoPacket as u8),
+        },
     }
 }
 
@@ -72,18 +55,18 @@ pub(crate) fn told(bytes: &[u8]) -> Judged
 {
     let n = bytes.len();
     if n < 6 {
-        return Judged::Refused(Refusal::NO_PACKET);
+        return Judged::Refused(Refusal::NoPacket as u8);
     }
     let format = bytes[0];
-    if format == Packet::PLAIN_FORMAT {
-        return ask(format, 0, &bytes[0..0], &bytes[1..]);
+    match format {
+        Packet::PLAIN_FORMAT => ask(format, 0, &bytes[..0], &bytes[1..]),
+        Packet::KEY_FORMAT => {
+            let end = Packet::KEY_AT + usize::from(bytes[1]);
+            if n < end + Packet::REST_LEAST {
+                return Judged::Refused(Refusal::NoPacket as u8);
+            }
+            ask(format, bytes[2], &bytes[Packet::KEY_AT..end], &bytes[end..])
+        }
+        _ => Judged::Refused(Refusal::NoPacket as u8),
     }
-    if format != Packet::KEY_FORMAT {
-        return Judged::Refused(Refusal::NO_PACKET);
-    }
-    let end = Packet::KEY_AT + wide(bytes[1]);
-    if n < end + Packet::REST_LEAST {
-        return Judged::Refused(Refusal::NO_PACKET);
-    }
-    ask(format, bytes[2], &bytes[Packet::KEY_AT..end], &bytes[end..])
 }

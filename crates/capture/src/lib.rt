@@ -6,5 +6,5 @@ mod reader;
 mod writer;
 
 pub use entry::packed;
-pub use reader::{CaptureReader, Ended, Read};
+pub use reader::{CaptureReader, Read};
 pub use writer::{begin, enter};

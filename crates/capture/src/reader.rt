@@ -1,19 +1,18 @@
 //! A capture, read: its state by value, and the store lent.
-ghost use Rattle.std.specs.Prelude.{◌≡◌, true, ◌+◌, ◌≤◌, ◌<◌, [], ◌∷◌, length, get_or, set};
+ghost use Rattle.std.specs.Prelude.{◌≡◌, true, ◌+◌, ◌≤◌, ◌<◌, [], ◌∷◌, length, set, Some};
 ghost use Rattle.capture_spec.specs.File.{header};
 ghost use Rattle.capture_spec.specs.Meaning.{entry_limit, four_at};
 ghost use Rattle.std.proofs.Math.Option.{none};
-ghost use Rattle.stream.specs.declared.frame.Heard.TheVariants.{Said};
 ghost use Rattle.capture.specs.declared.reader.CaptureReader.TheVariants.{Header};
 ghost use Rattle.capture.specs.Call.{held, next, header_by, headed_by, head_by, whole_by, record_by, take_byte};
-ghost use Rattle.capture.specs.Call.{read_on, read_call, sound, ending, finishing, ReadIs};
+ghost use Rattle.capture.specs.Call.{read_on, read_call, sound, ending, as_ended, finishing, ReadIs};
+ghost use Rattle.base.specs.Refusals.{number};
 ghost use Rattle.capture.specs.Private.{step_of, StepIs};
 
 use crate::entry;
 use crate::writer::HEADER;
 use base::Refusal;
 use packet::{Judged, Packet};
-use stream::Heard;
 
 /// How far a capture is read.
 #[derive(Clone, Copy)]
@@ -24,51 +23,25 @@ pub enum CaptureReader {
     Head(usize),
     /// Of a record of so many bytes so many, which the store begins with as far as it has room.
     Record { size: usize, done: usize },
-    /// Behind a fault, of this number.
+    /// Behind a fault, of this number: callers hand it in, so it may be any.
     Behind(u8),
 }
 
 /// The result of a call.
 #[derive(Clone, Copy)]
 pub struct Read {
-    pub heard: Heard,
+    /// A packet, or why no more is read; none where more is wanted.
+    pub heard: Option<Judged>,
     /// Bytes of the piece taken.
     pub taken: usize,
     pub capture: CaptureReader,
 }
 
-/// What the end of the file says.
-#[derive(Clone, Copy)]
-pub enum Ended {
-    /// The file ends behind its header or behind a record.
-    Whole,
-    /// The file, or the call, is refused, by this number of the paper.
-    Refused(u8),
-}
-
-// What a byte gives.
+// What a byte gives: an answer, if there is one, and the state behind it.
 #[derive(Clone, Copy)]
 struct Step {
-    // There is an answer.
-    done: bool,
-    heard: Heard,
+    heard: Option<Judged>,
     capture: CaptureReader,
-}
-
-// The header's byte at a place.
-fn header_at(k: usize) -> u8
-    requires { k < 24 }
-    ensures { result ≡ get_or header k 0 }
-{
-    let header = HEADER;
-    header[k]
-}
-
-// Four bytes as a number, low first.
-fn four(a: u8, b: u8, c: u8, d: u8) -> usize
-    ensures { result ≡ four_at (a ∷ b ∷ c ∷ d ∷ []) 0 }
-{
-    a as usize + 256 * (b as usize + 256 * (c as usize + 256 * (d as usize)))
 }
 
 // The number at i.
@@ -76,7 +49,7 @@ fn four_at(bytes: &[u8], i: usize) -> usize
     requires { i + 3 < length bytes.now }
     ensures { result ≡ four_at bytes.now i }
 {
-    four(bytes[i], bytes[i + 1], bytes[i + 2], bytes[i + 3])
+    u32::from_le_bytes([bytes[i], bytes[i + 1], bytes[i + 2], bytes[i + 3]]) as usize
 }
 
 // The state behind an answer.
@@ -86,18 +59,17 @@ fn next(judged: Judged) -> CaptureReader
     match judged {
         Judged::Packet(_) => CaptureReader::Head(0),
         Judged::Refused(n) => CaptureReader::Behind(n),
-        Judged::Broken(_) => CaptureReader::Behind(Refusal::ESCAPE),
+        Judged::Broken(_) => CaptureReader::Behind(Refusal::Escape as u8),
     }
 }
 
 impl Step {
     // An answer.
     fn said(judged: Judged) -> Self
-        ensures { result ≡ record { done = true; heard = Said judged; capture = next judged } }
+        ensures { result ≡ record { heard = Some judged; capture = next judged } }
     {
         Step {
-            done: true,
-            heard: Heard::Said(judged),
+            heard: Some(judged),
             capture: next(judged),
         }
     }
@@ -107,8 +79,7 @@ impl Step {
         ensures { result ≡ step_of (none, capture) }
     {
         Step {
-            done: false,
-            heard: Heard::More,
+            heard: None,
             capture,
         }
     }
@@ -128,8 +99,8 @@ fn in_header(k: usize, b: u8) -> Step
     requires { k < 24 }
     ensures { result ≡ step_of (header_by k b) }
 {
-    if b != header_at(k) {
-        return Step::said(Judged::Refused(Refusal::CAPTURE));
+    if b != HEADER[k] {
+        return Step::said(Judged::Refused(Refusal::Capture as u8));
     }
     if k + 1 == CaptureReader::HEADER {
         return Step::on(CaptureReader::Head(0));
@@ -144,10 +115,10 @@ fn headed(store: &[u8]) -> Step
 {
     let n = four_at(store, 8);
     if n != four_at(store, 12) {
-        return Step::said(Judged::Refused(Refusal::RECORD));
+        return Step::said(Judged::Refused(Refusal::Record as u8));
     }
     if n == 0 {
-        return Step::said(Judged::Refused(Refusal::NO_PACKET));
+        return Step::said(Judged::Refused(Refusal::NoPacket as u8));
     }
     Step::on(CaptureReader::Record { size: n, done: 0 })
 }
@@ -169,9 +140,9 @@ fn whole(n: usize, store: &[u8]) -> Step
     ensures { result ≡ step_of (whole_by n store.now) }
 {
     if CaptureReader::STORED < n {
-        return Step::said(Judged::Refused(Refusal::NO_PACKET));
+        return Step::said(Judged::Refused(Refusal::NoPacket as u8));
     }
-    Step::said(entry::told(&store[0..n]))
+    Step::said(entry::told(&store[..n]))
 }
 
 // A byte of a record, stored.
@@ -215,29 +186,32 @@ fn is_sound(capture: CaptureReader) -> bool
         CaptureReader::Header(k) => k < CaptureReader::HEADER,
         CaptureReader::Head(k) => k < CaptureReader::HEAD,
         CaptureReader::Record { size, done } => done < size,
-        CaptureReader::Behind(f) => {
-            if f < Refusal::CAPTURE {
-                return false;
-            }
-            f <= Refusal::NO_PACKET
-        }
+        CaptureReader::Behind(f) => Refusal::Capture as u8 <= f && f <= Refusal::NoPacket as u8,
+    }
+}
+
+// The refusal that a fault's number is.
+fn fault(f: u8) -> Refusal
+    requires { (60 ≤ f) × (f ≤ 62) }
+    ensures { number result ≡ f }
+{
+    match f {
+        60 => Refusal::Capture,
+        61 => Refusal::Record,
+        _ => Refusal::NoPacket,
     }
 }
 
 // What the end of the file says.
-fn ending(capture: CaptureReader) -> Ended
-    ensures { result ≡ ending capture }
+fn ending(capture: CaptureReader) -> Result<(), Refusal>
+    requires { sound capture ≡ true }
+    ensures { as_ended result ≡ ending capture }
 {
     match capture {
-        CaptureReader::Header(_) => Ended::Refused(Refusal::CAPTURE),
-        CaptureReader::Head(k) => {
-            if k == 0 {
-                return Ended::Whole;
-            }
-            Ended::Refused(Refusal::RECORD)
-        }
-        CaptureReader::Record { size: _, done: _ } => Ended::Refused(Refusal::RECORD),
-        CaptureReader::Behind(f) => Ended::Refused(f),
+        CaptureReader::Header(_) => Err(Refusal::Capture),
+        CaptureReader::Head(0) => Ok(()),
+        CaptureReader::Head(_) | CaptureReader::Record { .. } => Err(Refusal::Record),
+        CaptureReader::Behind(f) => Err(fault(f)),
     }
 }
 
@@ -267,24 +241,20 @@ impl CaptureReader {
         ensures { ReadIs (read_on (held self store.old) piece.now) result store.new }
     {
         let mut capture = self;
-        let mut i: usize = 0;
-        while i < piece.len() {
-            let s = take(capture, store, piece[i]);
-            let next = s.capture;
-            capture = next;
-            i += 1;
-            if s.done {
-                let heard = s.heard;
+        for (i, b) in piece.iter().enumerate() {
+            let step = take(capture, store, *b);
+            capture = step.capture;
+            if step.heard.is_some() {
                 return Read {
-                    heard,
-                    taken: i,
-                    capture: next,
+                    heard: step.heard,
+                    taken: i + 1,
+                    capture,
                 };
             }
         }
         Read {
-            heard: Heard::More,
-            taken: i,
+            heard: None,
+            taken: piece.len(),
             capture,
         }
     }
@@ -295,14 +265,14 @@ impl CaptureReader {
     {
         if !is_sound(self) {
             return Read {
-                heard: Heard::Said(Judged::Refused(Refusal::STATE)),
+                heard: Some(Judged::Refused(Refusal::State as u8)),
                 taken: 0,
                 capture: self,
             };
         }
         if store.len() < CaptureReader::STORED {
             return Read {
-                heard: Heard::Said(Judged::Refused(Refusal::BUFFER)),
+                heard: Some(Judged::Refused(Refusal::Buffer as u8)),
                 taken: 0,
                 capture: self,
             };
@@ -310,13 +280,13 @@ impl CaptureReader {
         self.read_on(store, piece)
     }
 
-    /// The end of the file.
-    pub fn finish(self) -> Ended
-        ensures { result ≡ finishing self }
+    /// The end of the file: it ends behind its header or behind a record, or why it, or the call, is refused.
+    pub fn finish(self) -> Result<(), Refusal>
+        ensures { as_ended result ≡ finishing self }
     {
-        if is_sound(self) {
-            return ending(self);
+        if !is_sound(self) {
+            return Err(Refusal::State);
         }
-        Ended::Refused(Refusal::STATE)
+        ending(self)
     }
 }

@@ -1,6 +1,6 @@
 //! A capture, written.
 ghost use Rattle.std.specs.Prelude.{◌≡◌, ◌+◌, ◌≤◌, ◌<◌, ◌++◌, length, drop};
-ghost use Rattle.base.specs.Written.{outcome, write};
+ghost use Rattle.base.specs.Written.{as_written, outcome, write};
 ghost use Rattle.capture_spec.specs.File.{header, record_of};
 ghost use Rattle.capture.specs.Export.{entering};
 ghost use Rattle.capture.specs.Private.{head_of};
@@ -17,38 +17,22 @@ pub(crate) const HEADER: [u8; CaptureReader::HEADER] = [
 
 /// Writes what stands before the first record.
 pub fn begin(out: &mut [u8]) -> Written
-    ensures { outcome result out.new ≡ write header out.old }
+    ensures { outcome (as_written result) out.new ≡ write header out.old }
 {
     if out.len() < CaptureReader::HEADER {
-        return Written::Refused(Refusal::OUTPUT);
+        return Err(Refusal::Output);
     }
-    let header = HEADER;
-    base::copy(&header, out);
-    Written::Wrote(CaptureReader::HEADER)
+    base::copy(&HEADER, out);
+    Ok(CaptureReader::HEADER)
 }
 
 // The sixteen bytes before a record's own.
 fn head(number: u32, size: u32) -> [u8; CaptureReader::HEAD]
     ensures { result ≡ head_of number size }
 {
-    [
-        (number % 256) as u8,
-        (number / 256 % 256) as u8,
-        (number / 65536 % 256) as u8,
-        (number / 16777216) as u8,
-        0,
-        0,
-        0,
-        0,
-        (size % 256) as u8,
-        (size / 256 % 256) as u8,
-        (size / 65536 % 256) as u8,
-        (size / 16777216) as u8,
-        (size % 256) as u8,
-        (size / 256 % 256) as u8,
-        (size / 65536 % 256) as u8,
-        (size / 16777216) as u8,
-    ]
+    let [a, b, c, d] = number.to_le_bytes();
+    let [e, f, g, h] = size.to_le_bytes();
+    [a, b, c, d, 0, 0, 0, 0, e, f, g, h, e, f, g, h]
 }
 
 // Stores a record: its head, and the bytes behind it.
@@ -63,18 +47,15 @@ fn put(number: u32, bytes: &[u8], out: &mut [u8])
 
 /// Writes the record of the packet with this number from 0, whose bytes are these, format byte to last payload byte.
 pub fn enter(number: u32, packed: &[u8], out: &mut [u8]) -> Written
-    ensures { outcome result out.new ≡ entering number packed.now out.old }
+    ensures { outcome (as_written result) out.new ≡ entering number packed.now out.old }
 {
-    match entry::told(packed) {
-        Judged::Packet(_) => {
-            let n = packed.len() + CaptureReader::HEAD;
-            if out.len() < n {
-                return Written::Refused(Refusal::OUTPUT);
-            }
-            put(number, packed, out);
-            Written::Wrote(n)
-        }
-        Judged::Refused(number) => Written::Refused(number),
-        Judged::Broken(_) => Written::Refused(Refusal::NO_PACKET),
+    let Judged::Packet(_) = entry::told(packed) else {
+        return Err(Refusal::NoPacket);
+    };
+    let n = packed.len() + CaptureReader::HEAD;
+    if out.len() < n {
+        return Err(Refusal::Output);
     }
+    put(number, packed, out);
+    Ok(n)
 }

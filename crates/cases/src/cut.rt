@@ -1,10 +1,9 @@
 //! How the bytes of a case are cut into pieces.
 
-/// Where a reading stands: the piece that is handed in is bytes[at..end]; `go`: whether there is another call. The next pieces are `size` bytes
-/// long; where that is 0, as the seed says; where that is 0 too, there is one.
+/// Where a reading stands: the piece that is handed in is bytes[at..end]. The next pieces are `size` bytes long; where that is 0, as the seed says;
+/// where that is 0 too, there is one.
 #[derive(Clone, Copy)]
 pub struct Cut {
-    pub go: bool,
     at: usize,
     end: usize,
     size: usize,
@@ -15,7 +14,6 @@ impl Cut {
     /// The first piece, of n bytes; the seed is the number's low 31 bits.
     pub fn start(number: u64, size: usize, n: usize) -> Cut {
         Cut {
-            go: true,
             at: 0,
             end: n,
             size,
@@ -25,32 +23,30 @@ impl Cut {
 
     /// The piece that is handed in.
     pub fn piece(self, bytes: &[u8]) -> &[u8] {
-        let end = base::least(self.end, bytes.len());
-        let at = base::least(self.at, end);
-        &bytes[at..end]
+        let end = self.end.min(bytes.len());
+        &bytes[self.at.min(end)..end]
     }
 
     /// Behind an answer: the rest of the piece.
-    pub fn rest(self, taken: usize, go: bool) -> Cut {
+    pub fn rest(self, taken: usize) -> Cut {
         Cut {
-            go,
             at: self.at.wrapping_add(taken),
-            end: self.end,
-            size: self.size,
-            seed: self.seed,
+            ..self
         }
     }
 
-    /// Behind a piece: the next one of n bytes in all, or the end.
-    pub fn more(self, taken: usize, n: usize) -> Cut {
+    /// Behind a piece: the next one of n bytes in all; none at the end.
+    pub fn more(self, taken: usize, n: usize) -> Option<Cut> {
+        if self.end == n {
+            return None;
+        }
         let at = self.at.wrapping_add(taken);
-        Cut {
-            go: self.end != n,
+        Some(Cut {
             at,
             end: piece_end(at, wanted(self.size, self.seed, n), n),
-            size: self.size,
             seed: behind(self.seed),
-        }
+            ..self
+        })
     }
 }
 
@@ -75,18 +71,14 @@ fn wanted(size: usize, seed: u64, n: usize) -> usize {
 
 // The same from a number that looks random: often 0 bytes or 1, else up to 300.
 fn drawn(number: u64) -> usize {
-    let kind = number / 256 % 8;
-    if kind < 2 {
-        return 0;
+    match number / 256 % 8 {
+        0 | 1 => 0,
+        2 | 3 => 1,
+        _ => (number / 2048 % 300) as usize,
     }
-    if kind < 4 {
-        return 1;
-    }
-    (number / 2048 % 300) as usize
 }
 
 // Where a piece that begins at a place and wants so many bytes ends, of n in all.
 fn piece_end(at: usize, wants: usize, n: usize) -> usize {
-    let from = base::least(at, n);
-    from + base::least(wants, n - from)
+    at.min(n).saturating_add(wants).min(n)
 }

@@ -12,26 +12,61 @@ mod cut;
 use base::Written;
 pub use cut::Cut;
 use std::io;
-use std::io::{ErrorKind, Read, Write};
+use std::io::{BufReader, BufWriter, ErrorKind, Read, Write};
+use std::rt::{Stdin, Stdout};
 
-/// A case: whether there is one, what is asked, its number, how many bytes are lent as output, and how many follow.
+/// A case: what is asked, its number, how many bytes are lent as output, and the bytes that follow its head.
 #[derive(Clone, Copy)]
-pub struct Case {
-    pub go: bool,
+pub struct Case<'a> {
     pub asked: u8,
     pub number: u64,
     pub room: usize,
-    pub length: usize,
+    pub given: &'a [u8],
 }
 
-/// Reads a case; the bytes that follow its head then stand at the start of `bytes`.
-pub fn read(input: &mut impl Read, bytes: &mut [u8]) -> io::Result<Case> {
+/// Who answers cases.
+pub trait Answer {
+    /// Writes what is told of a case, and its output to what it is lent.
+    fn answer(&mut self, told: &mut impl Write, case: Case, out: &mut [u8]) -> io::Result<()>;
+}
+
+/// Reads a case, its bytes into `space`; none at the end of the input, or where there is no room for them.
+pub fn read<'a>(input: &mut impl Read, space: &'a mut [u8]) -> io::Result<Option<Case<'a>>> {
     let mut head = [0u8; 13];
     if !read_full(input, &mut head)? {
-        return Ok(headed(false, head));
+        return Ok(None);
     }
-    let go = follow(input, pair_at(&head, 11), bytes)?;
-    Ok(headed(go, head))
+    let n = pair_at(&head, 11);
+    if space.len() < n {
+        return Ok(None);
+    }
+    let given = &mut space[..n];
+    if !read_full(input, given)? {
+        return Ok(None);
+    }
+    Ok(Some(Case {
+        asked: head[0],
+        number: number_at(&head, 1),
+        room: pair_at(&head, 9),
+        given,
+    }))
+}
+
+/// Answers all cases of standard input: what is told of one, and behind it the output that it was lent.
+pub fn answer_all(rt: &HostRuntime, answers: &mut impl Answer) -> io::Result<()> {
+    let mut input = BufReader::new(rt.alloc(), rt.stdin())?;
+    let mut told = BufWriter::new(rt.alloc(), rt.stdout())?;
+    let mut space = [0u8; 65536];
+    let mut out = [0u8; 65536];
+    for _ in 0..u64::MAX {
+        let Some(case) = read(&mut input, &mut space)? else {
+            break;
+        };
+        let lent = lend(case.room, &mut out);
+        answers.answer(&mut told, case, lent)?;
+        told.write_all(lent)?;
+    }
+    told.flush()
 }
 
 /// Reads until the buffer is full or the input ends: whether it is full. What was read stands at its start.
@@ -43,57 +78,20 @@ pub fn read_full(input: &mut impl Read, bytes: &mut [u8]) -> io::Result<bool> {
     }
 }
 
-fn headed(go: bool, head: [u8; 13]) -> Case {
-    Case {
-        go,
-        asked: head[0],
-        number: number_at(&head, 1),
-        room: pair_at(&head, 9),
-        length: pair_at(&head, 11),
-    }
-}
-
-// Reads the n bytes that follow a head; whether they are all there.
-fn follow(input: &mut impl Read, n: usize, bytes: &mut [u8]) -> io::Result<bool> {
-    if bytes.len() < n {
-        return Ok(false);
-    }
-    read_full(input, &mut bytes[0..n])
-}
-
-/// The bytes that follow a case's head, where they were read.
-pub fn given(case: Case, bytes: &[u8]) -> &[u8] {
-    let n = base::least(case.length, bytes.len());
-    &bytes[0..n]
-}
-
-/// The output that a case asks for, filled.
-pub fn lend(case: Case, out: &mut [u8]) -> &mut [u8] {
-    let n = base::least(case.room, out.len());
-    fill(&mut out[0..n], 0xA5);
-    &mut out[0..n]
-}
-
-/// Fills a buffer with a byte.
-pub fn fill(out: &mut [u8], b: u8) {
-    for place in out {
-        *place = b;
-    }
+// The first `room` bytes of an output, filled.
+fn lend(room: usize, out: &mut [u8]) -> &mut [u8] {
+    let n = room.min(out.len());
+    let lent = &mut out[..n];
+    lent.fill(0xA5);
+    lent
 }
 
 /// The number in two bytes from a place on; 0 where they are not there.
 pub fn pair_at(bytes: &[u8], at: usize) -> usize {
-    if bytes.len() < 2 {
+    if bytes.len() < 2 || bytes.len() - 2 < at {
         return 0;
     }
-    if bytes.len() - 2 < at {
-        return 0;
-    }
-    (wide(bytes[at]) | wide(bytes[at + 1]) << 8) as usize
-}
-
-fn wide(b: u8) -> u64 {
-    b as u64
+    usize::from(u16::from_le_bytes([bytes[at], bytes[at + 1]]))
 }
 
 /// The number in eight bytes from a place on; what is not there counts as 0.
@@ -102,13 +100,7 @@ pub fn number_at(bytes: &[u8], at: usize) -> u64 {
     if at < bytes.len() {
         base::copy(&bytes[at..], &mut b);
     }
-    number(b)
-}
-
-fn number(b: [u8; 8]) -> u64 {
-    let low = wide(b[0]) | wide(b[1]) << 8 | wide(b[2]) << 16 | wide(b[3]) << 24;
-    let high = wide(b[4]) | wide(b[5]) << 8 | wide(b[6]) << 16 | wide(b[7]) << 24;
-    low | high << 32
+    u64::from_le_bytes(b)
 }
 
 /// The low 16 bits of a number.
@@ -118,15 +110,15 @@ pub fn half(n: u64) -> u16 {
 
 /// The numbers of 16 bits in a number, the first one lowest.
 pub fn first(n: u64) -> usize {
-    half(n) as usize
+    usize::from(half(n))
 }
 
 pub fn second(n: u64) -> usize {
-    first(n / 0x10000)
+    first(n >> 16)
 }
 
 pub fn third(n: u64) -> usize {
-    first(n / 0x100000000)
+    first(n >> 32)
 }
 
 /// The low byte of a number.
@@ -136,17 +128,7 @@ pub fn low(n: u64) -> u8 {
 
 /// Writes a number, its low byte first.
 pub fn print(told: &mut impl Write, n: u64) -> io::Result<()> {
-    let text = [
-        low(n),
-        low(n / 0x100),
-        low(n / 0x10000),
-        low(n / 0x1000000),
-        low(n / 0x100000000),
-        low(n / 0x10000000000),
-        low(n / 0x1000000000000),
-        low(n / 0x100000000000000),
-    ];
-    told.write_all(&text)
+    told.write_all(&n.to_le_bytes())
 }
 
 /// Writes numbers, one behind the other.
@@ -160,21 +142,21 @@ pub fn print_all(told: &mut impl Write, numbers: &[u64]) -> io::Result<()> {
 /// Writes the first n bytes, how many first; nothing more where they are not there.
 pub fn show(told: &mut impl Write, n: usize, bytes: &[u8]) -> io::Result<()> {
     print(told, n as u64)?;
-    if bytes.len() < n {
-        return Ok(());
+    match bytes.get(..n) {
+        Some(first) => told.write_all(first),
+        None => Ok(()),
     }
-    told.write_all(&bytes[0..n])
 }
 
 /// What a call that writes answered, as a number.
 pub fn written(w: Written) -> u64 {
     match w {
-        Written::Wrote(n) => n as u64,
-        Written::Refused(n) => refused(n),
+        Ok(n) => n as u64,
+        Err(refusal) => refused(refusal as u8),
     }
 }
 
-/// A refusal as a number.
+/// A refusal's number, told; not a `Refusal`, since states that callers hand in hold theirs as a number (`Judged::Refused` (crates/packet)).
 pub fn refused(n: u8) -> u64 {
-    65536 + n as u64
+    65536 + u64::from(n)
 }

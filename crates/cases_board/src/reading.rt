@@ -3,6 +3,7 @@
 //! for blocks told. Its first four bytes: the first and the last port of the range. The output is lent to each call anew; the first piece is empty.
 //! Each call is told as the bytes taken, what it wants (0: more, 1: another call) and how many bytes it wrote, and those. Last comes what is still to
 //! be said: its length, and its bytes.
+use base::Refusal;
 use board::{Owed, Readout, Wants};
 use board_lines::Piece;
 use cases::Cut;
@@ -21,7 +22,7 @@ const RECV: usize = Receiver::RAW;
 #[derive(Drop)]
 struct Place {
     readout: Readout,
-    cut: Cut,
+    cut: Option<Cut>,
 }
 
 // Bytes before those that are read out: the range.
@@ -80,7 +81,7 @@ fn start(number: u64, range: Range) -> Place {
             number / 0x400000000000 % 4,
             Readout::fresh(bare, blocks, range),
         ),
-        cut: Cut::start(number, size, 0),
+        cut: Some(Cut::start(number, size, 0)),
     }
 }
 
@@ -95,70 +96,42 @@ fn begin(kind: u64, fresh: Readout) -> Readout {
 }
 
 fn near(fresh: Readout) -> Readout {
-    let range = fresh.range;
-    let ports = fresh.ports;
-    let owed = fresh.owed;
     Readout {
-        bare: fresh.bare,
-        blocks: fresh.blocks,
-        range,
         tape: RecordingReader {
             spot: Spot {
-                place: listing_spec::Place::Mode,
                 offset: u64::MAX - 300,
-                count: 0,
+                ..fresh.tape.spot
             },
-            channel: false,
-            receiver: Receiver::fresh(),
+            ..fresh.tape
         },
-        ports,
-        owed,
+        ..fresh
     }
 }
 
 fn twice(fresh: Readout) -> Readout {
-    let range = fresh.range;
-    let tape = fresh.tape;
-    let owed = fresh.owed;
     let held = Entry {
         held: true,
         port: 7,
         last: 0,
     };
     Readout {
-        bare: fresh.bare,
-        blocks: fresh.blocks,
-        range,
-        tape,
         ports: Ports {
             entries: [held; 16],
         },
-        owed,
+        ..fresh
     }
 }
 
 fn longer(fresh: Readout) -> Readout {
-    let range = fresh.range;
-    let tape = fresh.tape;
-    let ports = fresh.ports;
-    let owed = fresh.owed;
-    let delivery = owed.delivery;
     Readout {
-        bare: fresh.bare,
-        blocks: fresh.blocks,
-        range,
-        tape,
-        ports,
         owed: Owed {
             piece: Piece {
                 bytes: [0u8; listing_lines::Line::LONGEST],
                 length: 129,
             },
-            out: 0,
-            text: false,
-            delivery,
-            at: 0,
+            ..fresh.owed
         },
+        ..fresh
     }
 }
 
@@ -172,49 +145,48 @@ fn run(
 ) -> io::Result<()> {
     let mut place = first;
     for _ in 0..u64::MAX {
-        if !place.cut.go {
+        let Some(cut) = place.cut else {
             return finish(told, place.readout);
-        }
-        place = call(told, place, bytes, recv, word, out)?;
+        };
+        place = call(told, place.readout, cut, bytes, recv, word, out)?;
     }
     Ok(())
 }
 
 fn finish(told: &mut impl Write, readout: Readout) -> io::Result<()> {
     let last = readout.finish();
-    let text = last.bytes;
-    cases::show(told, last.length, &text)
+    cases::show(told, last.length, &last.bytes)
 }
 
 // One call, told, and what follows from its answer. Where it took nothing and there is no room, nothing would come of another.
 fn call(
     told: &mut impl Write,
-    p: Place,
+    readout: Readout,
+    cut: Cut,
     bytes: &[u8],
     recv: &mut [u8],
     word: &mut [u8],
     out: &mut [u8],
 ) -> io::Result<Place> {
-    let readout = p.readout;
-    let cut = p.cut;
     let t = readout.take(recv, word, cut.piece(bytes), out);
-    let next = t.next;
-    let wants = t.wants;
     cases::print(told, t.taken as u64)?;
-    cases::print(told, code(wants))?;
+    cases::print(told, code(t.wants))?;
     cases::show(told, t.written, out)?;
-    let cut = match wants {
-        Wants::More => cut.more(t.taken, bytes.len()),
-        Wants::Again => cut.rest(t.taken, 0 < t.taken || 0 < out.len()),
-        Wants::Refused(_) => cut.rest(t.taken, false),
+    let cut = match t.wants {
+        Ok(Wants::More) => cut.more(t.taken, bytes.len()),
+        Ok(Wants::Again) => (0 < t.taken || 0 < out.len()).then_some(cut.rest(t.taken)),
+        Err(_) => None,
     };
-    Ok(Place { readout: next, cut })
+    Ok(Place {
+        readout: t.next,
+        cut,
+    })
 }
 
-fn code(wants: Wants) -> u64 {
+fn code(wants: Result<Wants, Refusal>) -> u64 {
     match wants {
-        Wants::More => 0,
-        Wants::Again => 1,
-        Wants::Refused(n) => cases::refused(n),
+        Ok(Wants::More) => 0,
+        Ok(Wants::Again) => 1,
+        Err(refusal) => cases::refused(refusal as u8),
     }
 }

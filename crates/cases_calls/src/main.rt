@@ -2,48 +2,27 @@
 //! crates/cases has the form of a case and of an answer; what is told is a number (two of a closed frame).
 #![tactic(auto)]
 
+use base::Refusal;
+use cases::{Answer, Case};
 use fcs::Register;
-use packet::{Class, Judged};
+use packet::Judged;
 use parity::Checked;
 use repair::Mended;
 use std::io;
-use std::io::{BufReader, BufWriter, Read, Write};
+use std::io::Write;
+
+#[derive(Drop)]
+struct Calls;
 
 fn main(rt: HostRuntime) -> io::Result<()> {
-    let mut input = BufReader::new(rt.alloc(), rt.stdin())?;
-    let mut told = BufWriter::new(rt.alloc(), rt.stdout())?;
-    let mut bytes = [0u8; 65536];
-    let mut out = [0u8; 65536];
-    for _ in 0..u64::MAX {
-        if !answer(&mut input, &mut told, &mut bytes, &mut out)? {
-            break;
-        }
-    }
-    told.flush()
+    cases::answer_all(&rt, &mut Calls)
 }
 
-// Reads one case and writes its answer; false at the end of the input.
-fn answer(
-    input: &mut impl Read,
-    told: &mut impl Write,
-    bytes: &mut [u8],
-    out: &mut [u8],
-) -> io::Result<bool> {
-    let case = cases::read(input, bytes)?;
-    if !case.go {
-        return Ok(false);
+impl Answer for Calls {
+    fn answer(&mut self, told: &mut impl Write, case: Case, out: &mut [u8]) -> io::Result<()> {
+        let number = tell(told, case.asked, case.number, case.given, out)?;
+        cases::print(told, number)
     }
-    let lent = cases::lend(case, out);
-    let number = tell(
-        told,
-        case.asked,
-        case.number,
-        cases::given(case, bytes),
-        lent,
-    )?;
-    cases::print(told, number)?;
-    told.write_all(lent)?;
-    Ok(true)
 }
 
 fn tell(
@@ -62,18 +41,19 @@ fn tell(
 // What is told in one number.
 fn tell_one(asked: u8, number: u64, bytes: &[u8], out: &mut [u8]) -> u64 {
     match asked {
-        b'F' => fcs::fcs(bytes) as u64,
-        b'G' => Register {
-            bits: cases::half(number),
+        b'F' => u64::from(fcs::fcs(bytes)),
+        b'G' => {
+            let register = Register {
+                bits: cases::half(number),
+            };
+            u64::from(register.feed(bytes).bits)
         }
-        .feed(bytes)
-        .bits as u64,
-        b'T' => field::times(cases::low(number / 256), cases::low(number)) as u64,
-        b'E' => field::power(number as usize) as u64,
+        b'T' => u64::from(field::times(cases::low(number / 256), cases::low(number))),
+        b'E' => u64::from(field::power(number as usize)),
         b'P' => cases::written(parity::make(number as usize, bytes, out)),
         b'W' => checked(parity::check(number as usize, bytes)),
         b'Y' => repaired(number as usize, bytes, out),
-        b'C' => class(packet::class_of(cases::half(number))),
+        b'C' => packet::class_of(cases::half(number)) as u64,
         b'K' => cases::written(packet::write(
             cases::half(number),
             cases::half(number / 0x10000),
@@ -99,88 +79,58 @@ fn tell_keyed(asked: u8, number: u64, bytes: &[u8], out: &mut [u8]) -> u64 {
     }
 }
 
-// A packet written. Port and sequence are the number's; the bytes begin with format, key number and, in 16 bits, the key's length, and
-// key and payload follow.
-fn keyed(number: u64, bytes: &[u8], out: &mut [u8]) -> u64 {
-    if bytes.len() < 4 {
-        return 0;
-    }
-    let n = cases::pair_at(bytes, 2);
-    write_parts(
-        bytes[0],
-        bytes[1],
-        n,
-        cases::half(number),
-        cases::half(number / 0x10000),
-        &bytes[4..],
-        out,
-    )
-}
-
-fn write_parts(
+// The parts of a packet, but for port and sequence, which are the number's: the bytes begin with format, key number and, in 16 bits, the
+// key's length, and key and payload follow.
+#[derive(Clone, Copy)]
+struct Parts<'a> {
     format: u8,
     number: u8,
-    n: usize,
-    port: u16,
-    sequence: u16,
-    bytes: &[u8],
-    out: &mut [u8],
-) -> u64 {
-    if bytes.len() < n {
+    key: &'a [u8],
+    payload: &'a [u8],
+}
+
+// None where the bytes are too few.
+fn parts_in(bytes: &[u8]) -> Option<Parts<'_>> {
+    let (head, behind) = bytes.split_first_chunk::<4>()?;
+    let (key, payload) = behind.split_at_checked(cases::pair_at(head, 2))?;
+    Some(Parts {
+        format: head[0],
+        number: head[1],
+        key,
+        payload,
+    })
+}
+
+// A packet written.
+fn keyed(number: u64, bytes: &[u8], out: &mut [u8]) -> u64 {
+    let Some(p) = parts_in(bytes) else {
         return 0;
-    }
+    };
     cases::written(packet::write_as(
-        format,
-        number,
-        &bytes[0..n],
-        port,
-        sequence,
-        &bytes[n..],
+        p.format,
+        p.number,
+        p.key,
+        cases::half(number),
+        cases::half(number / 0x10000),
+        p.payload,
         out,
     ))
 }
 
 // The same appended, at the place that the number has above port and sequence.
 fn keyed_at(number: u64, bytes: &[u8], out: &mut [u8]) -> u64 {
-    if bytes.len() < 4 {
+    let Some(p) = parts_in(bytes) else {
         return 0;
-    }
-    let n = cases::pair_at(bytes, 2);
-    let at = (number / 0x100000000) as usize;
-    append_parts(
-        at,
-        bytes[0],
-        bytes[1],
-        n,
-        cases::half(number),
-        cases::half(number / 0x10000),
-        &bytes[4..],
-        out,
-    )
-}
-
-fn append_parts(
-    at: usize,
-    format: u8,
-    number: u8,
-    n: usize,
-    port: u16,
-    sequence: u16,
-    bytes: &[u8],
-    out: &mut [u8],
-) -> u64 {
-    if bytes.len() < n {
-        return 0;
-    }
+    };
     cases::written(stream::append_as(
         out,
-        at,
-        format,
-        number,
-        &bytes[0..n],
-        port,
-        sequence,
-        &bytes[n..],
+        (number / 0x100000000) as usize,
+        p.format,
+        p.number,
+        p.key,
+        cases::half(number),
+        cases::half(number / 0x10000),
+        p.payload,
     ))
 }
 
@@ -207,18 +157,17 @@ fn closed(told: &mut impl Write, raw: usize, bytes: &[u8], out: &mut [u8]) -> io
     base::copy(bytes, out);
     let j = packet::judge(out, raw);
     cases::print(told, cases_frames::judged(j))?;
-    match j {
-        Judged::Packet(d) => Ok(cases_frames::kind(d)),
-        Judged::Refused(_) => Ok(0),
-        Judged::Broken(_) => Ok(0),
-    }
+    Ok(match j {
+        Judged::Packet(d) => cases_frames::kind(d),
+        Judged::Refused(_) | Judged::Broken(_) => 0,
+    })
 }
 
-fn checked(c: Checked) -> u64 {
+fn checked(c: Result<Checked, Refusal>) -> u64 {
     match c {
-        Checked::Clean => 0,
-        Checked::Damaged => 1,
-        Checked::Refused(n) => cases::refused(n),
+        Ok(Checked::Clean) => 0,
+        Ok(Checked::Damaged) => 1,
+        Err(refusal) => cases::refused(refusal as u8),
     }
 }
 
@@ -228,22 +177,11 @@ fn repaired(r: usize, bytes: &[u8], out: &mut [u8]) -> u64 {
     mended(repair::repair(r, out))
 }
 
-fn mended(m: Mended) -> u64 {
+fn mended(m: Result<Mended, Refusal>) -> u64 {
     match m {
-        Mended::Clean => 0,
-        Mended::Repaired(n) => n as u64,
-        Mended::Beyond => 256,
-        Mended::Refused(n) => cases::refused(n),
-    }
-}
-
-fn class(c: Class) -> u64 {
-    match c {
-        Class::System => 0,
-        Class::Applications => 1,
-        Class::M => 2,
-        Class::D => 3,
-        Class::Future => 4,
-        Class::Barred => 5,
+        Ok(Mended::Clean) => 0,
+        Ok(Mended::Repaired(n)) => n as u64,
+        Ok(Mended::Beyond) => 256,
+        Err(refusal) => cases::refused(refusal as u8),
     }
 }

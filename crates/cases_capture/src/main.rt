@@ -4,69 +4,29 @@
 
 mod reading;
 
-use base::Written;
+use cases::{Answer, Case};
 use std::io;
-use std::io::{BufReader, BufWriter, Read, Write};
+use std::io::Write;
+
+#[derive(Drop)]
+struct Captures;
 
 fn main(rt: HostRuntime) -> io::Result<()> {
-    let mut input = BufReader::new(rt.alloc(), rt.stdin())?;
-    let mut told = BufWriter::new(rt.alloc(), rt.stdout())?;
-    let mut bytes = [0u8; 65536];
-    let mut out = [0u8; 65536];
-    for _ in 0..u64::MAX {
-        if !answer(&mut input, &mut told, &mut bytes, &mut out)? {
-            break;
+    cases::answer_all(&rt, &mut Captures)
+}
+
+impl Answer for Captures {
+    fn answer(&mut self, told: &mut impl Write, case: Case, out: &mut [u8]) -> io::Result<()> {
+        match case.asked {
+            b'r' => reading::read(told, case.number, case.given, out),
+            b'd' => fetch(told, case.number, case.given, out),
+            b'f' => cases::print(told, cases::written(capture::begin(out))),
+            _ => {
+                let written = capture::enter(low(case.number), case.given, out);
+                cases::print(told, cases::written(written))
+            }
         }
     }
-    told.flush()
-}
-
-// Reads one case and writes its answer; false at the end of the input.
-fn answer(
-    input: &mut impl Read,
-    told: &mut impl Write,
-    bytes: &mut [u8],
-    out: &mut [u8],
-) -> io::Result<bool> {
-    let case = cases::read(input, bytes)?;
-    if !case.go {
-        return Ok(false);
-    }
-    let lent = cases::lend(case, out);
-    tell(
-        told,
-        case.asked,
-        case.number,
-        cases::given(case, bytes),
-        lent,
-    )?;
-    told.write_all(lent)?;
-    Ok(true)
-}
-
-// What is told of a case, the output lent.
-fn tell(
-    told: &mut impl Write,
-    asked: u8,
-    number: u64,
-    bytes: &[u8],
-    out: &mut [u8],
-) -> io::Result<()> {
-    if asked == b'r' {
-        return reading::read(told, number, bytes, out);
-    }
-    if asked == b'd' {
-        return fetch(told, number, bytes, out);
-    }
-    cases::print(told, cases::written(single(asked, number, bytes, out)))
-}
-
-// A header or a record, written.
-fn single(asked: u8, number: u64, bytes: &[u8], out: &mut [u8]) -> Written {
-    if asked == b'f' {
-        return capture::begin(out);
-    }
-    capture::enter(low(number), bytes, out)
 }
 
 // The number of a record.

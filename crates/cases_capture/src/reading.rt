@@ -3,40 +3,30 @@
 //! first piece in 16 bits. Those to be read follow; the output is the store. Each call is told as the bytes taken and its answer (0: more wanted),
 //! a packet's format and key, its payload and all of its bytes, behind it; at the end the state's three numbers, and what the end of the file says
 //! (0: it is whole).
-use capture::{CaptureReader, Ended};
+use capture::{CaptureReader, Read};
 use cases::Cut;
 use packet::Judged;
 use std::io;
 use std::io::Write;
-use stream::Heard;
 
 const HEAD: usize = 11;
-
-// Where the reading stands.
-#[derive(Drop)]
-struct Place {
-    capture: CaptureReader,
-    cut: Cut,
-}
-
-// A state as three numbers.
-#[derive(Drop)]
-struct Three {
-    kind: u64,
-    first: u64,
-    second: u64,
-}
 
 pub fn read(told: &mut impl Write, number: u64, bytes: &[u8], store: &mut [u8]) -> io::Result<()> {
     if bytes.len() < HEAD {
         return Ok(());
     }
-    let first = base::least(cases::pair_at(bytes, 9), bytes.len() - HEAD);
-    let place = Place {
-        capture: state(bytes[0], four_at(bytes, 1), four_at(bytes, 5)),
-        cut: Cut::start(number, 0, first),
-    };
-    run(told, place, &bytes[11..], store)
+    let n = bytes.len() - HEAD;
+    let mut capture = state(bytes[0], four_at(bytes, 1), four_at(bytes, 5));
+    let mut next = Some(Cut::start(number, 0, cases::pair_at(bytes, 9).min(n)));
+    for _ in 0..u64::MAX {
+        let Some(cut) = next else {
+            return finish(told, capture);
+        };
+        let read = capture.read(store, cut.piece(&bytes[HEAD..]));
+        capture = read.capture;
+        next = tell(told, read, cut, n, store)?;
+    }
+    Ok(())
 }
 
 fn four_at(bytes: &[u8], at: usize) -> usize {
@@ -57,70 +47,40 @@ fn state(kind: u8, first: usize, second: usize) -> CaptureReader {
 }
 
 // The same the other way round.
-fn numbers(capture: CaptureReader) -> Three {
+fn numbers(capture: CaptureReader) -> [u64; 3] {
     match capture {
-        CaptureReader::Header(n) => Three {
-            kind: 0,
-            first: n as u64,
-            second: 0,
-        },
-        CaptureReader::Head(n) => Three {
-            kind: 1,
-            first: n as u64,
-            second: 0,
-        },
-        CaptureReader::Record { size, done } => Three {
-            kind: 2,
-            first: size as u64,
-            second: done as u64,
-        },
-        CaptureReader::Behind(n) => Three {
-            kind: 3,
-            first: n as u64,
-            second: 0,
-        },
+        CaptureReader::Header(n) => [0, n as u64, 0],
+        CaptureReader::Head(n) => [1, n as u64, 0],
+        CaptureReader::Record { size, done } => [2, size as u64, done as u64],
+        CaptureReader::Behind(n) => [3, u64::from(n), 0],
     }
-}
-
-fn run(told: &mut impl Write, first: Place, bytes: &[u8], store: &mut [u8]) -> io::Result<()> {
-    let mut place = first;
-    for _ in 0..u64::MAX {
-        if !place.cut.go {
-            return finish(told, place.capture);
-        }
-        place = call(told, place, bytes, store)?;
-    }
-    Ok(())
 }
 
 // Writes the state's numbers, and what the end of the file says.
 fn finish(told: &mut impl Write, capture: CaptureReader) -> io::Result<()> {
-    let three = numbers(capture);
-    cases::print(told, three.kind)?;
-    cases::print(told, three.first)?;
-    cases::print(told, three.second)?;
+    cases::print_all(told, &numbers(capture))?;
     match capture.finish() {
-        Ended::Whole => cases::print(told, 0),
-        Ended::Refused(n) => cases::print(told, cases::refused(n)),
+        Ok(()) => cases::print(told, 0),
+        Err(refusal) => cases::print(told, cases::refused(refusal as u8)),
     }
 }
 
-// One call, told, and what follows from its answer.
-fn call(told: &mut impl Write, p: Place, bytes: &[u8], store: &mut [u8]) -> io::Result<Place> {
-    let capture = p.capture;
-    let cut = p.cut;
-    let r = capture.read(store, cut.piece(bytes));
-    let next = r.capture;
-    let heard = r.heard;
-    cases::print(told, r.taken as u64)?;
-    let cut = match heard {
-        Heard::More => {
+// One call, told; the next piece, of n bytes in all.
+fn tell(
+    told: &mut impl Write,
+    read: Read,
+    cut: Cut,
+    n: usize,
+    store: &[u8],
+) -> io::Result<Option<Cut>> {
+    cases::print(told, read.taken as u64)?;
+    match read.heard {
+        None => {
             cases::print(told, 0)?;
-            cut.more(r.taken, bytes.len())
+            Ok(cut.more(read.taken, n))
         }
-        Heard::Said(j) => cut.rest(r.taken, said(told, j, store)?),
-    };
-    Ok(Place { capture: next, cut })
+        Some(j) => Ok(said(told, j, store)?.then_some(cut.rest(read.taken))),
+    }
 }
 
 // All bytes of a packet stand behind its payload.

@@ -15,88 +15,50 @@ const HEAD: usize = 17;
 #[derive(Drop)]
 struct Place {
     receiver: Receiver,
-    cut: Cut,
+    cut: Option<Cut>,
 }
 
+// Nothing is heard where the head is cut short, or where it tells of more of the word buffer than there is.
 pub fn hear(told: &mut impl Write, number: u64, bytes: &[u8], recv: &mut [u8]) -> io::Result<()> {
-    let mut head = [0u8; 17];
     let mut word = [0u8; 300];
-    base::copy(bytes, &mut head);
-    lend(told, number, head, bytes, recv, &mut word)
-}
-
-// Lends as much of the word buffer as the head says.
-fn lend(
-    told: &mut impl Write,
-    number: u64,
-    head: [u8; 17],
-    bytes: &[u8],
-    recv: &mut [u8],
-    word: &mut [u8],
-) -> io::Result<()> {
-    let size = cases::pair_at(&head, 13);
-    if word.len() < size {
+    let Some((head, behind)) = bytes.split_first_chunk::<HEAD>() else {
+        return Ok(());
+    };
+    let size = cases::pair_at(head, 13);
+    if word.len() < size || behind.len() < size {
         return Ok(());
     }
-    if bytes.len() < HEAD {
-        return Ok(());
-    }
-    lent(told, number, head, &bytes[17..], recv, &mut word[0..size])
-}
-
-// Fills the word buffer and hears what follows it.
-fn lent(
-    told: &mut impl Write,
-    number: u64,
-    head: [u8; 17],
-    bytes: &[u8],
-    recv: &mut [u8],
-    word: &mut [u8],
-) -> io::Result<()> {
-    let size = word.len();
-    if bytes.len() < size {
-        return Ok(());
-    }
-    base::copy(bytes, word);
-    run(
-        told,
-        start(number, head, bytes.len() - size),
-        &bytes[size..],
-        recv,
-        word,
-    )?;
+    let (stored, heard) = behind.split_at(size);
+    let word = &mut word[..size];
+    word.copy_from_slice(stored);
+    run(told, start(number, head, heard.len()), heard, recv, word)?;
     told.write_all(word)
 }
 
 // The first piece, of n bytes at most.
-fn start(number: u64, head: [u8; 17], n: usize) -> Place {
+fn start(number: u64, head: &[u8; HEAD], n: usize) -> Place {
     Place {
         receiver: receiver(number, head),
-        cut: Cut::start(number, 0, base::least(cases::pair_at(&head, 11), n)),
+        cut: Some(Cut::start(number, 0, n.min(cases::pair_at(head, 11)))),
     }
 }
 
 // The receiver of a head.
-fn receiver(number: u64, head: [u8; 17]) -> Receiver {
-    let hunting = Hunting {
-        a: head[1],
-        b: head[2],
-        c: head[3],
-        d: head[4],
-    };
+fn receiver(number: u64, head: &[u8; HEAD]) -> Receiver {
     Receiver {
         locked: head[0] == 1,
-        hunting,
-        lock: lock(head),
-        frame: cases_frames::frame(number, cases::pair_at(&head, 15)),
-    }
-}
-
-fn lock(head: [u8; 17]) -> Locked {
-    Locked {
-        word: cases::pair_at(&head, 5),
-        handed: cases::pair_at(&head, 7),
-        marker: cases::pair_at(&head, 9),
+        hunting: Hunting {
+            a: head[1],
+            b: head[2],
+            c: head[3],
+            d: head[4],
+        },
+        lock: Locked {
+            word: cases::pair_at(head, 5),
+            handed: cases::pair_at(head, 7),
+            marker: cases::pair_at(head, 9),
+        },
+        frame: cases_frames::frame(number, cases::pair_at(head, 15)),
     }
 }
 
@@ -109,10 +71,10 @@ fn run(
 ) -> io::Result<()> {
     let mut place = first;
     for _ in 0..u64::MAX {
-        if !place.cut.go {
+        let Some(cut) = place.cut else {
             return finish(told, place.receiver);
-        }
-        place = call(told, place, bytes, recv, word)?;
+        };
+        place = call(told, place.receiver, cut, bytes, recv, word)?;
     }
     Ok(())
 }
@@ -123,18 +85,18 @@ fn finish(told: &mut impl Write, r: Receiver) -> io::Result<()> {
     let frame = r.frame;
     let hunting = r.hunting;
     let numbers = [
-        r.locked as u64,
+        u64::from(r.locked),
         lock.word as u64,
         lock.handed as u64,
         lock.marker as u64,
-        frame.opened as u64,
+        u64::from(frame.opened),
         frame.raw as u64,
         frame.stored as u64,
         frame.place as u64,
-        hunting.a as u64,
-        hunting.b as u64,
-        hunting.c as u64,
-        hunting.d as u64,
+        u64::from(hunting.a),
+        u64::from(hunting.b),
+        u64::from(hunting.c),
+        u64::from(hunting.d),
     ];
     cases::print_all(told, &numbers)
 }
@@ -142,34 +104,31 @@ fn finish(told: &mut impl Write, r: Receiver) -> io::Result<()> {
 // One call, told, and what follows from its answer.
 fn call(
     told: &mut impl Write,
-    p: Place,
+    receiver: Receiver,
+    cut: Cut,
     bytes: &[u8],
     recv: &mut [u8],
     word: &mut [u8],
 ) -> io::Result<Place> {
-    let receiver = p.receiver;
-    let cut = p.cut;
     let h = receiver.hear(recv, word, cut.piece(bytes));
-    let next = h.receiver;
-    let answer = h.answer;
     cases::print(told, h.taken as u64)?;
-    let cut = match answer {
+    let cut = match h.answer {
         Answer::More => {
             cases::print(told, 0)?;
             cut.more(h.taken, bytes.len())
         }
-        Answer::Said(j) => cut.rest(h.taken, cases_frames::said(told, j, recv)?),
+        Answer::Said(j) => cases_frames::said(told, j, recv)?.then_some(cut.rest(h.taken)),
         Answer::Block(condition) => {
             cases::print(told, block(condition))?;
-            cut.rest(h.taken, true)
+            Some(cut.rest(h.taken))
         }
         Answer::LockLost => {
             cases::print(told, 3)?;
-            cut.rest(h.taken, true)
+            Some(cut.rest(h.taken))
         }
     };
     Ok(Place {
-        receiver: next,
+        receiver: h.receiver,
         cut,
     })
 }

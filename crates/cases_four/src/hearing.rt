@@ -9,87 +9,130 @@ use std::io;
 use std::io::Write;
 use stream::FrameReader;
 use subchannel::{Counts, Lane, Settings, Sub};
-use subchannel_spec::Configured;
 
-pub fn configure(
-    told: &mut impl Write,
-    number: u64,
+// The receive buffers and the word buffers of four sub-channels, one behind the other: an array of arrays does not tell how long its own are.
+const RAWS: usize = Receiver::MOST * Sub::RAW;
+
+const WORDS: usize = Receiver::MOST * Sub::WORD;
+
+// A receiver of four, its cells, and each sub-channel's two buffers.
+#[derive(Drop)]
+pub struct Four {
     receiver: Receiver,
-    cells: &mut [[u8; Matrix::CELLS]; Receiver::MOST],
-) -> io::Result<Receiver> {
-    let done = receiver.configure(
-        cases::first(number),
-        cases::second(number),
-        cases::third(number),
-        cells,
-    );
-    let answer = done.answer;
-    cases::print(told, configured(answer))?;
-    Ok(done.receiver)
+    cells: [[u8; Matrix::CELLS]; Receiver::MOST],
+    recv: [u8; RAWS],
+    word: [u8; WORDS],
 }
 
-fn configured(answer: Configured) -> u64 {
-    match answer {
-        Configured::Done => 0,
-        Configured::Refused(n) => cases::refused(n),
+impl Four {
+    pub fn fresh() -> Self {
+        Four {
+            receiver: Receiver::fresh(),
+            cells: [[0; Matrix::CELLS]; Receiver::MOST],
+            recv: [0xA5; RAWS],
+            word: [0xA5; WORDS],
+        }
+    }
+
+    pub fn configure(&mut self, told: &mut impl Write, number: u64) -> io::Result<()> {
+        let done = self.receiver.configure(
+            cases::first(number),
+            cases::second(number),
+            cases::third(number),
+            &mut self.cells,
+        );
+        self.receiver = done.receiver;
+        match done.answer {
+            Ok(()) => cases::print(told, 0),
+            Err(refusal) => cases::print(told, cases::refused(refusal as u8)),
+        }
+    }
+
+    // Lends the two buffers of a sub-channel, as much of them as the case says; beyond the four those of the last.
+    pub fn hear(&mut self, told: &mut impl Write, number: u64, piece: &[u8]) -> io::Result<()> {
+        let n = cases::first(number);
+        let from = Sub::RAW * n.min(3);
+        let at = Sub::WORD * n.min(3);
+        let to = from + cases::second(number).min(Sub::RAW);
+        let end = at + cases::third(number).min(Sub::WORD);
+        let recv = &mut self.recv[from..to];
+        let word = &mut self.word[at..end];
+        self.receiver = hear_all(told, self.receiver, n, &mut self.cells, recv, word, piece)?;
+        Ok(())
+    }
+
+    // Sets a sub-channel's numbers.
+    pub fn set(&mut self, number: u64, x: &[u8]) {
+        let seat = Seat {
+            lane: lane(x),
+            again: is_set(x, 30),
+            place: cases::pair_at(x, 32),
+        };
+        let receiver = self.receiver;
+        self.receiver = match cases::first(number) {
+            0 => Receiver {
+                a: seat,
+                ..receiver
+            },
+            1 => Receiver {
+                b: seat,
+                ..receiver
+            },
+            2 => Receiver {
+                c: seat,
+                ..receiver
+            },
+            _ => Receiver {
+                d: seat,
+                ..receiver
+            },
+        };
+    }
+
+    pub fn view(&self, told: &mut impl Write, number: u64, room: usize) -> io::Result<()> {
+        let k = cases::first(number).min(3);
+        let seat = match k {
+            0 => self.receiver.a,
+            1 => self.receiver.b,
+            2 => self.receiver.c,
+            _ => self.receiver.d,
+        };
+        print_lane(told, seat.lane)?;
+        cases::print(told, seat.again as u64)?;
+        cases::print(told, seat.place as u64)?;
+        let cells = self.cells[k];
+        told.write_all(&self.recv[Sub::RAW * k..Sub::RAW * (k + 1)])?;
+        told.write_all(&self.word[Sub::WORD * k..Sub::WORD * (k + 1)])?;
+        print_cells(told, cells, room)
     }
 }
 
-// Lends the two buffers of a sub-channel, as much of them as the case says; beyond the four those of the last.
-pub fn hear(
-    told: &mut impl Write,
-    number: u64,
-    receiver: Receiver,
-    cells: &mut [[u8; Matrix::CELLS]; Receiver::MOST],
-    recv: &mut [u8],
-    word: &mut [u8],
-    piece: &[u8],
-) -> io::Result<Receiver> {
-    let n = cases::first(number);
-    let k = base::least(n, 3);
-    let from = Sub::RAW * k;
-    let at = Sub::WORD * k;
-    let to = from + base::least(cases::second(number), Sub::RAW);
-    let end = at + base::least(cases::third(number), Sub::WORD);
-    if recv.len() < to || word.len() < end {
-        return Ok(receiver);
-    }
-    hear_all(
-        told,
-        receiver,
-        n,
-        cells,
-        &mut recv[from..to],
-        &mut word[at..end],
-        piece,
-    )
+// As many as there is room for.
+fn print_cells(told: &mut impl Write, cells: [u8; Matrix::CELLS], room: usize) -> io::Result<()> {
+    told.write_all(&cells[..room.min(Matrix::CELLS)])
 }
 
-// A piece, until more is wanted or a call is refused.
+// A piece, until more is wanted or a call is refused: the receiver behind it.
 fn hear_all(
     told: &mut impl Write,
-    receiver: Receiver,
+    first: Receiver,
     n: usize,
     cells: &mut [[u8; Matrix::CELLS]; Receiver::MOST],
     recv: &mut [u8],
     word: &mut [u8],
     piece: &[u8],
 ) -> io::Result<Receiver> {
-    let mut next = receiver;
-    let mut at: usize = 0;
+    let mut receiver = first;
+    let mut rest = piece;
     for _ in 0..u64::MAX {
-        if piece.len() < at {
-            return Ok(next);
-        }
-        let h = next.hear(n, cells, recv, word, &piece[at..]);
-        let answer = h.answer;
-        next = h.receiver;
-        at = at.wrapping_add(h.taken);
-        if !goes_on(told, h.taken, answer, recv)? {
-            return Ok(next);
+        let heard = receiver.hear(n, cells, recv, word, rest);
+        receiver = heard.receiver;
+        rest = &rest[heard.taken.min(rest.len())..];
+        if !goes_on(told, heard.taken, heard.answer, recv)? {
+            return Ok(receiver);
         }
     }
-    Ok(next)
+    Ok(receiver)
 }
 
 fn block(condition: Condition) -> u64 {
@@ -118,44 +161,6 @@ fn goes_on(told: &mut impl Write, taken: usize, answer: Answer, recv: &[u8]) -> 
             Ok(true)
         }
     }
-}
-
-fn get(r: Receiver, k: usize) -> Seat {
-    if k == 0 {
-        return r.a;
-    }
-    if k == 1 {
-        return r.b;
-    }
-    if k == 2 {
-        return r.c;
-    }
-    r.d
-}
-
-fn put(r: Receiver, k: usize, seat: Seat) -> Receiver {
-    let a = r.a;
-    let b = r.b;
-    let c = r.c;
-    let d = r.d;
-    match k {
-        0 => Receiver { a: seat, b, c, d },
-        1 => Receiver { a, b: seat, c, d },
-        2 => Receiver { a, b, c: seat, d },
-        _ => Receiver { a, b, c, d: seat },
-    }
-}
-
-pub fn set(number: u64, receiver: Receiver, x: &[u8]) -> Receiver {
-    put(
-        receiver,
-        cases::first(number),
-        Seat {
-            lane: lane(x),
-            again: is_set(x, 30),
-            place: cases::pair_at(x, 32),
-        },
-    )
 }
 
 fn lane(x: &[u8]) -> Lane {
@@ -207,68 +212,25 @@ fn frame(x: &[u8]) -> FrameReader {
     }
 }
 
-pub fn view(
-    told: &mut impl Write,
-    number: u64,
-    room: usize,
-    receiver: Receiver,
-    cells: &[[u8; Matrix::CELLS]; Receiver::MOST],
-    recv: &[u8],
-    word: &[u8],
-) -> io::Result<()> {
-    let k = base::least(cases::first(number), 3);
-    let seat = get(receiver, k);
-    let lane = seat.lane;
-    print_lane(told, lane)?;
-    cases::print(told, seat.again as u64)?;
-    cases::print(told, seat.place as u64)?;
-    print_part(told, Sub::RAW * k, Sub::RAW, recv)?;
-    print_part(told, Sub::WORD * k, Sub::WORD, word)?;
-    let own = cells_of(cells, k);
-    print_part(told, 0, room, &own)
-}
-
-fn cells_of(cells: &[[u8; Matrix::CELLS]; Receiver::MOST], k: usize) -> [u8; Matrix::CELLS] {
-    match k {
-        0 => cells[0],
-        1 => cells[1],
-        2 => cells[2],
-        _ => cells[3],
-    }
-}
-
-// So many bytes from a place on.
-fn print_part(told: &mut impl Write, from: usize, n: usize, bytes: &[u8]) -> io::Result<()> {
-    if bytes.len() < from {
-        return Ok(());
-    }
-    let end = from + base::least(n, bytes.len() - from);
-    told.write_all(&bytes[from..end])
-}
-
 fn print_lane(told: &mut impl Write, lane: Lane) -> io::Result<()> {
-    let settings = lane.settings;
-    let hunting = lane.hunting;
-    let counts = lane.counts;
-    let frame = lane.frame;
     let numbers = [
-        settings.told as u64,
-        settings.parity as u64,
-        settings.depth as u64,
+        lane.settings.told as u64,
+        lane.settings.parity as u64,
+        lane.settings.depth as u64,
         lane.locked as u64,
         lane.lost as u64,
-        hunting.a as u64,
-        hunting.b as u64,
-        hunting.c as u64,
-        hunting.d as u64,
-        counts.group as u64,
-        counts.marker as u64,
-        counts.word as u64,
-        counts.handed as u64,
-        frame.opened as u64,
-        frame.raw as u64,
-        frame.stored as u64,
-        frame.place as u64,
+        lane.hunting.a as u64,
+        lane.hunting.b as u64,
+        lane.hunting.c as u64,
+        lane.hunting.d as u64,
+        lane.counts.group as u64,
+        lane.counts.marker as u64,
+        lane.counts.word as u64,
+        lane.counts.handed as u64,
+        lane.frame.opened as u64,
+        lane.frame.raw as u64,
+        lane.frame.stored as u64,
+        lane.frame.place as u64,
     ];
     cases::print_all(told, &numbers)
 }

@@ -9,64 +9,34 @@
 mod hearing;
 
 use cases::Case;
-use four_receivers::Receiver;
-use interleaver::Matrix;
+use hearing::Four;
 use std::io;
-use std::io::{BufReader, BufWriter, Read, Write};
-use subchannel::Sub;
-
-// The receive buffers and the word buffers of four sub-channels.
-const RAWS: usize = Receiver::MOST * Sub::RAW;
-
-const WORDS: usize = Receiver::MOST * Sub::WORD;
+use std::io::{BufReader, BufWriter, Write};
 
 fn main(rt: HostRuntime) -> io::Result<()> {
     let mut input = BufReader::new(rt.alloc(), rt.stdin())?;
     let mut told = BufWriter::new(rt.alloc(), rt.stdout())?;
     let mut bytes = [0u8; 65536];
-    let mut recv = [0xA5u8; RAWS];
-    let mut word = [0xA5u8; WORDS];
-    let mut cells = [[0u8; Matrix::CELLS]; Receiver::MOST];
-    let mut receiver = Receiver::fresh();
+    let mut four = Four::fresh();
+    // What is told of a case is its whole answer: no output follows, as `cases::answer_all` would write it.
     for _ in 0..u64::MAX {
-        let case = cases::read(&mut input, &mut bytes)?;
-        if !case.go {
+        let Some(case) = cases::read(&mut input, &mut bytes)? else {
             break;
-        }
-        receiver = answer(
-            &mut told, case, receiver, &mut cells, &mut recv, &mut word, &bytes,
-        )?;
+        };
+        answer(&mut told, case, &mut four)?;
     }
     told.flush()
 }
 
-// Writes the answer to one case: the receiver behind it.
-fn answer(
-    told: &mut impl Write,
-    case: Case,
-    receiver: Receiver,
-    cells: &mut [[u8; Matrix::CELLS]; Receiver::MOST],
-    recv: &mut [u8],
-    word: &mut [u8],
-    bytes: &[u8],
-) -> io::Result<Receiver> {
-    let asked = case.asked;
-    let number = case.number;
-    let given = cases::given(case, bytes);
-    match asked {
-        b'n' => {
-            cases::fill(recv, 0xA5);
-            cases::fill(word, 0xA5);
-            *cells = [[0u8; Matrix::CELLS]; Receiver::MOST];
-            Ok(Receiver::fresh())
-        }
-        b'c' => hearing::configure(told, number, receiver, cells),
-        b'h' => hearing::hear(told, number, receiver, cells, recv, word, given),
-        b'x' => Ok(hearing::set(number, receiver, given)),
-        b'v' => {
-            hearing::view(told, number, case.room, receiver, cells, recv, word)?;
-            Ok(receiver)
-        }
-        _ => Ok(receiver),
+// Writes the answer to one case.
+fn answer(told: &mut impl Write, case: Case, four: &mut Four) -> io::Result<()> {
+    match case.asked {
+        b'n' => *four = Four::fresh(),
+        b'c' => four.configure(told, case.number)?,
+        b'h' => four.hear(told, case.number, case.given)?,
+        b'x' => four.set(case.number, case.given),
+        b'v' => four.view(told, case.number, case.room)?,
+        _ => {}
     }
+    Ok(())
 }

@@ -33,18 +33,20 @@ pub fn delivery(number: u64) -> Delivery {
 /// A judged frame as a number. A packet: port, sequence, length, and 1 above them; a broken escape: its place above the number.
 pub fn judged(j: Judged) -> u64 {
     match j {
-        Judged::Packet(d) => d.port as u64
-            | (d.sequence as u64) << 16
+        Judged::Packet(d) => u64::from(d.port)
+            | u64::from(d.sequence) << 16
             | (d.length as u64 % 0x1000000) << 32
             | 1 << 56,
         Judged::Refused(n) => cases::refused(n),
-        Judged::Broken(place) => { cases::refused(Refusal::ESCAPE) | (place as u64 % 65536) << 32 }
+        Judged::Broken(place) => {
+            cases::refused(Refusal::Escape as u8) | (place as u64 % 65536) << 32
+        }
     }
 }
 
 /// A packet's format, key number and key length as a number.
 pub fn kind(d: Delivery) -> u64 {
-    d.format as u64 | (d.number as u64) << 8 | (d.key as u64) << 16
+    u64::from(d.format) | u64::from(d.number) << 8 | u64::from(d.key) << 16
 }
 
 /// Tells a judged frame: its number, and of a packet the kind, key and payload. False where the call was refused: by 10, 11 or 42.
@@ -56,7 +58,11 @@ pub fn said(told: &mut impl Write, j: Judged, recv: &[u8]) -> io::Result<bool> {
             Ok(true)
         }
         Judged::Refused(n) => {
-            Ok(n != Refusal::STATE && n != Refusal::BUFFER && n != Refusal::SUB_CHANNEL)
+            let refusal = Refusal::try_from(n);
+            Ok(!matches!(
+                refusal,
+                Ok(Refusal::State | Refusal::Buffer | Refusal::SubChannel)
+            ))
         }
         Judged::Broken(_) => Ok(true),
     }

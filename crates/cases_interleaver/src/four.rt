@@ -1,9 +1,11 @@
 //! The cases of the sender of four. Its settings stand before a case's other bytes, of each sub-channel three numbers of 16 bits: told, R, depth.
+ghost use Rattle.std.specs.Prelude.{◌<◌};
+
 use base::Written;
 use four_senders::Sender;
 use std::io;
 use std::io::Write;
-use subchannel_spec::{Configured, Settings};
+use subchannel_spec::Settings;
 
 const SETTINGS: usize = 24;
 
@@ -15,21 +17,19 @@ pub fn configure(told: &mut impl Write, number: u64, bytes: &[u8]) -> io::Result
         cases::second(number),
         cases::third(number),
     );
-    let answer = done.answer;
     let next = done.sender;
-    print(told, next.a)?;
-    print(told, next.b)?;
-    print(told, next.c)?;
-    print(told, next.d)?;
-    match answer {
-        Configured::Done => Ok(0),
-        Configured::Refused(n) => Ok(cases::refused(n)),
+    for settings in [next.a, next.b, next.c, next.d] {
+        print(told, settings)?;
+    }
+    match done.answer {
+        Ok(()) => Ok(0),
+        Err(refusal) => Ok(cases::refused(refusal as u8)),
     }
 }
 
 pub fn send(number: u64, bytes: &[u8], out: &mut [u8]) -> Written {
     if bytes.len() < SETTINGS {
-        return Written::Wrote(0);
+        return Ok(0);
     }
     let sender = sender_in(bytes);
     sender.send(cases::first(number), &bytes[SETTINGS..], out)
@@ -37,23 +37,31 @@ pub fn send(number: u64, bytes: &[u8], out: &mut [u8]) -> Written {
 
 fn sender_in(bytes: &[u8]) -> Sender {
     Sender {
-        a: settings(bytes, 0, 2, 4),
-        b: settings(bytes, 6, 8, 10),
-        c: settings(bytes, 12, 14, 16),
-        d: settings(bytes, 18, 20, 22),
+        a: settings(bytes, 0),
+        b: settings(bytes, 6),
+        c: settings(bytes, 12),
+        d: settings(bytes, 18),
     }
 }
 
-fn settings(bytes: &[u8], told: usize, parity: usize, depth: usize) -> Settings {
+// Those from a place on.
+fn settings(bytes: &[u8], at: usize) -> Settings
+    requires { at < 24 }
+{
     Settings {
-        told: cases::pair_at(bytes, told) == 1,
-        parity: cases::pair_at(bytes, parity),
-        depth: cases::pair_at(bytes, depth),
+        told: cases::pair_at(bytes, at) == 1,
+        parity: cases::pair_at(bytes, at + 2),
+        depth: cases::pair_at(bytes, at + 4),
     }
 }
 
 fn print(told: &mut impl Write, settings: Settings) -> io::Result<()> {
-    cases::print(told, settings.told as u64)?;
-    cases::print(told, settings.parity as u64)?;
-    cases::print(told, settings.depth as u64)
+    cases::print_all(
+        told,
+        &[
+            settings.told as u64,
+            settings.parity as u64,
+            settings.depth as u64,
+        ],
+    )
 }

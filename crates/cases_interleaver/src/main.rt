@@ -11,10 +11,10 @@
 
 mod four;
 
+use cases::{Answer, Case};
 use interleaver::{Back, Matrix, Pulled, Pushed};
 use std::io;
-use std::io::{BufReader, BufWriter, Read, Write};
-use subchannel_sender::Counted;
+use std::io::Write;
 
 // Both sides.
 #[derive(Clone, Copy)]
@@ -23,224 +23,118 @@ struct Sides {
     back: Back,
 }
 
-// The number of an answer, and the states behind it.
-#[derive(Drop)]
-struct Answered {
-    number: u64,
-    sides: Sides,
-}
-
-// Whether there was a case, and the states behind it.
-#[derive(Drop)]
-struct Turn {
-    go: bool,
-    sides: Sides,
-}
-
 fn main(rt: HostRuntime) -> io::Result<()> {
-    let mut input = BufReader::new(rt.alloc(), rt.stdin())?;
-    let mut told = BufWriter::new(rt.alloc(), rt.stdout())?;
-    let mut bytes = [0u8; 65536];
-    let mut out = [0u8; 65536];
-    let mut sides = fresh();
-    for _ in 0..u64::MAX {
-        let turn = answer(&mut input, &mut told, sides, &mut bytes, &mut out)?;
-        sides = turn.sides;
-        if !turn.go {
-            break;
+    let mut sides = Sides::fresh();
+    cases::answer_all(&rt, &mut sides)
+}
+
+impl Answer for Sides {
+    fn answer(&mut self, told: &mut impl Write, case: Case, out: &mut [u8]) -> io::Result<()> {
+        let number = self.tell(told, case, out)?;
+        cases::print(told, number)
+    }
+}
+
+impl Sides {
+    fn fresh() -> Self {
+        Sides {
+            matrix: interleaver::fresh(),
+            back: interleaver::fresh_back(),
         }
     }
-    told.flush()
-}
 
-fn fresh() -> Sides {
-    Sides {
-        matrix: interleaver::fresh(),
-        back: interleaver::fresh_back(),
+    // The number that a case is answered by.
+    fn tell(&mut self, told: &mut impl Write, case: Case, out: &mut [u8]) -> io::Result<u64> {
+        let number = case.number;
+        let given = case.given;
+        match case.asked {
+            b'g' => self.send_group(told, number, given, out),
+            b'p' => four::configure(told, number, given),
+            b's' | b'q' | b'w' => Ok(tell_sent(case, out)),
+            _ => Ok(self.tell_one(case, out)),
+        }
     }
-}
 
-// Reads one case and writes its answer.
-fn answer(
-    input: &mut impl Read,
-    told: &mut impl Write,
-    sides: Sides,
-    bytes: &mut [u8],
-    out: &mut [u8],
-) -> io::Result<Turn> {
-    let case = cases::read(input, bytes)?;
-    if !case.go {
-        return Ok(Turn { go: false, sides });
+    // A case of the two states alone.
+    fn tell_one(&mut self, case: Case, out: &mut [u8]) -> u64 {
+        let depth = case.number as usize;
+        match case.asked {
+            b'N' => {
+                *self = Sides::fresh();
+                0
+            }
+            b'I' => self.pushed(interleaver::push(self.matrix, depth, case.given, out)),
+            b'Z' => self.pushed(interleaver::close(self.matrix, depth, out)),
+            b'J' => self.pulled(interleaver::pull(self.back, depth, case.given, out)),
+            b'X' => {
+                self.place(depth, case.given);
+                0
+            }
+            b'V' => self.show(case.number, out),
+            _ => 0,
+        }
     }
-    let lent = cases::lend(case, out);
-    let answered = tell(
-        told,
-        case.asked,
-        case.number,
-        sides,
-        cases::given(case, bytes),
-        lent,
-    )?;
-    let next = answered.sides;
-    cases::print(told, answered.number)?;
-    told.write_all(lent)?;
-    Ok(Turn {
-        go: true,
-        sides: next,
-    })
-}
 
-// A case of the two states.
-fn tell(
-    told: &mut impl Write,
-    asked: u8,
-    number: u64,
-    sides: Sides,
-    bytes: &[u8],
-    out: &mut [u8],
-) -> io::Result<Answered> {
-    match asked {
-        b'g' => grouped(told, number, sides, bytes, out),
-        b'p' => Ok(Answered {
-            number: four::configure(told, number, bytes)?,
-            sides,
-        }),
-        _ => Ok(tell_one(asked, number, sides, bytes, out)),
+    fn pushed(&mut self, p: Pushed) -> u64 {
+        self.matrix = p.matrix;
+        cases::written(p.written)
     }
-}
 
-// What is told in one number.
-fn tell_one(asked: u8, number: u64, sides: Sides, bytes: &[u8], out: &mut [u8]) -> Answered {
-    let matrix = sides.matrix;
-    let back = sides.back;
-    let depth = number as usize;
-    match asked {
-        b'N' => Answered {
-            number: 0,
-            sides: fresh(),
-        },
-        b'I' => pushed(interleaver::push(matrix, depth, bytes, out), back),
-        b'Z' => pushed(interleaver::close(matrix, depth, out), back),
-        b'J' => pulled(matrix, interleaver::pull(back, depth, bytes, out)),
-        b'X' => Answered {
-            number: 0,
-            sides: placed(sides, depth, bytes),
-        },
-        b'V' => Answered {
-            number: shown(sides, number, out),
-            sides,
-        },
-        _ => Answered {
-            number: tell_sent(asked, number, bytes, out),
-            sides,
-        },
+    fn pulled(&mut self, p: Pulled) -> u64 {
+        self.back = p.back;
+        cases::written(p.written)
+    }
+
+    // The next group; the bytes taken are told before it.
+    fn send_group(
+        &mut self,
+        told: &mut impl Write,
+        number: u64,
+        bytes: &[u8],
+        out: &mut [u8],
+    ) -> io::Result<u64> {
+        let sent = subchannel_sender::send_group(
+            cases::first(number),
+            cases::second(number),
+            self.matrix,
+            bytes,
+            out,
+        );
+        self.matrix = sent.matrix;
+        cases::print(told, sent.taken as u64)?;
+        Ok(cases::written(sent.written))
+    }
+
+    // The same cells at another place, on both sides.
+    fn place(&mut self, place: usize, bytes: &[u8]) {
+        self.matrix.place = place;
+        self.back.matrix.place = place;
+        self.back.again = bytes.first().is_some_and(|b| *b != 0);
+    }
+
+    // The cells of a side, and its place.
+    fn show(&self, number: u64, out: &mut [u8]) -> u64 {
+        if number == 0 {
+            return show_cells(self.matrix, out);
+        }
+        out.fill(self.back.again as u8);
+        show_cells(self.back.matrix, out)
     }
 }
 
 // A case of a whole stream, or of the sender of four: both states stay.
-fn tell_sent(asked: u8, number: u64, bytes: &[u8], out: &mut [u8]) -> u64 {
-    match asked {
-        b's' => cases::written(subchannel_sender::send(
-            cases::first(number),
-            cases::second(number),
-            bytes,
-            out,
-        )),
-        b'q' => counted(subchannel_sender::count(
-            cases::first(number),
-            cases::second(number),
-            cases::number_at(bytes, 0) as usize,
-        )),
-        b'w' => cases::written(four::send(number, bytes, out)),
-        _ => 0,
-    }
+fn tell_sent(case: Case, out: &mut [u8]) -> u64 {
+    let parity = cases::first(case.number);
+    let depth = cases::second(case.number);
+    let written = match case.asked {
+        b's' => subchannel_sender::send(parity, depth, case.given, out),
+        b'q' => subchannel_sender::count(parity, depth, cases::number_at(case.given, 0) as usize),
+        _ => four::send(case.number, case.given, out),
+    };
+    cases::written(written)
 }
 
-fn pushed(p: Pushed, back: Back) -> Answered {
-    let answer = p.written;
-    let matrix = p.matrix;
-    Answered {
-        number: cases::written(answer),
-        sides: Sides { matrix, back },
-    }
-}
-
-fn pulled(matrix: Matrix, p: Pulled) -> Answered {
-    let answer = p.written;
-    let back = p.back;
-    Answered {
-        number: cases::written(answer),
-        sides: Sides { matrix, back },
-    }
-}
-
-// The next group; the bytes taken are told before it.
-fn grouped(
-    told: &mut impl Write,
-    number: u64,
-    sides: Sides,
-    bytes: &[u8],
-    out: &mut [u8],
-) -> io::Result<Answered> {
-    let back = sides.back;
-    let sent = subchannel_sender::send_group(
-        cases::first(number),
-        cases::second(number),
-        sides.matrix,
-        bytes,
-        out,
-    );
-    let answer = sent.written;
-    let next = sent.matrix;
-    cases::print(told, sent.taken as u64)?;
-    Ok(Answered {
-        number: cases::written(answer),
-        sides: Sides { matrix: next, back },
-    })
-}
-
-fn counted(c: Counted) -> u64 {
-    match c {
-        Counted::Groups(n) => n as u64,
-        Counted::Refused(n) => cases::refused(n),
-    }
-}
-
-// The same cells at another place.
-fn at(matrix: Matrix, place: usize) -> Matrix {
-    let cells = matrix.cells;
-    Matrix { place, cells }
-}
-
-fn placed(sides: Sides, place: usize, bytes: &[u8]) -> Sides {
-    let back = sides.back;
-    Sides {
-        matrix: at(sides.matrix, place),
-        back: Back {
-            again: is_set(bytes),
-            matrix: at(back.matrix, place),
-        },
-    }
-}
-
-fn is_set(bytes: &[u8]) -> bool {
-    if bytes.len() == 0 {
-        return false;
-    }
-    bytes[0] != 0
-}
-
-fn shown(sides: Sides, number: u64, out: &mut [u8]) -> u64 {
-    if number == 0 {
-        return cells_shown(sides.matrix, out);
-    }
-    let back = sides.back;
-    cases::fill(out, back.again as u8);
-    cells_shown(back.matrix, out)
-}
-
-fn cells_shown(matrix: Matrix, out: &mut [u8]) -> u64 {
-    let cells = matrix.cells;
-    base::copy(&cells, out);
+fn show_cells(matrix: Matrix, out: &mut [u8]) -> u64 {
+    base::copy(&matrix.cells, out);
     matrix.place as u64
 }

@@ -3,7 +3,7 @@
 //! lines, lent to each call anew; the first piece is empty. Each call is told as the bytes taken, what it wants (0: more, 1: room) and how
 //! many bytes it wrote, and those. The last line stands in the output; told are its length, then the answers where just that length is
 //! lent, and a byte less.
-use base::Written;
+use base::{Refusal, Written};
 use cases::Cut;
 use channel::Receiver;
 use listing::{Lister, Wants};
@@ -20,7 +20,7 @@ const RECV: usize = Receiver::RAW;
 #[derive(Drop)]
 struct Place {
     recording: Lister,
-    cut: Cut,
+    cut: Option<Cut>,
 }
 
 pub fn list(told: &mut impl Write, number: u64, bytes: &[u8], out: &mut [u8]) -> io::Result<()> {
@@ -37,7 +37,7 @@ pub fn list(told: &mut impl Write, number: u64, bytes: &[u8], out: &mut [u8]) ->
 fn start(number: u64) -> Place {
     Place {
         recording: begin(number / 0x4000000000000000),
-        cut: Cut::start(number, cases::third(number), 0),
+        cut: Some(Cut::start(number, cases::third(number), 0)),
     }
 }
 
@@ -81,68 +81,59 @@ fn run(
 ) -> io::Result<()> {
     let mut place = first;
     for _ in 0..u64::MAX {
-        if !place.cut.go {
+        let Some(cut) = place.cut else {
             return finish(told, place.recording, out);
-        }
-        place = call(told, place, bytes, recv, word, out)?;
+        };
+        place = call(told, place.recording, cut, bytes, recv, word, out)?;
     }
     Ok(())
 }
 
 fn finish(told: &mut impl Write, r: Lister, out: &mut [u8]) -> io::Result<()> {
     let n = length(told, r.finish(out))?;
-    if out.len() < n {
+    if n == 0 || out.len() < n {
         return Ok(());
     }
-    if n == 0 {
-        return Ok(());
-    }
-    length(told, r.finish(&mut out[0..n]))?;
-    length(told, r.finish(&mut out[0..n - 1]))?;
+    length(told, r.finish(&mut out[..n]))?;
+    length(told, r.finish(&mut out[..n - 1]))?;
     Ok(())
 }
 
 // Tells an answer; how many bytes were written.
 fn length(told: &mut impl Write, w: Written) -> io::Result<usize> {
     cases::print(told, cases::written(w))?;
-    match w {
-        Written::Wrote(n) => Ok(n),
-        Written::Refused(_) => Ok(0),
-    }
+    Ok(w.unwrap_or(0))
 }
 
 // One call, told, and what follows from its answer. Where it wants room and wrote nothing, nothing would come of another.
 fn call(
     told: &mut impl Write,
-    p: Place,
+    recording: Lister,
+    cut: Cut,
     bytes: &[u8],
     recv: &mut [u8],
     word: &mut [u8],
     out: &mut [u8],
 ) -> io::Result<Place> {
-    let recording = p.recording;
-    let cut = p.cut;
     let t = recording.take(recv, word, cut.piece(bytes), out);
-    let next = t.next;
-    let wants = t.wants;
     cases::print(told, t.taken as u64)?;
-    cases::print(told, code(wants))?;
+    cases::print(told, code(t.wants))?;
     cases::show(told, t.written, out)?;
-    let cut = match wants {
-        Wants::More => cut.more(t.taken, bytes.len()),
-        Wants::Room => cut.rest(t.taken, 0 < t.written),
-        Wants::Refused(_) => cut.rest(t.taken, false),
+    let cut = match t.wants {
+        Ok(Wants::More) => cut.more(t.taken, bytes.len()),
+        Ok(Wants::Room) => (0 < t.written).then_some(cut.rest(t.taken)),
+        Err(_) => None,
     };
     Ok(Place {
-        recording: next,
+        recording: t.next,
         cut,
     })
 }
 
-fn code(wants: Wants) -> u64 {
+fn code(wants: Result<Wants, Refusal>) -> u64 {
     match wants {
-        Wants::More => 0,
-        Wants::Room => 1,
-        Wants::Refused(n) => cases::refused(n),
+        Ok(Wants::More) => 0,
+        Ok(Wants::Room) => 1,
+        Err(refusal) => cases::refused(refusal as u8),
     }
 }

@@ -5,9 +5,10 @@
 //! number of a refusal; and the 16 places then.
 #![tactic(auto)]
 
-use ports::{Entry, Forgot, Noted, Ports};
-use std::io;
+use base::Refusal;
+use ports::{Entry, Noted, Ports};
 use std::io::{BufReader, BufWriter, Read, Write};
+use std::{array, io};
 
 fn main(rt: HostRuntime) -> io::Result<()> {
     let mut input = BufReader::new(rt.alloc(), rt.stdin())?;
@@ -28,78 +29,55 @@ fn answer(input: &mut impl Read, out: &mut impl Write) -> io::Result<bool> {
     }
     let head = place(cases::number_at(&case, 0));
     let ports = Ports {
-        entries: places_of(case),
+        entries: places_of(&case),
     };
     if case[0] == b'N' {
         let r = ports.note(head.port, head.last);
-        let told = r.noted;
-        let after = r.ports;
-        tell(out, noted(told), after)?;
-        return Ok(true);
+        tell(out, noted(r.noted), r.ports)?;
+    } else {
+        let r = ports.forget(head.port);
+        tell(out, forgot(r.forgot), r.ports)?;
     }
-    let r = ports.forget(head.port);
-    let told = r.forgot;
-    let after = r.ports;
-    tell(out, forgot(told), after)?;
     Ok(true)
 }
 
-fn noted(noted: Noted) -> u64 {
+fn noted(noted: Noted) -> u32 {
     match noted {
         Noted::First => 0,
         Noted::InOrder => 1,
         Noted::Repeated => 2,
         Noted::Late => 3,
-        Noted::Missing(n) => 0x10000 + n as u64,
-        Noted::Refused(n) => 0x1000000 + n as u64,
+        Noted::Missing(n) => 0x10000 + u32::from(n),
+        Noted::Refused(n) => 0x1000000 + u32::from(n),
     }
 }
 
-fn forgot(forgot: Forgot) -> u64 {
+fn forgot(forgot: Result<(), Refusal>) -> u32 {
     match forgot {
-        Forgot::Forgotten => 0,
-        Forgot::Refused(n) => 0x1000000 + n as u64,
+        Ok(()) => 0,
+        Err(refusal) => 0x1000000 + refusal as u32,
     }
 }
 
-fn places_of(case: [u8; 85]) -> [Entry; 16] {
-    let mut entries = [place(0); 16];
-    for i in 0..16 {
-        entries[i] = place(cases::number_at(&case, 5 + 5 * i));
-    }
-    entries
+fn places_of(case: &[u8; 85]) -> [Entry; 16] {
+    array::from_fn(|i| place(cases::number_at(case, 5 + 5 * i)))
 }
 
 // A place in a number; a case's own port and sequence stand likewise.
 fn place(n: u64) -> Entry {
     Entry {
         held: n % 256 != 0,
-        port: cases::half(n / 0x100),
-        last: cases::half(n / 0x1000000),
+        port: cases::half(n >> 8),
+        last: cases::half(n >> 24),
     }
 }
 
-fn tell(out: &mut impl Write, told: u64, ports: Ports) -> io::Result<()> {
-    let head = [
-        cases::low(told),
-        cases::low(told / 0x100),
-        cases::low(told / 0x10000),
-        cases::low(told / 0x1000000),
-    ];
-    out.write_all(&head)?;
+fn tell(out: &mut impl Write, told: u32, ports: Ports) -> io::Result<()> {
+    out.write_all(&told.to_le_bytes())?;
     for entry in ports.entries {
-        tell_place(out, entry)?;
+        out.write_all(&[u8::from(entry.held)])?;
+        out.write_all(&entry.port.to_le_bytes())?;
+        out.write_all(&entry.last.to_le_bytes())?;
     }
     Ok(())
-}
-
-fn tell_place(out: &mut impl Write, e: Entry) -> io::Result<()> {
-    let text = [
-        e.held as u8,
-        (e.port % 256) as u8,
-        (e.port / 256) as u8,
-        (e.last % 256) as u8,
-        (e.last / 256) as u8,
-    ];
-    out.write_all(&text)
 }

@@ -6,9 +6,8 @@
 //! and for each of 16 places its row, and its line with its length before it, or 65,536 and the number of a refusal.
 #![tactic(auto)]
 
-use base::Written;
 use ports_spec::Range;
-use sheet::{Counted, Draft, Sheet};
+use sheet::{Draft, Sheet, Uncounted};
 use sheet_spec::{Row, Tally};
 use std::io;
 use std::io::{BufReader, BufWriter, Read, Write};
@@ -37,20 +36,16 @@ fn answer(input: &mut impl Read, told: &mut impl Write) -> io::Result<bool> {
     let n = next(input)?;
     let draft = note_all(input, range, sheet.begin(), n)?;
     let closed = draft.close(next(input)? != 0);
-    let counted = closed.counted;
-    let after = closed.sheet;
-    let left = after.rows;
-    cases::print(told, code(counted))?;
-    cases::print(told, after.ports as u64)?;
-    tell_rows(told, after, left)?;
+    cases::print(told, code(closed.counted))?;
+    tell_sheet(told, closed.sheet)?;
     Ok(true)
 }
 
 fn rows(input: &mut impl Read) -> io::Result<[Row; 16]> {
     let first = row(input)?;
     let mut rows = [first; 16];
-    for i in 1..16 {
-        rows[i] = row(input)?;
+    for place in &mut rows[1..] {
+        *place = row(input)?;
     }
     Ok(rows)
 }
@@ -102,38 +97,39 @@ fn next(input: &mut impl Read) -> io::Result<u64> {
     Ok(cases::number_at(&bytes, 0))
 }
 
-fn code(counted: Counted) -> u64 {
+fn code(counted: Result<(), Uncounted>) -> u64 {
     match counted {
-        Counted::Counts => 0,
-        Counted::Wrong => 1,
-        Counted::Refused(n) => cases::refused(n),
+        Ok(()) => 0,
+        Err(Uncounted::Wrong) => 1,
+        Err(Uncounted::Refused(refusal)) => cases::refused(refusal as u8),
     }
 }
 
-fn tell_rows(told: &mut impl Write, sheet: Sheet, rows: [Row; 16]) -> io::Result<()> {
-    for i in 0..16 {
-        tell_row(told, rows[i])?;
+fn tell_sheet(told: &mut impl Write, sheet: Sheet) -> io::Result<()> {
+    cases::print(told, sheet.ports as u64)?;
+    for (i, row) in sheet.rows.iter().enumerate() {
+        tell_row(told, *row)?;
         tell_line(told, sheet, i)?;
     }
     Ok(())
 }
 
 fn tell_row(told: &mut impl Write, row: Row) -> io::Result<()> {
-    let t = row.tally;
-    cases::print(told, row.port as u64)?;
-    cases::print(told, t.delivered)?;
-    cases::print(told, t.repeated)?;
-    cases::print(told, t.late)?;
-    cases::print(told, t.missing)?;
-    cases::print(told, t.total)?;
-    cases::print(told, if row.heard { 1 } else { 0 })?;
-    cases::print(told, row.last as u64)
+    let tally = row.tally;
+    cases::print(told, u64::from(row.port))?;
+    cases::print(told, tally.delivered)?;
+    cases::print(told, tally.repeated)?;
+    cases::print(told, tally.late)?;
+    cases::print(told, tally.missing)?;
+    cases::print(told, tally.total)?;
+    cases::print(told, u64::from(row.heard))?;
+    cases::print(told, u64::from(row.last))
 }
 
 fn tell_line(told: &mut impl Write, sheet: Sheet, i: usize) -> io::Result<()> {
     let mut text = [0u8; Sheet::LINE];
     match sheet.print(i, &mut text) {
-        Written::Wrote(n) => cases::show(told, n, &text),
-        Written::Refused(n) => cases::print(told, cases::refused(n)),
+        Ok(n) => cases::show(told, n, &text),
+        Err(refusal) => cases::print(told, cases::refused(refusal as u8)),
     }
 }

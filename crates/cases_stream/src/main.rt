@@ -3,35 +3,20 @@
 
 mod reading;
 
+use cases::{Answer, Case};
 use std::io;
-use std::io::{BufReader, BufWriter, Read, Write};
+use std::io::Write;
+
+#[derive(Drop)]
+struct Streams;
 
 fn main(rt: HostRuntime) -> io::Result<()> {
-    let mut input = BufReader::new(rt.alloc(), rt.stdin())?;
-    let mut told = BufWriter::new(rt.alloc(), rt.stdout())?;
-    let mut bytes = [0u8; 65536];
-    let mut out = [0u8; 65536];
-    for _ in 0..u64::MAX {
-        if !answer(&mut input, &mut told, &mut bytes, &mut out)? {
-            break;
-        }
-    }
-    told.flush()
+    cases::answer_all(&rt, &mut Streams)
 }
 
-// Reads one case and writes its answer; false at the end of the input. The letter is not looked at: every case is a stream.
-fn answer(
-    input: &mut impl Read,
-    told: &mut impl Write,
-    bytes: &mut [u8],
-    out: &mut [u8],
-) -> io::Result<bool> {
-    let case = cases::read(input, bytes)?;
-    if !case.go {
-        return Ok(false);
+impl Answer for Streams {
+    // The letter is not looked at: every case is a stream.
+    fn answer(&mut self, told: &mut impl Write, case: Case, out: &mut [u8]) -> io::Result<()> {
+        reading::read(told, case.number, case.given, out)
     }
-    let lent = cases::lend(case, out);
-    reading::read(told, case.number, cases::given(case, bytes), lent)?;
-    told.write_all(lent)?;
-    Ok(true)
 }

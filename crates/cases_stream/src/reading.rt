@@ -5,36 +5,24 @@
 use cases::Cut;
 use std::io;
 use std::io::Write;
-use stream::{FrameReader, Heard};
+use stream::{FrameReader, Read};
 
 const HEAD: usize = 4;
-
-// Where the reading stands.
-#[derive(Drop)]
-struct Place {
-    frame: FrameReader,
-    cut: Cut,
-}
 
 pub fn read(told: &mut impl Write, number: u64, bytes: &[u8], recv: &mut [u8]) -> io::Result<()> {
     if bytes.len() < HEAD {
         return Ok(());
     }
-    let first = base::least(cases::pair_at(bytes, 2), bytes.len() - HEAD);
-    let place = Place {
-        frame: cases_frames::frame(number, cases::pair_at(bytes, 0)),
-        cut: Cut::start(number, 0, first),
-    };
-    run(told, place, &bytes[4..], recv)
-}
-
-fn run(told: &mut impl Write, first: Place, bytes: &[u8], recv: &mut [u8]) -> io::Result<()> {
-    let mut place = first;
+    let n = bytes.len() - HEAD;
+    let mut frame = cases_frames::frame(number, cases::pair_at(bytes, 0));
+    let mut next = Some(Cut::start(number, 0, cases::pair_at(bytes, 2).min(n)));
     for _ in 0..u64::MAX {
-        if !place.cut.go {
-            return finish(told, place.frame);
-        }
-        place = call(told, place, bytes, recv)?;
+        let Some(cut) = next else {
+            return finish(told, frame);
+        };
+        let read = frame.read(recv, cut.piece(&bytes[HEAD..]));
+        frame = read.frame;
+        next = tell(told, read, cut, n, recv)?;
     }
     Ok(())
 }
@@ -42,7 +30,7 @@ fn run(told: &mut impl Write, first: Place, bytes: &[u8], recv: &mut [u8]) -> io
 // Writes the state's numbers.
 fn finish(told: &mut impl Write, f: FrameReader) -> io::Result<()> {
     let numbers = [
-        f.opened as u64,
+        u64::from(f.opened),
         f.raw as u64,
         f.stored as u64,
         f.place as u64,
@@ -50,20 +38,20 @@ fn finish(told: &mut impl Write, f: FrameReader) -> io::Result<()> {
     cases::print_all(told, &numbers)
 }
 
-// One call, told, and what follows from its answer.
-fn call(told: &mut impl Write, p: Place, bytes: &[u8], recv: &mut [u8]) -> io::Result<Place> {
-    let frame = p.frame;
-    let cut = p.cut;
-    let r = frame.read(recv, cut.piece(bytes));
-    let next = r.frame;
-    let heard = r.heard;
-    cases::print(told, r.taken as u64)?;
-    let cut = match heard {
-        Heard::More => {
+// One call, told; the next piece, of n bytes in all.
+fn tell(
+    told: &mut impl Write,
+    read: Read,
+    cut: Cut,
+    n: usize,
+    recv: &[u8],
+) -> io::Result<Option<Cut>> {
+    cases::print(told, read.taken as u64)?;
+    match read.heard {
+        None => {
             cases::print(told, 0)?;
-            cut.more(r.taken, bytes.len())
+            Ok(cut.more(read.taken, n))
         }
-        Heard::Said(j) => cut.rest(r.taken, cases_frames::said(told, j, recv)?),
-    };
-    Ok(Place { frame: next, cut })
+        Some(j) => Ok(cases_frames::said(told, j, recv)?.then_some(cut.rest(read.taken))),
+    }
 }

@@ -3,95 +3,50 @@
 //! those, and the fixed data; u a unit read: the delimiter, the told lengths of audio and fixed data (8 bytes each), and the unit.
 #![tactic(auto)]
 
+use cases::{Answer, Case};
 use std::io;
-use std::io::{BufReader, BufWriter, Read, Write};
+use std::io::Write;
+
+#[derive(Drop)]
+struct Units;
 
 fn main(rt: HostRuntime) -> io::Result<()> {
-    let mut input = BufReader::new(rt.alloc(), rt.stdin())?;
-    let mut told = BufWriter::new(rt.alloc(), rt.stdout())?;
-    let mut bytes = [0u8; 65536];
-    let mut out = [0u8; 65536];
-    for _ in 0..u64::MAX {
-        if !answer(&mut input, &mut told, &mut bytes, &mut out)? {
-            break;
-        }
-    }
-    told.flush()
+    cases::answer_all(&rt, &mut Units)
 }
 
-// Reads one case and writes its answer; false at the end of the input.
-fn answer(
-    input: &mut impl Read,
-    told: &mut impl Write,
-    bytes: &mut [u8],
-    out: &mut [u8],
-) -> io::Result<bool> {
-    let case = cases::read(input, bytes)?;
-    if !case.go {
-        return Ok(false);
+impl Answer for Units {
+    fn answer(&mut self, told: &mut impl Write, case: Case, out: &mut [u8]) -> io::Result<()> {
+        let size = case.number as usize;
+        cases::print(told, tell(case.asked, size, case.given, out))
     }
-    let lent = cases::lend(case, out);
-    let size = case.number as usize;
-    cases::print(
-        told,
-        tell(case.asked, size, cases::given(case, bytes), lent),
-    )?;
-    told.write_all(lent)?;
-    Ok(true)
 }
 
+// 0 where nothing is asked that there is, or too few bytes follow.
 fn tell(asked: u8, size: usize, bytes: &[u8], out: &mut [u8]) -> u64 {
-    match asked {
+    let answer = match asked {
         b'U' => write(size, bytes, out),
         b'u' => read(size, bytes, out),
-        _ => 0,
-    }
+        _ => None,
+    };
+    answer.unwrap_or(0)
 }
 
 // A unit written.
-fn write(size: usize, bytes: &[u8], out: &mut [u8]) -> u64 {
-    if bytes.len() < 9 {
-        return 0;
-    }
-    let delimiter = [bytes[0], bytes[1], bytes[2], bytes[3], bytes[4]];
-    let audio = cases::pair_at(bytes, 5);
-    let opportunistic = cases::pair_at(bytes, 7);
-    write_parts(size, delimiter, audio, opportunistic, &bytes[9..], out)
-}
-
-// .. of parts that stand one behind the other.
-fn write_parts(
-    size: usize,
-    delimiter: [u8; 5],
-    audio: usize,
-    opportunistic: usize,
-    parts: &[u8],
-    out: &mut [u8],
-) -> u64 {
-    if parts.len() < audio {
-        return 0;
-    }
-    let behind = &parts[audio..];
-    if behind.len() < opportunistic {
-        return 0;
-    }
-    cases::written(unit::write(
-        size,
-        delimiter,
-        &parts[0..audio],
-        &behind[0..opportunistic],
-        &behind[opportunistic..],
-        out,
-    ))
+fn write(size: usize, bytes: &[u8], out: &mut [u8]) -> Option<u64> {
+    let (delimiter, rest) = bytes.split_first_chunk::<5>()?;
+    let (lengths, parts) = rest.split_first_chunk::<4>()?;
+    let (audio, behind) = parts.split_at_checked(cases::pair_at(lengths, 0))?;
+    let (opportunistic, fixed) = behind.split_at_checked(cases::pair_at(lengths, 2))?;
+    let written = unit::write(size, *delimiter, audio, opportunistic, fixed, out);
+    Some(cases::written(written))
 }
 
 // A unit read.
-fn read(size: usize, bytes: &[u8], out: &mut [u8]) -> u64 {
-    if bytes.len() < 21 {
-        return 0;
-    }
-    let delimiter = [bytes[0], bytes[1], bytes[2], bytes[3], bytes[4]];
-    let audio = cases::number_at(bytes, 5) as usize;
-    let fixed = cases::number_at(bytes, 13) as usize;
-    cases::written(unit::read(size, delimiter, audio, fixed, &bytes[21..], out))
+fn read(size: usize, bytes: &[u8], out: &mut [u8]) -> Option<u64> {
+    let (delimiter, rest) = bytes.split_first_chunk::<5>()?;
+    let (lengths, unit) = rest.split_first_chunk::<16>()?;
+    let audio = cases::number_at(lengths, 0) as usize;
+    let fixed = cases::number_at(lengths, 8) as usize;
+    let written = unit::read(size, *delimiter, audio, fixed, unit, out);
+    Some(cases::written(written))
 }

@@ -16,9 +16,9 @@ use Rattle.base.specs.Choice.{pick}
 use Rattle.base.specs.Bytes.{Bytes}
 use Rattle.word_spec.specs.Word.{clean}
 use Rattle.parity.specs.Calls.{checked}
-use Rattle.parity.specs.declared.Checked.{Checked}
-use Rattle.parity.specs.declared.Checked.TheVariants as check
-use Rattle.repair.specs.declared.Mended.{Mended}
+use Rattle.parity.specs.Checked.{Checked}
+use Rattle.parity.specs.Checked as check
+use Rattle.repair.specs.Mended.{Mended}
 use Rattle.repair.specs.Promise.{Promised}
 use Rattle.repair.proofs.Apart.{checked-is}
 use Rattle.channel.specs.declared.receiver.Receiver.{Receiver}

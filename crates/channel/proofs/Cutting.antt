@@ -9,7 +9,6 @@ use lib.Dec.{eqb}
 use Rattle.base.specs.Calls.{joined, told, Yields}
 use Rattle.base.proofs.Calls.{law, yields-all, yields-first}
 use Rattle.channel_spec.specs.Sender.{word_bytes}
-use Rattle.channel_spec.specs.Meaning.{Event}
 use Rattle.channel.specs.Call.{Memory, eat_byte, owed, hand_on, hear_all, hear_on, hear_call, Fine}
 use Rattle.channel.proofs.Fine.{fine-is, fine-roomy, fine-hand, fine-eat, owed-one}
 

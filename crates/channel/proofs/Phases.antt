@@ -23,7 +23,9 @@ use Rattle.channel.specs.declared.locked.Locked.{Locked}
 use Rattle.channel.specs.declared.hunting.Found.{Found}
 use Rattle.channel_spec.specs.Meaning.{condition, mend, Event, block, lost, shift, is_marker}
 use Rattle.channel.specs.Call.{Memory, memory, hunting_with, locked_with, hunt_on, word_on, compare_on, mark_on, eat_by, eat_byte, owed, hand_on, hear_on}
-use Rattle.channel.specs.Private.{shifts, later, hunted}
+use Rattle.std.proofs.Common.{Some, None}
+use Rattle.std.specs.declared.option.Option.{Option as Maybe}
+use Rattle.channel.specs.Private.{shifts, taken_on, later, hunted}
 use Rattle.channel.proofs.Words.{mend_in-is}
 use Rattle.channel.proofs.Cutting.{hand-one}
 use Rattle.channel_spec.specs.Sender.{word_bytes, message_bytes}
@@ -92,23 +94,21 @@ module _ (lk : Locked) (g : FrameReader) (l k : List ℕ) where
   hunting_at f = memory (record { locked = false; hunting = f; lock = lk; frame = g }) l k
 
   -- the call behind what hunting finds
-  abbrev pub hunted_on : List ℕ → Bool → ℕ → Hunting → Option Event × ℕ × Memory
-  hunted_on bs true n f = after n (hear_on (locked_with f 0 0 0 (held g l) k) (drop n bs))
-  hunted_on bs false n f = (none, n, hunting_at f)
+  abbrev pub hunted_on : List ℕ → Maybe ℕ → Hunting → Option Event × ℕ × Memory
+  hunted_on bs (Some n) f = after n (hear_on (locked_with f 0 0 0 (held g l) k) (drop n bs))
+  hunted_on bs None f = (none, length bs, hunting_at f)
 
-  hunted-later : (b : ℕ) (bs : List ℕ) (t : Bool) (n : ℕ) (f : Hunting) → one_more (hunted_on bs t n f) ≡ hunted_on (b ∷ bs) t (suc n) f
-  hunted-later b bs true n f = after_one n (hear_on (locked_with f 0 0 0 (held g l) k) (drop n bs))
-  hunted-later b bs false n f = refl
+  hunted-later : (b : ℕ) (bs : List ℕ) (t : Maybe ℕ) (f : Hunting) → one_more (hunted_on bs t f) ≡ hunted_on (b ∷ bs) (taken_on t) f
+  hunted-later b bs (Some n) f = after_one n (hear_on (locked_with f 0 0 0 (held g l) k) (drop n bs))
+  hunted-later b bs None f = refl
 
-  hunted-by : (t : Bool) (e f : Hunting) (b : ℕ) (bs : List ℕ) (x : Found) → hear_on (hunting_at f) bs ≡ hunted_on bs x.found x.taken x.hunting
+  hunted-by : (t : Bool) (e f : Hunting) (b : ℕ) (bs : List ℕ) (x : Found) → hear_on (hunting_at f) bs ≡ hunted_on bs x.taken x.hunting
       → one_more (hear_on (hunt_on t f (hunting_at e)) bs)
-      ≡ hunted_on (b ∷ bs) (pick t (record { found = true; taken = 1; hunting = f }) (later x)).found
-      (pick t (record { found = true; taken = 1; hunting = f }) (later x)).taken (pick t (record { found = true; taken = 1; hunting = f }) (later x)).hunting
+      ≡ hunted_on (b ∷ bs) (pick t (record { taken = Some 1; hunting = f }) (later x)).taken (pick t (record { taken = Some 1; hunting = f }) (later x)).hunting
   hunted-by true e f b bs x p = one-after (hear_on (locked_with f 0 0 0 (held g l) k) bs)
-  hunted-by false e f b bs x p =
-      ap one_more p ∙ hunted-later b bs x.found x.taken x.hunting
+  hunted-by false e f b bs x p = ap one_more p ∙ hunted-later b bs x.taken x.hunting
 
-  pub hunt-run : (bs : List ℕ) (f : Hunting) → hear_on (hunting_at f) bs ≡ hunted_on bs (hunted f bs).found (hunted f bs).taken (hunted f bs).hunting
+  pub hunt-run : (bs : List ℕ) (f : Hunting) → hear_on (hunting_at f) bs ≡ hunted_on bs (hunted f bs).taken (hunted f bs).hunting
   unfolding hunted
   hunt-run [] f = no_more (hunting_at f) refl
   hunt-run (b ∷ bs) f =

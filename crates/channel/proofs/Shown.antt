@@ -3,7 +3,7 @@
 -- Now         what is shown after a byte
 -- shown-all   a byte string
 -- in_use_lem      what is in use does not hang on what stands behind it in the buffers
-use Prim.Native.Nat.{ℕ, suc, ◌+◌, ◌≤◌, ◌<◌}
+use Prim.Native.Nat.{ℕ, suc, ◌≤◌, ◌<◌}
 use native.Mathlib.Omega.{arith}
 use mathlib.Core.Path.{◌≡◌, refl, sym, ◌∙◌, ap, subst}
 use mathlib.Core.Bool.{Bool, true, false}

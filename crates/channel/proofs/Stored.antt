@@ -19,7 +19,7 @@ use Rattle.packet_spec.specs.Contents.{raw_limit}
 use Rattle.packet_spec.specs.Frame.{Told, judged}
 use Rattle.packet_spec.specs.declared.Judged.{Judged}
 use Rattle.stream.specs.declared.frame.Read.{Read}
-use Rattle.stream.specs.declared.frame.Heard.TheVariants as heard
+use Rattle.std.specs.Prelude.{None, Some}
 use Rattle.stream.specs.Meaning.{Reading, read, reads}
 use Rattle.stream.specs.Call.{Held, held, take_byte, read_on, read_call, ReadIs, held_of, answered as frame_answered, Fine as FineFrame}
 use Rattle.stream.proofs.Cutting.{read-agrees}
@@ -37,11 +37,11 @@ fits-none : (o : Option Told) (n : ℕ) (g : Held) (bs : List ℕ) → FitsBy ow
 fits-none none n g bs f e = f.0
 fits-none (some a) n g bs f e = absurd (let z : ◌≡◌ {A = ℕ} 0 1 = cc in omega arith)
 
-is_none : (o : Option Told) → frame_answered o ≡ heard.More → o ≡ none
+is_none : (o : Option Told) → frame_answered o ≡ None → o ≡ none
 is_none none e = refl
 is_none (some a) e = absurd (let z : ◌≡◌ {A = ℕ} 0 1 = cc in omega arith)
 
-said-is : (o : Option Told) (j : Judged) → frame_answered o ≡ heard.Said j → (t : Told) × (o ≡ some t) × (j ≡ judged t)
+said-is : (o : Option Told) (j : Judged) → frame_answered o ≡ Some j → (t : Told) × (o ≡ some t) × (j ≡ judged t)
 said-is none j e = absurd (let z : ◌≡◌ {A = ℕ} 0 1 = cc in omega arith)
 said-is (some t) j e = (t, refl, cc)
 
@@ -137,13 +137,13 @@ module _ {M : Type 0} (owed : M → ℕ) (hand_on : M → Option Event × M) (ea
           ∙ (λ i. unless (as_event (q i)) 0 (at (h + sym taken_is i) (sym held-is i)) (call (at (h + sym taken_is i) (sym held-is i)) bs))
 
       -- the frame reader wants more: all is handed on, and the call goes on
-      pub read_more : r.heard ≡ heard.More → (h + r.taken ≡ m) × ((bs : List ℕ) → call (at h g) bs ≡ call next bs)
+      pub read_more : r.heard ≡ None → (h + r.taken ≡ m) × ((bs : List ℕ) → call (at h g) bs ≡ call next bs)
       read_more w =
           let q : got.0 ≡ none = is_none got.0 (sym heard-is ∙ w) in
           (omega (arith, fits-none got.0 got.1 got.2 left got-fits q, left-length, taken_is, some_left), λ bs. runs bs q)
 
       -- it has an answer: the call ends with it
-      pub read-said : (j : Judged) → r.heard ≡ heard.Said j
+      pub read-said : (j : Judged) → r.heard ≡ Some j
           → (t : Told) × (j ≡ judged t) × ((bs : List ℕ) → call (at h g) bs ≡ (some (said t), 0, next))
       read-said j w = let q = said-is got.0 j (sym heard-is ∙ w) in (q.0, q.2, λ bs. runs bs q.1)
 

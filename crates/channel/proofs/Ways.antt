@@ -1,52 +1,46 @@
 -- What the code's ways through the phases of a call give.
--- lock-as                                                      the lock of a phase's state, as it is counted
--- shifts-next, shifts-done, hunt-next, hunt-stop, hunt-done, latest, latest-none   the two loops among the last four bytes
+-- hunt-next, hunt-stop, hunt-done, behind_by, latest           hunting byte by byte
 -- sound-lock, lock-word, lock-marker, lock-handed, room_word   what 10 and 11 ask
--- hand-none, taken-within, hand-more, hand-said                the rest of a stored word
+-- taken-within, hand-more, hand-said                           the rest of a stored word
 -- compare-more, compare-again, compare-lost                    marker bytes
 -- hunt-found, hunt-more, sought-none                           hunting, or nothing to seek
 -- fill-room, fill-within, fill-same, fill_more, fill-whole     bytes of a word
--- handed-end, sought-end, filled-end                           phase behind phase
+-- sought-end, filled-end                                       phase behind phase
 -- call-unsound, call-cramped, call-on                          refused with 10, with 11, or let on
 use Prim.Native.Nat.{ℕ, suc, ◌+◌, ◌-◌, ◌≤◌, ◌<◌, min}
 use native.Mathlib.Omega.{arith}
 use native.Mathlib.Numerals.{add-one}
-use native.Mathlib.Nat.{add-zero, zero-add}
 use mathlib.Core.Path.{◌≡◌, refl, sym, ◌∙◌, ap, subst}
-use mathlib.Core.Bool.{Bool, true, false, false≢true}
+use mathlib.Core.Bool.{Bool, true, false}
 use mathlib.Core.List.{List, [], ◌∷◌, ◌++◌, append_assoc}
 use mathlib.Core.Option.{Option, some, none}
 use lib.ListN.{length, take, drop, get_or, length-append, length-drop, drop_of_length-le, take-append-drop}
 use lib.Seq.{drop-cons, take_at, take_all, length-take-le}
 use lib.Dec.{eqb, leb}
-use borrow.Author.Tests.{le-leb, leb-true, eqb-true}
+use borrow.Author.Tests.{le-leb, leb-true}
 use borrow.Rule.Slice.PartMut.{put_mid}
 use Rattle.base.specs.Choice.{pick}
 use Rattle.base.specs.Calls.{after}
-use Rattle.base.specs.Written.{copied}
 use Rattle.base.proofs.Calls.{after_none}
-use Rattle.base.proofs.Writing.{copied-fits}
 use Rattle.base.proofs.Tests.{and_parts}
 use Rattle.packet_spec.specs.Contents.{raw_limit}
 use Rattle.packet_spec.specs.declared.Judged.{Judged}
-use Rattle.stream.specs.declared.frame.FrameReader.{FrameReader}
 use Rattle.stream.specs.declared.frame.Read.{Read}
-use Rattle.stream.specs.declared.frame.Heard.TheVariants as heard
+use Rattle.std.specs.Prelude.{None, Some}
 use Rattle.stream.specs.Call.{Held, held, fresh, read_call, ReadIs, sound as sound_frame, Fine as FineFrame}
 use Rattle.stream.proofs.Fine.{fine_of}
 use Rattle.channel_spec.specs.declared.Hunting.{Hunting}
 use Rattle.channel.specs.declared.locked.Locked.{Locked}
 use Rattle.channel.specs.declared.receiver.Receiver.{Receiver}
-use Rattle.channel_spec.specs.declared.Answer.{Answer}
 use Rattle.channel_spec.specs.declared.Answer.TheVariants.{More, Said, Block, LockLost}
 use Rattle.channel.specs.declared.answer.Hearing.{Hearing}
-use Rattle.channel.specs.declared.answer.Phase.{Phase}
 use Rattle.channel.specs.declared.hunting.Found.{Found}
 use Rattle.channel_spec.specs.Meaning.{condition, Event, said, block, shift, is_marker}
 use Rattle.channel.specs.Call.{Memory, memory, counts, locked_with, eat_byte, owed_by, owes, owed, hand_on, hear_on, sound_lock, sound, roomy, hear_by}
 use Rattle.channel.specs.Call.{hear_call, mend_in, hearing_of, HearingIs}
-use Rattle.channel.specs.Private.{shifts, later, hunted, ended, PhaseBy, HandedIs, SoughtIs, FilledIs}
-use Rattle.base.proofs.Parts.{lent, back}
+use Rattle.std.proofs.Common.{Some, None}
+use Rattle.std.specs.declared.option.Option.{Option as Maybe}
+use Rattle.channel.specs.Private.{shifts, taken_on, later, hunted, Handed, Sought, FilledIs}
 use Rattle.channel.proofs.Words.{mend_in-is}
 use Rattle.channel.proofs.Cutting.{hand-one}
 use Rattle.channel.proofs.Stored as stored
@@ -54,56 +48,43 @@ use Rattle.channel.proofs.Phases.{mark-part, compared_on, behind_four, mark-four
 use Rattle.channel_spec.specs.declared.Condition.{Condition}
 use Rattle.channel_spec.specs.Sender.{word_bytes, message_bytes}
 
--- the lock of a phase's state, as it is counted
-pub lock-as : {t : Phase} {d : Bool} {a : Answer} {n : ℕ} {f : Hunting} {k j : Locked} {r : FrameReader} → k ≡ j
-    → t ≡ record { done = d; answer = a; taken = n; receiver = record { locked = true; hunting = f; lock = k; frame = r } }
-    → t ≡ record { done = d; answer = a; taken = n; receiver = record { locked = true; hunting = f; lock = j; frame = r } }
-lock-as {d = d} {a = a} {n = n} {f = f} {r = r} e p =
-    p ∙ ap (λ (l : Locked). record { done = d; answer = a; taken = n; receiver = record { locked = true; hunting = f; lock = l; frame = r } }) e
-
--- ---- the two loops
-pub shifts-next : (f : Hunting) (bs : List ℕ) (i : ℕ) {g t : Hunting} → i < length bs → g ≡ shift f (get_or bs i 0) → shifts f (drop i bs) ≡ t
-    → shifts g (drop (i + 1) bs) ≡ t
-shifts-next f bs i h e p =
-    (λ j. shifts (e j) (drop (add-one i j) bs)) ∙ sym (ap (shifts f) (drop-cons bs i 0 h)) ∙ p
-
-pub shifts-done : (f : Hunting) (bs : List ℕ) (i : ℕ) {t : Hunting} → length bs ≤ i → shifts f (drop i bs) ≡ t → f ≡ t
-shifts-done f bs i h p = sym (ap (shifts f) (drop_of_length-le bs h)) ∙ p
-
+-- ---- hunting byte by byte
 -- what hunting finds, so many bytes later
+abbrev pub behind_by : ℕ → Maybe ℕ → Maybe ℕ
+behind_by n (Some k) = Some (n + k)
+behind_by n None = None
+
 abbrev pub latest : ℕ → Found → Found
-latest n x = record { found = x.found; taken = n + x.taken; hunting = x.hunting }
+latest n x = record { taken = behind_by n x.taken; hunting = x.hunting }
 
 hunted-some : (f : Hunting) (bs : List ℕ) (i : ℕ) {g : Hunting} (t : Bool) → i < length bs → g ≡ shift f (get_or bs i 0) → is_marker g ≡ t
-    → hunted f (drop i bs) ≡ pick t (record { found = true; taken = 1; hunting = g }) (later (hunted g (drop (suc i) bs)))
+    → hunted f (drop i bs) ≡ pick t (record { taken = Some 1; hunting = g }) (later (hunted g (drop (suc i) bs)))
 unfolding hunted
 hunted-some f bs i {g} t h e m =
     ap (hunted f) (drop-cons bs i 0 h)
-    ∙ (λ j. pick (is_marker (sym e j)) (record { found = true; taken = 1; hunting = sym e j }) (later (hunted (sym e j) (drop (suc i) bs))))
-    ∙ ap (λ b. pick b (record { found = true; taken = 1; hunting = g }) (later (hunted g (drop (suc i) bs)))) m
+    ∙ (λ j. pick (is_marker (sym e j)) (record { taken = Some 1; hunting = sym e j }) (later (hunted (sym e j) (drop (suc i) bs))))
+    ∙ ap (λ b. pick b (record { taken = Some 1; hunting = g }) (later (hunted g (drop (suc i) bs)))) m
+
+behind-on : (i : ℕ) (t : Maybe ℕ) → behind_by (i + 1) t ≡ behind_by i (taken_on t)
+behind-on i (Some k) = ap Some (let n : i + 1 + k ≡ i + suc k = omega arith in n)
+behind-on i None = refl
 
 module _ (f : Hunting) (bs : List ℕ) (i : ℕ) {t : Found} (p : latest i (hunted f (drop i bs)) ≡ t) where
   pub hunt-next : {g : Hunting} {r : Bool} → i < length bs → g ≡ shift f (get_or bs i 0) → r ≡ is_marker g → r ≡ false
       → latest (i + 1) (hunted g (drop (i + 1) bs)) ≡ t
   hunt-next {g} h e m q =
       let x : Found = hunted g (drop (suc i) bs) in
-      let n : i + 1 + x.taken ≡ i + suc x.taken = omega arith in
       ap (λ j. latest (i + 1) (hunted g (drop j bs))) (add-one i)
-      ∙ (λ j. record { found = x.found; taken = n j; hunting = x.hunting })
+      ∙ (λ j. record { taken = behind-on i x.taken j; hunting = x.hunting })
       ∙ ap (latest i) (sym (hunted-some f bs i false h e (sym m ∙ q))) ∙ p
 
   pub hunt-stop : {g : Hunting} {r : Bool} → i < length bs → g ≡ shift f (get_or bs i 0) → r ≡ is_marker g → r ≡ true
-      → record { found = true; taken = i + 1; hunting = g } ≡ t
+      → record { taken = Some (i + 1); hunting = g } ≡ t
   hunt-stop h e m q = ap (latest i) (sym (hunted-some f bs i true h e (sym m ∙ q))) ∙ p
 
-  pub hunt-done : length bs ≤ i → record { found = false; taken = i; hunting = f } ≡ t
+  pub hunt-done : length bs ≤ i → record { taken = None; hunting = f } ≡ t
   unfolding hunted
-  hunt-done h =
-      (λ j. record { found = false; taken = sym (add-zero i) j; hunting = f })
-      ∙ ap (λ l. latest i (hunted f l)) (sym (drop_of_length-le bs h)) ∙ p
-
-pub latest-none : (x : Found) → latest 0 x ≡ x
-latest-none x = λ j. record { found = x.found; taken = zero-add x.taken j; hunting = x.hunting }
+  hunt-done h = ap (λ l. latest i (hunted f l)) (sym (drop_of_length-le bs h)) ∙ p
 
 -- ---- what 10 and 11 ask
 pub sound-lock : (s : Receiver) → sound s ≡ true → sound_lock s.lock ≡ true
@@ -138,15 +119,6 @@ owed-some true false h e = absurd (e refl)
 owed-some false t h e = absurd (e refl)
 
 module _ (s : Receiver) (l k : List ℕ) (sd : sound s ≡ true) where
-  pub hand-none : {t : Phase} {n : ℕ} → n ≡ owes s → n ≡ 0 → t ≡ record { done = false; answer = More; taken = 0; receiver = s } → HandedIs (memory s l k) t l
-  hand-none en z e =
-      subst (λ t. HandedIs (memory s l k) t l) (sym e) (record {
-        means = λ bs. after_none (hear_on (memory s l k) bs);
-        taken = refl;
-        lock = sound-lock s sd;
-        owed = λ d. sym en ∙ z;
-      })
-
   module _ (rm : roomy l k ≡ true) {n : ℕ} (en : n ≡ owes s) (nz : n ≡ 0 → ⊥) where
     some-owed : (s.locked ≡ true) × (eqb s.lock.word word_bytes ≡ true) × (s.lock.handed < message_bytes)
     some-owed = owed-some s.locked (eqb s.lock.word word_bytes) s.lock.handed (λ z. nz (en ∙ z))
@@ -184,35 +156,42 @@ module _ (s : Receiver) (l k : List ℕ) (sd : sound s ≡ true) where
           lock-sound s.lock.word (s.lock.handed + r.taken) s.lock.marker (lock-word s.lock (sound-lock s sd))
           (lock-marker s.lock (sound-lock s sd)) taken-within
 
-      pub hand-more : {t : Phase} → r.heard ≡ heard.More → t ≡ record { done = false; answer = More; taken = 0; receiver = next }
-          → HandedIs (memory s l k) t l'
-      hand-more m p =
+      -- .. with the flag as it stands there
+      onward : (P : Receiver → Type 0) → P next
+          → P (record { locked = s.locked; hunting = s.hunting; lock = counts s.lock.word (s.lock.handed + r.taken) s.lock.marker; frame = r.frame })
+      onward P x =
+          subst
+          (λ o. P (record { locked = o; hunting = s.hunting; lock = counts s.lock.word (s.lock.handed + r.taken) s.lock.marker; frame = r.frame }))
+          (sym some-owed.0) x
+
+      pub hand-more : r.heard ≡ None
+          → Handed (memory s l k)
+          (record { locked = s.locked; hunting = s.hunting; lock = counts s.lock.word (s.lock.handed + r.taken) s.lock.marker; frame = r.frame }) l'
+      hand-more m =
           let x = stored.read_more owed hand_on eat_byte hand-one message_bytes k at owes_at (λ h g. refl) s.lock.handed
           (held s.frame l) hand-handed long fine e m in
           let z : message_bytes - (s.lock.handed + r.taken) ≡ 0 = omega (arith, x.0) in
-          subst (λ t. HandedIs (memory s l k) t l') (sym p) (record {
-            means = λ bs. begun bs ∙ x.1 bs ∙ after_none (hear_on (memory next l' k) bs);
-            taken = refl;
+          onward (λ y. Handed (memory s l k) y l') (record {
+            means = λ bs. begun bs ∙ x.1 bs;
             lock = next-lock;
-            owed = λ d. owes_at (s.lock.handed + r.taken) (held r.frame l') ∙ z;
+            owed = owes_at (s.lock.handed + r.taken) (held r.frame l') ∙ z;
           })
 
-      pub hand-said : (j : Judged) {t : Phase} → r.heard ≡ heard.Said j → t ≡ record { done = true; answer = Said j; taken = 0; receiver = next }
-          → HandedIs (memory s l k) t l'
-      hand-said j m p =
+      pub hand-said : (j : Judged) → r.heard ≡ Some j → (bs : List ℕ)
+          → HearingIs (hear_on (memory s l k) bs) (record {
+            answer = Said j;
+            taken = 0;
+            receiver = record { locked = s.locked; hunting = s.hunting; lock = counts s.lock.word (s.lock.handed + r.taken) s.lock.marker; frame = r.frame };
+          }) l' k
+      hand-said j m bs =
           let x = stored.read-said owed hand_on eat_byte hand-one message_bytes k at owes_at (λ h g. refl) s.lock.handed
           (held s.frame l) hand-handed long fine e j m in
-          subst (λ t. HandedIs (memory s l k) t l') (sym p) (record {
-            means = λ bs.
-                let q : hear_on (memory s l k) bs ≡ (some (said x.0), 0, memory next l' k) = begun bs ∙ x.2 bs in (
-                  (λ i. record { answer = Said (x.1 i); taken = 0; receiver = next }) ∙ ap hearing_of (sym q),
-                  ap (λ x. x.2.recv) (sym q),
-                  ap (λ x. x.2.word) (sym q),
-                );
-            taken = refl;
-            lock = next-lock;
-            owed = λ d. absurd (false≢true (sym d));
-          })
+          let q : hear_on (memory s l k) bs ≡ (some (said x.0), 0, memory next l' k) = begun bs ∙ x.2 bs in
+          onward (λ y. HearingIs (hear_on (memory s l k) bs) (record { answer = Said j; taken = 0; receiver = y }) l' k) (
+            (λ i. record { answer = Said (x.1 i); taken = 0; receiver = next }) ∙ ap hearing_of (sym q),
+            ap (λ x. x.2.recv) (sym q),
+            ap (λ x. x.2.word) (sym q),
+          )
 
 -- ---- marker bytes
 module _ (s : Receiver) (bs : List ℕ) (o : s.locked ≡ true) (w : s.lock.word ≡ word_bytes) (m : s.lock.marker ≤ 3) (z : owes s ≡ 0)
@@ -223,37 +202,34 @@ module _ (s : Receiver) (bs : List ℕ) (o : s.locked ≡ true) (w : s.lock.word
   memory-is : (l k : List ℕ) → memory s l k ≡ locked_with s.hunting word_bytes s.lock.handed s.lock.marker (held s.frame l) k
   memory-is l k i = memory (record { locked = o i; hunting = s.hunting; lock = counts (w i) s.lock.handed s.lock.marker; frame = s.frame }) l k
 
-  pub compare-more : {t : Phase} → s.lock.marker + n < 4
-      → t ≡ record {
-        done = true;
+  pub compare-more : s.lock.marker + n < 4 → (l k : List ℕ)
+      → HearingIs (hear_on (memory s l k) bs) (record {
         answer = More;
         taken = n;
-        receiver = record { locked = true; hunting = f; lock = counts s.lock.word s.lock.handed (s.lock.marker + n); frame = s.frame };
-      }
-      → SoughtIs s bs t
-  compare-more h e =
+        receiver = record { locked = s.locked; hunting = f; lock = counts s.lock.word s.lock.handed (s.lock.marker + n); frame = s.frame };
+      }) l k
+  compare-more h l k =
       let all : n ≡ length bs = omega (arith, en) in
       let part : take n bs ≡ bs = take_all n bs (omega arith) in
-      subst (SoughtIs s bs) (sym e) (record {
-        means = λ l k.
-            let q : hear_on (memory s l k) bs
-            ≡ (
-              none,
-              n,
-              memory (record { locked = true; hunting = f; lock = counts s.lock.word s.lock.handed (s.lock.marker + n); frame = s.frame })
-                  l k,
-            ) =
-            ap (λ c. hear_on c bs) (memory-is l k)
-            ∙ mark-part s.lock.handed (held s.frame l) k none_left bs s.hunting s.lock.marker (omega arith)
-            ∙ (λ i. (
-              none,
-              sym all i,
-              locked_with (sym (ef ∙ ap (shifts s.hunting) part) i) (sym w i) s.lock.handed (s.lock.marker + sym all i) (held s.frame l) k,
-            )) in
-            (ap hearing_of (sym q), ap (λ x. x.2.recv) (sym q), ap (λ x. x.2.word) (sym q));
-        within = omega arith;
-        ready = λ d. absurd (false≢true (sym d));
-      })
+      let q : hear_on (memory s l k) bs
+      ≡ (
+        none,
+        n,
+        memory (record { locked = s.locked; hunting = f; lock = counts s.lock.word s.lock.handed (s.lock.marker + n); frame = s.frame }) l k,
+      ) =
+      ap (λ c. hear_on c bs) (memory-is l k)
+      ∙ mark-part s.lock.handed (held s.frame l) k none_left bs s.hunting s.lock.marker (omega arith)
+      ∙ (λ i. (
+        none,
+        sym all i,
+        memory (record {
+          locked = sym o i;
+          hunting = sym (ef ∙ ap (shifts s.hunting) part) i;
+          lock = counts (sym w i) s.lock.handed (s.lock.marker + sym all i);
+          frame = s.frame;
+        }) l k,
+      )) in
+      (ap hearing_of (sym q), ap (λ x. x.2.recv) (sym q), ap (λ x. x.2.word) (sym q))
 
   four : (l k : List ℕ) (t : Bool) → is_marker f ≡ t → 4 ≤ s.lock.marker + n
       → hear_on (memory s l k) bs ≡ behind_four s.lock.handed (held s.frame l) k none_left (drop n bs) n
@@ -277,92 +253,101 @@ module _ (s : Receiver) (bs : List ℕ) (o : s.locked ≡ true) (w : s.lock.word
           ∙ (λ i. behind_four s.lock.handed (held s.frame l) k none_left (drop n bs) (c i)
           (compared_on s.lock.handed (held s.frame l) k none_left ((ap is_marker (sym g) ∙ e) i) (sym g i)))
 
-  pub compare-again : {t : Phase} {r : Bool} {x : Receiver} → 4 ≤ s.lock.marker + n → r ≡ is_marker f → r ≡ true
-      → x ≡ record { locked = true; hunting = f; lock = counts 0 0 0; frame = s.frame }
-      → t ≡ record { done = false; answer = More; taken = n; receiver = x } → SoughtIs s bs t
-  compare-again {r = r} {x = x} h e g ex et =
-      subst (SoughtIs s bs) (sym (et ∙ ap (λ y. record { done = false; answer = More; taken = n; receiver = y }) ex)) (record {
+  pub compare-again : {r : Bool} {x : Receiver} → 4 ≤ s.lock.marker + n → r ≡ is_marker f → r ≡ true
+      → x ≡ record { locked = true; hunting = f; lock = counts 0 0 0; frame = s.frame } → Sought s bs n x
+  compare-again h e g ex =
+      subst (Sought s bs n) (sym ex) (record {
         means = λ l k. four l k true (sym e ∙ g) h;
         within = omega (arith, en);
-        ready = λ d. (refl, omega arith);
+        locked = refl;
+        word = omega arith;
       })
 
-  pub compare-lost : {t : Phase} {r : Bool} {x : Receiver} → 4 ≤ s.lock.marker + n → r ≡ is_marker f → r ≡ false
-      → x ≡ record { locked = false; hunting = f; lock = counts 0 0 0; frame = fresh }
-      → t ≡ record { done = true; answer = LockLost; taken = n; receiver = x } → SoughtIs s bs t
-  compare-lost {r = r} {x = x} h e g ex et =
-      subst (SoughtIs s bs) (sym (et ∙ ap (λ y. record { done = true; answer = LockLost; taken = n; receiver = y }) ex)) (record {
-        means = λ l k.
-            let q = four l k false (sym e ∙ g) h in
-            (ap hearing_of (sym q), ap (λ x. x.2.recv) (sym q), ap (λ x. x.2.word) (sym q));
-        within = omega (arith, en);
-        ready = λ d. absurd (false≢true (sym d));
-      })
+  pub compare-lost : {r : Bool} {x : Receiver} → 4 ≤ s.lock.marker + n → r ≡ is_marker f → r ≡ false
+      → x ≡ record { locked = false; hunting = f; lock = counts 0 0 0; frame = fresh } → (l k : List ℕ)
+      → HearingIs (hear_on (memory s l k) bs) (record { answer = LockLost; taken = n; receiver = x }) l k
+  compare-lost h e g ex l k =
+      let q = four l k false (sym e ∙ g) h in (
+        ap (λ y. record { answer = LockLost; taken = n; receiver = y }) ex ∙ ap hearing_of (sym q),
+        ap (λ x. x.2.recv) (sym q),
+        ap (λ x. x.2.word) (sym q),
+      )
 
 -- ---- hunting
-hunted-within : (bs : List ℕ) (f : Hunting) → (hunted f bs).taken ≤ length bs
+abbrev or_zero : Maybe ℕ → ℕ
+or_zero (Some n) = n
+or_zero None = 0
+
+hunted-within : (bs : List ℕ) (f : Hunting) (n : ℕ) → (hunted f bs).taken ≡ Some n → n ≤ length bs
 unfolding hunted
-hunted-within [] f = omega arith
-hunted-within (b ∷ bs) f = by (is_marker (shift f b)) (hunted (shift f b) bs) (hunted-within bs (shift f b))
+hunted-within [] f n e = absurd (cc)
+hunted-within (b ∷ bs) f n e = by (is_marker (shift f b)) (hunted (shift f b) bs) (hunted-within bs (shift f b)) e
   where
-    by : (t : Bool) (x : Found) → x.taken ≤ length bs → (pick t (record { found = true; taken = 1; hunting = shift f b }) (later x)).taken ≤ suc (length bs)
-    by true x h = omega arith
-    by false x h = omega arith
+    behind : (t : Maybe ℕ) → ((m : ℕ) → t ≡ Some m → m ≤ length bs) → taken_on t ≡ Some n → n ≤ suc (length bs)
+    behind (Some k) h e = let z : suc k ≡ n = ap or_zero e in omega (arith, h k refl)
+    behind None h e = absurd (cc)
+
+    by : (t : Bool) (x : Found) → ((m : ℕ) → x.taken ≡ Some m → m ≤ length bs)
+        → (pick t (record { taken = Some 1; hunting = shift f b }) (later x)).taken ≡ Some n → n ≤ suc (length bs)
+    by true x h e = let z : 1 ≡ n = ap or_zero e in omega arith
+    by false x h e = behind x.taken h e
 
 module _ (s : Receiver) (bs : List ℕ) (o : s.locked ≡ false) {x : Found} (ex : x ≡ hunted s.hunting bs) where
-  hunts : (l k : List ℕ) (t : Bool) → x.found ≡ t → hear_on (memory s l k) bs ≡ hunted_on s.lock s.frame l k bs t x.taken x.hunting
+  hunts : (l k : List ℕ) (t : Maybe ℕ) → x.taken ≡ t → hear_on (memory s l k) bs ≡ hunted_on s.lock s.frame l k bs t x.hunting
   hunts l k t e =
       (λ i. hear_on (memory (record { locked = o i; hunting = s.hunting; lock = s.lock; frame = s.frame }) l k) bs)
       ∙ hunt-run s.lock s.frame l k bs s.hunting
-      ∙ (λ i. hunted_on s.lock s.frame l k bs (sym ex i).found (sym ex i).taken (sym ex i).hunting)
-      ∙ ap (λ b. hunted_on s.lock s.frame l k bs b x.taken x.hunting) e
+      ∙ (λ i. hunted_on s.lock s.frame l k bs (sym ex i).taken (sym ex i).hunting)
+      ∙ ap (λ b. hunted_on s.lock s.frame l k bs b x.hunting) e
 
-  some-within : x.taken ≤ length bs
-  some-within = subst (λ (y : Found). y.taken ≤ length bs) (sym ex) (hunted-within bs s.hunting)
-
-  pub hunt-found : {t : Phase} {y : Receiver} → x.found ≡ true → y ≡ record { locked = true; hunting = x.hunting; lock = counts 0 0 0; frame = s.frame }
-      → t ≡ record { done = false; answer = More; taken = x.taken; receiver = y } → SoughtIs s bs t
-  hunt-found e ey et =
-      subst (SoughtIs s bs) (sym (et ∙ ap (λ y. record { done = false; answer = More; taken = x.taken; receiver = y }) ey)) (record {
-        means = λ l k. hunts l k true e;
-        within = some-within;
-        ready = λ d. (refl, omega arith);
+  pub hunt-found : (n : ℕ) {y : Receiver} → x.taken ≡ Some n → y ≡ record { locked = true; hunting = x.hunting; lock = counts 0 0 0; frame = s.frame }
+      → Sought s bs n y
+  hunt-found n e ey =
+      subst (Sought s bs n) (sym ey) (record {
+        means = λ l k. hunts l k (Some n) e;
+        within = hunted-within bs s.hunting n (ap (λ (y : Found). y.taken) (sym ex) ∙ e);
+        locked = refl;
+        word = omega arith;
       })
 
-  pub hunt-more : {t : Phase} → x.found ≡ false
-      → t ≡ record {
-        done = true;
+  pub hunt-more : x.taken ≡ None → (l k : List ℕ)
+      → HearingIs (hear_on (memory s l k) bs) (record {
         answer = More;
-        taken = x.taken;
-        receiver = record { locked = false; hunting = x.hunting; lock = s.lock; frame = s.frame };
-      }
-      → SoughtIs s bs t
-  hunt-more e et =
-      subst (SoughtIs s bs) (sym et) (record {
-        means = λ l k. let q = hunts l k false e in (ap hearing_of (sym q), ap (λ x. x.2.recv) (sym q), ap (λ x. x.2.word) (sym q));
-        within = some-within;
-        ready = λ d. absurd (false≢true (sym d));
-      })
+        taken = length bs;
+        receiver = record { locked = s.locked; hunting = x.hunting; lock = s.lock; frame = s.frame };
+      }) l k
+  hunt-more e l k =
+      let q = hunts l k None e in (
+        (λ i. record {
+          answer = More;
+          taken = length bs;
+          receiver = record { locked = o i; hunting = x.hunting; lock = s.lock; frame = s.frame };
+        }) ∙ ap hearing_of (sym q),
+        ap (λ x. x.2.recv) (sym q),
+        ap (λ x. x.2.word) (sym q),
+      )
 
 -- ---- nothing to seek: a word's bytes are wanted
-pub sought-none : (s : Receiver) (bs : List ℕ) {t : Phase} → s.locked ≡ true → s.lock.word < word_bytes
-    → t ≡ record { done = false; answer = More; taken = 0; receiver = s } → SoughtIs s bs t
-sought-none s bs o h e =
-    subst (SoughtIs s bs) (sym e) (record { means = λ l k. after_none (hear_on (memory s l k) bs); within = omega arith; ready = λ d. (o, h) })
+pub sought-none : (s : Receiver) (bs : List ℕ) → s.locked ≡ true → s.lock.word < word_bytes → Sought s bs 0 s
+sought-none s bs o h = record { means = λ l k. after_none (hear_on (memory s l k) bs); within = omega arith; locked = o; word = h }
 
 -- ---- bytes of a word, from `at` on in a piece
 module _ (s : Receiver) (word piece : List ℕ) (at : ℕ) (o : s.locked ≡ true) (w : s.lock.word < word_bytes) (room : word_bytes ≤ length word)
     (in-piece : at ≤ length piece)
     {n : ℕ} (left : n ≡ min (word_bytes - s.lock.word) (length piece - at)) {y : List ℕ}
-    (copy : y ≡ copied (take (at + n - at) (drop at piece)) (take (length word - s.lock.word) (drop s.lock.word word))) where
+    (copy : y ≡ take (at + n - at) (drop at piece)) where
   abbrev bs : List ℕ
   bs = drop at piece
 
   en : n ≡ min (word_bytes - s.lock.word) (length bs)
   en = left ∙ ap (min (word_bytes - s.lock.word)) (sym (length-drop at piece))
 
-  ey : y ≡ copied (take n bs) (take (length word - s.lock.word) (drop s.lock.word word))
-  ey = copy ∙ ap (λ m. copied (take m bs) (take (length word - s.lock.word) (drop s.lock.word word))) (let z : at + n - at ≡ n = omega arith in z)
+  ey : y ≡ take n bs
+  ey = copy ∙ ap (λ m. take m bs) (let z : at + n - at ≡ n = omega arith in z)
+
+  -- the word buffer behind it
+  abbrev filled : List ℕ
+  filled = put_mid s.lock.word (s.lock.word + n - s.lock.word) word y
 
   abbrev before : List ℕ
   before = take s.lock.word word
@@ -379,12 +364,9 @@ module _ (s : Receiver) (word piece : List ℕ) (at : ℕ) (o : s.locked ≡ tru
   parts : word ≡ before ++ behind
   parts = sym (take-append-drop s.lock.word word)
 
-  filled_is : put_mid s.lock.word (length word - s.lock.word) word y ≡ (before ++ take n bs) ++ drop (length (take n bs)) behind
+  filled_is : filled ≡ (before ++ take n bs) ++ drop (length (take n bs)) behind
   filled_is =
-      back before behind word s.lock.word parts before-length y
-      ∙ ap (λ x. before ++ x)
-      (ey ∙ ap (copied (take n bs)) (lent before behind word s.lock.word parts before-length)
-      ∙ copied-fits (take n bs) behind (omega (arith, some-length, en, length-drop s.lock.word word)))
+      (λ i. before ++ (ey i ++ drop ((let z : s.lock.word + n - s.lock.word ≡ length (take n bs) = omega (arith, some-length) in z) i) behind))
       ∙ sym (append_assoc before (take n bs) (drop (length (take n bs)) behind))
 
   memory-at : (l : List ℕ) → memory s l word ≡ locked_with s.hunting (length before) s.lock.handed s.lock.marker (held s.frame l)
@@ -392,20 +374,20 @@ module _ (s : Receiver) (word piece : List ℕ) (at : ℕ) (o : s.locked ≡ tru
   memory-at l i = memory
       (record { locked = o i; hunting = s.hunting; lock = counts (sym before-length i) s.lock.handed s.lock.marker; frame = s.frame }) l (parts i)
 
-  fill-part : s.lock.word + n < word_bytes
+  pub fill_more : s.lock.word + n < word_bytes
       → FilledIs s word bs at (record {
         answer = More;
         taken = at + n;
-        receiver = record { locked = true; hunting = s.hunting; lock = counts (s.lock.word + n) s.lock.handed s.lock.marker; frame = s.frame };
-      }) (put_mid s.lock.word (length word - s.lock.word) word y)
-  fill-part h l =
+        receiver = record { locked = s.locked; hunting = s.hunting; lock = counts (s.lock.word + n) s.lock.handed s.lock.marker; frame = s.frame };
+      }) filled
+  fill_more h l =
       let part : take n bs ≡ bs = take_all n bs (omega (arith, en)) in
       let q : hear_on (memory s l word) bs
       ≡ (
         none,
         n,
-        memory (record { locked = true; hunting = s.hunting; lock = counts (s.lock.word + n) s.lock.handed s.lock.marker; frame = s.frame }) l
-            (put_mid s.lock.word (length word - s.lock.word) word y),
+        memory (record { locked = s.locked; hunting = s.hunting; lock = counts (s.lock.word + n) s.lock.handed s.lock.marker; frame = s.frame }) l
+            filled,
       ) =
       (λ i. hear_on (memory-at l i) (sym part i))
       ∙ word-part s.hunting s.lock.handed s.lock.marker (held s.frame l) (take n bs) before behind
@@ -413,17 +395,22 @@ module _ (s : Receiver) (word piece : List ℕ) (at : ℕ) (o : s.locked ≡ tru
       ∙ (λ i. (
         none,
         some-length i,
-        locked_with s.hunting (before-length i + some-length i) s.lock.handed s.lock.marker (held s.frame l) (sym filled_is i),
+        memory (record {
+          locked = sym o i;
+          hunting = s.hunting;
+          lock = counts (before-length i + some-length i) s.lock.handed s.lock.marker;
+          frame = s.frame;
+        }) l (sym filled_is i),
       )) in
       (ap (λ x. hearing_of (after at x)) (sym q), ap (λ x. x.2.recv) (sym q), ap (λ x. x.2.word) (sym q))
 
   whole_length : word_bytes ≤ s.lock.word + n → length (before ++ take n bs) ≡ word_bytes
   whole_length h = omega (arith, length-append before (take n bs), before-length, some-length, en)
 
-  whole_is : word_bytes ≤ s.lock.word + n → take word_bytes (put_mid s.lock.word (length word - s.lock.word) word y) ≡ before ++ take n bs
+  whole_is : word_bytes ≤ s.lock.word + n → take word_bytes filled ≡ before ++ take n bs
   whole_is h = ap (take word_bytes) filled_is ∙ take_at (before ++ take n bs) (drop (length (take n bs)) behind) word_bytes (whole_length h)
 
-  pub fill-room : word_bytes ≤ s.lock.word + n → word_bytes ≤ length (put_mid s.lock.word (length word - s.lock.word) word y)
+  pub fill-room : word_bytes ≤ s.lock.word + n → word_bytes ≤ length filled
   fill-room h =
       omega (arith, ap length filled_is, length-append (before ++ take n bs) (drop (length (take n bs)) behind), whole_length h)
 
@@ -431,48 +418,35 @@ module _ (s : Receiver) (word piece : List ℕ) (at : ℕ) (o : s.locked ≡ tru
   fill-within = omega (arith, left)
 
   pub fill-same : word_bytes ≤ s.lock.word + n → n ≡ word_bytes
-      → take word_bytes bs ≡ take word_bytes (put_mid s.lock.word (length word - s.lock.word) word y)
+      → take word_bytes bs ≡ take word_bytes filled
   fill-same h e =
       let z : s.lock.word ≡ 0 = omega (arith, en) in
       ap (λ i. take i bs) (sym e) ∙ ap (λ i. take i word ++ take n bs) (sym z) ∙ sym (whole_is h)
 
-  pub fill_more : {k : Locked} → s.lock.word + n < word_bytes → k ≡ counts (s.lock.word + n) s.lock.handed s.lock.marker
-      → FilledIs s word bs at (record {
-        answer = More;
-        taken = at + n;
-        receiver = record { locked = true; hunting = s.hunting; lock = k; frame = s.frame };
-      }) (put_mid s.lock.word (length word - s.lock.word) word y)
-  fill_more h e =
-      subst (λ (j : Locked). FilledIs s word bs at (record {
-        answer = More;
-        taken = at + n;
-        receiver = record { locked = true; hunting = s.hunting; lock = j; frame = s.frame };
-      }) (put_mid s.lock.word (length word - s.lock.word) word y)) (sym e) (fill-part h)
-
   pub fill-whole : {a : Condition} {k : Locked} {z : List ℕ} → word_bytes ≤ s.lock.word + n
-      → (a ≡ condition (take word_bytes (put_mid s.lock.word (length word - s.lock.word) word y)))
-      × (z ≡ mend_in (put_mid s.lock.word (length word - s.lock.word) word y)) → k ≡ counts word_bytes 0 0
+      → (a ≡ condition (take word_bytes filled))
+      × (z ≡ mend_in filled) → k ≡ counts word_bytes 0 0
       → FilledIs s word bs at (record {
         answer = Block a;
         taken = at + n;
-        receiver = record { locked = true; hunting = s.hunting; lock = k; frame = s.frame };
+        receiver = record { locked = s.locked; hunting = s.hunting; lock = k; frame = s.frame };
       }) z
   fill-whole {a} {k} {z} h ea ek l =
       let q : hear_on (memory s l word) bs
-      ≡ (some (block (condition (before ++ take n bs))), n, memory (record { locked = true; hunting = s.hunting; lock = k; frame = s.frame }) l z) =
+      ≡ (some (block (condition (before ++ take n bs))), n, memory (record { locked = s.locked; hunting = s.hunting; lock = k; frame = s.frame }) l z) =
       (λ i. hear_on (memory-at l i) (sym (take-append-drop n bs) i))
       ∙ word-whole s.hunting s.lock.handed s.lock.marker (held s.frame l) (take n bs) before behind (drop n bs)
       (omega (arith, before-length)) (omega (arith, before-length, some-length, en)) (omega (arith, some-length, en, length-drop s.lock.word word))
       ∙ (λ i. (
         some (block (condition (before ++ take n bs))),
         some-length i,
-        memory (record { locked = true; hunting = s.hunting; lock = sym ek i; frame = s.frame }) l
+        memory (record { locked = sym o i; hunting = s.hunting; lock = sym ek i; frame = s.frame }) l
             (sym (ea.1 ∙ ap mend_in filled_is ∙ mend_in-is (before ++ take n bs) (drop (length (take n bs)) behind) (whole_length h)) i),
       )) in (
         (λ i. record {
           answer = Block ((ea.0 ∙ ap condition (whole_is h)) i);
           taken = at + n;
-          receiver = record { locked = true; hunting = s.hunting; lock = k; frame = s.frame };
+          receiver = record { locked = s.locked; hunting = s.hunting; lock = k; frame = s.frame };
         }) ∙ ap (λ x. hearing_of (after at x)) (sym q),
         ap (λ x. x.2.recv) (sym q),
         ap (λ x. x.2.word) (sym q),
@@ -482,31 +456,13 @@ module _ (s : Receiver) (word piece : List ℕ) (at : ℕ) (o : s.locked ≡ tru
 heard-by : {x y : Option Event × ℕ × Memory} {r : Hearing} {l k : List ℕ} → x ≡ y → HearingIs y r l k → HearingIs x r l k
 heard-by {r = r} {l = l} {k = k} p h = subst (λ z. HearingIs z r l k) (sym p) h
 
-module _ (c : Memory) (bs : List ℕ) {t : Phase} {l : List ℕ} (h : HandedIs c t l) where
-  pub handed-end : {r : Hearing} → t.done ≡ true → r ≡ ended t → HearingIs (hear_on c bs) r l c.word
-  handed-end d e =
-      subst (λ r. HearingIs (hear_on c bs) r l c.word) (sym e) (subst (λ b. PhaseBy b c bs t l c.word) d (h.means bs))
+module _ (c : Memory) (bs : List ℕ) {r : Receiver} {l : List ℕ} (h : Handed c r l) where
+  pub sought-end : {a : Hearing} → HearingIs (hear_on (memory r l c.word) bs) a l c.word → HearingIs (hear_on c bs) a l c.word
+  sought-end g = heard-by (h.means bs) g
 
-  module _ (d : t.done ≡ false) where
-    handed-on : hear_on c bs ≡ hear_on (memory t.receiver l c.word) bs
-    handed-on =
-        subst (λ b. PhaseBy b c bs t l c.word) d (h.means bs)
-        ∙ ap (λ n. after n (hear_on (memory t.receiver l c.word) (drop n bs))) h.taken
-        ∙ sym (after_none (hear_on (memory t.receiver l c.word) bs))
-
-    module _ {u : Phase} (g : SoughtIs t.receiver bs u) where
-      pub sought-end : {r : Hearing} → u.done ≡ true → r ≡ ended u → HearingIs (hear_on c bs) r l c.word
-      sought-end v e =
-          heard-by handed-on
-          (subst (λ r. HearingIs (hear_on (memory t.receiver l c.word) bs) r l c.word) (sym e)
-          (subst (λ b. PhaseBy b (memory t.receiver l c.word) bs u l c.word) v (g.means l c.word)))
-
-      pub filled-end : {r : Hearing} {k : List ℕ} → u.done ≡ false → FilledIs u.receiver c.word (drop u.taken bs) u.taken r k
-          → HearingIs (hear_on c bs) r l k
-      filled-end v f =
-          heard-by
-          (handed-on ∙ subst (λ b. PhaseBy b (memory t.receiver l c.word) bs u l c.word) v (g.means l c.word))
-          (f l)
+  pub filled-end : {n : ℕ} {s : Receiver} {a : Hearing} {k : List ℕ} → Sought r bs n s → FilledIs s c.word (drop n bs) n a k
+      → HearingIs (hear_on c bs) a l k
+  filled-end g f = heard-by (h.means bs ∙ g.means l c.word) (f l)
 
 -- ---- the call: refused with 10, with 11, or let on
 module _ (c : Memory) (bs : List ℕ) where

@@ -7,9 +7,8 @@ use channel_spec::Hunting;
 // What hunting finds.
 #[derive(Clone, Copy)]
 pub(crate) struct Found {
-    pub found: bool,
-    // Bytes taken, the marker's last one among them.
-    pub taken: usize,
+    // Where the marker is found, the bytes taken, its last one among them; else all are.
+    pub taken: Option<usize>,
     pub hunting: Hunting,
 }
 
@@ -18,34 +17,29 @@ pub(crate) fn shifted(last: Hunting, bytes: &[u8]) -> Hunting
     ensures { result ≡ shifts last bytes.now }
 {
     let mut next = last;
-    let mut i: usize = 0;
-    while i < bytes.len() {
-        next = next.shift(bytes[i]);
-        i += 1;
+    for &byte in bytes {
+        next = next.shift(byte);
     }
     next
 }
 
-// Bytes up to the marker, or all of them.
+// Bytes up to the marker, or all of them. On its own, since its loop has too few registers where it is laid into the call.
+#[inline(never)]
 pub(crate) fn hunt(last: Hunting, piece: &[u8]) -> Found
     ensures { result ≡ hunted last piece.now }
 {
     let mut hunting = last;
-    let mut i: usize = 0;
-    while i < piece.len() {
-        hunting = hunting.shift(piece[i]);
-        i += 1;
+    for (i, &byte) in piece.iter().enumerate() {
+        hunting = hunting.shift(byte);
         if hunting.at_marker() {
             return Found {
-                found: true,
-                taken: i,
+                taken: Some(i + 1),
                 hunting,
             };
         }
     }
     Found {
-        found: false,
-        taken: i,
+        taken: None,
         hunting,
     }
 }

@@ -36,49 +36,10 @@ impl Locked {
         }
     }
 
-    // So many bytes of a word.
-    pub(crate) fn filled(self, word: usize) -> Self
-        ensures { result ≡ counts word self.handed self.marker }
-    {
-        Locked {
-            word,
-            handed: self.handed,
-            marker: self.marker,
-        }
-    }
-
-    // So many message bytes of it handed on.
-    pub(crate) fn handed_on(self, handed: usize) -> Self
-        ensures { result ≡ counts self.word handed self.marker }
-    {
-        Locked {
-            word: self.word,
-            handed,
-            marker: self.marker,
-        }
-    }
-
-    // So many bytes of the next marker.
-    pub(crate) fn marked(self, marker: usize) -> Self
-        ensures { result ≡ counts self.word self.handed marker }
-    {
-        Locked {
-            word: self.word,
-            handed: self.handed,
-            marker,
-        }
-    }
-
     // Whether no count is beyond its limit.
     pub(crate) fn sound(self) -> bool
         ensures { result ≡ sound_lock self }
     {
-        if Block::WORD < self.word {
-            return false;
-        }
-        if 3 < self.marker {
-            return false;
-        }
-        self.handed <= Block::MESSAGE
+        self.word <= Block::WORD && self.marker <= 3 && self.handed <= Block::MESSAGE
     }
 }

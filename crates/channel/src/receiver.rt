@@ -15,14 +15,17 @@ ghost use Rattle.channel.specs.Call.{
 };
 ghost use Rattle.channel.specs.Private.{HandedIs, SoughtIs, FilledIs};
 
-use crate::answer::{Hearing, Phase};
+use crate::answer::Hearing;
 use crate::locked::Locked;
 use crate::{hunting, word};
 use base::Refusal;
 use channel_spec::{Answer, Block, Hunting};
 use packet::Judged;
-use stream::{FrameReader, Heard};
+use std::ops::ControlFlow;
+use std::ops::ControlFlow::{Break, Continue};
+use stream::FrameReader;
 
+// A flag beside the lock's counts and not an Option of them: callers hand the state in, and the laws speak of each value that it can have.
 /// The receiver's state.
 #[derive(Clone, Copy)]
 pub struct Receiver {
@@ -56,22 +59,14 @@ impl Receiver {
     pub fn has_room(recv: &[u8], word: &[u8]) -> bool
         ensures { result ≡ roomy recv.now word.now }
     {
-        if recv.len() < Self::RAW {
-            return false;
-        }
-        Self::WORD <= word.len()
+        recv.len() >= Self::RAW && word.len() >= Self::WORD
     }
 
     /// Whether no count is beyond its limit.
     pub fn sound(self) -> bool
         ensures { result ≡ sound self }
     {
-        let frame = self.frame;
-        let lock = self.lock;
-        if frame.sound() {
-            return lock.sound();
-        }
-        false
+        self.frame.sound() && self.lock.sound()
     }
 
     // Message bytes of a stored word that are not handed on yet.
@@ -79,66 +74,69 @@ impl Receiver {
         requires { self.lock.handed ≤ message_bytes }
         ensures { result ≡ owes self }
     {
-        let lock = self.lock;
-        if self.locked {
-            if lock.word == Block::WORD {
-                return Block::MESSAGE - lock.handed;
-            }
+        if self.locked && self.lock.word == Block::WORD {
+            Block::MESSAGE - self.lock.handed
+        } else {
+            0
         }
-        0
     }
 
     // The rest of a stored word goes on to the frame reader, up to the first answer.
-    fn hand_on(self, recv: &mut [u8], word: &[u8]) -> Phase
+    fn hand_on(self, recv: &mut [u8], word: &[u8]) -> ControlFlow<Hearing, Self>
         requires { (sound self ≡ true) × (roomy recv.old word.now ≡ true) }
         ensures { HandedIs (memory self recv.old word.now) result recv.new }
     {
         if self.owed() == 0 {
-            return Phase::on(0, self);
+            return Continue(self);
         }
         let lock = self.lock;
-        let hunting = self.hunting;
-        let frame = self.frame;
-        let from = lock.handed;
-        let read = frame.read(recv, &word[from..Block::MESSAGE]);
-        let behind = read.frame;
-        let next = Receiver {
-            locked: true,
-            hunting,
-            lock: lock.handed_on(from + read.taken),
-            frame: behind,
+        let read = self.frame.read(recv, &word[lock.handed..Block::MESSAGE]);
+        let receiver = Receiver {
+            lock: Locked {
+                handed: lock.handed + read.taken,
+                ..lock
+            },
+            frame: read.frame,
+            ..self
         };
-        let heard = read.heard;
-        match heard {
-            Heard::More => Phase::on(0, next),
-            Heard::Said(judged) => Phase::end(Answer::Said(judged), 0, next),
+        match read.heard {
+            None => Continue(receiver),
+            Some(judged) => Break(Hearing {
+                answer: Answer::Said(judged),
+                taken: 0,
+                receiver,
+            }),
         }
     }
 
     // Locked, behind a word: up to four bytes that should be the marker.
-    fn compare(self, piece: &[u8]) -> Phase
+    fn compare(self, piece: &[u8]) -> ControlFlow<Hearing, (usize, Self)>
         requires { (self.locked ≡ true) × (self.lock.word ≡ word_bytes) × (self.lock.marker ≤ 3) × (owes self ≡ 0) }
         ensures { SoughtIs self piece.now result }
     {
         let lock = self.lock;
-        let last = self.hunting;
-        let frame = self.frame;
-        let n = base::least(4 - lock.marker, piece.len());
-        let hunting = hunting::shifted(last, &piece[0..n]);
-        let marker = lock.marker + n;
+        let taken = (4 - lock.marker).min(piece.len());
+        let hunting = hunting::shifted(self.hunting, &piece[..taken]);
+        let marker = lock.marker + taken;
         if marker < 4 {
-            let next = Receiver {
-                locked: true,
-                hunting,
-                lock: lock.marked(marker),
-                frame,
-            };
-            return Phase::end(Answer::More, n, next);
+            return Break(Hearing {
+                answer: Answer::More,
+                taken,
+                receiver: Receiver {
+                    hunting,
+                    lock: Locked { marker, ..lock },
+                    ..self
+                },
+            });
         }
         if hunting.at_marker() {
-            return Phase::on(n, Receiver::locked_at(hunting, frame));
+            return Continue((taken, Receiver::locked_at(hunting, self.frame)));
         }
-        Phase::end(Answer::LockLost, n, Receiver::lost_at(hunting))
+        Break(Hearing {
+            answer: Answer::LockLost,
+            taken,
+            receiver: Receiver::lost_at(hunting),
+        })
     }
 
     // Behind a marker.
@@ -166,40 +164,34 @@ impl Receiver {
     }
 
     // Hunting: bytes up to the marker.
-    fn hunt(self, piece: &[u8]) -> Phase
+    fn hunt(self, piece: &[u8]) -> ControlFlow<Hearing, (usize, Self)>
         requires { self.locked ≡ false }
         ensures { SoughtIs self piece.now result }
     {
-        let last = self.hunting;
-        let lock = self.lock;
-        let frame = self.frame;
-        let f = hunting::hunt(last, piece);
-        let hunting = f.hunting;
-        if f.found {
-            return Phase::on(f.taken, Receiver::locked_at(hunting, frame));
+        let found = hunting::hunt(self.hunting, piece);
+        let hunting = found.hunting;
+        match found.taken {
+            Some(taken) => Continue((taken, Receiver::locked_at(hunting, self.frame))),
+            None => Break(Hearing {
+                answer: Answer::More,
+                taken: piece.len(),
+                receiver: Receiver { hunting, ..self },
+            }),
         }
-        let next = Receiver {
-            locked: false,
-            hunting,
-            lock,
-            frame,
-        };
-        Phase::end(Answer::More, f.taken, next)
     }
 
     // Bytes up to where a word's bytes are wanted.
-    fn seek(self, piece: &[u8]) -> Phase
+    fn seek(self, piece: &[u8]) -> ControlFlow<Hearing, (usize, Self)>
         requires { (sound_lock self.lock ≡ true) × (owes self ≡ 0) }
         ensures { SoughtIs self piece.now result }
     {
-        if self.locked {
-            let lock = self.lock;
-            if lock.word < Block::WORD {
-                return Phase::on(0, self);
-            }
-            return self.compare(piece);
+        if !self.locked {
+            return self.hunt(piece);
         }
-        self.hunt(piece)
+        if self.lock.word < Block::WORD {
+            return Continue((0, self));
+        }
+        self.compare(piece)
     }
 
     // Bytes of a word, from `at` on. The whole word gives the block's answer.
@@ -208,22 +200,20 @@ impl Receiver {
         ensures { FilledIs self word.old (drop at piece.now) at result word.new }
     {
         let lock = self.lock;
-        let hunting = self.hunting;
-        let frame = self.frame;
-        let from = lock.word;
-        let n = base::least(Block::WORD - from, piece.len() - at);
+        let n = (Block::WORD - lock.word).min(piece.len() - at);
         let taken = at + n;
-        base::copy(&piece[at..taken], &mut word[from..]);
-        let count = from + n;
+        let count = lock.word + n;
+        word[lock.word..count].copy_from_slice(&piece[at..taken]);
         if count < Block::WORD {
             return Hearing {
                 answer: Answer::More,
                 taken,
                 receiver: Receiver {
-                    locked: true,
-                    hunting,
-                    lock: lock.filled(count),
-                    frame,
+                    lock: Locked {
+                        word: count,
+                        ..lock
+                    },
+                    ..self
                 },
             };
         }
@@ -232,10 +222,8 @@ impl Receiver {
             answer: Answer::Block(condition),
             taken,
             receiver: Receiver {
-                locked: true,
-                hunting,
                 lock: Locked::whole(),
-                frame,
+                ..self
             },
         }
     }
@@ -246,18 +234,14 @@ impl Receiver {
         ensures { HearingIs (hear_on (memory self recv.old word.old) piece.now)
             result recv.new word.new }
     {
-        let handed = self.hand_on(recv, word);
-        if handed.done {
-            return handed.ended();
+        let receiver = match self.hand_on(recv, word) {
+            Continue(receiver) => receiver,
+            Break(heard) => return heard,
+        };
+        match receiver.seek(piece) {
+            Continue((at, next)) => next.fill(word, piece, at),
+            Break(heard) => heard,
         }
-        let receiver = handed.receiver;
-        let sought = receiver.seek(piece);
-        if sought.done {
-            return sought.ended();
-        }
-        let at = sought.taken;
-        let next = sought.receiver;
-        next.fill(word, piece, at)
     }
 
     /// One call: at most one answer, and no byte behind the one that caused it is taken.
@@ -267,14 +251,14 @@ impl Receiver {
     {
         if !self.sound() {
             return Hearing {
-                answer: Answer::Said(Judged::Refused(Refusal::STATE)),
+                answer: Answer::Said(Judged::Refused(Refusal::State as u8)),
                 taken: 0,
                 receiver: self,
             };
         }
         if !Receiver::has_room(recv, word) {
             return Hearing {
-                answer: Answer::Said(Judged::Refused(Refusal::BUFFER)),
+                answer: Answer::Said(Judged::Refused(Refusal::Buffer as u8)),
                 taken: 0,
                 receiver: self,
             };

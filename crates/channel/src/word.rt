@@ -14,11 +14,7 @@ fn is_clean(word: &[u8]) -> bool
     requires { length word.now ≡ word_bytes }
     ensures { result ≡ clean parity_bytes word.now }
 {
-    match parity::check(Block::PARITY, word) {
-        Checked::Clean => true,
-        Checked::Damaged => false,
-        Checked::Refused(_) => false,
-    }
+    matches!(parity::check(Block::PARITY, word), Ok(Checked::Clean))
 }
 
 // Whether the word is clean whose last n bytes stand in the piece from `at` on: where those are all its bytes, it is checked there.
@@ -41,10 +37,11 @@ fn mend(word: &mut [u8]) -> Condition
     ensures { (result ≡ condition word.old) × (word.new ≡ mend word.old) }
 {
     match repair::repair(Block::PARITY, word) {
-        Mended::Clean => Condition::Clean,
-        Mended::Repaired(n) => Condition::Repaired(n),
-        Mended::Beyond => Condition::Beyond,
-        Mended::Refused(_) => Condition::Beyond,
+        Ok(Mended::Clean) => Condition::Clean,
+        Ok(Mended::Repaired(n)) => Condition::Repaired(n),
+        Ok(Mended::Beyond) => Condition::Beyond,
+        // not refused: the word is one
+        Err(_) => Condition::Beyond,
     }
 }
 

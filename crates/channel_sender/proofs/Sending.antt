@@ -1,6 +1,6 @@
 -- Laws of the sender.
 -- block-put                       one block, from what its calls leave
--- mark-short, mark-fits, next-put   what the call for one block answers and leaves
+-- mark-short, mark-fits            what the call for one block answers and leaves
 -- first_blocks, blocks-next        the blocks passed are written, and the rest is as it was: a turn of the loop
 -- blocks-room                     and the output's length stays
 -- send-short, send-fits           what the call for a whole stream answers and leaves
@@ -8,7 +8,6 @@
 use mathlib.Core.Path.{◌≡◌, refl, sym, ap, ap₂, ◌∙◌}
 use mathlib.Core.List.{List, [], ◌∷◌, ◌++◌, map, append_assoc, append-nil, map-append}
 use Prim.Native.Nat.{ℕ, zero, suc, ◌+◌, ◌-◌, ◌*◌, ◌/◌, ◌≤◌, ◌<◌}
-use native.Mathlib.Nat.{le_of_suc-le-suc, sub-zero, suc-sub-suc}
 use native.Mathlib.Numerals.{add-one}
 use native.Mathlib.Omega.{arith}
 use lib.Dec.{eqb}
@@ -16,10 +15,10 @@ use lib.ListN.{length, take, drop, replicate, length-append, length-drop, length
 use lib.Seq.{drop-drop, drop-append-le, take-append-le, take_all, length-take-le}
 use borrow.Author.Tests.{eq-eqb}
 use borrow.Rule.Slice.PartMut.{put_mid}
-use Rattle.base.specs.Written.{Outcome, outcome, refused, write, copied, Keeps}
-use Rattle.base.specs.declared.Written.{Written}
-use Rattle.base.specs.declared.Written.TheVariants.{Wrote}
-use Rattle.base.proofs.Lists.{over, drop-same}
+use Rattle.base.specs.Written.{Outcome, outcome, refused, copied, Keeps}
+use Rattle.base.specs.Written.{Written}
+use Rattle.base.specs.Written.{Wrote}
+use Rattle.base.proofs.Lists.{drop-same}
 use Rattle.base.proofs.Parts.{tail-is, lent, back}
 use Rattle.base.proofs.Tests.{by_le}
 use Rattle.base.proofs.Writing.{copied-fits, copied-over, write-fits, wrote-fits, wrote-short, write_keeps, refused-keeps, pick-keeps}
@@ -36,8 +35,9 @@ block-length : (m : List ℕ) → length m ≡ message_bytes → length (marker 
 block-length m h = omega (arith, length-append m (remainder parity_bytes m), length-remainder parity_bytes m)
 
 module _ (m o : List ℕ) (h : length m ≡ message_bytes) (k : block_bytes ≤ length o) where
-  pub block-put : {o₁ y z : List ℕ} {w : Written} (o₂ : List ℕ) → o₁ ≡ copied marker o → y ≡ copied m (take (length o₁ - 4) (drop 4 o₁))
-      → o₂ ≡ put_mid 4 (length o₁ - 4) o₁ y → outcome w z ≡ made parity_bytes m (take (length o₂ - (4 + message_bytes)) (drop (4 + message_bytes) o₂))
+  pub block-put : {o₁ y z : List ℕ} {w : Written} (o₂ : List ℕ) → o₁ ≡ marker → y ≡ m
+      → o₂ ≡ put_mid 4 message_bytes (o₁ ++ drop 4 o) y
+      → outcome w z ≡ made parity_bytes m (take (length o₂ - (4 + message_bytes)) (drop (4 + message_bytes) o₂))
       → put_mid (4 + message_bytes) (length o₂ - (4 + message_bytes)) o₂ z ≡ (marker ++ word_of m) ++ drop block_bytes o
   block-put {o₁} {y} {z} o₂ e₁ ey e₂ ez =
       back (marker ++ m) rest o₂ (4 + message_bytes) split long z
@@ -49,15 +49,8 @@ module _ (m o : List ℕ) (h : length m ≡ message_bytes) (k : block_bytes ≤ 
       rest : List ℕ
       rest = drop message_bytes (drop 4 o)
 
-      first : o₁ ≡ marker ++ drop 4 o
-      first = e₁ ∙ copied-fits marker o (omega arith)
-
       split : o₂ ≡ (marker ++ m) ++ rest
-      split =
-          e₂ ∙ back marker (drop 4 o) o₁ 4 first refl y
-          ∙ ap (λ (t : List ℕ). marker ++ t)
-          (ey ∙ ap (copied m) (lent marker (drop 4 o) o₁ 4 first refl) ∙ copied-fits m (drop 4 o) (omega (arith, length-drop 4 o))
-          ∙ ap (λ (n : ℕ). m ++ drop n (drop 4 o)) h)
+      split = e₂ ∙ (λ i. put_mid 4 message_bytes (e₁ i ++ drop 4 o) (ey i))
 
       long : length (marker ++ m) ≡ (4 + message_bytes)
       long = omega arith
@@ -79,10 +72,6 @@ module _ (m out : List ℕ) (h : length m ≡ message_bytes) where
       → outcome (Wrote block_bytes) after ≡ marking m out
   mark-fits k e = simp (eq-eqb (length m) message_bytes h) (wrote-fits (marker ++ word_of m) out block_bytes (block-length m h) k e)
 
-  mark-put : {w : Written} {after : List ℕ} → block_bytes ≤ length out → outcome w after ≡ marking m out
-      → after ≡ (marker ++ word_of m) ++ drop block_bytes out
-  mark-put k e = ap (λ (o : Outcome). o.output) (e ∙ sym (mark-fits k refl))
-
 -- ---- a message: the next 223 bytes, or those that are left and flags behind them
 abbrev message_of : List ℕ → List ℕ
 message_of bs = copied bs (replicate message_bytes flag)
@@ -96,12 +85,6 @@ length-copied bs dst =
 
 message-length : (bs : List ℕ) → length (message_of bs) ≡ message_bytes
 message-length bs = length-copied bs (replicate message_bytes flag) ∙ length-replicate message_bytes flag
-
--- the block of the next message
-pub next-put : (s out : List ℕ) {m : List ℕ} {w : Written} {after : List ℕ} → m ≡ copied s (replicate message_bytes flag) → block_bytes ≤ length out
-    → outcome w after ≡ marking m out → after ≡ (marker ++ word_of (copied s (replicate message_bytes flag))) ++ drop block_bytes out
-next-put s out e k f =
-    mark-put (copied s (replicate message_bytes flag)) out (message-length s) k (f ∙ ap (λ (m : List ℕ). marking m out) e)
 
 -- ---- block after block
 abbrev block_of : List ℕ → List ℕ

@@ -2,7 +2,7 @@
 #![tactic(auto)]
 
 ghost use Rattle.std.specs.Prelude.{◌≡◌, ◌+◌, ◌*◌, ◌/◌, ◌≤◌, ◌<◌, ◌++◌, length, drop, replicate};
-ghost use Rattle.base.specs.Written.{outcome, copied};
+ghost use Rattle.base.specs.Written.{as_written, outcome, copied};
 ghost use Rattle.packet_spec.specs.Escape.{flag};
 ghost use Rattle.channel_spec.specs.Sender.{marker, message_bytes, block_bytes, word_of, fillers, marking, sending};
 
@@ -15,24 +15,24 @@ fn put_block(message: &[u8], out: &mut [u8])
     requires { (length message.now ≡ message_bytes) × (block_bytes ≤ length out.old) }
     ensures { out.new ≡ (marker ++ word_of message.now) ++ drop block_bytes out.old }
 {
-    let marker = Hunting::MARKER;
-    base::copy(&marker, out);
-    base::copy(message, &mut out[4..]);
-    parity::make(Block::PARITY, message, &mut out[Block::PARITY_AT..]);
+    out[..4].copy_from_slice(&Hunting::MARKER);
+    out[4..Block::PARITY_AT].copy_from_slice(message);
+    // Never refused: the message has its length, and there is room.
+    let _ = parity::make(Block::PARITY, message, &mut out[Block::PARITY_AT..]);
 }
 
 /// Marks one block of 223 bytes: the marker, the message and its parity.
 pub fn mark(message: &[u8], out: &mut [u8]) -> Written
-    ensures { outcome result out.new ≡ marking message.now out.old }
+    ensures { outcome (as_written result) out.new ≡ marking message.now out.old }
 {
     if message.len() != Block::MESSAGE {
-        return Written::Refused(Refusal::LENGTH);
+        return Err(Refusal::Length);
     }
     if out.len() < Block::LENGTH {
-        return Written::Refused(Refusal::OUTPUT);
+        return Err(Refusal::Output);
     }
     put_block(message, out);
-    Written::Wrote(Block::LENGTH)
+    Ok(Block::LENGTH)
 }
 
 // Writes the block of the next 223 bytes, or of those that are left and flags behind them.
@@ -40,35 +40,29 @@ fn put_next(stream: &[u8], out: &mut [u8])
     requires { block_bytes ≤ length out.old }
     ensures { out.new ≡ (marker ++ word_of (copied stream.now (replicate message_bytes flag))) ++ drop block_bytes out.old }
 {
-    let mut message: [u8; Block::MESSAGE] = [FrameReader::FLAG; Block::MESSAGE];
+    let mut message = [FrameReader::FLAG; Block::MESSAGE];
     base::copy(stream, &mut message);
-    mark(&message, out);
+    put_block(&message, out);
 }
 
 // How many blocks so many bytes fill.
 fn blocks_of(n: usize) -> usize
     ensures { (result ≡ (n + fillers n) / message_bytes) × (message_bytes * result < n + message_bytes) }
 {
-    if n % Block::MESSAGE == 0 {
-        return n / Block::MESSAGE;
-    }
-    n / Block::MESSAGE + 1
+    n.div_ceil(Block::MESSAGE)
 }
 
 /// Sends a whole stream.
 pub fn send(stream: &[u8], out: &mut [u8]) -> Written
-    ensures { outcome result out.new ≡ sending stream.now out.old }
+    ensures { outcome (as_written result) out.new ≡ sending stream.now out.old }
 {
     let blocks = blocks_of(stream.len());
     if out.len() < Block::LENGTH * blocks {
-        return Written::Refused(Refusal::OUTPUT);
+        return Err(Refusal::Output);
     }
-    let mut i: usize = 0;
-    while i < blocks {
-        let from = Block::MESSAGE * i;
-        let at = Block::LENGTH * i;
-        put_next(&stream[from..], &mut out[at..]);
-        i += 1;
+    // By their numbers and not by `chunks_mut`: of what stands in such parts a proof knows nothing once they are given back.
+    for i in 0..blocks {
+        put_next(&stream[Block::MESSAGE * i..], &mut out[Block::LENGTH * i..]);
     }
-    Written::Wrote(Block::LENGTH * blocks)
+    Ok(Block::LENGTH * blocks)
 }

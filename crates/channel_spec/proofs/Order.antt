@@ -9,20 +9,20 @@ use native.Mathlib.Omega.{arith}
 use mathlib.Core.Path.{◌≡◌, refl, sym, ◌∙◌, ap, subst}
 use mathlib.Core.Bool.{Bool, true, false, ◌&&◌}
 use mathlib.Core.Logic.{◌≢◌}
-use mathlib.Core.List.{List, [], ◌∷◌, ◌++◌, map, append-nil}
+use mathlib.Core.List.{List, [], ◌∷◌, ◌++◌, append-nil}
 use lib.Dec.{eqb}
 use lib.ListN.{length, length-append}
 use borrow.Author.Tests.{lt-ltb}
 use Rattle.base.specs.Bytes.{Each}
 use Rattle.base.specs.Calls.{and_then}
-use Rattle.stream.specs.Meaning.{Reading, waiting, reads}
+use Rattle.stream.specs.Meaning.{Reading, waiting}
 use Rattle.channel_spec.specs.declared.Hunting.{Hunting}
 use Rattle.channel_spec.specs.Sender.{marker, word_bytes, framed}
 use Rattle.channel_spec.specs.Meaning.{mend, Event, lost, shift, is_marker, zeros, Chan, hunting, in_word, in_mark, fresh_channel, hunt, whole}
 use Rattle.channel_spec.specs.Meaning.{grow, compared, step, hears, answers}
 use Rattle.channel_spec.specs.Meaning.{IsWord, words_give, FirstMarker}
 use Rattle.channel_spec.proofs.Given.{hears-append}
-use Rattle.channel_spec.proofs.Marker.{bytes_of, the_marker, is-marker, no-match, four_are, past-zeros}
+use Rattle.channel_spec.proofs.Marker.{bytes_of, the_marker, no-match, four_are, past-zeros}
 use Rattle.channel_spec.proofs.Streaming.{behind_words, from_start, received}
 
 -- ---- before the first marker, with f the last four: it hunts on

@@ -14,9 +14,9 @@ use Rattle.base.specs.Bytes.{Bytes}
 use Rattle.base.specs.Choice.{pick}
 use Rattle.word_spec.specs.Word.{clean}
 use Rattle.parity.specs.Calls.{root_limit}
-use Rattle.parity.specs.declared.Checked.TheVariants as check
-use Rattle.repair.specs.declared.Mended.{Mended}
-use Rattle.repair.specs.declared.Mended.TheVariants.{Clean, Repaired, Beyond, Refused}
+use Rattle.parity.specs.Checked as check
+use Rattle.repair.specs.Mended.{Mended}
+use Rattle.repair.specs.Mended.{Clean, Repaired, Beyond, Refused}
 use Rattle.repair.specs.Promise.{Promised}
 use Rattle.repair.specs.Way.{repaired}
 use Rattle.repair.proofs.Apart.{checked-is}

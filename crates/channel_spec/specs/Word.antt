@@ -12,8 +12,8 @@ use Rattle.base.specs.Calls.{joined}
 use Rattle.packet_spec.specs.Escape.{flag}
 use Rattle.word_spec.specs.Word.{remainder}
 use Rattle.parity.specs.Calls.{word_bytes}
-use Rattle.repair.specs.declared.Mended.{Mended}
-use Rattle.repair.specs.declared.Mended.TheVariants as repair
+use Rattle.repair.specs.Mended.{Mended}
+use Rattle.repair.specs.Mended as repair
 use Rattle.repair.specs.Way.{repaired as repaired_word}
 use Rattle.channel_spec.specs.declared.Condition.{Condition}
 use Rattle.channel_spec.specs.declared.Condition.TheVariants.{Clean, Repaired, Beyond}

@@ -8,6 +8,7 @@ ghost use Rattle.channel_spec.specs.Meaning.{shift, is_marker, zeros};
 use packet_spec::Judged;
 use parity::Word;
 
+// Four fields and not an array: in the definitions that speak of them an array is a list of any length, and each law would ask for four.
 /// Hunting: the last four bytes, the oldest first.
 #[derive(Clone, Copy)]
 pub struct Hunting {
@@ -92,14 +93,8 @@ impl Hunting {
     pub fn at_marker(self) -> bool
         ensures { result ≡ is_marker self }
     {
-        let m = Self::MARKER;
-        if self.d == m[3] {
-            if self.c == m[2] {
-                if self.b == m[1] {
-                    return self.a == m[0];
-                }
-            }
-        }
-        false
+        // The newest byte first, and not array by array: so hunting takes half the time.
+        let [a, b, c, d] = Self::MARKER;
+        self.d == d && self.c == c && self.b == b && self.a == a
     }
 }

@@ -6,10 +6,9 @@
 ghost use Rattle.std.specs.Prelude.{◌≤◌, length};
 
 use base::{Refusal, Written};
-use ports_spec::Range;
 use std::env::{Env, FillError};
 use std::io;
-use std::io::{Eprint, ErrorKind};
+use std::io::{Eprint, ErrorKind, Read};
 use std::process::ExitCode;
 
 /// Who says something on standard error, in bytes that need not be text.
@@ -23,11 +22,11 @@ impl Speak for HostRuntime {
     }
 }
 
-/// No argument is this number.
-pub const NONE: usize = usize::MAX;
-
-/// The last port; a greater number is none.
-pub const LAST_PORT: usize = 65535;
+/// Who takes standard input piece by piece.
+pub trait TakePieces {
+    /// Takes a piece: whether more is wanted.
+    fn take(&mut self, rt: &(impl Print + Speak), piece: &[u8]) -> io::Result<bool>;
+}
 
 /// Bytes of an argument, at most: a longer one counts as empty.
 pub const ARGUMENT: usize = 4096;
@@ -35,93 +34,80 @@ pub const ARGUMENT: usize = 4096;
 /// Bytes that are read at once.
 pub const PIECE: usize = 65536;
 
-// A number has no more than thirteen digits.
-const MOST: usize = 1000000000000;
-
 /// How many arguments there are; the first is the program's name.
 pub fn argument_count(rt: &impl Env) -> usize {
-    for place in 0..usize::MAX {
-        if !is_there(rt, place) {
-            return place;
-        }
-    }
-    usize::MAX
+    (0..usize::MAX)
+        .position(|place| !is_there(rt, place))
+        .unwrap_or(usize::MAX)
 }
 
 // Whether there is such an argument.
 fn is_there(rt: &impl Env, place: usize) -> bool {
     let mut space = [0u8; 1];
-    match rt.arg(place, &mut space) {
-        Err(FillError::NotPresent) => false,
-        _ => true,
-    }
+    !matches!(rt.arg(place, &mut space), Err(FillError::NotPresent))
 }
 
-/// The bytes of an argument, and how many; none where there is no such argument or it does not fit.
-pub fn argument(rt: &impl Env, place: usize, space: &mut [u8]) -> usize
-    ensures { result ≤ length space.new }
-{
-    rt.arg(place, space).unwrap_or(0)
+/// The bytes of an argument, in a space that is lent; none where there is no such argument or it does not fit.
+pub fn argument<'a>(rt: &impl Env, place: usize, space: &'a mut [u8]) -> &'a [u8] {
+    let n = rt.arg(place, space).unwrap_or(0);
+    &space[..n]
 }
 
 /// Whether an argument is this one.
 pub fn is_argument(rt: &impl Env, place: usize, text: &[u8]) -> bool {
     let mut space = [0u8; ARGUMENT];
-    let n = argument(rt, place, &mut space);
-    &space[..n] == text
+    argument(rt, place, &mut space) == text
 }
 
-/// The number that an argument says, in one to so many digits; else none.
-pub fn number(rt: &impl Env, place: usize, digits: usize) -> usize {
+/// The number that an argument says, in one to so many digits; the greatest one where it is above that.
+pub fn number(rt: &impl Env, place: usize, digits: usize) -> Option<usize> {
     let mut space = [0u8; ARGUMENT];
-    let n = argument(rt, place, &mut space);
-    if n == 0 || n > digits {
-        return NONE;
+    let text = argument(rt, place, &mut space);
+    if text.is_empty() || text.len() > digits {
+        return None;
     }
-    number_of(&space[..n])
-}
-
-fn number_of(text: &[u8]) -> usize {
-    let mut n: usize = 0;
-    let mut i: usize = 0;
-    while i < text.len() {
-        n = with_digit(n, text[i]);
-        i += 1;
-    }
-    n
+    text.iter().try_fold(0, |n, b| with_digit(n, *b))
 }
 
 // A digit behind a number.
-fn with_digit(n: usize, b: u8) -> usize {
-    if n > MOST || b < b'0' || b > b'9' {
-        return NONE;
+fn with_digit(n: usize, b: u8) -> Option<usize> {
+    let digit = char::from(b).to_digit(10)?;
+    Some(n.saturating_mul(10).saturating_add(digit as usize))
+}
+
+/// The port that an argument names, in one to five digits.
+pub fn port(rt: &impl Env, place: usize) -> Option<u16> {
+    u16::try_from(number(rt, place, 5)?).ok()
+}
+
+/// Standard input, piece by piece as it comes, to one who takes it, while more is wanted: whether it ended. Where it cannot be read, that is said.
+pub fn each_piece(
+    rt: &(impl Input + Print + Speak),
+    program: &[u8],
+    taker: &mut impl TakePieces,
+) -> io::Result<bool> {
+    let mut piece = [0u8; PIECE];
+    let mut input = rt.reader();
+    for _ in 0..u64::MAX {
+        let Ok(n) = input.read(&mut piece) else {
+            say_unread(rt, program);
+            return Ok(false);
+        };
+        if n == 0 {
+            return Ok(true);
+        }
+        if !taker.take(rt, &piece[..n])? {
+            return Ok(false);
+        }
     }
-    10 * n + (b - b'0') as usize
-}
-
-/// The port that an argument names, in one to five digits; else a number above the last port.
-pub fn port(rt: &impl Env, place: usize) -> usize {
-    number(rt, place, 5)
-}
-
-/// The ports from one to another.
-pub fn range(first: usize, last: usize) -> Range {
-    Range {
-        first: low(first),
-        last: low(last),
-    }
-}
-
-fn low(n: usize) -> u16 {
-    (n % 65536) as u16
+    Ok(false)
 }
 
 /// The place n further on, or the end.
 pub fn onward(at: usize, n: usize, end: usize) -> usize
     ensures { (result ≤ end) × (at ≤ end → at ≤ result) }
 {
-    let from = base::least(at, end);
-    from + base::least(n, end - from)
+    at.min(end).saturating_add(n).min(end)
 }
 
 /// Bytes to standard output. Where not all of them go there, that is said, but nothing is where its reader has gone.
@@ -146,12 +132,12 @@ pub fn put(
     out: &[u8],
 ) -> io::Result<bool> {
     match written {
-        Written::Wrote(n) => {
-            print(rt, program, &out[0..base::least(n, out.len())])?;
+        Ok(n) => {
+            print(rt, program, &out[..n.min(out.len())])?;
             Ok(true)
         }
-        Written::Refused(number) => {
-            say_refusal(rt, program, number);
+        Err(refusal) => {
+            say_refusal(rt, program, refusal as u8);
             Ok(false)
         }
     }
@@ -192,7 +178,7 @@ pub fn say_number(rt: &impl Speak, number: u64) {
     let _ = rt.eprint(number);
 }
 
-/// `PROGRAM: refused N: WORDS`, a line.
+/// `PROGRAM: refused N: WORDS`, a line. A number, since states that callers hand in hold theirs as such (`Judged::Refused` (crates/packet)).
 pub fn say_refusal(rt: &impl Speak, program: &[u8], number: u8) {
     say(rt, program);
     say(rt, b": ");
@@ -202,79 +188,55 @@ pub fn say_refusal(rt: &impl Speak, program: &[u8], number: u8) {
 /// `refused N: WORDS`, the end of its line.
 pub fn say_refused(rt: &impl Speak, number: u8) {
     say(rt, b"refused ");
-    say_number(rt, number as u64);
+    say_number(rt, u64::from(number));
     say_why(rt, number);
 }
 
 /// `: WORDS`, the end of a line that has named the number.
 pub fn say_why(rt: &impl Speak, number: u8) {
     say(rt, b": ");
-    say_words(rt, number);
+    say(rt, words(number).as_bytes());
     say(rt, b"\n");
 }
 
-// A refusal in words, by its tens; those of frames stand in no line here.
-fn say_words(rt: &impl Speak, number: u8) {
-    match number {
-        Refusal::STATE => say(rt, b"a count of the state is beyond its limit"),
-        Refusal::BUFFER => say(rt, b"a buffer is too short"),
-        Refusal::EMPTY => say(rt, b"there is no text"),
-        Refusal::LONG => say(rt, b"the text is above 8,192 bytes, } and ~ counted twice"),
-        Refusal::BARRED => say(rt, b"ports 32000 to 32511 may not be used"),
-        Refusal::OUTPUT => say(rt, b"the output is too short"),
-        Refusal::SENT_KEY => say(rt, b"no such format and key are sent"),
-        _ => say_words_from_30(rt, number),
-    }
-}
-
-fn say_words_from_30(rt: &impl Speak, number: u8) {
-    match number {
-        Refusal::ROOTS => say(rt, b"R is above 64"),
-        Refusal::LENGTH => say(rt, b"no message or word has this length"),
-        Refusal::DEPTH => say(rt, b"the depth is above 64"),
-        _ => say_words_from_40(rt, number),
-    }
-}
-
-fn say_words_from_40(rt: &impl Speak, number: u8) {
-    match number {
-        Refusal::FULL => say(rt, b"a seventeenth port"),
-        Refusal::UNHELD => say(rt, b"no such port is held"),
-        Refusal::SUB_CHANNEL => say(rt, b"no such sub-channel is configured"),
-        Refusal::TABLE => say(
-            rt,
-            b"the table of ports is too long, or holds one port twice",
-        ),
-        Refusal::WIDE => say(rt, b"a number would pass 18,446,744,073,709,551,615"),
-        _ => say_words_from_50(rt, number),
-    }
-}
-
-fn say_words_from_50(rt: &impl Speak, number: u8) {
-    match number {
-        Refusal::UNIT => say(
-            rt,
-            b"no unit has this length, or fewer bytes of it are there",
-        ),
-        Refusal::MIX => say(rt, b"no header sequence is for this mix of content"),
-        Refusal::SEQUENCE => say(rt, b"the header matches no sequence"),
-        Refusal::PARTS => say(
-            rt,
-            b"the parts do not fit into the unit, or a length told does not fit its header",
-        ),
-        Refusal::DELIMITER => say(
-            rt,
-            b"the delimiter is not found, or zeros before it would pass for it",
-        ),
-        _ => say_words_from_60(rt, number),
-    }
-}
-
-fn say_words_from_60(rt: &impl Speak, number: u8) {
-    match number {
-        Refusal::CAPTURE => say(rt, b"the first 24 bytes are not those of a capture of ours"),
-        Refusal::RECORD => say(rt, b"the record is cut short, or its two lengths differ"),
-        Refusal::NO_PACKET => say(rt, b"the record is no packet that would be sent"),
-        _ => say(rt, b"docs/REFUSALS.md has the numbers"),
+// A refusal in words; those of frames stand in no line here.
+fn words(number: u8) -> &'static str {
+    let Ok(refusal) = Refusal::try_from(number) else {
+        return "docs/REFUSALS.md has the numbers";
+    };
+    match refusal {
+        Refusal::State => "a count of the state is beyond its limit",
+        Refusal::Buffer => "a buffer is too short",
+        Refusal::Empty => "there is no text",
+        Refusal::Long => "the text is above 8,192 bytes, } and ~ counted twice",
+        Refusal::Barred => "ports 32000 to 32511 may not be used",
+        Refusal::Output => "the output is too short",
+        Refusal::SentKey => "no such format and key are sent",
+        Refusal::Roots => "R is above 64",
+        Refusal::Length => "no message or word has this length",
+        Refusal::Depth => "the depth is above 64",
+        Refusal::Full => "a seventeenth port",
+        Refusal::Unheld => "no such port is held",
+        Refusal::SubChannel => "no such sub-channel is configured",
+        Refusal::Table => "the table of ports is too long, or holds one port twice",
+        Refusal::Wide => "a number would pass 18,446,744,073,709,551,615",
+        Refusal::Unit => "no unit has this length, or fewer bytes of it are there",
+        Refusal::Mix => "no header sequence is for this mix of content",
+        Refusal::Sequence => "the header matches no sequence",
+        Refusal::Parts =>
+            "the parts do not fit into the unit, or a length told does not fit its header",
+        Refusal::Delimiter => "the delimiter is not found, or zeros before it would pass for it",
+        Refusal::Capture => "the first 24 bytes are not those of a capture of ours",
+        Refusal::Record => "the record is cut short, or its two lengths differ",
+        Refusal::NoPacket => "the record is no packet that would be sent",
+        Refusal::Raw
+        | Refusal::Unfinished
+        | Refusal::Escape
+        | Refusal::Short
+        | Refusal::Check
+        | Refusal::Format
+        | Refusal::Port
+        | Refusal::Payload
+        | Refusal::Key => "docs/REFUSALS.md has the numbers",
     }
 }

@@ -50,12 +50,11 @@ use Rattle.channel_spec.specs.declared.Answer.{Answer}
 use Rattle.listing_spec.specs.Lines.{line, given, longest}
 use Rattle.listing_lines.proofs.Short.{line-some}
 use Rattle.listing_lines.specs.declared.totals.Totals.{Totals}
-use Rattle.listing.specs.declared.lister.Wants.TheVariants.{More, Room}
+use Rattle.listing.specs.Wants.{More, Room}
 use Rattle.listing.specs.Call as listing
 use Rattle.listing.specs.Call.{Printed, printed, further, on_answer, counted, print, near}
 use Rattle.listing.proofs.Tags.{wants_tag}
-use Rattle.board.specs.declared.readout.Wants as showing
-use Rattle.board.specs.declared.readout.Wants.TheVariants as shows
+use Rattle.board.specs.Wants as showing
 use Rattle.board.specs.Source.{Source, memory_in, source_owes, source_hand, source_eat, source_all, source_hear}
 use Rattle.board.specs.Owed.{nothing}
 use Rattle.board.specs.Call.{Screen, readout_of, recv_on, owed_on, Part, partly, heard_by, takes_on, sound_state}
@@ -255,8 +254,8 @@ module _ (m : Deck) (f : Fine m.ear.memory) (bs : List ℕ) (o : m.spot.offset +
       ↔ (((packet_call m bs).1 ≡ length bs) × (deck_owes (packet_call m bs).2 ≡ 0) × ((packet_all m bs).0 ≡ []))
   packet-wanting = rw (packet-agrees m bs f o) (wanting deck_owes packet_hand packet_eat deck-hand-one m bs)
 
-pub packet-within : (m : Deck) (bs : List ℕ) {r : NextPacket} {l k : List ℕ} → PacketIs (packet_call m bs) r l k → r.taken ≤ length bs
-packet-within m bs h = lent.packet-within m bs h
+pub packet-within : (m : Deck) (bs : List ℕ) (r : NextPacket) {l k : List ℕ} → PacketIs (packet_call m bs) r l k → r.taken ≤ length bs
+packet-within m bs r h = lent.packet-within m bs r h
 
 -- ---- where a recording is listed, by a call that is not refused: "more" exactly when all bytes are taken, a stored word is handed on whole, and any
 -- line would still have room (an answer is asked for only where it has)
@@ -307,9 +306,9 @@ take-wanting m t room bs e f g = rw (e, f, g) (print-wanting room room m t bs (o
 -- ---- where a board is written, by a call that is not refused: "more" exactly when all bytes are taken and give no answer, and all text that was owed
 -- is written; then no text and no move is owed
 abbrev shows_tag : showing.Wants → ℕ
-shows_tag shows.More = 0
-shows_tag shows.Again = 1
-shows_tag (shows.Refused n) = 2
+shows_tag showing.More = 0
+shows_tag showing.Again = 1
+shows_tag (showing.Refused n) = 2
 
 module _ (room : ℕ) (s : Screen) (bs : List ℕ) where
   abbrev pub AllWritten : Part → Type 0
@@ -317,7 +316,7 @@ module _ (room : ℕ) (s : Screen) (bs : List ℕ) where
       (p.taken ≡ length bs) × (p.text ≡ owed_on s) × (owed_on p.screen ≡ []) × (source_owes p.screen.source ≡ 0)
       × ((source_all s.source bs).0 ≡ [])
 
-  heard-wanting : (x : Option Event × ℕ × Source) → source_hear s.source bs ≡ x → ((heard_by s x).wants ≡ shows.More) ↔ AllWritten (heard_by s x)
+  heard-wanting : (x : Option Event × ℕ × Source) → source_hear s.source bs ≡ x → ((heard_by s x).wants ≡ showing.More) ↔ AllWritten (heard_by s x)
   heard-wanting (none, n, y) q =
       let w = (wanting source_owes source_hand source_eat source-hand-one s.source bs).0 (ap (λ (r : Option Event × ℕ × Source). r.0) q) in
       let taken : n ≡ length bs = sym (ap (λ (r : Option Event × ℕ × Source). r.1) q) ∙ w.0 in
@@ -330,12 +329,12 @@ module _ (room : ℕ) (s : Screen) (bs : List ℕ) where
         absurd (none-ne-some v (sym o ∙ ap (λ (r : Option Event × ℕ × Source). r.0) q))),
   )
 
-  on-wanting : ((takes_on room s bs).wants ≡ shows.More) ↔ AllWritten (takes_on room s bs)
+  on-wanting : ((takes_on room s bs).wants ≡ showing.More) ↔ AllWritten (takes_on room s bs)
   unfolding takes_on
   on-wanting = go (ltb room (length (owed_on s))) refl
     where
       go : (t : Bool) → ltb room (length (owed_on s)) ≡ t
-          → let p = pick t (partly room s) (heard_by s (source_hear s.source bs)) in (p.wants ≡ shows.More) ↔ AllWritten p
+          → let p = pick t (partly room s) (heard_by s (source_hear s.source bs)) in (p.wants ≡ showing.More) ↔ AllWritten p
       go true q = (
         (λ e. absurd (omega (arith, ap shows_tag e))),
         (λ p. let l = ltb-true room (length (owed_on s)) q in absurd (omega (arith, l, sym (length-take room (owed_on s)) ∙ ap length p.1))),
@@ -343,7 +342,7 @@ module _ (room : ℕ) (s : Screen) (bs : List ℕ) where
       go false q = heard-wanting (source_hear s.source bs) refl
 
   pub show-wanting : sound_state (readout_of s) (length bs) ≡ true → roomy (recv_on s) (memory_in s.source.deck).word ≡ true
-      → ((screen.takes room s bs).wants ≡ shows.More) ↔ AllWritten (screen.takes room s bs)
+      → ((screen.takes room s bs).wants ≡ showing.More) ↔ AllWritten (screen.takes room s bs)
   show-wanting e f = rw (e, f) on-wanting
 
 -- ---- on the office's input, by a call that is not refused: state and buffers pass, and there is room for any line's blocks

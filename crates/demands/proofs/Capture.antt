@@ -22,7 +22,7 @@ use Rattle.base.specs.Bytes.{Each, Bytes}
 use Rattle.base.specs.Calls.{joined, and_then, With, Yields}
 use Rattle.base.specs.Choice.{pick}
 use Rattle.base.specs.Written.{outcome, refused, write, Keeps}
-use Rattle.base.specs.declared.Written.TheVariants.{Wrote}
+use Rattle.base.specs.Written.{Wrote}
 use Rattle.base.proofs.Calls.{yields-so}
 use Rattle.base.proofs.Writing.{write_keeps, refused-keeps}
 use Rattle.packet_spec.specs.Contents.{Packet, packed}

@@ -24,8 +24,8 @@ use Rattle.parity.specs.Calls.{at_roots, checked, made}
 use Rattle.word_spec.proofs.Division.{length-remainder}
 use Rattle.word_spec.proofs.Roots.{length-values}
 use Rattle.parity.proofs.Refusing.{roots-keep, made-keeps}
-use Rattle.repair.specs.declared.Mended.{Mended}
-use Rattle.repair.specs.declared.Mended.TheVariants.{Refused as RepairRefused}
+use Rattle.repair.specs.Mended.{Mended}
+use Rattle.repair.specs.Mended.{Refused as RepairRefused}
 use Rattle.repair.specs.Promise.{Promised}
 use Rattle.interleaver_spec.specs.Running.{push, pull, pushing, zeros, closing, pulling}
 use Rattle.interleaver_spec.specs.declared.Matrix.{Matrix}
@@ -50,18 +50,18 @@ use Rattle.channel_sender.proofs.Sending.{marking-keeps, sending-keeps}
 use Rattle.recording.specs.Deck.{Deck}
 use Rattle.recording.specs.Call.{tape_call}
 use Rattle.recording.specs.Packets.{packet_call, refused as unheard}
-use Rattle.board.specs.declared.readout.Wants.TheVariants.{Refused as ShowRefused}
+use Rattle.board.specs.Wants.{Refused as ShowRefused}
 use Rattle.board.specs.Source.{memory_in}
 use Rattle.board.specs.Call.{Screen, readout_of, recv_on, part, takes as shows}
 use Rattle.listing_lines.specs.declared.totals.Totals.{Totals}
 use Rattle.listing.specs.declared.lister.Lister.{Lister}
-use Rattle.listing.specs.declared.lister.Wants.TheVariants.{Refused}
+use Rattle.listing.specs.Wants.{Refused}
 use Rattle.listing.specs.Call.{printed, takes, last_of, finishing}
 use Rattle.channel_spec.specs.declared.Answer.{Answer}
 use Rattle.listing_spec.specs.Lines.{line, end_line, wrong_line}
 use Rattle.bid.specs.Line.{verdict}
 use Rattle.office.specs.declared.Office.{Office}
-use Rattle.office.specs.declared.Started.TheVariants.{Refused as StartRefused}
+use Rattle.office.specs.Start.{Refused as StartRefused}
 use Rattle.office.specs.Meaning.{Desk, ending_of, refusal as line-refusal}
 use Rattle.office.specs.Call.{hold_limit, out_limit, starting, denied, hear_call as desk-hear, close_call, spoken_out, answered_out, finishing as desk-finish}
 use Rattle.demands_laws.specs.Table.{Exact}

@@ -43,9 +43,9 @@ use Rattle.base.specs.Calls.{joined, tell, With}
 use Rattle.base.specs.Written.{Outcome, refused, write}
 use Rattle.base.proofs.Writing.{write-is, write-short, room-wrote}
 use Rattle.base.proofs.Tests.{by_le}
-use Rattle.base.specs.declared.Written.TheVariants.{Wrote, Refused}
+use Rattle.base.specs.Written.{Wrote, Refused}
 use Rattle.word_spec.specs.Word.{clean, remainder, Zero}
-use Rattle.repair.specs.declared.Mended.{Mended}
+use Rattle.repair.specs.Mended.{Mended}
 use Rattle.repair.specs.Promise.{Promised}
 use Rattle.word_spec.proofs.Clean.{clean-roots, roots-clean, parity-clean, clean_is}
 use Rattle.parity.specs.Calls.{made}

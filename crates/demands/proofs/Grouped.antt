@@ -19,7 +19,7 @@ use native.Mathlib.Omega.{arith}
 use Rattle.base.specs.Bytes.{Each}
 use Rattle.base.specs.Choice.{pick}
 use Rattle.base.specs.Written.{Outcome, outcome, refused, copied}
-use Rattle.base.specs.declared.Written.TheVariants.{Wrote, Refused}
+use Rattle.base.specs.Written.{Wrote, Refused}
 use Rattle.base.proofs.Lists.{over}
 use Rattle.base.proofs.Tests.{by_le, by-test}
 use Rattle.base.proofs.Writing.{copied-fits}
@@ -27,7 +27,7 @@ use Rattle.interleaver_spec.specs.Running.{fresh, beyond}
 use Rattle.interleaver_spec.specs.declared.Matrix.{Matrix}
 use Rattle.subchannel_spec.specs.Sender.{sent}
 use Rattle.subchannel_sender.specs.Sending.{group_stream, group_next, group_sending, group_written, group_count, counting, groups_by}
-use Rattle.subchannel_sender.specs.declared.Counted.TheVariants.{Groups, Refused as CountRefused}
+use Rattle.subchannel_sender.specs.Sending.{Groups, Refused as CountRefused}
 use Rattle.subchannel_sender.proofs.Running.{group-state, group-roots, group-depth, group-short, group-long, group-goes}
 use Rattle.subchannel_sender.proofs.Running.{group-placed, groups-sent, sent-long, count-rest, group-first}
 use Rattle.subchannel_sender.proofs.Running.{count-are}

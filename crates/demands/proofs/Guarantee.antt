@@ -16,9 +16,9 @@ use mathlib.Core.List.{List, [], ◌++◌, map}
 use lib.ListN.{length, get_or, set}
 use Rattle.base.specs.Bytes.{Each, Bytes}
 use Rattle.parity.specs.Calls.{checked}
-use Rattle.parity.specs.declared.Checked.TheVariants as check
-use Rattle.repair.specs.declared.Mended.{Mended}
-use Rattle.repair.specs.declared.Mended.TheVariants.{Repaired, Beyond}
+use Rattle.parity.specs.Checked as check
+use Rattle.repair.specs.Mended.{Mended}
+use Rattle.repair.specs.Mended.{Repaired, Beyond}
 use Rattle.repair.specs.Promise.{distance, half, CleanWord, Promised}
 use Rattle.repair.proofs.Apart.{checked-clean, altered-damaged}
 use Rattle.repair.proofs.Promising as promising

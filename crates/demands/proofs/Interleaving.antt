@@ -18,7 +18,7 @@ use borrow.Author.Tests.{lt-ltb, le-ltb}
 use Rattle.base.specs.Calls.{joined, run}
 use Rattle.base.specs.Choice.{pick}
 use Rattle.base.specs.Written.{outcome, write}
-use Rattle.base.specs.declared.Written.TheVariants.{Wrote}
+use Rattle.base.specs.Written.{Wrote}
 use Rattle.interleaver_spec.specs.Places.{cell}
 use Rattle.interleaver_spec.specs.Running.{fresh, sent, push, fresh_back, gave, pull, beyond, pushing, closing_bytes, zeros, closing, pulling}
 use Rattle.interleaver_spec.specs.Pieces.{Goes}

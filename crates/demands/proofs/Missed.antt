@@ -37,8 +37,8 @@ use Rattle.sheet_spec.specs.Recording.{brings}
 use Rattle.missed_spec.specs.Line.{noted_line, longest}
 use Rattle.missed_spec.specs.Meaning.{lines_of, missed}
 use Rattle.missed_spec.proofs.Laws.{line-short, line-each, wrong-missed}
-use Rattle.missed.specs.declared.notes.Took.{Took}
-use Rattle.missed.specs.declared.notes.Wants.TheVariants as notes
+use Rattle.missed.specs.Wants.{Took}
+use Rattle.missed.specs.Wants as notes
 use Rattle.missed.specs.Page.{Page, fresh_page, Note, line, unheard, page_owes, page_hand, page_eat, page_all, page_hear, paged, page_call, text_of}
 use Rattle.missed.specs.Call.{Part, part_by, takes, TookIs}
 use Rattle.missed.proofs.Cutting.{page-hand-one, hear-means, missed-printed}
@@ -46,8 +46,7 @@ use Rattle.missed.proofs.Within.{take_within}
 use Rattle.ports_spec.specs.declared.Entry.{Entry}
 use Rattle.ports_spec.specs.declared.Noted.{Noted}
 use Rattle.ports_spec.specs.declared.Noted.TheVariants.{First, Missing, Refused}
-use Rattle.ports_spec.specs.declared.Forgot.{Forgot}
-use Rattle.ports_spec.specs.declared.Forgot.TheVariants.{Forgotten, Refused as Unforgotten}
+use Rattle.ports_spec.specs.Forgot.{Forgot, Forgotten, Refused as Unforgotten}
 use Rattle.ports_spec.specs.Distance.{around, ruled, last_behind, Distance, Leads, meaning, follows}
 use Rattle.ports_spec.specs.Ports.{fresh_table, freed, entry, unheld, place_of, free_place, last_of, unfit, last_at, noting, forgetting}
 use Rattle.ports.specs.declared.by_value.Ports.{Ports}

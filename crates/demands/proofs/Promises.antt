@@ -13,7 +13,7 @@ use lib.ListN.{length, take, drop, replicate}
 use lib.Dec.{ltb, leb}
 use Rattle.base.specs.Choice.{pick}
 use Rattle.base.specs.UpTo.{up_to}
-use Rattle.base.specs.Written.{outcome, write, copied}
+use Rattle.base.specs.Written.{as_written, outcome, write, copied}
 use Rattle.text.specs.Text.{ascii, decimal}
 use Rattle.text.specs.Put.{Puts}
 use Rattle.fcs.specs.Fcs as check
@@ -32,7 +32,7 @@ use Rattle.packet_spec.specs.Port.{class}
 use Rattle.packet_spec.specs.Sender.{writing}
 use Rattle.stream.specs.Sender.{appending}
 use Rattle.stream.specs.Call as plain
-use Rattle.stream.specs.declared.frame.Heard.TheVariants as plain-answer
+use Rattle.std.specs.Prelude.{None, Some}
 use Rattle.channel_spec.specs.Sender.{marking, sending}
 use Rattle.channel.specs.Call.{memory, sound, roomy, hear_call}
 use Rattle.channel_spec.specs.Answer.{answered}
@@ -44,10 +44,13 @@ use Rattle.listing_spec.specs.Lines.{line, end_line, wrong_line}
 use Rattle.listing_spec.specs.Apart.{well, is_wrong}
 use Rattle.listing_spec.specs.declared.Place.TheVariants.{Mode}
 use Rattle.recording.specs.Call.{deck_of, is_more, tape_call}
+use Rattle.recording.specs.Found.{as_got}
 use Rattle.recording.specs.Packets.{packet_call, found_of}
 use Rattle.subchannel_spec.specs.declared.Settings.{Settings}
-use Rattle.subchannel_spec.specs.declared.Configured.{Configured}
-use Rattle.subchannel_spec.specs.declared.Configured.TheVariants as configured
+use Rattle.subchannel_spec.specs.Settings.{Configured}
+use Rattle.subchannel_spec.specs.Settings as configured
+use Rattle.four_receivers.specs.declared.Receiver.{Receiver}
+use Rattle.four_senders.specs.declared.Sender.{Sender}
 use Rattle.four_receivers.specs.declared.Seat.{Seat}
 use Rattle.subchannel.specs.declared.sub.Sub.{Sub}
 use Rattle.subchannel.specs.Call as subchannel
@@ -66,9 +69,9 @@ use Rattle.board.specs.declared.readout.Readout.{Readout}
 use Rattle.listing.specs.Call as recording
 use Rattle.bid.specs.Line.{reading}
 use Rattle.office.specs.Meaning.{desk, blocks, unread, refusal as denied}
-use Rattle.office.specs.declared.Answer.TheVariants as office-answer
-use Rattle.office.specs.declared.Started.{Started}
-use Rattle.office.specs.declared.Started.TheVariants.{Ready, Refused as Denied}
+use Rattle.office.specs.Answer as office-answer
+use Rattle.office.specs.Start.{Started, as_started}
+use Rattle.office.specs.Start.{Ready, Refused as Denied}
 use Rattle.office.specs.Call as office
 use Rattle.listing_lines.specs.declared.totals.Totals.{Totals}
 use Rattle.listing_lines.specs.Counts.{counting, Below, counted as counted-up}
@@ -76,18 +79,19 @@ use Rattle.listing_lines.proofs.Counting.{counting-below}
 use Rattle.board_lines.specs.Piece.{piece_of}
 use Rattle.missed_spec.specs.Line.{noted_line}
 use Rattle.missed.specs.Call as missed
+use Rattle.missed.specs.Wants as missed-answer
 use Rattle.board_spec.specs.Text.{shown_byte}
 use Rattle.board_spec.specs.Meaning.{wrong_at, written, written_all, ending}
 use Rattle.board_spec.specs.Parts.{lead, remark}
 use Rattle.ports_spec.specs.declared.Entry.{Entry}
 use Rattle.ports_spec.specs.declared.Noted.{Noted}
-use Rattle.ports_spec.specs.declared.Forgot.{Forgot}
+use Rattle.ports_spec.specs.Forgot.{Forgot, as_forgot}
 use Rattle.ports_spec.specs.Distance.{ruled}
 use Rattle.ports_spec.specs.Ports.{unfit, noting, forgetting}
 use Rattle.sheet_spec.specs.Meaning.{counts, wrong, refuses}
 use Rattle.sheet_spec.specs.Rows.{padded_to}
 use Rattle.sheet.specs.Call.{beginning, noting as counted, closing as settling, answer_of, printing}
-use Rattle.sheet.specs.declared.Counted.TheVariants as sheet-answer
+use Rattle.sheet.specs.Counted as sheet-answer
 use Rattle.rack.specs.Words.{making, checking, mending}
 use Rattle.rack.specs.Call as rack
 use Rattle.demands.specs.Means.{Means}
@@ -139,6 +143,8 @@ use Rattle.packet.proofs.wrong_behind as packet-wrong-behind
 use Rattle.packet.proofs.up_to as packet-up-to
 use Rattle.packet.proofs.class_of as packet-class-of
 use Rattle.parity.proofs.make as parity-make
+use Rattle.parity.specs.Checked.{as_checked}
+use Rattle.repair.specs.Mended.{as_mended}
 use Rattle.parity.proofs.check as parity-check
 use Rattle.repair.proofs.repair as repair-repair
 use Rattle.interleaver.proofs.fresh as interleaver-fresh
@@ -154,11 +160,13 @@ use Rattle.recording.proofs.reader.RecordingReader.next_packet as recording-next
 use Rattle.recording.proofs.reader.RecordingReader.may_end as recording-may-end
 use Rattle.recording.proofs.reader.RecordingReader.is_wrong as recording-is-wrong
 use Rattle.recording.proofs.reader.Hearing.is_more as recording-is-more
+use Rattle.board.specs.Wants as board-answers
 use Rattle.board.proofs.readout.Readout.fresh as board-fresh
 use Rattle.board.proofs.readout.Readout.take as board-take
 use Rattle.board.proofs.readout.Readout.finish as board-finish
 use Rattle.unit.proofs.write as unit-write
 use Rattle.unit.proofs.read as unit-read
+use Rattle.listing.specs.Wants as listing-answers
 use Rattle.listing.proofs.lister.Lister.fresh as listing-fresh
 use Rattle.listing.proofs.lister.Lister.take as listing-take
 use Rattle.listing.proofs.lister.Lister.finish as listing-finish
@@ -227,36 +235,36 @@ use Rattle.base.proofs.copy as base-copy
 pub packet-write-as-means : Means packet-write-as.Statement.statement packet-write-as.Kinds.ps packet-write-as.Kinds.r packet-write-as.Reads.Asked
     packet-write-as.Reads.Learnt
     λ κs format number key port sequence payload out w.
-    outcome w out.exit.now ≡ writing (packet_of format number key.now port sequence payload.now) out.entry.now
+    outcome (as_written w) out.exit.now ≡ writing (packet_of format number key.now port sequence payload.now) out.entry.now
 packet-write-as-means = (λ M. packet-write-as.Met.met, λ κs a. tt, λ κs a z ws. (λ p. p, λ p. p))
 
 pub packet-write-means : Means packet-write.Statement.statement packet-write.Kinds.ps packet-write.Kinds.r packet-write.Reads.Asked packet-write.Reads.Learnt
-    λ κs port sequence payload out w. outcome w out.exit.now ≡ writing (plain_packet port sequence payload.now) out.entry.now
+    λ κs port sequence payload out w. outcome (as_written w) out.exit.now ≡ writing (plain_packet port sequence payload.now) out.entry.now
 packet-write-means = (λ M. packet-write.Met.met, λ κs a. tt, λ κs a z ws. (λ p. p, λ p. p))
 
 pub stream-begin-means : Means stream-begin.Statement.statement stream-begin.Kinds.ps stream-begin.Kinds.r stream-begin.Reads.Asked stream-begin.Reads.Learnt
-    λ κs out w. outcome w out.exit.now ≡ write (flag ∷ []) out.entry.now
+    λ κs out w. outcome (as_written w) out.exit.now ≡ write (flag ∷ []) out.entry.now
 stream-begin-means = (λ M. stream-begin.Met.met, λ κs a. tt, λ κs a z ws. (λ p. p, λ p. p))
 
 pub stream-append-as-means : Means stream-append-as.Statement.statement stream-append-as.Kinds.ps stream-append-as.Kinds.r stream-append-as.Reads.Asked
     stream-append-as.Reads.Learnt
     λ κs out at format number key port sequence payload w.
-    outcome w out.exit.now ≡ appending at (packet_of format number key.now port sequence payload.now) out.entry.now
+    outcome (as_written w) out.exit.now ≡ appending at (packet_of format number key.now port sequence payload.now) out.entry.now
 stream-append-as-means = (λ M. stream-append-as.Met.met, λ κs a. tt, λ κs a z ws. (λ p. p, λ p. p))
 
 pub stream-append-means : Means stream-append.Statement.statement stream-append.Kinds.ps stream-append.Kinds.r stream-append.Reads.Asked
     stream-append.Reads.Learnt
-    λ κs out at port sequence payload w. outcome w out.exit.now ≡ appending at (plain_packet port sequence payload.now) out.entry.now
+    λ κs out at port sequence payload w. outcome (as_written w) out.exit.now ≡ appending at (plain_packet port sequence payload.now) out.entry.now
 stream-append-means = (λ M. stream-append.Met.met, λ κs a. tt, λ κs a z ws. (λ p. p, λ p. p))
 
 pub channel-sender-mark-means : Means channel-sender-mark.Statement.statement channel-sender-mark.Kinds.ps channel-sender-mark.Kinds.r
     channel-sender-mark.Reads.Asked channel-sender-mark.Reads.Learnt
-    λ κs message out w. outcome w out.exit.now ≡ marking message.now out.entry.now
+    λ κs message out w. outcome (as_written w) out.exit.now ≡ marking message.now out.entry.now
 channel-sender-mark-means = (λ M. channel-sender-mark.Met.met, λ κs a. tt, λ κs a z ws. (λ p. p, λ p. p))
 
 pub channel-sender-send-means : Means channel-sender-send.Statement.statement channel-sender-send.Kinds.ps channel-sender-send.Kinds.r
     channel-sender-send.Reads.Asked channel-sender-send.Reads.Learnt
-    λ κs stream out w. outcome w out.exit.now ≡ sending stream.now out.entry.now
+    λ κs stream out w. outcome (as_written w) out.exit.now ≡ sending stream.now out.entry.now
 channel-sender-send-means = (λ M. channel-sender-send.Met.met, λ κs a. tt, λ κs a z ws. (λ p. p, λ p. p))
 
 -- ---- the receiver on the channel. A fresh one is "hunting with four hunted bytes of zero", "counts zero, waiting for a flag"
@@ -328,7 +336,7 @@ pub subchannel-told-means : Means subchannel-told.Statement.statement subchannel
     let told : Sub = fresh_sub (record { told = true; parity = parity; depth = depth }) in
     let x : Configured × Sub = pick (ltb 64 parity) (configured.Refused 30, untold)
     (pick (ltb 64 depth) (configured.Refused 32, untold) (configured.Done, told)) in
-    r ≡ record { answer = x.0; sub = x.1 }
+    ◌≡◌ {A = Configured × Sub} (configured.as_configured r.answer, r.sub) x
 subchannel-told-means = (λ M. subchannel-told.Met.met, λ κs a. tt, λ κs a z ws. (λ p. p, λ p. p))
 
 pub subchannel-spec-within-means : Means subchannel-spec-within.Statement.statement subchannel-spec-within.Kinds.ps subchannel-spec-within.Kinds.r
@@ -349,18 +357,18 @@ subchannel-hear-means = (λ M. subchannel-hear.Met.met, λ κs a. tt, λ κs a z
 
 pub subchannel-sender-send-means : Means subchannel-sender-send.Statement.statement subchannel-sender-send.Kinds.ps subchannel-sender-send.Kinds.r
     subchannel-sender-send.Reads.Asked subchannel-sender-send.Reads.Learnt
-    λ κs parity depth stream out w. outcome w out.exit.now ≡ subsender.sending parity depth stream.now out.entry.now
+    λ κs parity depth stream out w. outcome (as_written w) out.exit.now ≡ subsender.sending parity depth stream.now out.entry.now
 subchannel-sender-send-means = (λ M. subchannel-sender-send.Met.met, λ κs a. tt, λ κs a z ws. (λ p. p, λ p. p))
 
 pub subchannel-sender-send-group-means : Means subchannel-sender-send-group.Statement.statement subchannel-sender-send-group.Kinds.ps
     subchannel-sender-send-group.Kinds.r subchannel-sender-send-group.Reads.Asked subchannel-sender-send-group.Reads.Learnt
     λ κs parity depth matrix stream out r.
-    (outcome r.written out.exit.now, r.taken, r.matrix) ≡ subsender.group_sending parity depth matrix stream.now out.entry.now
+    (outcome (as_written r.written) out.exit.now, r.taken, r.matrix) ≡ subsender.group_sending parity depth matrix stream.now out.entry.now
 subchannel-sender-send-group-means = (λ M. subchannel-sender-send-group.Met.met, λ κs a. tt, λ κs a z ws. (λ p. p, λ p. p))
 
 pub subchannel-sender-count-means : Means subchannel-sender-count.Statement.statement subchannel-sender-count.Kinds.ps subchannel-sender-count.Kinds.r
     subchannel-sender-count.Reads.Asked subchannel-sender-count.Reads.Learnt
-    λ κs parity depth bytes r. r ≡ subsender.counting parity depth bytes
+    λ κs parity depth bytes r. subsender.as_counted r ≡ subsender.counting parity depth bytes
 subchannel-sender-count-means = (λ M. subchannel-sender-count.Met.met, λ κs a. tt, λ κs a z ws. (λ p. p, λ p. p))
 
 -- ---- four of them, their cells lent: at first none is told its settings
@@ -387,7 +395,8 @@ pub four-receivers-configure-means : Means four-receivers-configure.Statement.st
     four-receivers-configure.Reads.Asked four-receivers-configure.Reads.Learnt
     λ κs self number parity depth cells r.
     let x = subchannels.configuring (subchannels.whole self cells.entry.now) number parity depth in
-    (r ≡ record { answer = x.0; receiver = subchannels.seats x.1 }) × (cells.exit.now ≡ subchannels.laid cells.entry.now x.1)
+    ◌≡◌ {A = Configured × Receiver} (configured.as_configured r.answer, r.receiver) (x.0, subchannels.seats x.1)
+    × (cells.exit.now ≡ subchannels.laid cells.entry.now x.1)
 four-receivers-configure-means = (λ M. four-receivers-configure.Met.met, λ κs a. tt, λ κs a z ws. (λ p. p, λ p. p))
 
 pub four-receivers-hear-means : Means four-receivers-hear.Statement.statement four-receivers-hear.Kinds.ps four-receivers-hear.Kinds.r
@@ -411,12 +420,13 @@ four-senders-sound-means = (λ M. four-senders-sound.Met.met, λ κs a. tt, λ �
 
 pub four-senders-configure-means : Means four-senders-configure.Statement.statement four-senders-configure.Kinds.ps four-senders-configure.Kinds.r
     four-senders-configure.Reads.Asked four-senders-configure.Reads.Learnt
-    λ κs self number parity depth r. let x = subsenders.configuring self number parity depth in r ≡ record { answer = x.0; sender = x.1 }
+    λ κs self number parity depth r.
+    ◌≡◌ {A = Configured × Sender} (configured.as_configured r.answer, r.sender) (subsenders.configuring self number parity depth)
 four-senders-configure-means = (λ M. four-senders-configure.Met.met, λ κs a. tt, λ κs a z ws. (λ p. p, λ p. p))
 
 pub four-senders-send-means : Means four-senders-send.Statement.statement four-senders-send.Kinds.ps four-senders-send.Kinds.r four-senders-send.Reads.Asked
     four-senders-send.Reads.Learnt
-    λ κs self number stream out w. outcome w out.exit.now ≡ subsenders.send_four self number stream.now out.entry.now
+    λ κs self number stream out w. outcome (as_written w) out.exit.now ≡ subsenders.send_four self number stream.now out.entry.now
 four-senders-send-means = (λ M. four-senders-send.Met.met, λ κs a. tt, λ κs a z ws. (λ p. p, λ p. p))
 
 -- what a frame is told to be, and what a call answers, in the code's words
@@ -440,7 +450,7 @@ pub stream-read-means : Means stream-read.Statement.statement stream-read.Kinds.
     (r ≡ record { heard = plain.answered x.0; taken = x.1; frame = x.2.st }) × (recv.exit.now ≡ x.2.recv)
 stream-read-means = (λ M. stream-read.Met.met, λ κs a. tt, λ κs a z ws. (λ p. p, λ p. p))
 
-pub plain-answered-is : (t : Told) → (plain.answered none ≡ plain-answer.More) × (plain.answered (some t) ≡ plain-answer.Said (judged t))
+pub plain-answered-is : (t : Told) → (plain.answered none ≡ None) × (plain.answered (some t) ≡ Some (judged t))
 plain-answered-is t = (refl, refl)
 
 pub stream-sound-means : Means stream-sound.Statement.statement stream-sound.Kinds.ps stream-sound.Kinds.r stream-sound.Reads.Asked stream-sound.Reads.Learnt
@@ -485,16 +495,16 @@ packet-class-of-means = (λ M. packet-class-of.Met.met, λ κs a. tt, λ κs a z
 
 -- ---- parity and repair
 pub parity-make-means : Means parity-make.Statement.statement parity-make.Kinds.ps parity-make.Kinds.r parity-make.Reads.Asked parity-make.Reads.Learnt
-    λ κs r message out w. outcome w out.exit.now ≡ made r message.now out.entry.now
+    λ κs r message out w. outcome (as_written w) out.exit.now ≡ made r message.now out.entry.now
 parity-make-means = (λ M. parity-make.Met.met, λ κs a. tt, λ κs a z ws. (λ p. p, λ p. p))
 
 pub parity-check-means : Means parity-check.Statement.statement parity-check.Kinds.ps parity-check.Kinds.r parity-check.Reads.Asked parity-check.Reads.Learnt
-    λ κs r word c. c ≡ checked r word.now
+    λ κs r word c. as_checked c ≡ checked r word.now
 parity-check-means = (λ M. parity-check.Met.met, λ κs a. tt, λ κs a z ws. (λ p. p, λ p. p))
 
 pub repair-repair-means : Means repair-repair.Statement.statement repair-repair.Kinds.ps repair-repair.Kinds.r repair-repair.Reads.Asked
     repair-repair.Reads.Learnt
-    λ κs r word a. Promised r word.entry.now a word.exit.now
+    λ κs r word a. Promised r word.entry.now (as_mended a) word.exit.now
 repair-repair-means = (λ M. repair-repair.Met.met, λ κs a. tt, λ κs a z ws. (λ p. p, λ p. p))
 
 -- ---- the interleaver. "Cells begin at zero"; on the receiving side nothing has come
@@ -505,12 +515,12 @@ interleaver-fresh-means = (λ M. interleaver-fresh.Met.met, λ κs a. tt, λ κs
 
 pub interleaver-push-means : Means interleaver-push.Statement.statement interleaver-push.Kinds.ps interleaver-push.Kinds.r interleaver-push.Reads.Asked
     interleaver-push.Reads.Learnt
-    λ κs matrix depth bytes out r. (outcome r.written out.exit.now, r.matrix) ≡ pushing depth matrix bytes.now out.entry.now
+    λ κs matrix depth bytes out r. (outcome (as_written r.written) out.exit.now, r.matrix) ≡ pushing depth matrix bytes.now out.entry.now
 interleaver-push-means = (λ M. interleaver-push.Met.met, λ κs a. tt, λ κs a z ws. (λ p. p, λ p. p))
 
 pub interleaver-close-means : Means interleaver-close.Statement.statement interleaver-close.Kinds.ps interleaver-close.Kinds.r interleaver-close.Reads.Asked
     interleaver-close.Reads.Learnt
-    λ κs matrix depth out r. (outcome r.written out.exit.now, r.matrix) ≡ closing depth matrix out.entry.now
+    λ κs matrix depth out r. (outcome (as_written r.written) out.exit.now, r.matrix) ≡ closing depth matrix out.entry.now
 interleaver-close-means = (λ M. interleaver-close.Met.met, λ κs a. tt, λ κs a z ws. (λ p. p, λ p. p))
 
 pub interleaver-fresh-back-means : Means interleaver-fresh-back.Statement.statement interleaver-fresh-back.Kinds.ps interleaver-fresh-back.Kinds.r
@@ -520,7 +530,7 @@ interleaver-fresh-back-means = (λ M. interleaver-fresh-back.Met.met, λ κs a. 
 
 pub interleaver-pull-means : Means interleaver-pull.Statement.statement interleaver-pull.Kinds.ps interleaver-pull.Kinds.r interleaver-pull.Reads.Asked
     interleaver-pull.Reads.Learnt
-    λ κs back depth bytes out r. (outcome r.written out.exit.now, r.back) ≡ pulling depth back bytes.now out.entry.now
+    λ κs back depth bytes out r. (outcome (as_written r.written) out.exit.now, r.back) ≡ pulling depth back bytes.now out.entry.now
 interleaver-pull-means = (λ M. interleaver-pull.Met.met, λ κs a. tt, λ κs a z ws. (λ p. p, λ p. p))
 
 -- .. a place among the cells, for who goes through them byte by byte
@@ -537,12 +547,12 @@ interleaver-step-means = (λ M. interleaver-step.Met.met, λ κs a. tt, λ κs a
 -- ---- a capture, written: what stands before the first record, one record; and what is fetched for it behind a delivery
 pub capture-begin-means : Means capture-begin.Statement.statement capture-begin.Kinds.ps capture-begin.Kinds.r capture-begin.Reads.Asked
     capture-begin.Reads.Learnt
-    λ κs out w. outcome w out.exit.now ≡ write capture-file.header out.entry.now
+    λ κs out w. outcome (as_written w) out.exit.now ≡ write capture-file.header out.entry.now
 capture-begin-means = (λ M. capture-begin.Met.met, λ κs a. tt, λ κs a z ws. (λ p. p, λ p. p))
 
 pub capture-enter-means : Means capture-enter.Statement.statement capture-enter.Kinds.ps capture-enter.Kinds.r capture-enter.Reads.Asked
     capture-enter.Reads.Learnt
-    λ κs number packed out w. outcome w out.exit.now ≡ entering number packed.now out.entry.now
+    λ κs number packed out w. outcome (as_written w) out.exit.now ≡ entering number packed.now out.entry.now
 capture-enter-means = (λ M. capture-enter.Met.met, λ κs a. tt, λ κs a z ws. (λ p. p, λ p. p))
 
 pub capture-packed-means : Means capture-packed.Statement.statement capture-packed.Kinds.ps capture-packed.Kinds.r capture-packed.Reads.Asked
@@ -563,7 +573,7 @@ capture-read-means = (λ M. capture-read.Met.met, λ κs a. tt, λ κs a z ws. (
 
 pub capture-finish-means : Means capture-finish.Statement.statement capture-finish.Kinds.ps capture-finish.Kinds.r capture-finish.Reads.Asked
     capture-finish.Reads.Learnt
-    λ κs self r. r ≡ capture.finishing self
+    λ κs self r. capture.as_ended r ≡ capture.finishing self
 capture-finish-means = (λ M. capture-finish.Met.met, λ κs a. tt, λ κs a z ws. (λ p. p, λ p. p))
 
 -- ---- a recording's bytes. Before the first one: at the byte that says which stream it is, with a fresh receiver
@@ -592,7 +602,7 @@ recording-next-means = (λ M. recording-next.Met.met, λ κs a. tt, λ κs a z w
 pub recording-next-packet-means : Means recording-next-packet.Statement.statement recording-next-packet.Kinds.ps recording-next-packet.Kinds.r
     recording-next-packet.Reads.Asked recording-next-packet.Reads.Learnt
     λ κs self recv word piece r. let x = packet_call (deck_of self recv.entry.now word.entry.now) piece.now in
-    (r ≡ record { found = found_of x.0; taken = x.1; tape = record { spot = x.2.spot; channel = x.2.ear.channel; receiver = x.2.ear.memory.st } })
+    (as_got r ≡ record { found = found_of x.0; taken = x.1; tape = record { spot = x.2.spot; channel = x.2.ear.channel; receiver = x.2.ear.memory.st } })
     × (recv.exit.now ≡ x.2.ear.memory.recv) × (word.exit.now ≡ x.2.ear.memory.word)
 recording-next-packet-means = (λ M. recording-next-packet.Met.met, λ κs a. tt, λ κs a z ws. (λ p. p, λ p. p))
 
@@ -636,25 +646,25 @@ listing-fresh-means = (λ M. listing-fresh.Met.met, λ κs a. tt, λ κs a z ws.
 pub listing-take-means : Means listing-take.Statement.statement listing-take.Kinds.ps listing-take.Kinds.r listing-take.Reads.Asked listing-take.Reads.Learnt
     λ κs self recv word piece out r.
     let x = recording.takes (recording.deck_of self.tape recv.entry.now word.entry.now) self.totals (length out.entry.now) piece.now in
-    (r ≡ record { wants = x.wants; taken = x.taken; written = length x.text; next = recording.recorded x.deck x.totals })
+    (listing-answers.as_got r ≡ record { wants = x.wants; taken = x.taken; written = length x.text; next = recording.recorded x.deck x.totals })
     × (recv.exit.now ≡ x.deck.ear.memory.recv) × (word.exit.now ≡ x.deck.ear.memory.word)
     × (out.exit.now ≡ x.text ++ drop (length x.text) out.entry.now)
 listing-take-means = (λ M. listing-take.Met.met, λ κs a. tt, λ κs a z ws. (λ p. p, λ p. p))
 
 pub listing-finish-means : Means listing-finish.Statement.statement listing-finish.Kinds.ps listing-finish.Kinds.r listing-finish.Reads.Asked
     listing-finish.Reads.Learnt
-    λ κs self out w. outcome w out.exit.now ≡ write (recording.last_of self) out.entry.now
+    λ κs self out w. outcome (as_written w) out.exit.now ≡ write (recording.last_of self) out.entry.now
 listing-finish-means = (λ M. listing-finish.Met.met, λ κs a. tt, λ κs a z ws. (λ p. p, λ p. p))
 
 -- ---- Layer 2 units
 pub unit-write-means : Means unit-write.Statement.statement unit-write.Kinds.ps unit-write.Kinds.r unit-write.Reads.Asked unit-write.Reads.Learnt
     λ κs size delimiter audio opportunistic fixed out w.
-    outcome w out.exit.now ≡ units.written size delimiter audio.now opportunistic.now fixed.now out.entry.now
+    outcome (as_written w) out.exit.now ≡ units.written size delimiter audio.now opportunistic.now fixed.now out.entry.now
 unit-write-means = (λ M. unit-write.Met.met, λ κs a. tt, λ κs a z ws. (λ p. p, λ p. p))
 
 pub unit-read-means : Means unit-read.Statement.statement unit-read.Kinds.ps unit-read.Kinds.r unit-read.Reads.Asked unit-read.Reads.Learnt
     λ κs size delimiter audio fixed unit out w.
-    outcome w out.exit.now ≡ unit-reading.read_unit size delimiter audio fixed unit.now out.entry.now
+    outcome (as_written w) out.exit.now ≡ unit-reading.read_unit size delimiter audio fixed unit.now out.entry.now
 unit-read-means = (λ M. unit-read.Met.met, λ κs a. tt, λ κs a z ws. (λ p. p, λ p. p))
 
 -- ---- a board, of this range of ports. Before the first byte: nothing heard, no port held, nothing owed
@@ -687,7 +697,7 @@ board-fresh-means = (λ M. board-fresh.Met.met, λ κs a. tt, λ κs a z ws. (λ
 pub board-take-means : Means board-take.Statement.statement board-take.Kinds.ps board-take.Kinds.r board-take.Reads.Asked board-take.Reads.Learnt
     λ κs self recv word piece out r.
     let x = readout.takes (length out.entry.now) (readout.screen_of self recv.entry.now word.entry.now) piece.now in
-    (r ≡ record { wants = x.wants; taken = x.taken; written = length x.text; next = readout.readout_of x.screen })
+    (board-answers.as_got r ≡ record { wants = x.wants; taken = x.taken; written = length x.text; next = readout.readout_of x.screen })
     × (recv.exit.now ≡ x.screen.source.deck.ear.memory.recv) × (word.exit.now ≡ x.screen.source.deck.ear.memory.word)
     × (out.exit.now ≡ x.text ++ drop (length x.text) out.entry.now)
 board-take-means = (λ M. board-take.Met.met, λ κs a. tt, λ κs a z ws. (λ p. p, λ p. p))
@@ -704,17 +714,17 @@ readout-last-is r = (λ e. ap (λ t. readout.last_by t r.tape.spot) e, λ e. ap 
 -- ---- its lines
 pub listing-lines-print-means : Means listing-lines-print.Statement.statement listing-lines-print.Kinds.ps listing-lines-print.Kinds.r
     listing-lines-print.Reads.Asked listing-lines-print.Reads.Learnt
-    λ κs answer out w. outcome w out.exit.now ≡ write (line answer) out.entry.now
+    λ κs answer out w. outcome (as_written w) out.exit.now ≡ write (line answer) out.entry.now
 listing-lines-print-means = (λ M. listing-lines-print.Met.met, λ κs a. tt, λ κs a z ws. (λ p. p, λ p. p))
 
 pub listing-lines-print-end-means : Means listing-lines-print-end.Statement.statement listing-lines-print-end.Kinds.ps listing-lines-print-end.Kinds.r
     listing-lines-print-end.Reads.Asked listing-lines-print-end.Reads.Learnt
-    λ κs bytes packets refused damaged lost out w. outcome w out.exit.now ≡ write (end_line bytes packets refused damaged lost) out.entry.now
+    λ κs bytes t out w. outcome (as_written w) out.exit.now ≡ write (end_line bytes t.packets t.refused t.damaged t.lost) out.entry.now
 listing-lines-print-end-means = (λ M. listing-lines-print-end.Met.met, λ κs a. tt, λ κs a z ws. (λ p. p, λ p. p))
 
 pub listing-lines-print-wrong-means : Means listing-lines-print-wrong.Statement.statement listing-lines-print-wrong.Kinds.ps listing-lines-print-wrong.Kinds.r
     listing-lines-print-wrong.Reads.Asked listing-lines-print-wrong.Reads.Learnt
-    λ κs offset out w. outcome w out.exit.now ≡ write (wrong_line offset) out.entry.now
+    λ κs offset out w. outcome (as_written w) out.exit.now ≡ write (wrong_line offset) out.entry.now
 listing-lines-print-wrong-means = (λ M. listing-lines-print-wrong.Met.met, λ κs a. tt, λ κs a z ws. (λ p. p, λ p. p))
 
 -- what is counted for the last line: nothing yet; an answer in its total, where the greatest number stays
@@ -735,7 +745,7 @@ counting-is = counting-below
 -- ---- the bids that a recording misses: the line of a packet noted; before the first byte, with a table that holds no port; and the next line
 pub missed-print-noted-means : Means missed-print-noted.Statement.statement missed-print-noted.Kinds.ps missed-print-noted.Kinds.r
     missed-print-noted.Reads.Asked missed-print-noted.Reads.Learnt
-    λ κs port sequence noted out w. outcome w out.exit.now ≡ write (noted_line port sequence noted) out.entry.now
+    λ κs port sequence noted out w. outcome (as_written w) out.exit.now ≡ write (noted_line port sequence noted) out.entry.now
 missed-print-noted-means = (λ M. missed-print-noted.Met.met, λ κs a. tt, λ κs a z ws. (λ p. p, λ p. p))
 
 pub missed-fresh-means : Means missed-fresh.Statement.statement missed-fresh.Kinds.ps missed-fresh.Kinds.r missed-fresh.Reads.Asked missed-fresh.Reads.Learnt
@@ -745,7 +755,7 @@ missed-fresh-means = (λ M. missed-fresh.Met.met, λ κs a. tt, λ κs a z ws. (
 pub missed-take-means : Means missed-take.Statement.statement missed-take.Kinds.ps missed-take.Kinds.r missed-take.Reads.Asked missed-take.Reads.Learnt
     λ κs self recv word piece out r.
     let x = missed.takes (length out.entry.now) (missed.page_of self recv.entry.now word.entry.now) piece.now in
-    (r ≡ record { wants = x.wants; taken = x.taken; written = length x.text; next = missed.notes_of x.page })
+    (missed-answer.as_took r ≡ record { wants = x.wants; taken = x.taken; written = length x.text; next = missed.notes_of x.page })
     × (recv.exit.now ≡ x.page.deck.ear.memory.recv) × (word.exit.now ≡ x.page.deck.ear.memory.word)
     × (out.exit.now ≡ x.text ++ drop (length x.text) out.entry.now)
 missed-take-means = (λ M. missed-take.Met.met, λ κs a. tt, λ κs a z ws. (λ p. p, λ p. p))
@@ -795,7 +805,7 @@ pub sheet-begin-means : Means sheet-begin.Statement.statement sheet-begin.Kinds.
 sheet-begin-means = (λ M. sheet-begin.Met.met, λ κs a. tt, λ κs a z ws. (λ p. p, λ p. p))
 
 pub sheet-print-means : Means sheet-print.Statement.statement sheet-print.Kinds.ps sheet-print.Kinds.r sheet-print.Reads.Asked sheet-print.Reads.Learnt
-    λ κs self i out w. outcome w out.exit.now ≡ printing self i out.entry.now
+    λ κs self i out w. outcome (as_written w) out.exit.now ≡ printing self i out.entry.now
 sheet-print-means = (λ M. sheet-print.Met.met, λ κs a. tt, λ κs a z ws. (λ p. p, λ p. p))
 
 pub sheet-note-means : Means sheet-note.Statement.statement sheet-note.Kinds.ps sheet-note.Kinds.r sheet-note.Reads.Asked sheet-note.Reads.Learnt
@@ -803,7 +813,7 @@ pub sheet-note-means : Means sheet-note.Statement.statement sheet-note.Kinds.ps 
 sheet-note-means = (λ M. sheet-note.Met.met, λ κs a. tt, λ κs a z ws. (λ p. p, λ p. p))
 
 pub sheet-close-means : Means sheet-close.Statement.statement sheet-close.Kinds.ps sheet-close.Kinds.r sheet-close.Reads.Asked sheet-close.Reads.Learnt
-    λ κs self well r. r ≡ settling self well
+    λ κs self well r. sheet-answer.as_closed r ≡ settling self well
 sheet-close-means = (λ M. sheet-close.Met.met, λ κs a. tt, λ κs a z ws. (λ p. p, λ p. p))
 
 -- what becomes of a recording, in the code's words
@@ -844,7 +854,7 @@ ports-ports-note-means = (λ M. ports-ports-note.Met.met, λ κs a. tt, λ κs a
 pub ports-ports-forget-means : Means ports-ports-forget.Statement.statement ports-ports-forget.Kinds.ps ports-ports-forget.Kinds.r
     ports-ports-forget.Reads.Asked ports-ports-forget.Reads.Learnt
     λ κs self port r.
-    let x = forgetting self.entries port in r ≡ record { forgot = x.0; ports = record { entries = x.1 } }
+    ◌≡◌ {A = Forgot × List Entry} (as_forgot r.forgot, r.ports.entries) (forgetting self.entries port)
 ports-ports-forget-means = (λ M. ports-ports-forget.Met.met, λ κs a. tt, λ κs a z ws. (λ p. p, λ p. p))
 
 -- .. and lent, of any length
@@ -854,7 +864,7 @@ ports-note-means = (λ M. ports-note.Met.met, λ κs a. tt, λ κs a z ws. (λ p
 
 pub ports-forget-means : Means ports-forget.Statement.statement ports-forget.Kinds.ps ports-forget.Kinds.r ports-forget.Reads.Asked
     ports-forget.Reads.Learnt
-    λ κs table port r. ◌≡◌ {A = Forgot × List Entry} (r, table.exit.now) (forgetting table.entry.now port)
+    λ κs table port r. ◌≡◌ {A = Forgot × List Entry} (as_forgot r, table.exit.now) (forgetting table.entry.now port)
 ports-forget-means = (λ M. ports-forget.Met.met, λ κs a. tt, λ κs a z ws. (λ p. p, λ p. p))
 
 -- ---- for C, with numbers and byte slices: the number answered, and what the lent memory then holds
@@ -890,26 +900,26 @@ pub office-start-means : Means office-start.Statement.statement office-start.Kin
     ◌≡◌ {A = Started × List ℕ}
     (pick (ltb (length hold.entry.now) 8428) (Denied 11, hold.entry.now)
     (Ready (record { lines = 0; stored = 0; held = 1 }), 0x7E ∷ drop 1 hold.entry.now))
-    (r, hold.exit.now)
+    (as_started r, hold.exit.now)
 office-start-means = (λ M. office-start.Met.met, λ κs a. tt, λ κs a z ws. (λ p. p, λ p. p))
 
 pub office-hear-means : Means office-hear.Statement.statement office-hear.Kinds.ps office-hear.Kinds.r office-hear.Reads.Asked office-hear.Reads.Learnt
     λ κs self line hold piece out r.
     let x = office.hear_call (length out.entry.now) (desk self line.entry.now hold.entry.now) piece.now in
-    (r ≡ record { answer = office.answered x.0; taken = x.1; office = x.2.st }) × (line.exit.now ≡ x.2.line) × (hold.exit.now ≡ x.2.hold)
+    (office-answer.as_got r ≡ record { answer = office.answered x.0; taken = x.1; office = x.2.st }) × (line.exit.now ≡ x.2.line) × (hold.exit.now ≡ x.2.hold)
     × (out.exit.now ≡ office.answered_out x.0 out.entry.now)
 office-hear-means = (λ M. office-hear.Met.met, λ κs a. tt, λ κs a z ws. (λ p. p, λ p. p))
 
 pub office-close-means : Means office-close.Statement.statement office-close.Kinds.ps office-close.Kinds.r office-close.Reads.Asked office-close.Reads.Learnt
     λ κs self line hold out r.
     let x = office.close_call (length out.entry.now) (desk self line.entry.now hold.entry.now) in
-    (r ≡ record { answer = office.answered x.0; taken = x.1; office = x.2.st }) × (line.exit.now ≡ x.2.line) × (hold.exit.now ≡ x.2.hold)
+    (office-answer.as_got r ≡ record { answer = office.answered x.0; taken = x.1; office = x.2.st }) × (line.exit.now ≡ x.2.line) × (hold.exit.now ≡ x.2.hold)
     × (out.exit.now ≡ office.answered_out x.0 out.entry.now)
 office-close-means = (λ M. office-close.Met.met, λ κs a. tt, λ κs a z ws. (λ p. p, λ p. p))
 
 pub office-finish-means : Means office-finish.Statement.statement office-finish.Kinds.ps office-finish.Kinds.r office-finish.Reads.Asked
     office-finish.Reads.Learnt
-    λ κs self hold out w. outcome w out.exit.now ≡ office.finishing self hold.now out.entry.now
+    λ κs self hold out w. outcome (as_written w) out.exit.now ≡ office.finishing self hold.now out.entry.now
 office-finish-means = (λ M. office-finish.Met.met, λ κs a. tt, λ κs a z ws. (λ p. p, λ p. p))
 
 -- what is said of line k, in the code's words, and what then stands in the output
@@ -982,7 +992,7 @@ parity-at-powers-means = (λ M. parity-at-powers.Met.met, λ κs a. tt, λ κs a
 
 pub parity-at-roots-means : Means parity-at-roots.Statement.statement parity-at-roots.Kinds.ps parity-at-roots.Kinds.r parity-at-roots.Reads.Asked
     parity-at-roots.Reads.Learnt
-    λ κs r word out w. outcome w out.exit.now ≡ at_roots r word.now out.entry.now
+    λ κs r word out w. outcome (as_written w) out.exit.now ≡ at_roots r word.now out.entry.now
 parity-at-roots-means = (λ M. parity-at-roots.Met.met, λ κs a. tt, λ κs a z ws. (λ p. p, λ p. p))
 
 pub parity-subtract-means : Means parity-subtract.Statement.statement parity-subtract.Kinds.ps parity-subtract.Kinds.r parity-subtract.Reads.Asked
@@ -1012,7 +1022,7 @@ pub text-put-item-means : Means text-put-item.Statement.statement text-put-item.
 text-put-item-means = (λ M. text-put-item.Met.met, λ κs a. tt, λ κs a z ws. (λ p. p, λ p. p))
 
 pub text-deliver-means : Means text-deliver.Statement.statement text-deliver.Kinds.ps text-deliver.Kinds.r text-deliver.Reads.Asked text-deliver.Reads.Learnt
-    λ κs text n out w. outcome w out.exit.now ≡ write (take n text.now) out.entry.now
+    λ κs text n out w. outcome (as_written w) out.exit.now ≡ write (take n text.now) out.entry.now
 text-deliver-means = (λ M. text-deliver.Met.met, λ κs a. tt, λ κs a z ws. (λ p. p, λ p. p))
 
 pub base-least-means : Means base-least.Statement.statement base-least.Kinds.ps base-least.Kinds.r base-least.Reads.Asked base-least.Reads.Learnt

@@ -21,23 +21,23 @@ use mathlib.Core.Option.{Option, some, none}
 use lib.ListN.{length, replicate}
 use borrow.Author.Tests.{ne_eqb}
 use Rattle.base.specs.Bytes.{Bytes}
-use Rattle.base.specs.declared.Written.{Written}
-use Rattle.base.specs.declared.Written.TheVariants as written
+use Rattle.base.specs.Written.{Written}
+use Rattle.base.specs.Written as written
 use Rattle.packet_spec.specs.Contents.{raw_limit, Packet}
 use Rattle.packet_spec.specs.Frame.{Told, packet, refusal, broken}
 use Rattle.parity.specs.Calls.{made, checked}
-use Rattle.parity.specs.declared.Checked.{Checked}
-use Rattle.parity.specs.declared.Checked.TheVariants as check
+use Rattle.parity.specs.Checked.{Checked}
+use Rattle.parity.specs.Checked as check
 use Rattle.repair.specs.Promise.{Promised}
 use Rattle.repair.specs.Way.{repaired}
-use Rattle.repair.specs.declared.Mended.{Mended}
-use Rattle.repair.specs.declared.Mended.TheVariants as repair
+use Rattle.repair.specs.Mended.{Mended}
+use Rattle.repair.specs.Mended as repair
 use Rattle.repair.proofs.Promising.{promised-is}
 use Rattle.repair.proofs.Meeting.{repaired-promised}
 use Rattle.stream.specs.Call as plain
 use Rattle.stream.specs.declared.frame.FrameReader.{FrameReader}
-use Rattle.stream.specs.declared.frame.Heard.{Heard}
-use Rattle.stream.specs.declared.frame.Heard.TheVariants.{More}
+use Rattle.std.specs.Prelude.{Option as Perhaps, None}
+use Rattle.packet_spec.specs.declared.Judged.{Judged}
 use Rattle.channel_spec.specs.Meaning.{Event, said, block, lost}
 use Rattle.channel_spec.specs.declared.Condition.TheVariants.{Clean, Repaired, Beyond}
 use Rattle.channel.specs.Call.{memory, fresh_receiver, hear_call}
@@ -291,7 +291,7 @@ flag-back false = refl
 byte-back : (x : ℕ) → x < 256 → x % 256 ≡ x
 byte-back x h = omega arith
 
-pub stream-back : (taken : ℕ) (a : Heard) (f : FrameReader) → told.frame_of (told.stream_numbers taken (told.of_heard a) f) ≡ f
+pub stream-back : (taken : ℕ) (a : Perhaps Judged) (f : FrameReader) → told.frame_of (told.stream_numbers taken (told.of_heard a) f) ≡ f
 stream-back taken a f = λ i. record { opened = flag-back f.opened i; raw = f.raw; stored = f.stored; place = f.place }
 
 pub channel-back : (taken : ℕ) (a : Answer) (s : Receiver) → Bytes (s.hunting.a ∷ s.hunting.b ∷ s.hunting.c ∷ s.hunting.d ∷ [])
@@ -300,7 +300,7 @@ channel-back taken a s h = λ i. record {
   locked = flag-back s.locked i;
   hunting = record { a = byte-back _ h.0 i; b = byte-back _ h.1.0 i; c = byte-back _ h.1.1.0 i; d = byte-back _ h.1.1.1.0 i };
   lock = s.lock;
-  frame = stream-back taken More s.frame i;
+  frame = stream-back taken None s.frame i;
 }
 
 -- numbers that no call leaves: a flag above 1 is set, and of a hunted byte's number the lowest byte counts. Every other number is a count, which 10 measures

@@ -45,9 +45,7 @@ use Rattle.sheet_spec.proofs.Within.{Ported, within-every, numbers-range, ports-
 use Rattle.sheet_spec.proofs.Counted.{Fit, fresh-fit, month-fit, refused-stays, counts_with}
 use Rattle.sheet.specs.declared.Sheet.{Sheet}
 use Rattle.sheet.specs.declared.Draft.{Draft}
-use Rattle.sheet.specs.declared.Closed.{Closed}
-use Rattle.sheet.specs.declared.Counted.{Counted}
-use Rattle.sheet.specs.declared.Counted.TheVariants.{Counts, Wrong, Refused}
+use Rattle.sheet.specs.Counted.{Counted, Counts, Wrong, Refused, Closed}
 use Rattle.sheet.specs.Call.{rows_of, sheet_of, fresh_sheet, closed, answer_of, beyond, closing, recorded, line_of, printing}
 use Rattle.sheet.proofs.Month.{rows-sheet, recorded-range, recorded-is, closing-keeps, refused-keeps}
 use Rattle.demands_laws.specs.Table.{Exact}

@@ -54,7 +54,7 @@ use Rattle.interleaver_spec.specs.Places.{cell}
 use Rattle.interleaver_spec.specs.Running.{fresh, fresh_back, sent as turned, push}
 use Rattle.interleaver_spec.specs.declared.Back.{Back}
 use Rattle.interleaver_spec.proofs.Calling.{passes}
-use Rattle.repair.specs.declared.Mended.{Mended}
+use Rattle.repair.specs.Mended.{Mended}
 use Rattle.repair.specs.Promise.{CleanWord, Promised}
 use Rattle.channel_spec.specs.Sender.{marker, word_bytes}
 use Rattle.channel_spec.specs.Meaning.{Event, said, lost, frames, blocks, losses, IsWord, FirstMarker, condition_by, as_mended}
@@ -79,11 +79,11 @@ use Rattle.subchannel_spec.proofs.Returned.{back_is, returned, unaltered as came
 use Rattle.subchannel.specs.Call.{Memory, memory, untold, told_sub, telling, hear_call, EveryCut, ThereEvent, memory_of, in_use}
 use Rattle.subchannel.proofs.Demands as one
 use Rattle.subchannel.proofs.Delivery.{payload-there}
-use Rattle.subchannel_spec.specs.declared.Configured.TheVariants.{Done, Refused}
+use Rattle.subchannel_spec.specs.Settings.{Done, Refused}
 use Rattle.four_receivers.specs.declared.Receiver as code
 use Rattle.four_receivers.specs.declared.Configuring.{Configuring}
 use Rattle.four_receivers.specs.declared.Hearing.{Hearing}
-use Rattle.four_receivers.specs.Call.{Receiver, whole, laid as cells_in, ConfiguringIs, FourIs}
+use Rattle.four_receivers.specs.Call.{Receiver, whole, laid as cells_in, as_configuring, ConfiguringIs, FourIs}
 use Rattle.four_receivers.specs.Call.{fresh_receiver, Memories, memory_at, exchanged, call_on, Scheduled, of_one, get, configuring, hear_four}
 use Rattle.four_receivers.proofs.Calling as made
 use Rattle.four_receivers.proofs.Ending as ending
@@ -490,9 +490,9 @@ configure-keeps-all = rows.receiver-configure-same
 -- .. of the receiver of four a part is handed on by value and the cells are lent, `whole s cs` being both together; `ConfiguringIs` and `FourIs` are
 -- what the code promises (proofs/Promises). Refused, it hands back the state that it was given, and leaves the cells and both buffers
 module _ (s : code.Receiver) (cs : List (List ℕ)) where
-  pub configure-keeps-cells : (n r d m : ℕ) → ByConfigure (configuring (whole s cs) n r d) m → {x : Configuring} {left : List (List ℕ)}
-      → ConfiguringIs cs (configuring (whole s cs) n r d) x left → (x ≡ record { answer = Refused m; receiver = s }) × (left ≡ cs)
-  configure-keeps-cells n r d m e {x} {left} h =
+  pub configure-keeps-cells : (n r d m : ℕ) → ByConfigure (configuring (whole s cs) n r d) m → (x : Configuring) {left : List (List ℕ)}
+      → ConfiguringIs cs (configuring (whole s cs) n r d) x left → (as_configuring x ≡ (Refused m, s)) × (left ≡ cs)
+  configure-keeps-cells n r d m e x {left} h =
       let q = subst (λ y. ConfiguringIs cs y x left) (configure-keeps-all (whole s cs) n r d m e) h in
       (q.0, q.1 ∙ sym (made.laid_same s cs))
 
@@ -513,11 +513,11 @@ module _ (s : code.Receiver) (cs : List (List ℕ)) where
 
   -- .. and with four cells lent, what comes back of a call, refused or not, put together is the state behind it, with which the next call starts;
   -- four they are again
-  pub configure-puts-together : length cs ≡ 4 → (n r d : ℕ) {x : Configuring} {left : List (List ℕ)}
+  pub configure-puts-together : length cs ≡ 4 → (n r d : ℕ) (x : Configuring) {left : List (List ℕ)}
       → ConfiguringIs cs (configuring (whole s cs) n r d) x left
       → (whole x.receiver left ≡ (configuring (whole s cs) n r d).1) × (length left ≡ 4)
-  configure-puts-together four n r d h =
-      let t : Receiver = (configuring (whole s cs) n r d).1 in ((λ i. whole (h.0 i).receiver (h.1 i)) ∙ made.carried t cs four, four-left t four h.1)
+  configure-puts-together four n r d x h =
+      let t : Receiver = (configuring (whole s cs) n r d).1 in ((λ i. whole (h.0 i).1 (h.1 i)) ∙ made.carried t cs four, four-left t four h.1)
 
   pub number-hear-puts-together : length cs ≡ 4 → (n : ℕ) (recv word bs : List ℕ) {x : Hearing} {left : List (List ℕ)} {l k : List ℕ}
       → FourIs cs (hear_four (whole s cs) n recv word bs) x left l k

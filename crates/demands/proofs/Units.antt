@@ -21,7 +21,7 @@ use lib.ListN.{length, take, drop, get_or, replicate}
 use borrow.Author.Tests.{ne_eqb, lt-ltb, le-ltb}
 use Rattle.base.specs.Bytes.{Bytes}
 use Rattle.base.specs.Written.{write, Keeps}
-use Rattle.base.specs.declared.Written.TheVariants.{Wrote}
+use Rattle.base.specs.Written.{Wrote}
 use Rattle.unit_spec.specs.Bits.{digits, number, bits}
 use Rattle.unit_spec.specs.Tables.{sequence, heads, start, step, payload, lent, unfit}
 use Rattle.unit_spec.specs.Unit.{begins, opened, laid_out, unit, written}

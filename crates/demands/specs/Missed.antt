@@ -5,11 +5,10 @@ use Rattle.std.specs.Prelude.{ℕ, ◌<◌, ◌≡◌, List, [], ◌∷◌}
 use Rattle.ports_spec.specs.declared.Entry.{Entry}
 use Rattle.ports_spec.specs.declared.Noted.{Noted}
 use Rattle.ports_spec.specs.declared.Noted.TheVariants.{Refused}
-use Rattle.ports_spec.specs.declared.Forgot.{Forgot}
-use Rattle.ports_spec.specs.declared.Forgot.TheVariants.{Refused as Unforgotten}
+use Rattle.ports_spec.specs.Forgot.{Forgot, Refused as Unforgotten}
 use Rattle.ports_spec.specs.Refusing.{Unfit as UnfitTable, Held, Full}
 use Rattle.missed_spec.specs.Line.{longest}
-use Rattle.missed.specs.declared.notes.Wants.TheVariants.{Refused as NotesRefused}
+use Rattle.missed.specs.Wants.{Refused as NotesRefused}
 use Rattle.missed.specs.Page.{Page}
 use Rattle.missed.specs.Call.{Part}
 use Rattle.demands_laws.specs.Table.{Row}

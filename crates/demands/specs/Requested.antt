@@ -7,8 +7,8 @@ use Rattle.std.proofs.Math.Option.{Option, some, none}
 use Rattle.text.specs.Text.{ascii}
 use Rattle.base.specs.Calls.{joined, run}
 use Rattle.base.specs.Choice.{pick}
-use Rattle.base.specs.declared.Written.{Written}
-use Rattle.base.specs.declared.Written.TheVariants.{Wrote, Refused as Unwritten}
+use Rattle.base.specs.Written.{Written}
+use Rattle.base.specs.Written.{Wrote, Refused as Unwritten}
 use Rattle.packet_spec.specs.Contents.{plain_packet, packet_of, with_check}
 use Rattle.packet_spec.specs.Frame.{Told as FrameTold, packet, refusal, broken, judge_contents}
 use Rattle.packet_spec.specs.Sender.{refusing}
@@ -21,9 +21,7 @@ use Rattle.interleaver_spec.specs.Running.{fresh_back}
 use Rattle.interleaver_spec.specs.Running as interleaver
 use Rattle.subchannel_spec.specs.Sender.{group_words, group_bytes, closing_words, completing, grouped}
 use Rattle.subchannel.specs.Call as sub
-use Rattle.subchannel_spec.specs.Settings.{settings}
-use Rattle.subchannel_spec.specs.declared.Configured.{Configured}
-use Rattle.subchannel_spec.specs.declared.Configured.TheVariants.{Done, Refused}
+use Rattle.subchannel_spec.specs.Settings.{settings, Configured, Done, Refused}
 use Rattle.four_receivers.specs.Call.{Receiver}
 use Rattle.four_receivers.specs.Call as receiver
 use Rattle.four_senders.specs.Call as sender

@@ -10,8 +10,7 @@ use Rattle.sheet_spec.specs.Meaning.{Mark, Month, within, lines, any_wide, with}
 use Rattle.sheet_spec.specs.Rows.{blank}
 use Rattle.sheet.specs.declared.Sheet.{Sheet}
 use Rattle.sheet.specs.declared.Draft.{Draft}
-use Rattle.sheet.specs.declared.Closed.{Closed}
-use Rattle.sheet.specs.declared.Counted.TheVariants.{Refused}
+use Rattle.sheet.specs.Counted.{Refused, Closed}
 use Rattle.sheet.specs.Call.{rows_of, line_of, recorded}
 use Rattle.demands_laws.specs.Table.{Row}
 

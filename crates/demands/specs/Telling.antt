@@ -10,11 +10,11 @@ use Rattle.std.specs.Prelude.{ℕ, zero, suc, ◌-◌, true, false, List, [], �
 use Rattle.std.proofs.Math.Option.{Option, some, none}
 use Rattle.base.specs.Calls.{joined}
 use Rattle.base.specs.Choice.{pick}
-use Rattle.base.specs.declared.Written.{Written}
-use Rattle.base.specs.declared.Written.TheVariants.{Wrote, Refused}
+use Rattle.base.specs.Written.{Written}
+use Rattle.base.specs.Written.{Wrote, Refused}
 use Rattle.parity.specs.Calls as parity
-use Rattle.parity.specs.declared.Checked.{Checked}
-use Rattle.parity.specs.declared.Checked.TheVariants as checking
+use Rattle.parity.specs.Checked.{Checked}
+use Rattle.parity.specs.Checked as checking
 use Rattle.interleaver_spec.specs.Running as interleaver
 use Rattle.packet_spec.specs.Contents.{Packet, packet_of, plain_packet, packed, with_check}
 use Rattle.packet_spec.specs.Frame.{Told, packet, refusal, broken, judge_contents, judge_body, judge}
@@ -35,8 +35,7 @@ use Rattle.ports_spec.specs.Ports.{entry}
 use Rattle.ports_spec.specs.declared.Entry.{Entry}
 use Rattle.ports_spec.specs.declared.Noted.{Noted}
 use Rattle.ports_spec.specs.declared.Noted.TheVariants.{First, InOrder, Repeated, Missing, Late, Refused as NotNoted}
-use Rattle.ports_spec.specs.declared.Forgot.{Forgot}
-use Rattle.ports_spec.specs.declared.Forgot.TheVariants.{Forgotten, Refused as Unforgotten}
+use Rattle.ports_spec.specs.Forgot.{Forgot, Forgotten, Refused as Unforgotten}
 
 -- the number by which a frame is refused; 0 where it is a packet
 abbrev pub told_number : Told → ℕ

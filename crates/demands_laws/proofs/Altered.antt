@@ -18,10 +18,10 @@ use Rattle.base.specs.Bytes.{Each, IsByte}
 use Rattle.base.proofs.Bytes.{each_append}
 use Rattle.word_spec.specs.Word.{clean as clean_word, remainder}
 use Rattle.parity.specs.Calls.{root_limit}
-use Rattle.parity.specs.declared.Checked.TheVariants as check
+use Rattle.parity.specs.Checked as check
 use Rattle.word_spec.proofs.Division.{bytes-remainder}
 use Rattle.word_spec.proofs.Clean.{parity-clean}
-use Rattle.repair.specs.declared.Mended.TheVariants.{Clean, Repaired}
+use Rattle.repair.specs.Mended.{Clean, Repaired}
 use Rattle.repair.specs.Promise.{distance, half, CleanWord}
 use Rattle.repair.specs.Way.{repaired as repaired_word}
 use Rattle.repair.proofs.Apart.{distance-zero, checked-is, checked-clean}

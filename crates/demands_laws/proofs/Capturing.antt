@@ -25,7 +25,7 @@ use Rattle.capture.specs.Export.{entering_by, entering}
 use Rattle.capture.specs.Call.{Held, held, says, take_by, take_byte, read_on, read_by, read_call, sound, ending, finishing}
 use Rattle.capture.specs.declared.reader.CaptureReader.{CaptureReader}
 use Rattle.capture.specs.declared.reader.CaptureReader.TheVariants.{Header, Head, Record, Behind}
-use Rattle.capture.specs.declared.reader.Ended.TheVariants.{Whole, Refused}
+use Rattle.capture.specs.Call.{Whole, Refused}
 use Rattle.capture.proofs.Entering.{length-record}
 use Rattle.demands_laws.specs.Table.{Exact}
 use Rattle.demands_laws.specs.Refusals.{OfCall, ByCall, ByRead}

@@ -28,9 +28,9 @@ use Rattle.channel_spec.specs.declared.Answer.{Answer}
 use Rattle.listing_spec.specs.Lines.{line, end_line, wrong_line}
 use Rattle.bid.specs.Line.{feed, line_limit, no_number, port, sequence, text, Verdict, no_bid, refused, accepted, judged, is_bid, verdict, bid_of}
 use Rattle.office.specs.declared.Office.{Office}
-use Rattle.office.specs.declared.Started.{Started}
-use Rattle.office.specs.declared.Started.TheVariants.{Ready, Refused as StartRefused}
-use Rattle.office.specs.declared.Answer.TheVariants.{Refused}
+use Rattle.office.specs.Start.{Started}
+use Rattle.office.specs.Start.{Ready, Refused as StartRefused}
+use Rattle.office.specs.Answer.{Refused}
 use Rattle.office.specs.Meaning.{Spoken, blocks, unread, refusal, Said, ending_by, Desk, so_far, kept, ending_of, ended, eat}
 use Rattle.office.specs.Call.{held_limit, hold_limit, out_limit, fresh_office, starting, sound, roomy, hear_on, denied, hear_by}
 use Rattle.office.specs.Call.{hear_call, end_bytes, close_call, spoken, answered, spoken_out, answered_out, finish_by, finishing}

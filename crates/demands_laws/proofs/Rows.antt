@@ -21,12 +21,12 @@ use borrow.Author.Tests.{ltb-true, ltb-false, leb-true}
 use Rattle.base.specs.Bytes.{Each}
 use Rattle.base.specs.Choice.{pick}
 use Rattle.base.specs.Written.{Outcome, outcome, refused, write}
-use Rattle.base.specs.declared.Written.TheVariants.{Wrote, Refused}
+use Rattle.base.specs.Written.{Wrote, Refused}
 use Rattle.base.proofs.Tests.{by_le, by-test, and_parts}
-use Rattle.parity.specs.declared.Checked.TheVariants.{Clean, Damaged, Refused as WordRefused}
+use Rattle.parity.specs.Checked.{Clean, Damaged, Refused as WordRefused}
 use Rattle.parity.specs.Calls.{checked}
-use Rattle.repair.specs.declared.Mended.{Mended}
-use Rattle.repair.specs.declared.Mended.TheVariants as repair
+use Rattle.repair.specs.Mended.{Mended}
+use Rattle.repair.specs.Mended as repair
 use Rattle.repair.specs.Promise.{Promised}
 use Rattle.interleaver_spec.specs.Running.{beyond, calling}
 use Rattle.interleaver_spec.proofs.Calling.{below, state-refused, depth-refused, output-refused, wrote as fits}

@@ -23,8 +23,8 @@ use Rattle.ports.specs.ByValue.{sound_ports}
 use Rattle.ports_spec.proofs.Refusing.{unfit-is, fit-not}
 use Rattle.recording.specs.Call.{far}
 use Rattle.board.specs.declared.readout.Readout.{Readout}
-use Rattle.board.specs.declared.readout.Wants.{Wants}
-use Rattle.board.specs.declared.readout.Wants.TheVariants.{More, Again, Refused}
+use Rattle.board.specs.Wants.{Wants}
+use Rattle.board.specs.Wants.{More, Again, Refused}
 use Rattle.board.specs.Source.{Source, memory_in, source_hear}
 use Rattle.board.specs.Owed.{sound_owed}
 use Rattle.board.specs.Call.{Screen, readout_of, recv_on, owed_on, part, partly, heard_by, takes_on, near_by, sound_state, takes_by, takes}

@@ -36,8 +36,8 @@ use Rattle.subchannel.specs.Call.{Memory, memory, held_in, hand_on}
 use Rattle.subchannel.specs.Call.{untold, told_sub, telling, sound_counts, sound_lane, sound, hear_on, hear_by, hear_call}
 use Rattle.subchannel_spec.specs.Settings.{within}
 use Rattle.subchannel.proofs.Delivery.{heard-with}
-use Rattle.subchannel_spec.specs.declared.Configured.{Configured}
-use Rattle.subchannel_spec.specs.declared.Configured.TheVariants as configured
+use Rattle.subchannel_spec.specs.Settings.{Configured}
+use Rattle.subchannel_spec.specs.Settings as configured
 use Rattle.four_receivers.specs.Call.{Receiver}
 use Rattle.four_receivers.specs.Call as receiver
 use Rattle.four_receivers.proofs.Apart.{sound-at}

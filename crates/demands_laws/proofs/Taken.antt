@@ -29,7 +29,7 @@ use Rattle.recording.specs.Sift.{sifted}
 use Rattle.recording.specs.Packets.{Item, delivered, refused, packet_in, packet_hand, packet_eat, packet_hear, packet_by, packet_call}
 use Rattle.recording.proofs.Ears.{deck-hand-one}
 use Rattle.listing_lines.specs.declared.totals.Totals.{Totals}
-use Rattle.listing.specs.declared.lister.Wants.TheVariants.{Refused}
+use Rattle.listing.specs.Wants.{Refused}
 use Rattle.listing.specs.Call.{printed, near_totals, near, takes_by, takes}
 use Rattle.listing.proofs.Ends.{print-not}
 use Rattle.demands_laws.specs.Table.{Exact}

@@ -12,7 +12,7 @@ use lib.ListN.{length, take, drop, length-take}
 use lib.Seq.{take_at}
 use Rattle.base.specs.Bytes.{Bytes}
 use Rattle.base.specs.Calls.{joined}
-use Rattle.base.specs.declared.Written.TheVariants.{Wrote}
+use Rattle.base.specs.Written.{Wrote}
 use Rattle.packet_spec.specs.Escape.{flag}
 use Rattle.packet_spec.specs.Frame.{Told, packet, delivery, judged, closed, judge, There}
 use Rattle.packet_spec.specs.Sender.{Accepted, frame_of, flagged, writing}

@@ -14,8 +14,8 @@ use lib.ListN.{length, take, drop}
 use borrow.Author.Tests.{eqb-true, ltb-true, ltb-false}
 use Rattle.base.specs.Choice.{pick}
 use Rattle.base.specs.Written.{Outcome, refused, write}
-use Rattle.base.specs.declared.Written.{Written}
-use Rattle.base.specs.declared.Written.TheVariants.{Wrote, Refused}
+use Rattle.base.specs.Written.{Written}
+use Rattle.base.specs.Written.{Wrote, Refused}
 use Rattle.base.proofs.Tests.{by-test}
 use Rattle.unit_spec.specs.Tables.{sequence, announced, heads, payload, lent, unfit}
 use Rattle.unit_spec.specs.Unit.{opened, filled, laid_out, unit, hidden, written}

@@ -7,8 +7,8 @@
 -- put, put_by, entries_by            what calls write, one behind the other
 use Rattle.std.specs.Prelude.{ℕ, suc, ◌≤◌, ◌<◌, ◌≡◌, ◌⊎◌, List, [], ◌∷◌, ◌++◌, take}
 use Rattle.base.specs.Written.{Outcome}
-use Rattle.base.specs.declared.Written.{Written}
-use Rattle.base.specs.declared.Written.TheVariants.{Wrote, Refused as NotWritten}
+use Rattle.base.specs.Written.{Written}
+use Rattle.base.specs.Written.{Wrote, Refused as NotWritten}
 use Rattle.packet_spec.specs.Contents.{Packet, packed}
 use Rattle.packet_spec.specs.Frame.{Told}
 use Rattle.packet_spec.specs.Sender.{Accepted}
@@ -20,8 +20,7 @@ use Rattle.recording.specs.Deck.{Deck}
 use Rattle.capture.specs.Export.{Fetched, entering}
 use Rattle.capture.specs.declared.reader.CaptureReader.{CaptureReader}
 use Rattle.capture.specs.declared.reader.CaptureReader.TheVariants.{Header, Head, Record, Behind}
-use Rattle.capture.specs.declared.reader.Ended.{Ended}
-use Rattle.capture.specs.declared.reader.Ended.TheVariants.{Refused}
+use Rattle.capture.specs.Call.{Ended, Refused}
 
 -- 24 bytes of the header or more, 16 of a record's head or more, all of its bytes or more, or a fault other than 60 to 62
 abbrev pub CaptureBeyond : CaptureReader → Type 0

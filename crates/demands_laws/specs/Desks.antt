@@ -11,9 +11,9 @@ use Rattle.packet_spec.specs.Contents.{payload_limit}
 use Rattle.packet_spec.specs.Escape.{escape}
 use Rattle.bid.specs.Line.{line_limit, no_number, port, sequence, text, Verdict, refused}
 use Rattle.office.specs.declared.Office.{Office}
-use Rattle.office.specs.declared.Started.{Started}
-use Rattle.office.specs.declared.Started.TheVariants.{Refused as StartRefused}
-use Rattle.office.specs.declared.Answer.TheVariants.{Refused}
+use Rattle.office.specs.Start.{Started}
+use Rattle.office.specs.Start.{Refused as StartRefused}
+use Rattle.office.specs.Answer.{Refused}
 use Rattle.office.specs.Meaning.{Spoken, Said, Desk}
 use Rattle.office.specs.Call.{held_limit, hold_limit, spoken, answered}
 use Rattle.demands_laws.specs.Table.{Row}

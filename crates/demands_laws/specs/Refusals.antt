@@ -14,18 +14,17 @@ use Rattle.std.specs.Prelude.{ℕ, suc, ◌+◌, ◌-◌, ◌*◌, ◌≤◌, �
 use Rattle.std.proofs.Math.Option.{Option, some}
 use Rattle.base.specs.Choice.{pick}
 use Rattle.base.specs.Written.{Outcome}
-use Rattle.base.specs.declared.Written.TheVariants.{Refused}
+use Rattle.base.specs.Written.{Refused}
 use Rattle.fcs.specs.Fcs.{fcs}
 use Rattle.packet_spec.specs.Contents.{Packet, plain_format, key_format, key_least, key_most, key_at, key_length, payload_limit, raw_limit, pair_at}
 use Rattle.packet_spec.specs.Escape.{escape, plain, last, Followed}
 use Rattle.packet_spec.specs.Frame.{Told, refusal, number}
 use Rattle.interleaver_spec.specs.declared.Matrix.{Matrix}
-use Rattle.subchannel_sender.specs.declared.Counted.{Counted}
-use Rattle.subchannel_sender.specs.declared.Counted.TheVariants.{Refused as CountRefused}
-use Rattle.parity.specs.declared.Checked.{Checked}
-use Rattle.parity.specs.declared.Checked.TheVariants.{Refused as WordRefused}
-use Rattle.repair.specs.declared.Mended.{Mended}
-use Rattle.repair.specs.declared.Mended.TheVariants.{Refused as RepairRefused}
+use Rattle.subchannel_sender.specs.Sending.{Counted, Refused as CountRefused}
+use Rattle.parity.specs.Checked.{Checked}
+use Rattle.parity.specs.Checked.{Refused as WordRefused}
+use Rattle.repair.specs.Mended.{Mended}
+use Rattle.repair.specs.Mended.{Refused as RepairRefused}
 use Rattle.stream.specs.Call.{place_limit}
 use Rattle.stream.specs.declared.frame.FrameReader.{FrameReader}
 use Rattle.channel_spec.specs.Meaning.{Event, said}
@@ -39,10 +38,10 @@ use Rattle.recording.specs.Call.{far}
 use Rattle.recording.specs.Packets.{Item, refused}
 use Rattle.listing.specs.Call.{Printed}
 use Rattle.listing_lines.specs.declared.totals.Totals.{Totals}
-use Rattle.listing.specs.declared.lister.Wants.TheVariants.{Refused as TakeRefused}
+use Rattle.listing.specs.Wants.{Refused as TakeRefused}
 use Rattle.board.specs.Call.{Part}
 use Rattle.board.specs.declared.readout.Readout.{Readout}
-use Rattle.board.specs.declared.readout.Wants.TheVariants.{Refused as ShowRefused}
+use Rattle.board.specs.Wants.{Refused as ShowRefused}
 use Rattle.demands_laws.specs.Table.{Row}
 
 -- 10 of the interleaver: a cell place of N or more, at depth 2 or more

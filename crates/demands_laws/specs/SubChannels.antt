@@ -16,8 +16,7 @@ use Rattle.subchannel_spec.specs.Sender.{message_bytes, group_bytes}
 use Rattle.subchannel_spec.specs.declared.Settings.{Settings}
 use Rattle.subchannel.specs.declared.counts.Counts.{Counts}
 use Rattle.subchannel.specs.declared.sub.Sub.{Sub}
-use Rattle.subchannel_spec.specs.declared.Configured.{Configured}
-use Rattle.subchannel_spec.specs.declared.Configured.TheVariants.{Refused}
+use Rattle.subchannel_spec.specs.Settings.{Configured, Refused}
 use Rattle.four_receivers.specs.Call.{Receiver}
 use Rattle.subchannel_sender.specs.Sending.{group_sending}
 use Rattle.four_senders.specs.declared.Sender.{Sender}

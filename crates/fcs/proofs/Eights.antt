@@ -4,28 +4,31 @@
 -- first, second, third, fourth, low   the steps by which the code makes them fall out
 -- fall-is                      what it makes of the 64 bits that fall out: both sides go with sums, so there are 64 computed cases
 -- eight-enters                 the whole step: the bits are added to the register, and fall out of it
--- register-little              bytes enter as one number of all their bits does
--- little-none, little-fits, little-more   the loop that makes eight bytes a number
--- eight-next                   a turn of the loop over eights
-use mathlib.Core.Path.{◌≡◌, refl, sym, ap, ap₂, ◌∙◌, subst}
-use Prim.Native.Nat.{ℕ, zero, suc, ◌+◌, ◌-◌, ◌*◌, ◌/◌, ◌%◌, ◌^◌, ◌<◌, ◌≤◌}
-use mathlib.Core.List.{List, [], ◌∷◌}
-use native.Mathlib.Nat.{mul-one, zero-add, suc-add, add-zero, pow-suc, one-le-pow, div-lt_iff_lt-mul, div-eq_of_lt}
+-- little, register-little      bytes as one number, the first the lowest: they enter as all its bits do
+-- Enters, eight-is             a number whose bits enter as bytes do: that of eight bytes, the first the lowest
+-- eight-next, eights-done      a turn of a loop over eights, and its end
+-- eights-enter                 eights and what is behind the last of them
+use mathlib.Core.Path.{◌≡◌, refl, sym, ap, ap₂, ◌∙◌}
+use Prim.Native.Nat.{ℕ, zero, suc, ◌+◌, ◌*◌, ◌/◌, ◌%◌, ◌^◌, ◌<◌, ◌≤◌}
+use mathlib.Core.List.{List, [], ◌∷◌, ◌++◌, append_assoc}
+use native.Mathlib.Nat.{mul-one, zero-add, suc-add, add-zero, zero-mul, pow-suc, div-lt_iff_lt-mul, div-eq_of_lt}
+use native.Mathlib.Numerals.{add-one}
 use native.Mathlib.Omega.{arith}
-use lib.Arith.{lt-one, digits_lt}
+use lib.Arith.{lt-one}
 use lib.Bits.{bit_xor, differ, xor_comm, xor_zero_r, xor_shr, xor_mod, xor_block, block_half, block_odd}
 use lib.Dec.{eqb, eqb→eq}
-use lib.ListN.{length, take, drop, get_or, length-drop, take-append-drop}
+use lib.ListN.{length, take, drop, get_or, drop_of_length-le, take-append-drop}
 use lib.Pow.{pow_pos}
-use lib.Seq.{length-take-le, get_or-take, get_or-drop, drop-drop}
-use Rattle.base.specs.Bytes.{IsByte, Bytes}
+use lib.Seq.{drop-cons, drop-drop}
+use Rattle.std.proofs.Common.{w64}
+use Rattle.std.specs.Int.{from_le_bytes}
+use Rattle.std.specs.List.{concat}
+use Rattle.std.specs.Simd.{first_chunks}
+use Rattle.base.specs.Bytes.{Bytes}
 use Rattle.base.specs.Choice.{pick}
 use Rattle.base.proofs.Bits.{bit, bit-ind, xor-half, xor-odd, xor_assoc, xor-swap, xor-four, Additive, agree}
-use Rattle.base.proofs.Bytes.{each_take, each-drop}
-use Rattle.base.proofs.Lists.{next, over}
 use Rattle.base.proofs.Tests.{all-at}
 use Rattle.fcs.specs.Fcs.{polynomial, entered, register, shifted}
-use Rattle.fcs.specs.Private.{little}
 use Rattle.fcs.proofs.Steps.{left}
 use Rattle.fcs.proofs.Entering.{entered-sum}
 use Rattle.fcs.proofs.Laws.{register-append}
@@ -144,7 +147,11 @@ pub eight-enters : (r n : ℕ) → n < 2 ^ 64 → entered 64 (bit_xor n r) 0 ≡
 eight-enters r n h =
     ap (λ (x : ℕ). entered 64 x 0) (xor_comm n r) ∙ entered-sum 64 r n ∙ ap (bit_xor (entered 64 r n)) (div-eq_of_lt h) ∙ xor_zero_r (entered 64 r n)
 
--- ---- bytes as one number
+-- ---- bytes as one number, the first the lowest
+unfoldable pub little : List ℕ → ℕ
+little [] = 0
+little (b ∷ bs) = little bs * 256 + b
+
 entered-join : (m n r b c : ℕ) → b < 2 ^ m → entered (m + n) r (c * 2 ^ m + b) ≡ entered n (entered m r b) c
 unfolding entered
 entered-join zero n r b c h = rw (lt-one h) (simp (zero-add, mul-one, add-zero))
@@ -161,49 +168,59 @@ register-little r (b ∷ bs) h =
     register-little (entered 8 r b) bs h.1 ∙ sym (entered-join 8 (length bs * 8) r b (little bs) h.0)
     ∙ ap (λ (n : ℕ). entered n r (little bs * 256 + b)) e
 
-little-lt : (n : ℕ) (bs : List ℕ) → Bytes bs → length bs ≤ n → little bs < 256 ^ n
+read-little : (bs : List ℕ) → length bs ≡ 8 → from_le_bytes w64 bs ≡ little bs
 unfolding little
-little-lt n [] h k = one-le-pow n 256 (omega arith)
-little-lt zero (b ∷ bs) h k = absurd (omega arith)
-little-lt (suc n) (b ∷ bs) h k = rw (pow-suc 256 n) (digits_lt (little-lt n bs h.1 (omega arith)) h.0)
+read-little (a ∷ b ∷ c ∷ d ∷ e ∷ f ∷ g ∷ h ∷ []) l = omega arith
+read-little (a ∷ b ∷ c ∷ d ∷ e ∷ f ∷ g ∷ h ∷ i ∷ bs) l = absurd (omega arith)
+read-little (a ∷ b ∷ c ∷ d ∷ e ∷ f ∷ g ∷ []) l = absurd (omega arith)
+read-little (a ∷ b ∷ c ∷ d ∷ e ∷ f ∷ []) l = absurd (omega arith)
+read-little (a ∷ b ∷ c ∷ d ∷ e ∷ []) l = absurd (omega arith)
+read-little (a ∷ b ∷ c ∷ d ∷ []) l = absurd (omega arith)
+read-little (a ∷ b ∷ c ∷ []) l = absurd (omega arith)
+read-little (a ∷ b ∷ []) l = absurd (omega arith)
+read-little (a ∷ []) l = absurd (omega arith)
+read-little [] l = absurd (omega arith)
 
--- ---- the loop that makes eight bytes a number, from the last on
-module _ (l : List ℕ) (at : ℕ) (room : at + 8 ≤ length l) where
-  abbrev lent : List ℕ
-  lent = take 8 (drop at l)
+-- n's bits enter as those of the bytes do
+abbrev pub Enters : List ℕ → ℕ → Type 0
+Enters bs n = (r : ℕ) → register r bs ≡ entered 64 r n
 
-  lent_length : length lent ≡ 8
-  lent_length = length-take-le 8 (drop at l) (omega (arith, length-drop at l))
+pub eight-is : (bs : List ℕ) {n : ℕ} → length bs ≡ 8 → Bytes bs → n ≡ from_le_bytes w64 bs → Enters bs n
+eight-is bs l bytes e r = register-little r bs bytes ∙ ap₂ (λ (k m : ℕ). entered (k * 8) r m) l (sym (e ∙ read-little bs l))
 
-  pub little-none : 0 ≡ little (drop 8 lent)
-  unfolding little
-  little-none = sym (ap little (over lent 8 (omega (arith, lent_length))))
+-- ---- a turn of a loop over eights, and its end
+module _ (i r : ℕ) (ws : List (List ℕ)) where
+  pub eight-next : (n : ℕ) {s t : ℕ} → i < length ws → Enters (get_or ws i []) n → s ≡ entered 64 r n → register r (concat (drop i ws)) ≡ t
+      → register s (concat (drop (i + 1) ws)) ≡ t
+  eight-next n h en es inv =
+      ap (λ (q : ℕ). register q (concat (drop (i + 1) ws))) (es ∙ sym (en r))
+      ∙ sym (register-append r (get_or ws i []) (concat (drop (i + 1) ws)))
+      ∙ ap (λ (vs : List (List ℕ)). register r (concat vs)) (sym here)
+      ∙ inv
+    where
+      here : drop i ws ≡ get_or ws i [] ∷ drop (i + 1) ws
+      here = rw add-one (drop-cons ws i [] h)
 
-  pub little-fits : (i : ℕ) {n : ℕ} → Bytes l → 0 < i → n ≡ little (drop i lent) → n < 0x100000000000000
-  little-fits i bytes h e =
-      subst (λ (n : ℕ). n < 256 ^ 7) (sym e)
-      (little-lt 7 (drop i lent) (each-drop IsByte i lent (each_take IsByte 8 (drop at l) (each-drop IsByte at l bytes)))
-      (omega (arith, length-drop i lent, lent_length)))
+  pub eights-done : {t : ℕ} → length ws ≤ i → register r (concat (drop i ws)) ≡ t → r ≡ t
+  unfolding register
+  eights-done h inv = rw (drop_of_length-le ws h) at inv
 
-  pub little-more : (i : ℕ) {n b : ℕ} → 0 < i → i ≤ 8 → n ≡ little (drop i lent) → b ≡ get_or l (at + (i - 1)) 0 → n * 256 + b ≡ little (drop (i - 1) lent)
-  unfolding little
-  little-more i h k e f =
-      let j : i - 1 + 1 ≡ i = omega arith in
-      ap₂ (λ (n b : ℕ). n * 256 + b) (e ∙ ap (λ (m : ℕ). little (drop m lent)) (sym j))
-      (f ∙ sym (get_or-take 8 (drop at l) (i - 1) 0 (omega arith) ∙ get_or-drop at l (i - 1) 0))
-      ∙ sym (ap little (next lent (i - 1) (omega (arith, lent_length))))
-
--- ---- a turn of the loop over eights
-pub eight-next : (i r : ℕ) (l : List ℕ) {n s t : ℕ} → Bytes l → n ≡ little (take 8 (drop i l)) → s ≡ entered 64 r n → register r (drop i l) ≡ t
-    → i + 8 ≤ length l
-    → register s (drop (i + 8) l) ≡ t
-eight-next i r l bytes en es inv room =
-    ap₂ register (es ∙ ap (entered 64 r) en ∙ sym (register-little r lent' (each_take IsByte 8 (drop i l) (each-drop IsByte i l bytes))
-    ∙ ap (λ (k : ℕ). entered (k * 8) r (little lent')) (lent_length l i room)))
-    (sym (drop-drop 8 i l))
-    ∙ sym (register-append r lent' (drop 8 (drop i l)))
-    ∙ ap (register r) (take-append-drop 8 (drop i l))
-    ∙ inv
+-- ---- eights, and what is behind the last of them, are all bytes
+eights-join : (n k : ℕ) (l : List ℕ) → concat (first_chunks n k l) ++ drop (k * n) l ≡ l
+eights-join n zero l = simp zero-mul
+eights-join n (suc k) l =
+    append_assoc (take n l) (concat (first_chunks n k (drop n l))) (drop (suc k * n) l)
+    ∙ ap (λ (j : ℕ). take n l ++ (concat (first_chunks n k (drop n l)) ++ drop j l)) more
+    ∙ ap (λ (v : List ℕ). take n l ++ (concat (first_chunks n k (drop n l)) ++ v)) (sym (drop-drop (k * n) n l))
+    ∙ ap (λ (v : List ℕ). take n l ++ v) (eights-join n k (drop n l))
+    ∙ take-append-drop n l
   where
-    lent' : List ℕ
-    lent' = take 8 (drop i l)
+    more : suc k * n ≡ n + k * n
+    more = omega arith
+
+pub eights-enter : (r n k : ℕ) (l : List ℕ) {ws : List (List ℕ)} {v : List ℕ} {m s : ℕ} → ws ≡ first_chunks n k l → v ≡ drop (k * n) l
+    → m ≡ register r (concat ws) → s ≡ register m v → s ≡ register r l
+eights-enter r n k l ews ev em es =
+    es ∙ ap₂ register (em ∙ ap (λ (ws : List (List ℕ)). register r (concat ws)) ews) ev
+    ∙ sym (register-append r (concat (first_chunks n k l)) (drop (k * n) l))
+    ∙ ap (register r) (eights-join n k l)

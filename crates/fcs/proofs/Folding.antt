@@ -4,22 +4,21 @@
 -- added                    what the first one is added as: both sides go with sums, so there are 64 computed cases
 -- fit-more, folded-next    a turn of the loop: a fifth comes
 -- folded-first             the first four
--- eights-over              where the loops end
 use mathlib.Core.Path.{◌≡◌, refl, sym, ap, ap₂, ◌∙◌}
-use Prim.Native.Nat.{ℕ, ◌+◌, ◌-◌, ◌*◌, ◌/◌, ◌%◌, ◌^◌, ◌<◌, ◌≤◌}
-use mathlib.Core.List.{List}
+use Prim.Native.Nat.{ℕ, ◌+◌, ◌-◌, ◌^◌, ◌<◌, ◌≤◌}
+use mathlib.Core.List.{List, []}
 use native.Mathlib.Nat.{mod-lt}
 use native.Mathlib.Omega.{arith}
 use lib.Bits.{bit_xor, xor_lt}
 use lib.Dec.{eqb, eqb→eq}
-use lib.ListN.{length, take, drop}
-use Rattle.base.specs.Bytes.{Bytes}
+use lib.ListN.{length, take, drop, get_or, length-drop}
+use lib.Seq.{take_all}
+use Rattle.std.specs.List.{concat}
 use Rattle.base.proofs.Bits.{xor_assoc, xor-four, Additive, agree}
 use Rattle.base.proofs.Tests.{all-at}
 use Rattle.fcs.specs.Fcs.{entered, register}
-use Rattle.fcs.specs.Private.{little}
 use Rattle.fcs.proofs.Steps.{low_by, high_by, low, high}
-use Rattle.fcs.proofs.Eights.{entered-zeros, left-sum, right-sum, eight-enters, eight-next}
+use Rattle.fcs.proofs.Eights.{Enters, entered-zeros, left-sum, right-sum, eight-enters, eight-next}
 
 -- 64 bits fall out, alone and added to a register
 abbrev fell : ℕ → ℕ
@@ -103,17 +102,18 @@ module _ (a b c d n : ℕ) (fit : Fit a b c d) (fits : n < 2 ^ 64) where
       ∙ sym (four-sum b c d n a (low a) (high a) a)
       ∙ sym (waiting-is _ _ _ _ fit-more)
 
-  pub folded-next : (i : ℕ) (l : List ℕ) {t : ℕ} → Bytes l → n ≡ little (take 8 (drop i l)) → register (waiting a b c d) (drop i l) ≡ t → i + 8 ≤ length l
-      → register (waiting (bit_xor b a) (bit_xor c (low a)) (bit_xor d (high a)) (bit_xor n a)) (drop (i + 8) l) ≡ t
-  folded-next i l bytes e inv room = eight-next i _ l bytes e (sym waiting-more) inv room
+  pub folded-next : (i : ℕ) (ws : List (List ℕ)) {t : ℕ} → i < length ws → Enters (get_or ws i []) n
+      → register (waiting a b c d) (concat (drop i ws)) ≡ t
+      → register (waiting (bit_xor b a) (bit_xor c (low a)) (bit_xor d (high a)) (bit_xor n a)) (concat (drop (i + 1) ws)) ≡ t
+  folded-next i ws h en inv = eight-next i _ ws n h en (sym waiting-more) inv
 
--- ---- the first four, and the end
-pub folded-first : (r : ℕ) (l : List ℕ) {j k m n : ℕ} → Bytes l → j < 2 ^ 64 → j ≡ little (take 8 (drop 0 l)) → k ≡ little (take 8 (drop 8 l))
-    → m ≡ little (take 8 (drop 16 l)) → n ≡ little (take 8 (drop 24 l)) → 32 ≤ length l → register (waiting (bit_xor j r) k m n) (drop 32 l) ≡ register r l
-folded-first r l bytes fits ej ek em en room =
-    eight-next 24 _ l bytes en refl
-    (eight-next 16 _ l bytes em refl
-    (eight-next 8 _ l bytes ek refl (eight-next 0 r l bytes ej (eight-enters r _ fits) refl (omega arith)) (omega arith)) (omega arith)) (omega arith)
-
-pub eights-over : (i n : ℕ) → i % 8 ≡ 0 → i ≤ n → n - i < 8 → i ≡ n / 8 * 8
-eights-over i n e h k = omega arith
+-- ---- the first four
+pub folded-first : (r : ℕ) (ws : List (List ℕ)) (j k m n : ℕ) → 4 ≤ length ws → j < 2 ^ 64 → Enters (get_or ws 0 []) j → Enters (get_or ws 1 []) k
+    → Enters (get_or ws 2 []) m → Enters (get_or ws 3 []) n
+    → register (waiting (bit_xor j r) k m n) (concat (take (length ws - 4) (drop 4 ws))) ≡ register r (concat ws)
+folded-first r ws j k m n room fits ej ek em en =
+    ap (λ (vs : List (List ℕ)). register (waiting (bit_xor j r) k m n) (concat vs))
+    (take_all (length ws - 4) (drop 4 ws) (omega (arith, length-drop 4 ws)))
+    ∙ eight-next 3 _ ws n (omega arith) en refl
+    (eight-next 2 _ ws m (omega arith) em refl
+    (eight-next 1 _ ws k (omega arith) ek refl (eight-next 0 r ws _ (omega arith) ej (eight-enters r _ fits) refl)))

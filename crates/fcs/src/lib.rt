@@ -1,9 +1,9 @@
 //! The check of a frame: the 16-bit FCS of RFC 1662.
 #![tactic(auto)]
 
-ghost use Rattle.std.specs.Prelude.{◌≡◌, ◌+◌, ◌≤◌, length, take, drop};
+ghost use Rattle.std.specs.Prelude.{◌≡◌, ℕ, ◌≤◌, length};
+ghost use Rattle.std.specs.List.{concat};
 ghost use Rattle.fcs.specs.Fcs.{complement, entered, register, fcs, fresh, fed};
-ghost use Rattle.fcs.specs.Private.{little, behind};
 
 /// The check's register, for bytes that lie in several places.
 #[derive(Clone, Copy)]
@@ -26,9 +26,10 @@ impl Register {
     pub fn feed(self, bytes: &[u8]) -> Self
         ensures { result ≡ fed self bytes.now }
     {
-        let bits = enter_eights(self.bits, bytes);
+        let (eights, rest) = bytes.as_chunks::<8>();
+        let bits = enter_eights(self.bits, eights);
         Self {
-            bits: enter_each(bits, bytes, bytes.len() / 8 * 8),
+            bits: enter_each(bits, rest),
         }
     }
 
@@ -40,25 +41,11 @@ impl Register {
     }
 }
 
-// A byte as a number of 64 bits.
-fn wide(b: u8) -> u64
-    ensures { result ≡ b }
+// Eight bytes as one number, the first the lowest: its bits enter as theirs do.
+fn eight(bytes: &[u8; 8]) -> u64
+    ensures { (r : ℕ) → register r bytes.now ≡ entered 64 r result }
 {
-    b as u64
-}
-
-// Eight bytes from a place on as one number, the first the lowest: the compiler makes one load of it.
-fn eight(bytes: &[u8], at: usize) -> u64
-    requires { at + 8 ≤ length bytes.now }
-    ensures { result ≡ little (take 8 (drop at bytes.now)) }
-{
-    let mut n: u64 = 0;
-    let mut i: usize = 8;
-    while 0 < i {
-        i -= 1;
-        n = n * 256 + wide(bytes[at + i]);
-    }
-    n
+    u64::from_le_bytes(*bytes)
 }
 
 // 64 bits fall out of a register of 64: `y` has those that call for the polynomial, which is w divided by 1 + x^4 + x^11 + x^16. Each of the
@@ -90,60 +77,54 @@ fn enter(register: u16, byte: u8) -> u16
     (mixed / 256) ^ ((y * 256) ^ (y * 8) ^ (y / 16))
 }
 
-// The bytes enter by eights, as long as there are eight, each falling out before the next.
-fn singly(bits: u16, bytes: &[u8]) -> u16
-    ensures { register result (behind bytes.now) ≡ register bits bytes.now }
+// The bytes enter by eights, each falling out before the next.
+fn singly(bits: u16, eights: &[[u8; 8]]) -> u16
+    ensures { result ≡ register bits (concat eights.now) }
 {
     let mut after = bits;
-    let mut i: usize = 0;
-    while 8 <= bytes.len() - i {
-        after = enter_eight(after, eight(bytes, i));
-        i += 8;
+    for bytes in eights {
+        after = enter_eight(after, eight(bytes));
     }
     after
 }
 
 // The same, while four eights wait and fall out at the end alone. The polynomial's sixteenth power is x^256 + x^192 + x^80 + 1: instead of
 // falling out, the first eight is added 64, 176 and 256 bits behind its place.
-fn folded(bits: u16, bytes: &[u8]) -> u16
-    requires { 32 ≤ length bytes.now }
-    ensures { register result (behind bytes.now) ≡ register bits bytes.now }
+fn folded(bits: u16, eights: &[[u8; 8]]) -> u16
+    requires { 4 ≤ length eights.now }
+    ensures { result ≡ register bits (concat eights.now) }
 {
-    let mut a = eight(bytes, 0) ^ (bits as u64);
-    let mut b = eight(bytes, 8);
-    let mut c = eight(bytes, 16);
-    let mut d = eight(bytes, 24);
-    let mut i: usize = 32;
-    while 8 <= bytes.len() - i {
+    let mut a = eight(&eights[0]) ^ (bits as u64);
+    let mut b = eight(&eights[1]);
+    let mut c = eight(&eights[2]);
+    let mut d = eight(&eights[3]);
+    for bytes in &eights[4..] {
         let first = a;
         a = b ^ first;
         b = c ^ (first << 48);
         c = d ^ (first >> 16);
-        d = eight(bytes, i) ^ first;
-        i += 8;
+        d = eight(bytes) ^ first;
     }
     enter_eight(enter_eight(enter_eight(fall(a), b), c), d)
 }
 
 // The same.
-fn enter_eights(bits: u16, bytes: &[u8]) -> u16
-    ensures { register result (behind bytes.now) ≡ register bits bytes.now }
+fn enter_eights(bits: u16, eights: &[[u8; 8]]) -> u16
+    ensures { result ≡ register bits (concat eights.now) }
 {
-    if bytes.len() < 32 {
-        return singly(bits, bytes);
+    if eights.len() < 4 {
+        return singly(bits, eights);
     }
-    folded(bits, bytes)
+    folded(bits, eights)
 }
 
-// The bytes from a place on enter one by one.
-fn enter_each(bits: u16, bytes: &[u8], from: usize) -> u16
-    ensures { result ≡ register bits (drop from bytes.now) }
+// The bytes enter one by one.
+fn enter_each(bits: u16, bytes: &[u8]) -> u16
+    ensures { result ≡ register bits bytes.now }
 {
     let mut after = bits;
-    let mut i = from;
-    while i < bytes.len() {
-        after = enter(after, bytes[i]);
-        i += 1;
+    for byte in bytes {
+        after = enter(after, *byte);
     }
     after
 }

@@ -6,12 +6,11 @@
 mod listing;
 mod sending;
 
-use base::Written;
+use base::{Refusal, Written};
 use console::{Speak, is_argument};
 use std::env::Env;
 use std::io;
 use std::process::ExitCode;
-use subchannel_sender::Counted;
 
 fn main(rt: HostRuntime) -> ExitCode {
     console::status(choose(&rt))
@@ -19,20 +18,29 @@ fn main(rt: HostRuntime) -> ExitCode {
 
 // What the first argument asks for.
 fn choose(rt: &(impl Env + Input + Print + Speak)) -> io::Result<()> {
-    let parity = console::number(rt, 2, 2);
-    let depth = console::number(rt, 3, 2);
-    if console::argument_count(rt) != 4 || parity > 99 || depth > 99 {
+    let (4, Some(parity), Some(depth)) = (
+        console::argument_count(rt),
+        console::number(rt, 2, 2),
+        console::number(rt, 3, 2),
+    ) else {
+        usage(rt);
+        return Ok(());
+    };
+    let sends = is_argument(rt, 1, b"send");
+    if !sends && !is_argument(rt, 1, b"list") {
         usage(rt);
         return Ok(());
     }
-    if is_argument(rt, 1, b"send") {
-        return start(rt, true, parity, depth);
+    // Settings that are refused are so before anything is read.
+    if let Err(refusal) = subchannel_sender::count(parity, depth, 0) {
+        say_refused(rt, refusal);
+        return Ok(());
     }
-    if is_argument(rt, 1, b"list") {
-        return start(rt, false, parity, depth);
+    if sends {
+        sending::send_all(rt, parity, depth)
+    } else {
+        listing::list_all(rt, parity, depth)
     }
-    usage(rt);
-    Ok(())
 }
 
 fn usage(rt: &impl Speak) {
@@ -42,36 +50,8 @@ fn usage(rt: &impl Speak) {
     );
 }
 
-// With settings that are not refused.
-fn start(
-    rt: &(impl Input + Print + Speak),
-    sends: bool,
-    parity: usize,
-    depth: usize,
-) -> io::Result<()> {
-    match subchannel_sender::count(parity, depth, 0) {
-        Counted::Groups(_) => run(rt, sends, parity, depth),
-        Counted::Refused(number) => {
-            say_refused(rt, number);
-            Ok(())
-        }
-    }
-}
-
-fn run(
-    rt: &(impl Input + Print + Speak),
-    sends: bool,
-    parity: usize,
-    depth: usize,
-) -> io::Result<()> {
-    if sends {
-        return sending::send_all(rt, parity, depth);
-    }
-    listing::list_all(rt, parity, depth)
-}
-
-fn say_refused(rt: &impl Speak, number: u8) {
-    console::say_refusal(rt, b"fixed", number);
+fn say_refused(rt: &impl Speak, refusal: Refusal) {
+    console::say_refusal(rt, b"fixed", refusal as u8);
 }
 
 fn say_unread(rt: &impl Speak) {

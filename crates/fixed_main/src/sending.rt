@@ -1,92 +1,31 @@
 //! The sender: a stream of any length, group by group.
-ghost use Rattle.std.specs.Prelude.{◌≤◌, length, IfOk};
+ghost use Rattle.std.specs.Prelude.{◌≤◌, length, IfOk, IfSome};
 
 use console::Speak;
 use interleaver::Matrix;
 use std::io;
 use std::io::Read;
 use subchannel::Settings;
-use subchannel_sender::{Counted, Group, Sent};
-
-// The sender behind a group, and whether it goes on.
-#[derive(Clone, Copy)]
-struct Behind {
-    go: bool,
-    taken: usize,
-    matrix: Matrix,
-}
-
-// How the sender stands behind a read.
-#[derive(Clone, Copy)]
-struct Stand {
-    go: bool,
-    have: usize,
-    matrix: Matrix,
-}
-
-// What is held of a stream behind a read.
-#[derive(Clone, Copy)]
-struct Held {
-    failed: bool,
-    ended: bool,
-    have: usize,
-}
+use subchannel_sender::{Group, Sent};
 
 // Bytes of a stream that are held, at most.
 const HOLD: usize = 4096;
 
 // Bytes of a stream that fill a group.
 fn four_messages(parity: usize) -> usize {
-    Group::WORDS * (Group::WORD - base::least(parity, Settings::PARITY))
+    Group::WORDS * (Group::WORD - parity.min(Settings::PARITY))
 }
 
-// Reads behind the bytes that are held, until so many are.
-fn read_on(rt: &impl Input, hold: &mut [u8], have: usize, want: usize) -> Held
+// Reads behind the bytes that are held, until so many are: how many are held then, if the stream has not ended.
+fn read_on(rt: &impl Input, hold: &mut [u8], have: usize, want: usize) -> io::Result<Option<usize>>
     requires { (have ≤ want) × (want ≤ length hold.old) }
-    ensures { (have ≤ result.have) × (result.have ≤ want) }
+    ensures { IfOk result (λ held. IfSome held (λ n. n ≤ want)) }
 {
-    let Ok(n) = rt.reader().read(&mut hold[have..want]) else {
-        return Held {
-            failed: true,
-            ended: true,
-            have,
-        };
-    };
-    Held {
-        failed: false,
-        ended: n == 0,
-        have: console::onward(have, n, want),
+    let n = rt.reader().read(&mut hold[have..want])?;
+    if n == 0 {
+        return Ok(None);
     }
-}
-
-// What is held goes out where it fills a group.
-fn send_full(
-    rt: &(impl Print + Speak),
-    parity: usize,
-    depth: usize,
-    matrix: Matrix,
-    have: usize,
-    want: usize,
-    hold: &[u8],
-    out: &mut [u8],
-) -> io::Result<Stand>
-    requires { (have ≤ want) × (want ≤ length hold.now) }
-    ensures { IfOk result (λ s. s.have ≤ want) }
-{
-    if have < want {
-        return Ok(Stand {
-            go: true,
-            have,
-            matrix,
-        });
-    }
-    let behind = send(rt, parity, depth, matrix, &hold[0..want], out)?;
-    let next = behind.matrix;
-    Ok(Stand {
-        go: behind.go,
-        have: 0,
-        matrix: next,
-    })
+    Ok(Some(console::onward(have, n, want)))
 }
 
 // The sender: a group whenever its bytes are in.
@@ -94,32 +33,34 @@ pub fn send_all(rt: &(impl Input + Print + Speak), parity: usize, depth: usize) 
     let mut hold = [0u8; HOLD];
     let mut out = [0u8; Group::LENGTH];
     let mut matrix = interleaver::fresh();
-    let want = base::least(four_messages(parity), hold.len());
-    let mut have: usize = 0;
+    let want = four_messages(parity).min(HOLD);
+    let mut have = 0;
     for reads in 0..u64::MAX {
-        let held = read_on(rt, &mut hold, have, want);
-        have = held.have;
-        if held.failed {
+        let Ok(read) = read_on(rt, &mut hold, have, want) else {
             crate::say_unread(rt);
             return Ok(());
+        };
+        let Some(held) = read else {
+            return finish(rt, parity, depth, matrix, &hold[..have], &mut out);
+        };
+        if reads == 0 {
+            hint(rt, &hold[..held]);
         }
-        hint(rt, reads, &hold[0..have]);
-        if held.ended {
-            return finish(rt, parity, depth, matrix, &hold[0..have], &mut out);
-        }
-        let stand = send_full(rt, parity, depth, matrix, have, want, &hold, &mut out)?;
-        matrix = stand.matrix;
-        have = stand.have;
-        if !stand.go {
-            return Ok(());
+        have = held;
+        if have == want {
+            let Some(sent) = send(rt, parity, depth, matrix, &hold[..want], &mut out)? else {
+                return Ok(());
+            };
+            matrix = sent.matrix;
+            have = 0;
         }
     }
     Ok(())
 }
 
 // The first bytes read: a plain stream begins with no marker. Blocks are sent as they are all the same, and the receiver will not read them as such.
-fn hint(rt: &impl Speak, reads: u64, begin: &[u8]) {
-    if reads == 0 && begin.starts_with(b"\x7D\x3A\xE2\x42") {
+fn hint(rt: &impl Speak, begin: &[u8]) {
+    if begin.starts_with(&Group::MARKER) {
         console::say(
             rt,
             b"fixed: hint: begins as marked blocks do, as the office sends them; a plain stream is sent here\n",
@@ -137,9 +78,9 @@ fn finish(
     out: &mut [u8],
 ) -> io::Result<()> {
     match subchannel_sender::count(parity, depth, rest.len()) {
-        Counted::Groups(groups) => send_last(rt, parity, depth, groups, matrix, rest, out),
-        Counted::Refused(number) => {
-            crate::say_refused(rt, number);
+        Ok(groups) => send_last(rt, parity, depth, groups, matrix, rest, out),
+        Err(refusal) => {
+            crate::say_refused(rt, refusal);
             Ok(())
         }
     }
@@ -155,21 +96,18 @@ fn send_last(
     out: &mut [u8],
 ) -> io::Result<()> {
     let mut matrix = first;
-    let mut at: usize = 0;
-    let mut i: usize = 0;
-    while i < groups {
-        let behind = send(rt, parity, depth, matrix, &rest[at..], out)?;
-        matrix = behind.matrix;
-        at = console::onward(at, behind.taken, rest.len());
-        if !behind.go {
+    let mut left = rest;
+    for _ in 0..groups {
+        let Some(sent) = send(rt, parity, depth, matrix, left, out)? else {
             return Ok(());
-        }
-        i += 1;
+        };
+        matrix = sent.matrix;
+        left = &left[sent.taken.min(left.len())..];
     }
     Ok(())
 }
 
-// One group, to standard output.
+// One group, to standard output: what was sent, or it was said why nothing was.
 fn send(
     rt: &(impl Print + Speak),
     parity: usize,
@@ -177,17 +115,10 @@ fn send(
     matrix: Matrix,
     stream: &[u8],
     out: &mut [u8],
-) -> io::Result<Behind> {
+) -> io::Result<Option<Sent>> {
     let sent = subchannel_sender::send_group(parity, depth, matrix, stream, out);
-    put(rt, sent, out)
-}
-
-fn put(rt: &(impl Print + Speak), sent: Sent, out: &[u8]) -> io::Result<Behind> {
-    let written = sent.written;
-    let matrix = sent.matrix;
-    Ok(Behind {
-        go: crate::put(rt, written, out)?,
-        taken: sent.taken,
-        matrix,
-    })
+    if crate::put(rt, sent.written, out)? {
+        return Ok(Some(sent));
+    }
+    Ok(None)
 }

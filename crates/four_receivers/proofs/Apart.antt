@@ -45,8 +45,7 @@ use Rattle.subchannel.specs.Call.{told_sub, sound, hear_by, hear_on, hear_call, 
 use Rattle.subchannel.proofs.Fine.{fine_of, fine-is, fine-hand, fine-eat, zero-placed}
 use Rattle.subchannel.proofs.Cutting.{hand-one}
 use Rattle.subchannel.proofs.Demands.{every-cut}
-use Rattle.subchannel_spec.specs.declared.Configured.{Configured}
-use Rattle.subchannel_spec.specs.declared.Configured.TheVariants.{Done, Refused}
+use Rattle.subchannel_spec.specs.Settings.{Configured, Done, Refused}
 use Rattle.four_receivers.specs.Call.{get, put, sound_four, known, configuring, Memories, memory_at, exchanged, call_by, call_on, Scheduled, of_one}
 use Rattle.four_receivers.specs.Call.{Receiver, fresh_receiver, heard_by, hear_four}
 use Rattle.four_receivers.specs.Call.Scheduled.{done as first, next}

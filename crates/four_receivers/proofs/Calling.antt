@@ -1,13 +1,13 @@
 -- The code's ways through a call, by the tests that led there.
--- put-at, put_last    one of the four exchanged
--- get_at, get-last    one of the four
 -- laid_same, laid-put, seats-put, own-cells, known-any   what is by value and the cells, put together and taken apart
 -- carried             what comes back of a call is, put together, the receiver behind it
 -- known-within        a number that is configured
--- configured-..       10, 42, 30 and 32, and told
+-- put_last            the last of the four exchanged
+-- told-is, told-none  a sub-channel that is configured, or not
+-- configured-told     one that is told
 -- hear-..             a call on one of the four
 -- call-is             a call among the boards is that call
-use Prim.Native.Nat.{ℕ, zero, suc, ◌≤◌, ◌<◌}
+use Prim.Native.Nat.{ℕ, zero, suc, ◌≤◌}
 use native.Mathlib.Omega.{arith}
 use mathlib.Core.Path.{◌≡◌, refl, sym, ◌∙◌, ap, subst}
 use mathlib.Core.List.{List, [], ◌∷◌}
@@ -15,7 +15,7 @@ use mathlib.Core.Option.{Option}
 use mathlib.Core.Bool.{Bool, true, false}
 use lib.Dec.{ltb, leb}
 use lib.ListN.{length, get_or, set}
-use borrow.Author.Tests.{lt-ltb, le-ltb, eq-eqb, leb-true}
+use borrow.Author.Tests.{le-ltb, eq-eqb, leb-true}
 use Rattle.base.specs.Choice.{pick}
 use Rattle.base.proofs.Tests.{and_parts}
 use Rattle.parity.specs.Calls.{root_limit}
@@ -23,7 +23,7 @@ use Rattle.interleaver_spec.specs.Running.{depth_limit}
 use Rattle.subchannel.specs.declared.sub.Sub.{Sub}
 use Rattle.subchannel.specs.declared.sub.Hearing as fixed
 use Rattle.subchannel.specs.declared.sub.Telling.{Telling}
-use Rattle.subchannel.specs.Call.{Memory, memory, told_sub, untold, telling, telling_of, hear_call, HearingIs}
+use Rattle.subchannel.specs.Call.{Memory, memory, told_sub, untold, telling, as_telling, hear_call, HearingIs}
 use Rattle.channel_spec.specs.Meaning.{Event}
 use Rattle.channel_spec.specs.declared.Answer.TheVariants.{Said}
 use Rattle.packet_spec.specs.declared.Judged.TheVariants as judge
@@ -31,30 +31,20 @@ use Rattle.four_receivers.specs.declared.Seat.{Seat}
 use Rattle.four_receivers.specs.declared.Receiver as code
 use Rattle.four_receivers.specs.declared.Configuring.{Configuring}
 use Rattle.four_receivers.specs.declared.Hearing.{Hearing}
-use Rattle.subchannel_spec.specs.declared.Configured.{Configured}
-use Rattle.subchannel_spec.specs.declared.Configured.TheVariants.{Done, Refused}
+use Rattle.std.specs.Prelude.{Result, Ok, Err}
+use Rattle.std.specs.Prelude as option
+use Rattle.base.specs.declared.Refusal.{Refusal}
+use Rattle.subchannel_spec.specs.Settings.{Configured, Done, Refused, as_configured}
 use Rattle.four_receivers.specs.Call.{Receiver, seated, seat, whole, seats, laid, get, put, sound_four, known, configuring, ConfiguringIs}
 use Rattle.four_receivers.specs.Call.{heard_by, hear_four, FourIs}
 use Rattle.four_receivers.specs.Call.{Memories, memory_at, call_by, call_on}
 
-pub put-at : (s : code.Receiver) (x : Seat) {n k : ℕ} → n ≡ k → seats (put (whole s []) k (seated x [])) ≡ seats (put (whole s []) n (seated x []))
-put-at s x e = ap (λ n. seats (put (whole s []) n (seated x []))) (sym e)
-
 pub put_last : (s : code.Receiver) (x : Seat) (n : ℕ) → (n ≡ 0 → ⊥) → (n ≡ 1 → ⊥) → (n ≡ 2 → ⊥)
-    → seats (put (whole s []) 3 (seated x [])) ≡ seats (put (whole s []) n (seated x []))
+    → record { a = s.a; b = s.b; c = s.c; d = x } ≡ seats (put (whole s []) n (seated x []))
 put_last s x zero a b c = absurd (a refl)
 put_last s x (suc zero) a b c = absurd (b refl)
 put_last s x (suc (suc zero)) a b c = absurd (c refl)
 put_last s x (suc (suc (suc n))) a b c = refl
-
-pub get_at : (s : code.Receiver) {n k : ℕ} → n ≡ k → seat (get (whole s []) k) ≡ seat (get (whole s []) n)
-get_at s e = ap (λ n. seat (get (whole s []) n)) (sym e)
-
-pub get-last : (s : code.Receiver) (n : ℕ) → (n ≡ 0 → ⊥) → (n ≡ 1 → ⊥) → (n ≡ 2 → ⊥) → seat (get (whole s []) 3) ≡ seat (get (whole s []) n)
-get-last s zero a b c = absurd (a refl)
-get-last s (suc zero) a b c = absurd (b refl)
-get-last s (suc (suc zero)) a b c = absurd (c refl)
-get-last s (suc (suc (suc n))) a b c = refl
 
 -- ---- what is by value, and the cells
 module _ (s : code.Receiver) where
@@ -119,71 +109,63 @@ carried s (p ∷ q ∷ o ∷ m ∷ l) h = refl
 pub known-within : (s : code.Receiver) (n : ℕ) → known (whole s []) n ≡ true → n ≤ 3
 known-within s n e = leb-true _ _ (and_parts (leb n 3) _ e).0
 
+-- a sub-channel that is configured
+module _ (s : code.Receiver) (n : ℕ) {o : option.Option Seat} (p : o ≡ pick (known (whole s []) n) (option.Some (seat (get (whole s []) n))) option.None) where
+  pub told-is : {x : Seat} → o ≡ option.Some x → (known (whole s []) n ≡ true) × (x ≡ seat (get (whole s []) n))
+  told-is {x} q = go (known (whole s []) n) (sym q ∙ p)
+    where
+      go : (t : Bool) → option.Some x ≡ pick t (option.Some (seat (get (whole s []) n))) option.None → (t ≡ true) × (x ≡ seat (get (whole s []) n))
+      go true e = (refl, cc)
+      go false e = cc
+
+  -- .. that is not
+  pub told-none : o ≡ option.None → known (whole s []) n ≡ false
+  told-none q = go (known (whole s []) n) (sym q ∙ p)
+    where
+      go : (t : Bool) → option.None ≡ pick t (option.Some (seat (get (whole s []) n))) option.None → t ≡ false
+      go true e = cc
+      go false e = refl
+
 -- ---- configuring
 module _ (s : code.Receiver) (cs : List (List ℕ)) (n r d : ℕ) where
   abbrev Told : Configuring → List (List ℕ) → Type 0
   Told = ConfiguringIs cs (configuring (whole s cs) n r d)
 
-  -- refused with m
-  refuses : {x : Configuring} (m : ℕ) → x ≡ record { answer = Refused m; receiver = s } → configuring (whole s cs) n r d ≡ (Refused m, whole s cs) → Told x cs
-  refuses {x} m p e = subst (λ y. ConfiguringIs cs y x cs) (sym e) (p, laid_same s cs)
-
-  pub configured-unsound : {x : Configuring} → sound_four (whole s []) ≡ false → x ≡ record { answer = Refused 10; receiver = s } → Told x cs
-  configured-unsound e p = refuses 10 p (let f : sound_four (whole s cs) ≡ false = e in rw f refl)
-
   module _ (e : sound_four (whole s []) ≡ true) where
     f : sound_four (whole s cs) ≡ true
     f = e
 
-    pub configured-none : {x : Configuring} → 3 < n → x ≡ record { answer = Refused 42; receiver = s } → Told x cs
-    configured-none h p = refuses 42 p (rw (f, lt-ltb 3 n h) refl)
+    -- by what telling answers
+    abbrev left : Configured × Sub → Configured × Receiver
+    left (Done, u) = (Done, put (whole s cs) n u)
+    left (Refused m, u) = (Refused m, whole s cs)
 
-    module _ (h : n ≤ 3) where
-      abbrev left : Configured × Receiver
-      left = pick (ltb root_limit r) (Refused 30, whole s cs) (pick (ltb depth_limit d) (Refused 32, whole s cs) (Done, put (whole s cs) n (told_sub r d)))
-
-      is-left : configuring (whole s cs) n r d ≡ left
-      is-left = rw (f, le-ltb 3 n h) refl
-
-      not_done : {m : ℕ} → Done ≡ Refused m → ⊥
-      not_done q = let z : ◌≡◌ {A = ℕ} 0 1 = cc in omega arith
-
-      pub configured-refused : {x : Configuring} {t : Telling} (m : ℕ) → t ≡ telling_of (telling r d) → t.answer ≡ Refused m
-          → x ≡ record { answer = Refused m; receiver = s } → Told x cs
-      configured-refused {x} {t} m p q w = refuses m w (is-left ∙ go (ltb root_limit r) (ltb depth_limit d) (sym (ap (λ (y : Telling). y.answer) p) ∙ q))
+    module _ (h : n ≤ 3) (t : Telling) (p : as_telling t ≡ telling r d) where
+      is-left : configuring (whole s cs) n r d ≡ left (as_telling t)
+      is-left = rw (f, le-ltb 3 n h) (go (ltb root_limit r) (ltb depth_limit d)) ∙ ap left (sym p)
         where
-          go : (a b : Bool) → (pick {A = Configured × Sub} a (Refused 30, untold) (pick b (Refused 32, untold) (Done, told_sub r d))).0 ≡ Refused m
-              → pick {A = Configured × Receiver} a (Refused 30, whole s cs) (pick b (Refused 32, whole s cs) (Done, put (whole s cs) n (told_sub r d)))
-              ≡ (Refused m, whole s cs)
-          go true b e = λ i. (e i, whole s cs)
-          go false true e = λ i. (e i, whole s cs)
-          go false false e = absurd (not_done e)
+          go : (a b : Bool) → pick {A = Configured × Receiver} a (Refused 30, whole s cs)
+              (pick b (Refused 32, whole s cs) (Done, put (whole s cs) n (told_sub r d)))
+              ≡ left (pick a (Refused 30, untold) (pick b (Refused 32, untold) (Done, told_sub r d)))
+          go true b = refl
+          go false true = refl
+          go false false = refl
 
-      pub configured-told : {x : Seat} {y : code.Receiver} {t : Telling} → t ≡ telling_of (telling r d) → t.answer ≡ Done → x ≡ seat t.sub
-          → y ≡ seats (put (whole s []) n (seated x [])) → Told (record { answer = Done; receiver = y }) (set cs n t.sub.back.matrix.cells)
-      configured-told {x} {y} {t} p q v w =
-          subst (λ z. ConfiguringIs cs z (record { answer = Done; receiver = y }) (set cs n t.sub.back.matrix.cells))
-          (sym (is-left ∙ go (ltb root_limit r) (ltb depth_limit d) (sym (ap (λ (z : Telling). z.answer) p) ∙ q)
-          ∙ ap (λ (z : Telling). (Done, put (whole s cs) n z.sub)) (sym p))) (
-            (λ i. record { answer = Done; receiver = (w ∙ ap (λ z. seats (put (whole s []) n (seated z []))) v ∙ seats-put s cs n t.sub) i }),
+      pub configured-told : {x : Seat} {y : code.Receiver} → ((e : Refusal) → t.answer ≡ Err e → ⊥) → x ≡ seat t.sub
+          → y ≡ seats (put (whole s []) n (seated x [])) → Told (record { answer = Ok tt; receiver = y }) (set cs n t.sub.back.matrix.cells)
+      configured-told {x} {y} q v w =
+          subst (λ z. ConfiguringIs cs z (record { answer = Ok tt; receiver = y }) (set cs n t.sub.back.matrix.cells))
+          (sym (is-left ∙ done t.answer refl)) (
+            (λ i. (Done, (w ∙ ap (λ z. seats (put (whole s []) n (seated z []))) v ∙ seats-put s cs n t.sub) i)),
             laid-put s cs n h t.sub,
           )
         where
-          go : (a b : Bool) → (pick {A = Configured × Sub} a (Refused 30, untold) (pick b (Refused 32, untold) (Done, told_sub r d))).0 ≡ Done
-              → pick {A = Configured × Receiver} a (Refused 30, whole s cs) (pick b (Refused 32, whole s cs) (Done, put (whole s cs) n (told_sub r d)))
-              ≡ (Done, put (whole s cs) n (pick {A = Configured × Sub} a (Refused 30, untold) (pick b (Refused 32, untold) (Done, told_sub r d))).1)
-          go true b e = absurd (not_done (sym e))
-          go false true e = absurd (not_done (sym e))
-          go false false e = refl
+          done : (a : Result Unit Refusal) → t.answer ≡ a → left (as_telling t) ≡ (Done, put (whole s cs) n t.sub)
+          done (Ok u) k = ap (λ a. left (as_configured a, t.sub)) k
+          done (Err e) k = absurd (q e k)
 
 -- ---- a call
 module _ (s : code.Receiver) (cs : List (List ℕ)) (n : ℕ) (l w bs : List ℕ) where
-  pub hear-unsound : {r : Hearing} → sound_four (whole s []) ≡ false → r ≡ record { answer = Said (judge.Refused 10); taken = 0; receiver = s }
-      → FourIs cs (hear_four (whole s cs) n l w bs) r cs l w
-  hear-unsound {r} e p =
-      let f : sound_four (whole s cs) ≡ false = e in
-      subst (λ x. FourIs cs x r cs l w) (λ i. heard_by (sym f i) (known (whole s cs) n) (whole s cs) n l w bs) (p, laid_same s cs, refl, refl)
-
   module _ (e : sound_four (whole s []) ≡ true) where
     sounds : sound_four (whole s cs) ≡ true
     sounds = e

@@ -24,7 +24,7 @@ use Rattle.channel.specs.Call.{roomy}
 use Rattle.subchannel.specs.Call.{Memory, eat_byte, owed, hand_on, hear_call, Fine}
 use Rattle.subchannel.proofs.Fine.{fine_of, fine-roomy, fine-hand, fine-eat}
 use Rattle.subchannel.proofs.Cutting.{hand-one, hear-agrees, hear-yields}
-use Rattle.subchannel_spec.specs.declared.Configured.TheVariants.{Done}
+use Rattle.subchannel_spec.specs.Settings.{Done}
 use Rattle.four_receivers.specs.Call.{configuring, Memories, memory_at, exchanged, call_on, Scheduled}
 use Rattle.four_receivers.specs.Call.Scheduled.{done, next}
 use Rattle.four_receivers.proofs.Apart.{memory-own, sound-at, Live, call-own, live_own, reads-own, reads_other, told-live}

@@ -6,6 +6,7 @@
 -- fresh_receiver             none is configured
 -- sound_four, known          what 10 and 42 ask
 -- configuring, heard_by, hear_four   what the two calls answer and leave; ConfiguringIs, FourIs: that the code's results are those
+-- as_configuring            the code's result of configuring, by the paper's numbers
 -- Memories, call_by, call_on  the receiver with each sub-channel's two buffers, and a call on one of them
 -- memory_at, exchanged       a sub-channel with its buffers, and exchanged for another
 -- Scheduled                 pieces, each with its sub-channel's number, handed in until "more wanted"
@@ -23,10 +24,9 @@ use Rattle.subchannel.specs.declared.sub.Sub.{Sub}
 use Rattle.subchannel.specs.Call.{Memory, memory, sub, told_sub, untold, sound, hear_call}
 use Rattle.four_receivers.specs.declared.Seat.{Seat}
 use Rattle.four_receivers.specs.declared.Receiver as code
-use Rattle.subchannel_spec.specs.declared.Configured.{Configured}
 use Rattle.four_receivers.specs.declared.Configuring.{Configuring}
 use Rattle.four_receivers.specs.declared.Hearing.{Hearing}
-use Rattle.subchannel_spec.specs.declared.Configured.TheVariants.{Done, Refused}
+use Rattle.subchannel_spec.specs.Settings.{Configured, Done, Refused, as_configured}
 
 -- the receiver whole
 pub record Receiver : Type 0 where
@@ -132,9 +132,13 @@ abbrev pub of_one : {A : Type 0} → ℕ → List (ℕ × A) → List A
 of_one k [] = []
 of_one k (x ∷ xs) = pick (eqb x.0 k) (x.1 ∷ of_one k xs) (of_one k xs)
 
+-- the code's result of configuring, by the paper's numbers
+abbrev pub as_configuring : Configuring → Configured × code.Receiver
+as_configuring x = (as_configured x.answer, x.receiver)
+
 -- the code's result of configuring, the cells cs being lent, and the cells then
 abbrev pub ConfiguringIs : List (List ℕ) → Configured × Receiver → Configuring → List (List ℕ) → Type 0
-ConfiguringIs cs x r cs' = (r ≡ record { answer = x.0; receiver = seats x.1 }) × (cs' ≡ laid cs x.1)
+ConfiguringIs cs x r cs' = (as_configuring r ≡ (x.0, seats x.1)) × (cs' ≡ laid cs x.1)
 
 -- by: does it pass 10, does it pass 42. Then 11, as for one sub-channel: answer, bytes taken, state, receive buffer and word buffer
 abbrev pub heard_by : Bool → Bool → Receiver → ℕ → List ℕ → List ℕ → List ℕ → Option Event × ℕ × Receiver × List ℕ × List ℕ

@@ -4,13 +4,15 @@
 ghost use Rattle.std.specs.Prelude.{◌≡◌, []};
 ghost use Rattle.four_receivers.specs.Call.{seated, seat, whole, seats, fresh_receiver, get, put, sound_four, known};
 ghost use Rattle.four_receivers.specs.Call.{configuring, ConfiguringIs, hear_four, FourIs};
+ghost use Rattle.base.specs.Choice.{pick};
+ghost use Rattle.base.specs.Refusals.{number};
 ghost use Rattle.subchannel.specs.Call.{sound, untold};
 
 use base::Refusal;
 use channel::Answer;
 use interleaver::{Back, Matrix};
 use packet::Judged;
-use subchannel::{Configured, Lane, Sub};
+use subchannel::{Lane, Sub};
 
 /// A sub-channel's state but for its cells.
 #[derive(Clone, Copy)]
@@ -22,6 +24,7 @@ pub struct Seat {
     pub place: usize,
 }
 
+// Four fields and no array: the definitions and laws of specs/ and of the crates above name the four.
 /// The receiver's state but for the cells.
 #[derive(Clone, Copy)]
 pub struct Receiver {
@@ -31,10 +34,11 @@ pub struct Receiver {
     pub d: Seat,
 }
 
+// The receiver comes back of a refused call, too: so it stands beside the answer, and not in it.
 /// The result of configuring.
 #[derive(Clone, Copy)]
 pub struct Configuring {
-    pub answer: Configured,
+    pub answer: Result<(), Refusal>,
     pub receiver: Receiver,
 }
 
@@ -52,13 +56,10 @@ impl Seat {
     fn of(sub: Sub) -> Self
         ensures { result ≡ seat sub }
     {
-        let lane = sub.lane;
-        let back = sub.back;
-        let matrix = back.matrix;
         Seat {
-            lane,
-            again: back.again,
-            place: matrix.place,
+            lane: sub.lane,
+            again: sub.back.again,
+            place: sub.back.matrix.place,
         }
     }
 
@@ -66,9 +67,8 @@ impl Seat {
     fn with(self, cells: [u8; Matrix::CELLS]) -> Sub
         ensures { result ≡ seated self cells }
     {
-        let lane = self.lane;
         Sub {
-            lane,
+            lane: self.lane,
             back: Back {
                 again: self.again,
                 matrix: Matrix {
@@ -83,8 +83,7 @@ impl Seat {
     fn sound(self) -> bool
         ensures { result ≡ sound (seated self []) }
     {
-        let sub = self.with([0; Matrix::CELLS]);
-        sub.sound()
+        self.with([0; Matrix::CELLS]).sound()
     }
 }
 
@@ -109,48 +108,27 @@ impl Receiver {
     pub fn sound(self) -> bool
         ensures { result ≡ sound_four (whole self []) }
     {
-        let a = self.a;
-        let b = self.b;
-        let c = self.c;
-        let d = self.d;
-        if !a.sound() {
-            return false;
-        }
-        if !b.sound() {
-            return false;
-        }
-        if !c.sound() {
-            return false;
-        }
-        d.sound()
+        self.a.sound() && self.b.sound() && self.c.sound() && self.d.sound()
     }
 
     // One of the four exchanged.
     fn put(self, number: usize, seat: Seat) -> Self
         ensures { result ≡ seats (put (whole self []) number (seated seat [])) }
     {
-        let a = self.a;
-        let b = self.b;
-        let c = self.c;
-        let d = self.d;
-        if number == 0 {
-            return Receiver { a: seat, b, c, d };
+        match number {
+            0 => Receiver { a: seat, ..self },
+            1 => Receiver { b: seat, ..self },
+            2 => Receiver { c: seat, ..self },
+            _ => Receiver { d: seat, ..self },
         }
-        if number == 1 {
-            return Receiver { a, b: seat, c, d };
-        }
-        if number == 2 {
-            return Receiver { a, b, c: seat, d };
-        }
-        Receiver { a, b, c, d: seat }
     }
 
     // A refused configuring: the state as it was.
-    fn unconfigured(self, number: u8) -> Configuring
-        ensures { result ≡ record { answer = Configured.Refused number; receiver = self } }
+    fn unconfigured(self, refusal: Refusal) -> Configuring
+        ensures { result ≡ record { answer = Err refusal; receiver = self } }
     {
         Configuring {
-            answer: Configured::Refused(number),
+            answer: Err(refusal),
             receiver: self,
         }
     }
@@ -167,26 +145,20 @@ impl Receiver {
             result cells.new }
     {
         if !self.sound() {
-            return self.unconfigured(Refusal::STATE);
+            return self.unconfigured(Refusal::State);
         }
         if 3 < number {
-            return self.unconfigured(Refusal::SUB_CHANNEL);
+            return self.unconfigured(Refusal::SubChannel);
         }
         let told = Sub::told(parity, depth);
-        let answer = told.answer;
-        match answer {
-            Configured::Refused(n) => self.unconfigured(n),
-            Configured::Done => {
-                let sub = told.sub;
-                let back = sub.back;
-                let matrix = back.matrix;
-                let zeros = matrix.cells;
-                cells[number] = zeros;
-                Configuring {
-                    answer: Configured::Done,
-                    receiver: self.put(number, Seat::of(sub)),
-                }
-            }
+        if let Err(refusal) = told.answer {
+            return self.unconfigured(refusal);
+        }
+        let zeros = told.sub.back.matrix.cells;
+        cells[number] = zeros;
+        Configuring {
+            answer: Ok(()),
+            receiver: self.put(number, Seat::of(told.sub)),
         }
     }
 
@@ -194,44 +166,34 @@ impl Receiver {
     fn get(self, number: usize) -> Seat
         ensures { result ≡ seat (get (whole self []) number) }
     {
-        let a = self.a;
-        let b = self.b;
-        let c = self.c;
-        let d = self.d;
-        if number == 0 {
-            return a;
+        match number {
+            0 => self.a,
+            1 => self.b,
+            2 => self.c,
+            _ => self.d,
         }
-        if number == 1 {
-            return b;
-        }
-        if number == 2 {
-            return c;
-        }
-        d
     }
 
     // A refused call: the state as it was, and no byte taken.
-    fn unheard(self, number: u8) -> Hearing
-        ensures { result ≡ record { answer = Answer.Said (Judged.Refused number); taken = 0; receiver = self } }
+    fn unheard(self, refusal: Refusal) -> Hearing
+        ensures { result ≡ record { answer = Answer.Said (Judged.Refused (number refusal)); taken = 0; receiver = self } }
     {
         Hearing {
-            answer: Answer::Said(Judged::Refused(number)),
+            answer: Answer::Said(Judged::Refused(refusal as u8)),
             taken: 0,
             receiver: self,
         }
     }
 
-    // Whether a sub-channel is configured.
-    fn known(self, number: usize) -> bool
-        ensures { result ≡ known (whole self []) number }
+    // A sub-channel that is configured.
+    fn told(self, number: usize) -> Option<Seat>
+        ensures { result ≡ pick (known (whole self []) number) (Some (seat (get (whole self []) number))) None }
     {
-        if 3 < number {
-            return false;
-        }
         let seat = self.get(number);
-        let lane = seat.lane;
-        let settings = lane.settings;
-        settings.told
+        if number <= 3 && seat.lane.settings.told {
+            return Some(seat);
+        }
+        None
     }
 
     /// One call on a sub-channel, with the cells of all and its own two buffers.
@@ -248,25 +210,19 @@ impl Receiver {
             result cells.new recv.new word.new }
     {
         if !self.sound() {
-            return self.unheard(Refusal::STATE);
+            return self.unheard(Refusal::State);
         }
-        if !self.known(number) {
-            return self.unheard(Refusal::SUB_CHANNEL);
-        }
-        let seat = self.get(number);
+        let Some(seat) = self.told(number) else {
+            return self.unheard(Refusal::SubChannel);
+        };
         let own = cells[number];
-        let sub = seat.with(own);
-        let heard = sub.hear(recv, word, piece);
-        let answer = heard.answer;
-        let next = heard.sub;
-        let back = next.back;
-        let matrix = back.matrix;
-        let behind = matrix.cells;
+        let heard = seat.with(own).hear(recv, word, piece);
+        let behind = heard.sub.back.matrix.cells;
         cells[number] = behind;
         Hearing {
-            answer,
+            answer: heard.answer,
             taken: heard.taken,
-            receiver: self.put(number, Seat::of(next)),
+            receiver: self.put(number, Seat::of(heard.sub)),
         }
     }
 }

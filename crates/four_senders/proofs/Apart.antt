@@ -20,8 +20,7 @@ use Rattle.interleaver_spec.specs.Running.{depth_limit}
 use Rattle.subchannel_spec.specs.Sender.{sent}
 use Rattle.subchannel_spec.specs.declared.Settings.{Settings}
 use Rattle.subchannel_spec.specs.Settings.{settings, within}
-use Rattle.subchannel_spec.specs.declared.Configured.{Configured}
-use Rattle.subchannel_spec.specs.declared.Configured.TheVariants.{Done, Refused}
+use Rattle.subchannel_spec.specs.Settings.{Configured, Done, Refused}
 use Rattle.four_senders.specs.declared.Sender.{Sender}
 use Rattle.four_senders.specs.Call.{get, put, sound_four, known, configuring, send_four}
 use Rattle.four_senders.proofs.Calling.{sound-at}

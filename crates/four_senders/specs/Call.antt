@@ -2,7 +2,7 @@
 -- get, put                a sub-channel's settings, by its number
 -- sound_four, known        what 10 and 42 ask
 -- fresh_sender             none is configured
--- configuring, send_four   what the two calls answer and leave; configuring_of: the code's result
+-- configuring, send_four   what the two calls answer and leave; as_configuring: the same of the code's result
 use Rattle.std.specs.Prelude.{ℕ, zero, suc, Bool, true, false, ◌&&◌, List, ltb, leb}
 use Rattle.base.specs.Choice.{pick}
 use Rattle.base.specs.Written.{Outcome, refused, write}
@@ -10,9 +10,7 @@ use Rattle.parity.specs.Calls.{root_limit}
 use Rattle.interleaver_spec.specs.Running.{depth_limit}
 use Rattle.subchannel_spec.specs.Sender.{sent}
 use Rattle.subchannel_spec.specs.declared.Settings.{Settings}
-use Rattle.subchannel_spec.specs.Settings.{settings, within}
-use Rattle.subchannel_spec.specs.declared.Configured.{Configured}
-use Rattle.subchannel_spec.specs.declared.Configured.TheVariants.{Done, Refused}
+use Rattle.subchannel_spec.specs.Settings.{settings, within, Configured, Done, Refused, as_configured}
 use Rattle.four_senders.specs.declared.Sender.{Sender}
 use Rattle.four_senders.specs.declared.Configuring.{Configuring}
 
@@ -54,6 +52,6 @@ abbrev pub send_four : Sender → ℕ → List ℕ → List ℕ → Outcome
 send_four s n bs out =
     pick (sound_four s) (pick (known s n) (write (sent (get s n).parity (get s n).depth bs) out) (refused 42 out)) (refused 10 out)
 
--- the code's result of configuring
-abbrev pub configuring_of : Configured × Sender → Configuring
-configuring_of x = record { answer = x.0; sender = x.1 }
+-- the same of the code's result of configuring
+abbrev pub as_configuring : Configuring → Configured × Sender
+as_configuring x = (as_configured x.answer, x.sender)

@@ -2,13 +2,15 @@
 #![tactic(auto)]
 
 ghost use Rattle.std.specs.Prelude.{◌≡◌};
-ghost use Rattle.base.specs.Written.{outcome};
+ghost use Rattle.base.specs.Choice.{pick};
+ghost use Rattle.base.specs.Written.{as_written, outcome};
 ghost use Rattle.subchannel_spec.specs.Settings.{settings};
-ghost use Rattle.four_senders.specs.Call.{fresh_sender, get, put, sound_four, known, configuring, configuring_of, send_four};
+ghost use Rattle.four_senders.specs.Call.{fresh_sender, get, put, sound_four, known, configuring, as_configuring, send_four};
 
 use base::{Refusal, Written};
-use subchannel_spec::{Configured, Settings};
+use subchannel_spec::Settings;
 
+// Four fields and no array: the definitions and laws of specs/ and of the crates above name the four.
 /// What the four sub-channels are told.
 #[derive(Clone, Copy)]
 pub struct Sender {
@@ -18,10 +20,11 @@ pub struct Sender {
     pub d: Settings,
 }
 
+// The sender comes back of a refused call, too: so it stands beside the answer, and not in it.
 /// The result of configuring.
 #[derive(Clone, Copy)]
 pub struct Configuring {
-    pub answer: Configured,
+    pub answer: Result<(), Refusal>,
     pub sender: Sender,
 }
 
@@ -47,67 +50,46 @@ impl Sender {
     pub fn sound(self) -> bool
         ensures { result ≡ sound_four self }
     {
-        let a = self.a;
-        let b = self.b;
-        let c = self.c;
-        let d = self.d;
-        if !a.within() {
-            return false;
-        }
-        if !b.within() {
-            return false;
-        }
-        if !c.within() {
-            return false;
-        }
-        d.within()
+        self.a.within() && self.b.within() && self.c.within() && self.d.within()
     }
 
     // One of the four exchanged.
     fn put(self, number: usize, told: Settings) -> Self
         ensures { result ≡ put self number told }
     {
-        let a = self.a;
-        let b = self.b;
-        let c = self.c;
-        let d = self.d;
-        if number == 0 {
-            return Sender { a: told, b, c, d };
+        match number {
+            0 => Sender { a: told, ..self },
+            1 => Sender { b: told, ..self },
+            2 => Sender { c: told, ..self },
+            _ => Sender { d: told, ..self },
         }
-        if number == 1 {
-            return Sender { a, b: told, c, d };
-        }
-        if number == 2 {
-            return Sender { a, b, c: told, d };
-        }
-        Sender { a, b, c, d: told }
     }
 
     // A refused configuring: the settings as they were.
-    fn unconfigured(self, number: u8) -> Configuring
-        ensures { result ≡ record { answer = Configured.Refused number; sender = self } }
+    fn unconfigured(self, refusal: Refusal) -> Configuring
+        ensures { result ≡ record { answer = Err refusal; sender = self } }
     {
         Configuring {
-            answer: Configured::Refused(number),
+            answer: Err(refusal),
             sender: self,
         }
     }
 
     /// Tells a sub-channel its settings, also again.
     pub fn configure(self, number: usize, parity: usize, depth: usize) -> Configuring
-        ensures { result ≡ configuring_of (configuring self number parity depth) }
+        ensures { as_configuring result ≡ configuring self number parity depth }
     {
         if !self.sound() {
-            return self.unconfigured(Refusal::STATE);
+            return self.unconfigured(Refusal::State);
         }
         if 3 < number {
-            return self.unconfigured(Refusal::SUB_CHANNEL);
+            return self.unconfigured(Refusal::SubChannel);
         }
         if Settings::PARITY < parity {
-            return self.unconfigured(Refusal::ROOTS);
+            return self.unconfigured(Refusal::Roots);
         }
         if Settings::DEPTH < depth {
-            return self.unconfigured(Refusal::DEPTH);
+            return self.unconfigured(Refusal::Depth);
         }
         let settings = Settings {
             told: true,
@@ -115,7 +97,7 @@ impl Sender {
             depth,
         };
         Configuring {
-            answer: Configured::Done,
+            answer: Ok(()),
             sender: self.put(number, settings),
         }
     }
@@ -124,44 +106,35 @@ impl Sender {
     fn get(self, number: usize) -> Settings
         ensures { result ≡ get self number }
     {
-        let a = self.a;
-        let b = self.b;
-        let c = self.c;
-        let d = self.d;
-        if number == 0 {
-            return a;
+        match number {
+            0 => self.a,
+            1 => self.b,
+            2 => self.c,
+            _ => self.d,
         }
-        if number == 1 {
-            return b;
-        }
-        if number == 2 {
-            return c;
-        }
-        d
     }
 
-    // Whether a sub-channel is configured.
-    fn known(self, number: usize) -> bool
-        ensures { result ≡ known self number }
+    // The settings of a sub-channel that is configured.
+    fn told(self, number: usize) -> Option<Settings>
+        ensures { result ≡ pick (known self number) (Some (get self number)) None }
     {
-        if 3 < number {
-            return false;
-        }
         let settings = self.get(number);
-        settings.told
+        if number <= 3 && settings.told {
+            return Some(settings);
+        }
+        None
     }
 
     /// Sends a whole stream on a sub-channel.
     pub fn send(self, number: usize, stream: &[u8], out: &mut [u8]) -> Written
-        ensures { outcome result out.new ≡ send_four self number stream.now out.old }
+        ensures { outcome (as_written result) out.new ≡ send_four self number stream.now out.old }
     {
         if !self.sound() {
-            return Written::Refused(Refusal::STATE);
+            return Err(Refusal::State);
         }
-        if !self.known(number) {
-            return Written::Refused(Refusal::SUB_CHANNEL);
-        }
-        let settings = self.get(number);
+        let Some(settings) = self.told(number) else {
+            return Err(Refusal::SubChannel);
+        };
         subchannel_sender::send(settings.parity, settings.depth, stream, out)
     }
 }

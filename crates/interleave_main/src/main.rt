@@ -3,25 +3,26 @@
 //! standard error and stops.
 #![tactic(auto)]
 
-use console::{PIECE, Speak, say};
-use interleaver::{Back, Matrix, Pulled, Pushed};
+use console::{PIECE, Speak, TakePieces, say};
+use interleaver::{Back, Matrix};
 use std::env::Env;
 use std::io;
-use std::io::Read;
 use std::process::ExitCode;
 
-// The sender behind a piece, and whether it goes on.
-#[derive(Clone, Copy)]
-struct Sent {
-    go: bool,
+// The sender.
+#[derive(Drop)]
+struct Pushing {
+    depth: usize,
     matrix: Matrix,
+    out: [u8; PIECE],
 }
 
-// The same of the receiving side.
-#[derive(Clone, Copy)]
-struct Taken {
-    go: bool,
+// The receiving side.
+#[derive(Drop)]
+struct Pulling {
+    depth: usize,
     back: Back,
+    out: [u8; PIECE],
 }
 
 fn main(rt: HostRuntime) -> ExitCode {
@@ -30,11 +31,16 @@ fn main(rt: HostRuntime) -> ExitCode {
 
 // What the first argument asks for.
 fn run(rt: &(impl Env + Input + Print + Speak)) -> io::Result<()> {
-    let depth = console::number(rt, 2, 2);
-    if console::argument_count(rt) != 3 || depth > 64 {
-        usage(rt);
-        return Ok(());
+    match console::number(rt, 2, 2) {
+        Some(depth) if depth <= 64 && console::argument_count(rt) == 3 => pass_all(rt, depth),
+        _ => {
+            usage(rt);
+            Ok(())
+        }
     }
+}
+
+fn pass_all(rt: &(impl Env + Input + Print + Speak), depth: usize) -> io::Result<()> {
     if console::is_argument(rt, 1, b"push") {
         return push_all(rt, depth);
     }
@@ -54,75 +60,42 @@ fn usage(rt: &impl Speak) {
 
 // The sender: pieces as they come, and the closing push behind the last.
 fn push_all(rt: &(impl Input + Print + Speak), depth: usize) -> io::Result<()> {
-    let mut piece = [0u8; PIECE];
-    let mut out = [0u8; PIECE];
-    let mut matrix = interleaver::fresh();
-    let mut input = rt.reader();
-    for _ in 0..u64::MAX {
-        let Ok(n) = input.read(&mut piece) else {
-            console::say_unread(rt, b"interleave");
-            return Ok(());
-        };
-        if n == 0 {
-            pushed(rt, interleaver::close(matrix, depth, &mut out), &out)?;
-            return Ok(());
-        }
-        let sent = pushed(
-            rt,
-            interleaver::push(matrix, depth, &piece[..n], &mut out),
-            &out,
-        )?;
-        matrix = sent.matrix;
-        if !sent.go {
-            return Ok(());
-        }
+    let mut pushing = Pushing {
+        depth,
+        matrix: interleaver::fresh(),
+        out: [0; PIECE],
+    };
+    let ended = console::each_piece(rt, b"interleave", &mut pushing)?;
+    if ended {
+        let closed = interleaver::close(pushing.matrix, depth, &mut pushing.out);
+        console::put(rt, b"interleave", closed.written, &pushing.out)?;
     }
     Ok(())
 }
 
 // The receiving side: pieces as they come.
 fn pull_all(rt: &(impl Input + Print + Speak), depth: usize) -> io::Result<()> {
-    let mut piece = [0u8; PIECE];
-    let mut out = [0u8; PIECE];
-    let mut back = interleaver::fresh_back();
-    let mut input = rt.reader();
-    for _ in 0..u64::MAX {
-        let Ok(n) = input.read(&mut piece) else {
-            console::say_unread(rt, b"interleave");
-            return Ok(());
-        };
-        if n == 0 {
-            return Ok(());
-        }
-        let taken = pulled(
-            rt,
-            interleaver::pull(back, depth, &piece[..n], &mut out),
-            &out,
-        )?;
-        back = taken.back;
-        if !taken.go {
-            return Ok(());
-        }
-    }
+    let mut pulling = Pulling {
+        depth,
+        back: interleaver::fresh_back(),
+        out: [0; PIECE],
+    };
+    console::each_piece(rt, b"interleave", &mut pulling)?;
     Ok(())
 }
 
-// What a push wrote, to standard output.
-fn pushed(rt: &(impl Print + Speak), answer: Pushed, out: &[u8]) -> io::Result<Sent> {
-    let written = answer.written;
-    let matrix = answer.matrix;
-    Ok(Sent {
-        go: console::put(rt, b"interleave", written, out)?,
-        matrix,
-    })
+impl TakePieces for Pushing {
+    fn take(&mut self, rt: &(impl Print + Speak), piece: &[u8]) -> io::Result<bool> {
+        let pushed = interleaver::push(self.matrix, self.depth, piece, &mut self.out);
+        self.matrix = pushed.matrix;
+        console::put(rt, b"interleave", pushed.written, &self.out)
+    }
 }
 
-// What a pull wrote.
-fn pulled(rt: &(impl Print + Speak), answer: Pulled, out: &[u8]) -> io::Result<Taken> {
-    let written = answer.written;
-    let back = answer.back;
-    Ok(Taken {
-        go: console::put(rt, b"interleave", written, out)?,
-        back,
-    })
+impl TakePieces for Pulling {
+    fn take(&mut self, rt: &(impl Print + Speak), piece: &[u8]) -> io::Result<bool> {
+        let pulled = interleaver::pull(self.back, self.depth, piece, &mut self.out);
+        self.back = pulled.back;
+        console::put(rt, b"interleave", pulled.written, &self.out)
+    }
 }

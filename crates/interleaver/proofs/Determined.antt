@@ -4,6 +4,7 @@
 use mathlib.Core.Path.{refl}
 use Rattle.base.specs.Determined.{Determined}
 use Rattle.base.proofs.Determining.{same, buffer, skip}
+use Rattle.base.proofs.Writing.{same-written}
 use Rattle.interleaver.proofs.fresh.Kinds as fresh-kinds
 use Rattle.interleaver.proofs.fresh.Reads as fresh-reads
 use Rattle.interleaver.proofs.push.Kinds as push-kinds
@@ -25,12 +26,12 @@ fresh-determined κs a z z' ws ws' pre p q = (same p q, refl)
 pub push-determined : Determined push-kinds.ps push-kinds.r push-reads.Asked push-reads.Learnt
 push-determined κs a z z' ws ws' pre p q =
     let e = same p q in
-    (λ i. record { written = (e i).0.answer; matrix = (e i).1 }, skip (skip (skip (buffer (λ i. (e i).0.output) refl))))
+    (λ i. record { written = same-written _ _ (λ j. (e j).0.answer) i; matrix = (e i).1 }, skip (skip (skip (buffer (λ i. (e i).0.output) refl))))
 
 pub close-determined : Determined close-kinds.ps close-kinds.r close-reads.Asked close-reads.Learnt
 close-determined κs a z z' ws ws' pre p q =
     let e = same p q in
-    (λ i. record { written = (e i).0.answer; matrix = (e i).1 }, skip (skip (buffer (λ i. (e i).0.output) refl)))
+    (λ i. record { written = same-written _ _ (λ j. (e j).0.answer) i; matrix = (e i).1 }, skip (skip (buffer (λ i. (e i).0.output) refl)))
 
 pub back-determined : Determined back-kinds.ps back-kinds.r back-reads.Asked back-reads.Learnt
 back-determined κs a z z' ws ws' pre p q = (same p q, refl)
@@ -38,7 +39,7 @@ back-determined κs a z z' ws ws' pre p q = (same p q, refl)
 pub pull-determined : Determined pull-kinds.ps pull-kinds.r pull-reads.Asked pull-reads.Learnt
 pull-determined κs a z z' ws ws' pre p q =
     let e = same p q in
-    (λ i. record { written = (e i).0.answer; back = (e i).1 }, skip (skip (skip (buffer (λ i. (e i).0.output) refl))))
+    (λ i. record { written = same-written _ _ (λ j. (e j).0.answer) i; back = (e i).1 }, skip (skip (skip (buffer (λ i. (e i).0.output) refl))))
 
 pub is-beyond-determined : Determined is-beyond-kinds.ps is-beyond-kinds.r is-beyond-reads.Asked is-beyond-reads.Learnt
 is-beyond-determined κs a z z' ws ws' pre p q = (same p q, refl)

@@ -3,8 +3,7 @@
 
 ghost use Rattle.std.specs.Prelude.{◌≡◌, false, ◌+◌, ◌*◌, ◌≤◌, ◌<◌, length};
 ghost use Rattle.base.specs.Calls.{run};
-ghost use Rattle.base.specs.Written.{outcome};
-ghost use Rattle.base.specs.declared.Written.TheVariants.{Refused};
+ghost use Rattle.base.specs.Written.{as_written, outcome};
 ghost use Rattle.interleaver_spec.specs.Places.{width, cell};
 ghost use Rattle.interleaver_spec.specs.Running.{depth_limit, size, next, matrix, fresh, fresh_back, sent, taken};
 ghost use Rattle.interleaver_spec.specs.Running.{beyond, step_at, pushing, closing_bytes, closing, pulling};
@@ -13,6 +12,7 @@ ghost use Rattle.interleaver.specs.Private.{left, held, Ready, given};
 use base::{Refusal, Written};
 pub use interleaver_spec::{Back, Matrix, Step};
 
+// Two structs and not one over the state's type: no function takes both, and each state has the name here that it has where it is lent.
 /// What a push answers.
 #[derive(Clone, Copy)]
 pub struct Pushed {
@@ -42,48 +42,44 @@ pub fn fresh() -> Matrix
 
 /// Pushes bytes through the cells; as many come out.
 pub fn push(matrix: Matrix, depth: usize, bytes: &[u8], out: &mut [u8]) -> Pushed
-    ensures { (outcome result.written out.new, result.matrix) ≡ pushing depth matrix bytes.now out.old }
+    ensures { (outcome (as_written result.written) out.new, result.matrix) ≡ pushing depth matrix bytes.now out.old }
 {
     let place = matrix.place;
     if is_beyond(depth, place) {
-        return unpushed(matrix, Refusal::STATE);
+        return Pushed {
+            written: Err(Refusal::State),
+            matrix,
+        };
     }
     if Matrix::DEEPEST < depth {
-        return unpushed(matrix, Refusal::DEPTH);
+        return Pushed {
+            written: Err(Refusal::Depth),
+            matrix,
+        };
     }
     if out.len() < bytes.len() {
-        return unpushed(matrix, Refusal::OUTPUT);
+        return Pushed {
+            written: Err(Refusal::Output),
+            matrix,
+        };
     }
-    let written = Written::Wrote(bytes.len());
+    let written = Ok(bytes.len());
     if depth < 2 {
         base::copy(bytes, out);
         return Pushed { written, matrix };
     }
-    let cells = matrix.cells;
-    let behind = send(cells, place, depth, bytes, out);
     Pushed {
         written,
-        matrix: behind,
+        matrix: send(matrix.cells, place, depth, bytes, out),
     }
 }
 
 /// The closing push: N - 1 zeros behind the last byte, none at depth 0 and 1.
 pub fn close(matrix: Matrix, depth: usize, out: &mut [u8]) -> Pushed
-    ensures { (outcome result.written out.new, result.matrix) ≡ closing depth matrix out.old }
+    ensures { (outcome (as_written result.written) out.new, result.matrix) ≡ closing depth matrix out.old }
 {
     let zeros = [0u8; Matrix::CELLS];
-    let n = closing_bytes(depth);
-    push(matrix, depth, &zeros[0..n], out)
-}
-
-// A refused push: the state as it was.
-fn unpushed(matrix: Matrix, number: u8) -> Pushed
-    ensures { result ≡ record { written = Refused number; matrix = matrix } }
-{
-    Pushed {
-        written: Written::Refused(number),
-        matrix,
-    }
+    push(matrix, depth, &zeros[..closing_bytes(depth)], out)
 }
 
 /// The receiving side, nothing received yet.
@@ -98,39 +94,36 @@ pub fn fresh_back() -> Back
 
 /// Takes received bytes in; those come back that N - 1 others have followed.
 pub fn pull(back: Back, depth: usize, bytes: &[u8], out: &mut [u8]) -> Pulled
-    ensures { (outcome result.written out.new, result.back) ≡ pulling depth back bytes.now out.old }
+    ensures { (outcome (as_written result.written) out.new, result.back) ≡ pulling depth back bytes.now out.old }
 {
-    let matrix = back.matrix;
-    let place = matrix.place;
+    let place = back.matrix.place;
     if is_beyond(depth, place) {
-        return unpulled(back, Refusal::STATE);
+        return Pulled {
+            written: Err(Refusal::State),
+            back,
+        };
     }
     if Matrix::DEEPEST < depth {
-        return unpulled(back, Refusal::DEPTH);
+        return Pulled {
+            written: Err(Refusal::Depth),
+            back,
+        };
     }
     let kept = held(depth, back.again, place, bytes.len());
     if out.len() < bytes.len() - kept {
-        return unpulled(back, Refusal::OUTPUT);
+        return Pulled {
+            written: Err(Refusal::Output),
+            back,
+        };
     }
-    let written = Written::Wrote(bytes.len() - kept);
+    let written = Ok(bytes.len() - kept);
     if depth < 2 {
         base::copy(bytes, out);
         return Pulled { written, back };
     }
-    let behind = take(back, depth, bytes, kept, out);
     Pulled {
         written,
-        back: behind,
-    }
-}
-
-// A refused pull: the state as it was.
-fn unpulled(back: Back, number: u8) -> Pulled
-    ensures { result ≡ record { written = Refused number; back = back } }
-{
-    Pulled {
-        written: Written::Refused(number),
-        back,
+        back: take(back, depth, bytes, kept, out),
     }
 }
 
@@ -140,18 +133,16 @@ fn take(back: Back, depth: usize, bytes: &[u8], kept: usize, out: &mut [u8]) -> 
     ensures { (out.new, result) ≡ given depth back bytes.now out.old }
 {
     let matrix = back.matrix;
-    let cells = matrix.cells;
-    let first = keep(cells, matrix.place, depth, &bytes[0..kept]);
+    let first = keep(matrix.cells, matrix.place, depth, &bytes[..kept]);
     if kept == bytes.len() {
         return Back {
-            again: back.again,
             matrix: first,
+            ..back
         };
     }
-    let stored = first.cells;
     Back {
         again: true,
-        matrix: give(stored, first.place, depth, &bytes[kept..], out),
+        matrix: give(first.cells, first.place, depth, &bytes[kept..], out),
     }
 }
 
@@ -159,23 +150,16 @@ fn take(back: Back, depth: usize, bytes: &[u8], kept: usize, out: &mut [u8]) -> 
 pub fn is_beyond(depth: usize, place: usize) -> bool
     ensures { result ≡ beyond depth place }
 {
-    if depth < 2 {
-        return false;
-    }
-    depth <= place / Matrix::ROW
+    depth >= 2 && depth <= place / Matrix::ROW
 }
 
+// No Option: 0 and 0 is a step that no place has, and who calls has ruled out the places without one: an Option would leave him a way that
+// is never gone.
 /// The cell that the output of a place is read from, and the place behind it: for who goes through cells of his own byte by byte.
 pub fn step(depth: usize, place: usize) -> Step
     ensures { result ≡ step_at depth place }
 {
-    if depth < 2 {
-        return Step { cell: 0, next: 0 };
-    }
-    if Matrix::DEEPEST < depth {
-        return Step { cell: 0, next: 0 };
-    }
-    if is_beyond(depth, place) {
+    if depth < 2 || Matrix::DEEPEST < depth || is_beyond(depth, place) {
         return Step { cell: 0, next: 0 };
     }
     Step {
@@ -200,19 +184,17 @@ fn next(depth: usize, place: usize) -> usize
     ensures { (result ≡ next depth place) × (result < size depth) }
 {
     if place + 1 < Matrix::ROW * depth {
-        return place + 1;
+        place + 1
+    } else {
+        0
     }
-    0
 }
 
 // The bytes of the closing push; where the depth is refused, none.
 fn closing_bytes(depth: usize) -> usize
     ensures { (result ≤ depth_limit * width) × (depth ≤ depth_limit → result ≡ closing_bytes depth) }
 {
-    if depth < 2 {
-        return 0;
-    }
-    if Matrix::DEEPEST < depth {
+    if depth < 2 || Matrix::DEEPEST < depth {
         return 0;
     }
     Matrix::ROW * depth - 1
@@ -223,16 +205,13 @@ fn held(depth: usize, again: bool, place: usize, n: usize) -> usize
     requires { (depth ≤ depth_limit) × (beyond depth place ≡ false) }
     ensures { (result ≡ held depth again place n) × (result ≤ n) }
 {
-    if depth < 2 {
+    if depth < 2 || again {
         return 0;
     }
-    if again {
-        return 0;
-    }
-    base::least(Matrix::ROW * depth - 1 - place, n)
+    n.min(Matrix::ROW * depth - 1 - place)
 }
 
-// The sender's bytes at depth 2 or more.
+// The sender's bytes at depth 2 or more. Not one loop with the two below: which cell is written and which is read is all that they do.
 fn send(
     from: [u8; Matrix::CELLS],
     first: usize,
@@ -245,13 +224,10 @@ fn send(
 {
     let mut cells = from;
     let mut place = first;
-    let mut i: usize = 0;
-    while i < bytes.len() {
-        let k = cell(depth, place);
-        cells[place] = bytes[i];
-        out[i] = cells[k];
+    for (i, &byte) in bytes.iter().enumerate() {
+        cells[place] = byte;
+        out[i] = cells[cell(depth, place)];
         place = next(depth, place);
-        i += 1;
     }
     Matrix { place, cells }
 }
@@ -263,12 +239,9 @@ fn keep(from: [u8; Matrix::CELLS], first: usize, depth: usize, bytes: &[u8]) -> 
 {
     let mut cells = from;
     let mut place = first;
-    let mut i: usize = 0;
-    while i < bytes.len() {
-        let k = cell(depth, place);
-        cells[k] = bytes[i];
+    for &byte in bytes {
+        cells[cell(depth, place)] = byte;
         place = next(depth, place);
-        i += 1;
     }
     Matrix { place, cells }
 }
@@ -286,13 +259,10 @@ fn give(
 {
     let mut cells = from;
     let mut place = first;
-    let mut i: usize = 0;
-    while i < bytes.len() {
-        let k = cell(depth, place);
-        cells[k] = bytes[i];
+    for (i, &byte) in bytes.iter().enumerate() {
+        cells[cell(depth, place)] = byte;
         place = next(depth, place);
         out[i] = cells[place];
-        i += 1;
     }
     Matrix { place, cells }
 }

@@ -1,7 +1,7 @@
 -- What the ways through a call leave, on either side, by the tests that led there.
 -- passes, deeper             bytes at depth 0 and 1, and deeper
 -- row-beyond, below          a place of N or more, by its row; a place that passes 10
--- no-step-.., step_is        where a place has no step; its step. step-inside: .. which stays among the cells
+-- step_is                    the step of a place. step-inside: .. which stays among the cells
 -- state-refused, depth-refused, output-refused, wrote   10, 32, 23, and what is written
 -- short, flat, deep          the same where n bytes are the result: 23; depth 0 and 1; deeper
 -- closes                     the closing push, of zeros enough for any
@@ -18,7 +18,7 @@ use borrow.Author.Tests.{lt-ltb, le-ltb, le-leb, lt-leb, leb-false}
 use Rattle.base.specs.Calls.{tell, run}
 use Rattle.base.specs.Choice.{pick}
 use Rattle.base.specs.Written.{Outcome, outcome, refused, write, copied}
-use Rattle.base.specs.declared.Written.TheVariants.{Wrote}
+use Rattle.base.specs.Written.{Wrote}
 use Rattle.base.proofs.Tests.{by_le, by-test}
 use Rattle.base.proofs.Writing.{write-fits, write-short}
 use Rattle.interleaver_spec.specs.Places.{width, cell}
@@ -47,27 +47,17 @@ below d p h e = leb-false _ _ (sym (ap (λ (t : Bool). t && leb (size d) p) (le-
 
 -- ---- the step of a place
 module _ (d p : ℕ) where
-  pub no-step-flat : d < 2 → step 0 0 ≡ step_at d p
-  no-step-flat h = rw (lt-ltb d 2 h) refl
+  module _ (h : 2 ≤ d) (i : d ≤ depth_limit) where
+    pub step_is : beyond d p ≡ false → step (cell d p) (next d p) ≡ step_at d p
+    step_is e = rw (le-ltb d 2 h, le-ltb depth_limit d i, e) refl
 
-  module _ (h : 2 ≤ d) where
-    pub no-step-deep : depth_limit < d → step 0 0 ≡ step_at d p
-    no-step-deep i = rw (le-ltb d 2 h, lt-ltb depth_limit d i) refl
-
-    module _ (i : d ≤ depth_limit) where
-      pub no-step-beyond : beyond d p ≡ true → step 0 0 ≡ step_at d p
-      no-step-beyond e = rw (le-ltb d 2 h, le-ltb depth_limit d i, e) refl
-
-      pub step_is : beyond d p ≡ false → step (cell d p) (next d p) ≡ step_at d p
-      step_is e = rw (le-ltb d 2 h, le-ltb depth_limit d i, e) refl
-
-      pub step-inside : beyond d p ≡ false → {t : Step} → t ≡ step_at d p
-          → (t.cell ≡ cell d p) × (t.cell < depth_limit * width) × (t.next ≡ next d p) × (t.next < size d)
-      step-inside e {t} q =
-          let z : t ≡ step (cell d p) (next d p) = q ∙ sym (step_is e) in
-          let k : t.cell ≡ cell d p = ap (λ (x : Step). x.cell) z in
-          let n : t.next ≡ next d p = ap (λ (x : Step). x.next) z in
-          (k, omega (arith, k, row_below d p (omega arith)), n, subst (λ (x : ℕ). x < size d) (sym n) (mod-lt (p + 1) (omega arith)))
+    pub step-inside : beyond d p ≡ false → {t : Step} → t ≡ step_at d p
+        → (t.cell ≡ cell d p) × (t.cell < depth_limit * width) × (t.next ≡ next d p) × (t.next < size d)
+    step-inside e {t} q =
+        let z : t ≡ step (cell d p) (next d p) = q ∙ sym (step_is e) in
+        let k : t.cell ≡ cell d p = ap (λ (x : Step). x.cell) z in
+        let n : t.next ≡ next d p = ap (λ (x : Step). x.next) z in
+        (k, omega (arith, k, row_below d p (omega arith)), n, subst (λ (x : ℕ). x < size d) (sym n) (mod-lt (p + 1) (omega arith)))
 
 module _ {S : Type 0} (d p : ℕ) (s : S) (r : List ℕ × S) (out : List ℕ) where
   pub state-refused : beyond d p ≡ true → ◌≡◌ {A = Outcome × S} (refused 10 out, s) (calling d p s r out)

@@ -17,7 +17,7 @@ use lib.Seq.{take_at}
 use borrow.Author.Tests.{lt-leb}
 use Rattle.base.specs.Calls.{joined, tell, and_then, run}
 use Rattle.base.specs.Written.{Outcome, outcome, copied}
-use Rattle.base.specs.declared.Written.TheVariants.{Wrote, Refused}
+use Rattle.base.specs.Written.{Wrote, Refused}
 use Rattle.base.proofs.Calls.{run-append}
 use Rattle.base.proofs.Tests.{by_le, by-test, and-false}
 use Rattle.base.proofs.Writing.{copied-fits}

@@ -25,6 +25,7 @@ pub struct Step {
     pub next: usize,
 }
 
+// A flag beside place and cells and not an enum: callers hand the state in, and the laws speak of each value that it can have.
 /// The receiving side: whether its first pass is over, its place and cells.
 #[derive(Clone, Copy)]
 pub struct Back {

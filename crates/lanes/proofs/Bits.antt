@@ -1,14 +1,15 @@
 -- What bits are worth, in lanes: five bits at a time, and eight bytes of a division.
 -- sums, sum_is, passed     some of five bits' rows added in one number: the arms of the `match`, and its last one
 -- adding-is                .. in four
--- raised-next, raised-done  a row doubled so many times
+-- raised-next             a row doubled so many times
 -- worths-are               the eight worths, each from the one before it
 -- group, groups, turn_is   five bits more; thirteen times five of them are eight bytes more of a division
 use mathlib.Core.Path.{◌≡◌, refl, sym, ap, ap₂, ◌∙◌, subst}
 use mathlib.Core.Bool.{Bool, true, false}
 use mathlib.Core.List.{List, [], ◌∷◌, ◌++◌, map, map-append}
-use Prim.Native.Nat.{ℕ, zero, suc, ◌+◌, ◌-◌, ◌*◌, ◌/◌, ◌%◌, ◌^◌, ◌≤◌, ◌<◌}
+use Prim.Native.Nat.{ℕ, zero, suc, ◌+◌, ◌*◌, ◌/◌, ◌%◌, ◌^◌, ◌≤◌, ◌<◌}
 use native.Mathlib.Nat.{mod-lt, mul-zero, zero-mul, one-mul}
+use native.Mathlib.Numerals.{add-one}
 use native.Mathlib.Omega.{arith}
 use lib.Bits.{bit_xor}
 use lib.Dec.{eqb}
@@ -335,14 +336,14 @@ module _ (n v : ℕ) where
       ∙ summed-low (five n (laid x) (laid y)) h (laid l)
 
 -- ---- doubled so many times
-pub raised-next : (n m : ℕ) (x : List ℕ) {t u : List ℕ} → suc m ≡ n → u ≡ map double x → doubled_by n x ≡ t → doubled_by m u ≡ t
+doubled-after : (n : ℕ) (x : List ℕ) → map double (doubled_by n x) ≡ doubled_by n (map double x)
 unfolding doubled_by
-raised-next n m x en eu e = ap (doubled_by m) eu ∙ ap (λ (k : ℕ). doubled_by k x) en ∙ e
+doubled-after zero x = refl
+doubled-after (suc n) x = doubled-after n (map double x)
 
-pub raised-done : (n : ℕ) {x t : List ℕ} → n ≤ 0 → doubled_by n x ≡ t → x ≡ t
+pub raised-next : (n : ℕ) (x : List ℕ) {t u : List ℕ} → t ≡ doubled_by n x → u ≡ map double t → u ≡ doubled_by (n + 1) x
 unfolding doubled_by
-raised-done zero h e = e
-raised-done (suc n) h e = absurd (omega arith)
+raised-next n x e eu = rw add-one (eu ∙ ap (map double) e ∙ doubled-after n x)
 
 -- ---- eight worths
 module _ (w : List ℕ) where

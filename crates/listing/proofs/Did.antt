@@ -24,8 +24,8 @@ use Rattle.listing_spec.specs.Lines.{line, given, lines, longest}
 use Rattle.recording.specs.Deck.{Deck, deck_owes, deck_hand, deck_eat, deck_all, deck_hear}
 use Rattle.recording.proofs.Ears.{deck-hand-one}
 use Rattle.listing_lines.specs.declared.totals.Totals.{Totals}
-use Rattle.listing.specs.declared.lister.Wants.{Wants}
-use Rattle.listing.specs.declared.lister.Wants.TheVariants.{More, Room, Refused}
+use Rattle.listing.specs.Wants.{Wants}
+use Rattle.listing.specs.Wants.{More, Room, Refused}
 use Rattle.listing.specs.Call.{counted, Printed, printed, further, on_answer, print, near, takes_by, takes}
 use Rattle.listing.specs.Runs.{Lists, ListsAll}
 use Rattle.listing.specs.Runs.Lists.{more, room}

@@ -15,7 +15,7 @@ use lib.ListN.{length, drop, length-append, length-drop}
 use borrow.Author.Tests.{le-ltb, ltb-true}
 use Rattle.base.specs.Choice.{pick}
 use Rattle.base.specs.Calls.{joined, tell, drain, rest}
-use Rattle.base.specs.declared.Written.TheVariants.{Wrote}
+use Rattle.base.specs.Written.{Wrote}
 use Rattle.base.proofs.Calls.{all_append}
 use Rattle.base.proofs.Writing.{write-fits}
 use Rattle.packet_spec.specs.Contents.{raw_limit}
@@ -30,16 +30,16 @@ use Rattle.listing_spec.specs.declared.Spot.{Spot}
 use Rattle.listing_spec.specs.Apart.{most, fresh_spot, on, wrong, through, next_at, next, in_stream, apart, well, keep}
 use Rattle.listing_spec.specs.Lines.{given, line, lines, is_packet, is_refusal, is_damaged, is_lost, longest}
 use Rattle.listing_lines.proofs.Short.{line-some, end_short, wrong-short}
-use Rattle.recording.specs.Deck.{Ear, ear, owes_by, ear_owes, ear_hand, ear_eat, Deck, deck, fresh, deck_owes, deck_hand, deck_eat, deck_all, deck_hear}
+use Rattle.recording.specs.Deck.{Ear, ear, owes_by, ear_owes, ear_hand, ear_eat, Deck, fresh, deck_owes, deck_hand, deck_eat, deck_all, deck_hear}
 use Rattle.recording.specs.Call.{far}
 use Rattle.recording.proofs.Ears.{deck-hand-one}
 use Rattle.recording.proofs.Kept.{FineDeck, Kept, hear-kept}
 use Rattle.recording.proofs.Means.{ear_all, means-start, fresh-owes}
 use Rattle.listing_lines.specs.declared.totals.Totals.{Totals}
 use Rattle.listing.specs.declared.lister.Lister.{Lister}
-use Rattle.listing.specs.declared.lister.Wants.{Wants}
-use Rattle.listing.specs.declared.lister.Wants.TheVariants.{More, Room, Refused}
-use Rattle.listing.specs.Call.{no_totals, counted, Printed, printed, further, on_answer, print, near, takes_by, takes, last_by, last_of, finishing}
+use Rattle.listing.specs.Wants.{Wants}
+use Rattle.listing.specs.Wants.{More, Room, Refused}
+use Rattle.listing.specs.Call.{no_totals, counted, Printed, printed, further, on_answer, print, takes_by, takes, last_by, last_of, finishing}
 use Rattle.listing.specs.Runs.{Lists, Run, Fair}
 use Rattle.listing.specs.Runs.Lists.{more, room}
 use Rattle.listing.specs.Runs.ListsAll.{done, piece}

@@ -2,7 +2,6 @@ pub mod Tags
 pub mod Counting
 pub mod Printing
 pub mod Output
-pub mod Taking
 pub mod Did
 pub mod Listing
 pub mod Ends

@@ -14,7 +14,7 @@ use lib.Dec.{eqb, ltb}
 use lib.ListN.{length, take}
 use Rattle.base.specs.Choice.{pick}
 use Rattle.base.specs.Calls.{joined}
-use Rattle.base.specs.declared.Written.TheVariants.{Wrote}
+use Rattle.base.specs.Written.{Wrote}
 use Rattle.base.proofs.Writing.{write-is}
 use Rattle.packet_spec.specs.Contents.{raw_limit}
 use Rattle.channel_spec.specs.Sender.{word_bytes}

@@ -6,8 +6,9 @@ use Prim.Native.Nat.{ℕ, zero, suc, ◌+◌, ◌-◌, ◌≤◌, ◌<◌}
 use native.Mathlib.Omega.{arith}
 use native.Mathlib.Nat.{zero-add, add-zero, sub-zero, add_assoc}
 use mathlib.Core.Path.{◌≡◌, refl, sym, ◌∙◌, ap, subst}
-use mathlib.Core.Bool.{Bool, true, false}
+use mathlib.Core.Bool.{true}
 use mathlib.Core.List.{List, [], ◌++◌, append_assoc, append-nil}
+use Rattle.std.specs.Prelude.{Option, Some, None, Ok}
 use lib.ListN.{length, take, drop, length-append, length-drop, take-append-drop}
 use lib.Seq.{drop-drop, drop_at, take_at, length-take-le}
 use borrow.Rule.Slice.PartMut.{put_mid}
@@ -16,6 +17,8 @@ use Rattle.channel.specs.Call.{sound, roomy}
 use Rattle.recording.specs.Call.{deck_of}
 use Rattle.listing.specs.declared.lister.Lister.{Lister}
 use Rattle.listing.specs.declared.lister.Step.{Step}
+use Rattle.listing.specs.declared.lister.Wants.{Wants}
+use Rattle.listing.specs.Wants.{as_wants}
 use Rattle.listing.specs.Call.{Printed, printed, further, print, near, TookIs}
 use Rattle.listing.specs.Private.{StepBy, StepIs}
 
@@ -127,13 +130,13 @@ module _ {x : Printed} {bs old : List ℕ} {i w : ℕ} {r : Lister} {l k out : L
     from-left : (f n : ℕ) → print f n (deck_of r.tape l k) r.totals (drop i bs) ≡ print f n (deck_of r.tape l k) r.totals left
     from-left f n = ap (print f n (deck_of r.tape l k) r.totals) (sym (tail-is i bs))
 
-    pub far-on : s.done ≡ false → Far x bs old (i + s.taken) (w + s.written) s.next l' k' out' × (0 < s.written)
+    pub far-on : s.wants ≡ None → Far x bs old (i + s.taken) (w + s.written) s.next l' k' out' × (0 < s.written)
     far-on e =
-        let y : StepBy false (deck_of r.tape l k) r.totals left (length room) s text l' k' =
-        subst (λ (u : Bool). StepBy u (deck_of r.tape l k) r.totals left (length room) s text l' k') e step.means in
+        let y : StepBy None (deck_of r.tape l k) r.totals left (length room) s text l' k' =
+        subst (λ (u : Option Wants). StepBy u (deck_of r.tape l k) r.totals left (length room) s text l' k') e step.means in
         (go far.fuel refl y, omega (arith, y.1, step.written))
       where
-        go : (f : ℕ) → far.fuel ≡ f → StepBy false (deck_of r.tape l k) r.totals left (length room) s text l' k'
+        go : (f : ℕ) → far.fuel ≡ f → StepBy None (deck_of r.tape l k) r.totals left (length room) s text l' k'
             → Far x bs old (i + s.taken) (w + s.written) s.next l' k' out'
         go zero g y = absurd (omega (arith, far.enough, fits, y.1))
         go (suc f) g y =
@@ -172,18 +175,19 @@ module _ {x : Printed} {bs old : List ℕ} {i w : ℕ} {r : Lister} {l k out : L
         ∙ (λ j. printed-is j ++ behind-is j)
         ∙ (λ j. sym (append-nil (take w out ++ text)) j ++ drop (text-length j) old)
 
-    pub far-done : s.done ≡ true → TookIs x (record { wants = s.wants; taken = i + s.taken; written = w + s.written; next = s.next }) l' k' old out'
-    far-done e =
-        let y : StepBy true (deck_of r.tape l k) r.totals left (length room) s text l' k' =
-        subst (λ (u : Bool). StepBy u (deck_of r.tape l k) r.totals left (length room) s text l' k') e step.means in
-        let last : Printed = printed s.wants (deck_of s.next.tape l' k') s.next.totals in
+    pub far-done : (w' : Wants) → s.wants ≡ Some w'
+        → TookIs x (record { wants = Ok w'; taken = i + s.taken; written = w + s.written; next = s.next }) l' k' old out'
+    far-done w' e =
+        let y : StepBy (Some w') (deck_of r.tape l k) r.totals left (length room) s text l' k' =
+        subst (λ (u : Option Wants). StepBy u (deck_of r.tape l k) r.totals left (length room) s text l' k') e step.means in
+        let last : Printed = printed (as_wants (Ok w')) (deck_of s.next.tape l' k') s.next.totals in
         let p : x ≡ further (i + s.taken) (take w out ++ text) last =
         far.same
         ∙ ap (λ (n : ℕ). further i (take w out) (print far.fuel n (deck_of r.tape l k) r.totals (drop i bs))) (sym room-length)
         ∙ ap (further i (take w out)) (from-left far.fuel (length room) ∙ y far.fuel (omega (arith, far.enough, room-length)))
         ∙ behind-behind i s.taken (take w out) text last in
-        subst (λ (z : Printed). TookIs z (record { wants = s.wants; taken = i + s.taken; written = w + s.written; next = s.next }) l' k' old out') (sym p) (
-          (λ j. record { wants = s.wants; taken = sym (add-zero (i + s.taken)) j; written = text-length j; next = s.next }),
+        subst (λ (z : Printed). TookIs z (record { wants = Ok w'; taken = i + s.taken; written = w + s.written; next = s.next }) l' k' old out') (sym p) (
+          (λ j. record { wants = as_wants (Ok w'); taken = sym (add-zero (i + s.taken)) j; written = text-length j; next = s.next }),
           refl,
           refl,
           text-output,

@@ -9,6 +9,8 @@ use mathlib.Core.Bool.{true, false}
 use mathlib.Core.List.{List, [], ◌++◌}
 use mathlib.Core.Option.{Option, some, none}
 use lib.Dec.{leb}
+use Rattle.std.specs.Prelude.{Some, None}
+use Rattle.listing.specs.declared.lister.Wants.TheVariants as wanting
 use lib.ListN.{length, drop}
 use borrow.Author.Tests.{lt-ltb, le-ltb, le-leb, leb-true}
 use Rattle.channel_spec.specs.Meaning.{Event}
@@ -29,7 +31,7 @@ use Rattle.recording.specs.Private.{Stays, HeardIs}
 use Rattle.recording.proofs.Turn.{more-none, more-some}
 use Rattle.recording.proofs.Next.{next-heard}
 use Rattle.listing_lines.specs.declared.totals.Totals.{Totals}
-use Rattle.listing.specs.declared.lister.Wants.TheVariants.{More, Room}
+use Rattle.listing.specs.Wants.{More, Room}
 use Rattle.listing.specs.Private.{StepIs}
 use Rattle.listing.specs.Call.{counted, Printed, printed, further, on_answer, print, near}
 use Rattle.listing.proofs.Counting.{one-most}
@@ -93,7 +95,7 @@ module _ (t : RecordingReader) (u : Totals) (l k bs out : List ℕ) (wide : leng
 
   -- no room for a line
   pub step_room : length out < longest
-      → StepIs m u bs out (record { done = true; wants = Room; taken = 0; written = 0; next = record { tape = t; totals = u } }) l k out
+      → StepIs m u bs out (record { wants = Some wanting.Room; taken = 0; written = 0; next = record { tape = t; totals = u } }) l k out
   step_room h = record {
     text = [];
     means = λ f i. none-room f h;
@@ -141,7 +143,7 @@ module _ (t : RecordingReader) (u : Totals) (l k bs out : List ℕ) (wide : leng
 
     -- no answer: more bytes are wanted
     pub step-more : is_more h.answer ≡ true
-        → StepIs m u bs out (record { done = true; wants = More; taken = h.taken; written = 0; next = record { tape = h.tape; totals = u } }) l' k' out
+        → StepIs m u bs out (record { wants = Some wanting.More; taken = h.taken; written = 0; next = record { tape = h.tape; totals = u } }) l' k' out
     step-more e = record {
       text = [];
       means = more-means (more-none (deck_hear m bs).0 (ap is_more (sym heard.0.0) ∙ e));
@@ -170,7 +172,7 @@ module _ (t : RecordingReader) (u : Totals) (l k bs out : List ℕ) (wide : leng
     -- an answer's line
     pub step_line : is_more h.answer ≡ false → (w : ℕ) (out' : List ℕ) (u' : Totals)
         → (w ≡ length (line h.answer)) × (out' ≡ line h.answer ++ drop (length (line h.answer)) out) → u' ≡ counting u h.answer
-        → StepIs m u bs out (record { done = false; wants = More; taken = h.taken; written = w; next = record { tape = h.tape; totals = u' } }) l' k' out'
+        → StepIs m u bs out (record { wants = None; taken = h.taken; written = w; next = record { tape = h.tape; totals = u' } }) l' k' out'
     step_line e w out' u' p q =
         let c : u' ≡ counted u h.answer = q ∙ counting-below u h.answer below in
         let o = more-some (deck_hear m bs).0 (ap is_more (sym heard.0.0) ∙ e) in

@@ -1,8 +1,8 @@
 -- What tells cases apart: where two are equal, so are their numbers.
 -- wants_tag   what a call wants
 use Prim.Native.Nat.{ℕ}
-use Rattle.listing.specs.declared.lister.Wants.{Wants}
-use Rattle.listing.specs.declared.lister.Wants.TheVariants.{More, Room, Refused}
+use Rattle.listing.specs.Wants.{Wants}
+use Rattle.listing.specs.Wants.{More, Room, Refused}
 
 abbrev pub wants_tag : Wants → ℕ
 wants_tag More = 0

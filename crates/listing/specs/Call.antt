@@ -25,9 +25,10 @@ pub use Rattle.recording.specs.Call.{deck_of}
 use Rattle.listing_lines.specs.declared.totals.Totals.{Totals}
 pub use Rattle.listing_lines.specs.Counts.{no_totals, counted}
 use Rattle.listing.specs.declared.lister.Lister.{Lister}
-use Rattle.listing.specs.declared.lister.Wants.{Wants}
-use Rattle.listing.specs.declared.lister.Wants.TheVariants.{More, Room, Refused}
+use Rattle.listing.specs.Wants.{Wants}
+use Rattle.listing.specs.Wants.{More, Room, Refused}
 use Rattle.listing.specs.declared.lister.Took.{Took}
+use Rattle.listing.specs.Wants.{Got, as_got}
 
 -- before the first byte, and nothing counted
 abbrev pub fresh_recording : Lister
@@ -88,13 +89,13 @@ abbrev pub recorded : Deck → Totals → Lister
 recorded m t = record { tape = tape_of m; totals = t }
 
 -- the code's result of a call
-abbrev pub took_of : Printed → Took
+abbrev pub took_of : Printed → Got
 took_of x = record { wants = x.wants; taken = x.taken; written = length x.text; next = recorded x.deck x.totals }
 
 -- r is the result of a call, l and k the receiver's buffers and out the output then, which held old before
 abbrev pub TookIs : Printed → Took → List ℕ → List ℕ → List ℕ → List ℕ → Type 0
 TookIs x r l k old out =
-    (r ≡ took_of x) × (l ≡ x.deck.ear.memory.recv) × (k ≡ x.deck.ear.memory.word) × (out ≡ x.text ++ drop (length x.text) old)
+    (as_got r ≡ took_of x) × (l ≡ x.deck.ear.memory.recv) × (k ≡ x.deck.ear.memory.word) × (out ≡ x.text ++ drop (length x.text) old)
 
 -- the last line: `E` or `X`, by: may the recording end here
 abbrev pub last_by : Bool → Lister → List ℕ

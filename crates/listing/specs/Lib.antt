@@ -1,3 +1,4 @@
+pub mod Wants
 pub mod Call
 pub mod Runs
 pub mod Private

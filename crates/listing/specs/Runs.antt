@@ -4,7 +4,7 @@
 -- Run, Fair  such a run, and rooms with which there is one
 use Rattle.std.specs.Prelude.{ℕ, suc, ◌≤◌, ◌≡◌, List, [], ◌∷◌, ◌++◌, drop}
 use Rattle.listing_lines.specs.declared.totals.Totals.{Totals}
-use Rattle.listing.specs.declared.lister.Wants.TheVariants.{More, Room}
+use Rattle.listing.specs.Wants.{More, Room}
 use Rattle.recording.specs.Deck.{Deck}
 use Rattle.listing_spec.specs.Lines.{longest}
 use Rattle.listing.specs.Call.{takes}

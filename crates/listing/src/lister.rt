@@ -1,9 +1,8 @@
 //! The listing of a recording: bytes in, lines out, any cutting of the input and any room for the output.
 ghost use Rattle.std.specs.Prelude.{◌≡◌, true, ◌++◌, ◌≤◌, ◌<◌, length, drop};
-ghost use Rattle.base.specs.Written.{outcome};
+ghost use Rattle.base.specs.Written.{as_written, outcome};
 ghost use Rattle.channel.specs.Call.{sound, roomy};
 ghost use Rattle.listing_spec.specs.Lines.{line, longest};
-ghost use Rattle.listing.specs.declared.lister.Wants.TheVariants.{Refused};
 ghost use Rattle.recording.specs.Call.{deck_of};
 ghost use Rattle.listing.specs.Call.{fresh_recording, near_totals, near, takes, print, TookIs, finishing};
 ghost use Rattle.listing.specs.Private.{StepIs};
@@ -27,14 +26,13 @@ pub enum Wants {
     More,
     /// More room, and the rest of the bytes again.
     Room,
-    /// The call is refused, by this number of the paper.
-    Refused(u8),
 }
 
 /// The result of a call.
 #[derive(Clone, Copy)]
 pub struct Took {
-    pub wants: Wants,
+    /// Or why the call is refused.
+    pub wants: Result<Wants, Refusal>,
     /// Bytes of the piece taken.
     pub taken: usize,
     /// Bytes of the output written.
@@ -45,9 +43,8 @@ pub struct Took {
 // What a step of a call gives: one line at most.
 #[derive(Clone, Copy)]
 struct Step {
-    // It ends the call.
-    done: bool,
-    wants: Wants,
+    // It ends the call, and this is wanted.
+    wants: Option<Wants>,
     taken: usize,
     written: usize,
     next: Lister,
@@ -58,10 +55,7 @@ fn put(answer: Answer, out: &mut [u8]) -> usize
     requires { longest ≤ length out.old }
     ensures { (result ≡ length (line answer)) × (out.new ≡ line answer ++ drop (length (line answer)) out.old) }
 {
-    match listing_lines::print(answer, out) {
-        Written::Wrote(n) => n,
-        Written::Refused(_) => 0,
-    }
+    listing_lines::print(answer, out).unwrap_or(0)
 }
 
 // Whether no total can pass its width while so many bytes are written.
@@ -69,25 +63,19 @@ fn near_totals(totals: Totals, room: usize) -> bool
     ensures { result ≡ near_totals totals room }
 {
     let most = u64::MAX - room as u64;
-    if most < totals.packets {
-        return false;
-    }
-    if most < totals.refused {
-        return false;
-    }
-    if most < totals.damaged {
-        return false;
-    }
-    totals.lost <= most
+    totals.packets <= most
+        && totals.refused <= most
+        && totals.damaged <= most
+        && totals.lost <= most
 }
 
 impl Took {
     // The call is refused: nothing is taken and nothing written.
-    fn refused(number: u8, recording: Lister) -> Self
-        ensures { result ≡ record { wants = Refused number; taken = 0; written = 0; next = recording } }
+    fn refused(refusal: Refusal, recording: Lister) -> Self
+        ensures { result ≡ record { wants = Err refusal; taken = 0; written = 0; next = recording } }
     {
         Took {
-            wants: Wants::Refused(number),
+            wants: Err(refusal),
             taken: 0,
             written: 0,
             next: recording,
@@ -113,13 +101,7 @@ impl Lister {
     fn near(self, n: usize, room: usize) -> bool
         ensures { result ≡ near self.tape.spot self.totals n room }
     {
-        let tape = self.tape;
-        let at = tape.spot;
-        let totals = self.totals;
-        if u64::MAX - (n as u64) < at.offset {
-            return false;
-        }
-        near_totals(totals, room)
+        self.tape.spot.offset <= u64::MAX - n as u64 && near_totals(self.totals, room)
     }
 
     // One answer, and its line.
@@ -131,35 +113,31 @@ impl Lister {
     {
         if out.len() < Lister::ROOM {
             return Step {
-                done: true,
-                wants: Wants::Room,
+                wants: Some(Wants::Room),
                 taken: 0,
                 written: 0,
                 next: self,
             };
         }
-        let before = self.tape;
-        let totals = self.totals;
-        let heard = before.next(recv, word, piece);
-        let answer = heard.answer;
-        let tape = heard.tape;
+        let heard = self.tape.next(recv, word, piece);
         if heard.is_more() {
             return Step {
-                done: true,
-                wants: Wants::More,
+                wants: Some(Wants::More),
                 taken: heard.taken,
                 written: 0,
-                next: Lister { tape, totals },
+                next: Lister {
+                    tape: heard.tape,
+                    ..self
+                },
             };
         }
         Step {
-            done: false,
-            wants: Wants::More,
+            wants: None,
             taken: heard.taken,
-            written: put(answer, out),
+            written: put(heard.answer, out),
             next: Lister {
-                tape,
-                totals: totals.count(answer),
+                tape: heard.tape,
+                totals: self.totals.count(heard.answer),
             },
         }
     }
@@ -180,10 +158,9 @@ impl Lister {
             next = s.next;
             i += s.taken;
             w += s.written;
-            if s.done {
-                let wants = s.wants;
+            if let Some(wants) = s.wants {
                 return Took {
-                    wants,
+                    wants: Ok(wants),
                     taken: i,
                     written: w,
                     next,
@@ -198,37 +175,23 @@ impl Lister {
             (takes (deck_of self.tape recv.old word.old) self.totals (length out.old) piece.now)
             result recv.new word.new out.old out.new }
     {
-        let tape = self.tape;
-        let receiver = tape.receiver;
-        if !receiver.sound() {
-            return Took::refused(Refusal::STATE, self);
-        }
-        if !self.near(piece.len(), out.len()) {
-            return Took::refused(Refusal::STATE, self);
+        if !self.tape.receiver.sound() || !self.near(piece.len(), out.len()) {
+            return Took::refused(Refusal::State, self);
         }
         if !Receiver::has_room(recv, word) {
-            return Took::refused(Refusal::BUFFER, self);
+            return Took::refused(Refusal::Buffer, self);
         }
         self.take_on(recv, word, piece, out)
     }
 
     /// The last line.
     pub fn finish(self, out: &mut [u8]) -> Written
-        ensures { outcome result out.new ≡ finishing self out.old }
+        ensures { outcome (as_written result) out.new ≡ finishing self out.old }
     {
-        let tape = self.tape;
-        let at = tape.spot;
-        let totals = self.totals;
-        if tape.may_end() {
-            return listing_lines::print_end(
-                at.count,
-                totals.packets,
-                totals.refused,
-                totals.damaged,
-                totals.lost,
-                out,
-            );
+        if self.tape.may_end() {
+            listing_lines::print_end(self.tape.spot.count, self.totals, out)
+        } else {
+            listing_lines::print_wrong(self.tape.spot.offset, out)
         }
-        listing_lines::print_wrong(at.offset, out)
     }
 }

@@ -11,7 +11,14 @@ use Rattle.listing_spec.specs.declared.Total.TheVariants.{Packets, Refusals, Dam
 use Rattle.base.specs.Highest.{highest}
 use Rattle.listing_lines.specs.declared.totals.Totals.{Totals}
 use Rattle.listing_lines.specs.Counts.{counted_in, counted, more, raised, counting, Below}
-use Rattle.listing_lines.proofs.ByKind.{all}
+
+-- four totals
+abbrev all_of : ℕ → ℕ → ℕ → ℕ → Totals
+all_of p r d l = record { packets = p; refused = r; damaged = d; lost = l }
+
+-- .. each by a path
+all : {p p' r r' d d' l l' : ℕ} → p ≡ p' → r ≡ r' → d ≡ d' → l ≡ l' → all_of p r d l ≡ all_of p' r' d' l'
+all a b c e i = record { packets = a i; refused = b i; damaged = c i; lost = e i }
 
 more-is : (n : ℕ) → n < highest → more n ≡ n + 1
 more-is n h = simp (lt-ltb n highest h)

@@ -19,7 +19,7 @@ print-determined κs a z z' ws ws' pre p q = (same_answer p q, skip (buffer (sam
 
 pub print-end-determined : Determined print-end-kinds.ps print-end-kinds.r print-end-reads.Asked print-end-reads.Learnt
 print-end-determined κs a z z' ws ws' pre p q =
-    (same_answer p q, skip (skip (skip (skip (skip (buffer (same-output p q) refl))))))
+    (same_answer p q, skip (skip (buffer (same-output p q) refl)))
 
 pub print-wrong-determined : Determined print-wrong-kinds.ps print-wrong-kinds.r print-wrong-reads.Asked print-wrong-reads.Learnt
 print-wrong-determined κs a z z' ws ws' pre p q = (same_answer p q, skip (buffer (same-output p q) refl))

@@ -3,7 +3,7 @@
 -- line-some                            each but that of "more wanted" has a byte at least
 use Prim.Native.Nat.{ℕ, ◌+◌, ◌≤◌, ◌<◌}
 use native.Mathlib.Omega.{arith}
-use mathlib.Core.List.{List, [], ◌∷◌, ◌++◌}
+use mathlib.Core.List.{List, ◌∷◌, ◌++◌}
 use lib.ListN.{length, length-append}
 use Rattle.text.specs.Text.{ascii, number}
 use Rattle.text.proofs.Digits.{number_short}

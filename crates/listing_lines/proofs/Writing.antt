@@ -3,7 +3,7 @@
 -- end-put, wrong-put                    the last line
 use Prim.Native.Nat.{ℕ}
 use mathlib.Core.Path.{◌≡◌, ap}
-use mathlib.Core.List.{List, [], ◌∷◌}
+use mathlib.Core.List.{List, ◌∷◌}
 use Rattle.text.specs.Text.{ascii, number}
 use Rattle.text.specs.Put.{Puts}
 use Rattle.text.proofs.Putting.{put_then, put_as}

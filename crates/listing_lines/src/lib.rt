@@ -2,7 +2,7 @@
 #![tactic(auto)]
 
 ghost use Rattle.std.specs.Prelude.{◌≡◌};
-ghost use Rattle.base.specs.Written.{outcome, write};
+ghost use Rattle.base.specs.Written.{as_written, outcome, write};
 ghost use Rattle.text.specs.Put.{Puts};
 ghost use Rattle.packet_spec.specs.declared.Judged.TheVariants.{Packet};
 ghost use Rattle.listing_spec.specs.Lines.{letter, told, block_line, line, end_line, wrong_line};
@@ -34,8 +34,7 @@ fn letter(class: Class) -> u8
         Class::Applications => b'A',
         Class::M => b'M',
         Class::D => b'D',
-        Class::Future => b'F',
-        Class::Barred => b'F',
+        Class::Future | Class::Barred => b'F',
     }
 }
 
@@ -63,7 +62,7 @@ fn put_told(text: &mut [u8], judged: Judged) -> usize
         }
         Judged::Broken(place) => {
             let a = put_text(text, 0, b"R ");
-            let b = put_item(text, a, Refusal::ESCAPE as u64, b' ');
+            let b = put_item(text, a, Refusal::Escape as u64, b' ');
             put_item(text, b, place as u64, b'\n')
         }
     }
@@ -97,7 +96,7 @@ fn put_line(text: &mut [u8], answer: Answer) -> usize
 
 /// Writes an answer's line; "more wanted" has none.
 pub fn print(answer: Answer, out: &mut [u8]) -> Written
-    ensures { outcome result out.new ≡ write (line answer) out.old }
+    ensures { outcome (as_written result) out.new ≡ write (line answer) out.old }
 {
     let mut text: [u8; Line::LONGEST] = [0; Line::LONGEST];
     let n = put_line(&mut text, answer);
@@ -105,29 +104,23 @@ pub fn print(answer: Answer, out: &mut [u8]) -> Written
 }
 
 /// Writes the last line of a recording that ends well.
-pub fn print_end(
-    bytes: u64,
-    packets: u64,
-    refused: u64,
-    damaged: u64,
-    lost: u64,
-    out: &mut [u8],
-) -> Written
-    ensures { outcome result out.new ≡ write (end_line bytes packets refused damaged lost) out.old }
+pub fn print_end(bytes: u64, totals: Totals, out: &mut [u8]) -> Written
+    ensures { outcome (as_written result) out.new ≡
+        write (end_line bytes totals.packets totals.refused totals.damaged totals.lost) out.old }
 {
     let mut text: [u8; Line::LONGEST] = [0; Line::LONGEST];
     let a = put_text(&mut text, 0, b"E ");
     let b = put_item(&mut text, a, bytes, b' ');
-    let c = put_item(&mut text, b, packets, b' ');
-    let d = put_item(&mut text, c, refused, b' ');
-    let e = put_item(&mut text, d, damaged, b' ');
-    let n = put_item(&mut text, e, lost, b'\n');
+    let c = put_item(&mut text, b, totals.packets, b' ');
+    let d = put_item(&mut text, c, totals.refused, b' ');
+    let e = put_item(&mut text, d, totals.damaged, b' ');
+    let n = put_item(&mut text, e, totals.lost, b'\n');
     deliver(&text, n, out)
 }
 
 /// Writes the last line of one that does not.
 pub fn print_wrong(offset: u64, out: &mut [u8]) -> Written
-    ensures { outcome result out.new ≡ write (wrong_line offset) out.old }
+    ensures { outcome (as_written result) out.new ≡ write (wrong_line offset) out.old }
 {
     let mut text: [u8; Line::LONGEST] = [0; Line::LONGEST];
     let a = put_text(&mut text, 0, b"X ");

@@ -1,8 +1,7 @@
 //! What is counted of answers, for the last line.
 ghost use Rattle.std.specs.Prelude.{◌≡◌};
 ghost use Rattle.listing_spec.specs.Lines.{total_of};
-ghost use Rattle.channel_spec.specs.declared.Answer.TheVariants.{Said, Block};
-ghost use Rattle.listing_lines.specs.Counts.{no_totals, more, counting};
+ghost use Rattle.listing_lines.specs.Counts.{no_totals, counting};
 
 use channel_spec::{Answer, Condition};
 use listing_spec::Total;
@@ -17,48 +16,17 @@ pub struct Totals {
     pub lost: u64,
 }
 
-// The total that a frame's answer counts in ..
-fn total_of_frame(judged: Judged) -> Total
-    ensures { result ≡ total_of (Said judged) }
-{
-    match judged {
-        Judged::Packet(_) => Total::Packets,
-        Judged::Refused(_) => Total::Refusals,
-        Judged::Broken(_) => Total::Refusals,
-    }
-}
-
-// .. a block's ..
-fn total_of_block(condition: Condition) -> Total
-    ensures { result ≡ total_of (Block condition) }
-{
-    match condition {
-        Condition::Clean => Total::Nothing,
-        Condition::Repaired(_) => Total::Nothing,
-        Condition::Beyond => Total::Damaged,
-    }
-}
-
-// .. and any.
+// The total that an answer counts in.
 fn total_of(answer: Answer) -> Total
     ensures { result ≡ total_of answer }
 {
     match answer {
-        Answer::More => Total::Nothing,
-        Answer::Said(judged) => total_of_frame(judged),
-        Answer::Block(condition) => total_of_block(condition),
+        Answer::Said(Judged::Packet(_)) => Total::Packets,
+        Answer::Said(Judged::Refused(_) | Judged::Broken(_)) => Total::Refusals,
+        Answer::Block(Condition::Beyond) => Total::Damaged,
         Answer::LockLost => Total::Lost,
+        Answer::More | Answer::Block(Condition::Clean | Condition::Repaired(_)) => Total::Nothing,
     }
-}
-
-// One more; the greatest number stays.
-fn more(n: u64) -> u64
-    ensures { result ≡ more n }
-{
-    if n < u64::MAX {
-        return n + 1;
-    }
-    n
 }
 
 impl Totals {
@@ -74,34 +42,26 @@ impl Totals {
         }
     }
 
-    /// An answer is counted in its total, if it has one.
+    /// An answer is counted in its total, if it has one; the greatest number stays.
     pub fn count(self, answer: Answer) -> Self
         ensures { result ≡ counting self answer }
     {
         match total_of(answer) {
             Total::Packets => Totals {
-                packets: more(self.packets),
-                refused: self.refused,
-                damaged: self.damaged,
-                lost: self.lost,
+                packets: self.packets.saturating_add(1),
+                ..self
             },
             Total::Refusals => Totals {
-                packets: self.packets,
-                refused: more(self.refused),
-                damaged: self.damaged,
-                lost: self.lost,
+                refused: self.refused.saturating_add(1),
+                ..self
             },
             Total::Damaged => Totals {
-                packets: self.packets,
-                refused: self.refused,
-                damaged: more(self.damaged),
-                lost: self.lost,
+                damaged: self.damaged.saturating_add(1),
+                ..self
             },
             Total::Lost => Totals {
-                packets: self.packets,
-                refused: self.refused,
-                damaged: self.damaged,
-                lost: more(self.lost),
+                lost: self.lost.saturating_add(1),
+                ..self
             },
             Total::Nothing => self,
         }

@@ -2,24 +2,19 @@
 //! without a last line. Where the last line is `X`, it stands on standard error too. Behind a wrong byte it reads no more.
 #![tactic(auto)]
 
-ghost use Rattle.std.specs.Prelude.{◌≤◌, length, IfOk};
-
 use channel::Receiver;
-use console::{PIECE, Speak, say};
+use console::{PIECE, Speak, TakePieces, say};
 use listing::{Lister, Wants};
 use std::io;
-use std::io::Read;
 use std::process::ExitCode;
 
-// A recording behind a call.
-#[derive(Clone, Copy)]
-struct Turn {
-    // The rest of the piece is to be handed in again.
-    again: bool,
-    // The listing goes on; else it was said why not.
-    go: bool,
-    taken: usize,
-    next: Lister,
+// A recording that is being listed, and the memory that its calls are lent.
+#[derive(Drop)]
+struct Listing {
+    recording: Lister,
+    recv: [u8; Receiver::RAW],
+    word: [u8; Receiver::WORD],
+    out: [u8; PIECE],
 }
 
 fn main(rt: HostRuntime) -> ExitCode {
@@ -28,120 +23,64 @@ fn main(rt: HostRuntime) -> ExitCode {
 
 // Standard input, piece by piece as it comes.
 fn list_all(rt: &(impl Input + Print + Speak)) -> io::Result<()> {
-    let mut recv = [0u8; Receiver::RAW];
-    let mut word = [0u8; Receiver::WORD];
-    let mut piece = [0u8; PIECE];
-    let mut out = [0u8; PIECE];
-    let mut recording = Lister::fresh();
-    let mut input = rt.reader();
-    for _ in 0..u64::MAX {
-        let Ok(n) = input.read(&mut piece) else {
-            say_unread(rt);
-            return Ok(());
-        };
-        if n == 0 {
-            return finish(rt, recording, &mut out);
-        }
-        let turn = list(rt, recording, &mut recv, &mut word, &piece[0..n], &mut out)?;
-        recording = turn.next;
-        if !turn.go {
-            return Ok(());
-        }
-        let tape = recording.tape;
-        if tape.is_wrong() {
-            return finish(rt, recording, &mut out);
-        }
-    }
-    Ok(())
-}
-
-fn say_unread(rt: &impl Speak) {
-    console::say_unread(rt, b"listing");
-}
-
-// A piece, until more is wanted.
-fn list(
-    rt: &(impl Print + Speak),
-    start: Lister,
-    recv: &mut [u8],
-    word: &mut [u8],
-    piece: &[u8],
-    out: &mut [u8],
-) -> io::Result<Turn> {
-    let mut turn = Turn {
-        again: true,
-        go: false,
-        taken: 0,
-        next: start,
+    let mut listing = Listing {
+        recording: Lister::fresh(),
+        recv: [0; Receiver::RAW],
+        word: [0; Receiver::WORD],
+        out: [0; PIECE],
     };
-    let mut i: usize = 0;
-    for _ in 0..u64::MAX {
-        turn = call(rt, turn.next, recv, word, &piece[i..], out)?;
-        i += turn.taken;
-        if !turn.again {
-            return Ok(turn);
-        }
-    }
-    Ok(turn)
-}
-
-// One call, and its lines.
-fn call(
-    rt: &(impl Print + Speak),
-    start: Lister,
-    recv: &mut [u8],
-    word: &mut [u8],
-    piece: &[u8],
-    out: &mut [u8],
-) -> io::Result<Turn>
-    ensures { IfOk result (λ t. t.taken ≤ length piece.now) }
-{
-    let took = start.take(recv, word, piece, out);
-    let taken = took.taken;
-    let next = took.next;
-    let wants = took.wants;
-    let n = took.written;
-    print(rt, &out[0..n])?;
-    Ok(Turn {
-        again: wants_room(wants),
-        go: !is_refused(rt, wants),
-        taken,
-        next,
-    })
-}
-
-fn wants_room(wants: Wants) -> bool {
-    match wants {
-        Wants::More => false,
-        Wants::Room => true,
-        Wants::Refused(_) => false,
-    }
-}
-
-// Whether a call was refused: no recording of less than 2^64 bytes comes to that.
-fn is_refused(rt: &impl Speak, wants: Wants) -> bool {
-    match wants {
-        Wants::More => false,
-        Wants::Room => false,
-        Wants::Refused(_) => {
-            say(rt, b"listing: the recording is too long\n");
-            true
-        }
-    }
-}
-
-// The last line, and where the input is no whole recording.
-fn finish(rt: &(impl Print + Speak), recording: Lister, out: &mut [u8]) -> io::Result<()> {
-    let tape = recording.tape;
-    let at = tape.spot;
-    let last = recording.finish(out);
-    if console::put(rt, b"listing", last, out)? && !tape.may_end() {
-        console::say_wrong(rt, b"listing", at.offset);
+    let ended = console::each_piece(rt, b"listing", &mut listing)?;
+    if ended {
+        listing.finish(rt)?;
     }
     Ok(())
 }
 
-// Lines to standard output.
-fn print(rt: &(impl Print + Speak), text: &[u8]) -> io::Result<()> {
-    console::print(rt, b"listing", text)
+impl TakePieces for Listing {
+    // A piece: whether more is to be read. Behind a wrong byte nothing counts, so that the last line is printed there.
+    fn take(&mut self, rt: &(impl Print + Speak), piece: &[u8]) -> io::Result<bool> {
+        if !self.list(rt, piece)? {
+            return Ok(false);
+        }
+        if self.recording.tape.is_wrong() {
+            self.finish(rt)?;
+            return Ok(false);
+        }
+        Ok(true)
+    }
+}
+
+impl Listing {
+    // A piece, until more is wanted: whether the listing goes on, else it was said why not.
+    fn list(&mut self, rt: &(impl Print + Speak), piece: &[u8]) -> io::Result<bool> {
+        let mut rest = piece;
+        for _ in 0..u64::MAX {
+            let took = self
+                .recording
+                .take(&mut self.recv, &mut self.word, rest, &mut self.out);
+            self.recording = took.next;
+            rest = &rest[took.taken.min(rest.len())..];
+            console::print(rt, b"listing", &self.out[..took.written.min(PIECE)])?;
+            match took.wants {
+                Ok(Wants::Room) => {}
+                Ok(Wants::More) => return Ok(true),
+                // No recording of less than 2^64 bytes comes to that.
+                Err(_) => {
+                    say(rt, b"listing: the recording is too long\n");
+                    return Ok(false);
+                }
+            }
+        }
+        Ok(true)
+    }
+
+    // The last line, and where the input is no whole recording.
+    fn finish(&mut self, rt: &(impl Print + Speak)) -> io::Result<()> {
+        let tape = self.recording.tape;
+        let last = self.recording.finish(&mut self.out);
+        if console::put(rt, b"listing", last, &self.out)? && !tape.may_end() {
+            console::say_wrong(rt, b"listing", tape.spot.offset);
+        }
+        Ok(())
+    }
 }

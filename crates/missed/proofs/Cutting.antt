@@ -20,8 +20,7 @@ use Rattle.packet_spec.specs.Frame.{packet, refusal, broken}
 use Rattle.channel_spec.specs.Sender.{word_bytes}
 use Rattle.channel_spec.specs.Meaning.{Event, said, block, lost}
 use Rattle.channel.proofs.Fine.{fine-fresh}
-use Rattle.listing_spec.specs.Apart.{fresh_spot, apart, on_channel}
-use Rattle.listing_spec.specs.Meaning.{heard}
+use Rattle.listing_spec.specs.Apart.{fresh_spot, apart}
 use Rattle.ports_spec.specs.declared.Range.{Range}
 use Rattle.ports_spec.specs.Range.{inside}
 use Rattle.ports_spec.specs.Ports.{noting}

@@ -3,6 +3,7 @@
 use mathlib.Core.Path.{refl}
 use Rattle.base.specs.Determined.{Determined}
 use Rattle.base.proofs.Determining.{same, same_answer, same-output, buffer, skip}
+use Rattle.missed.proofs.Told.{same-took}
 use Rattle.missed.proofs.line.print_noted.Kinds as print-noted-kinds
 use Rattle.missed.proofs.line.print_noted.Reads as print-noted-reads
 use Rattle.missed.proofs.notes.Notes.fresh.Kinds as fresh-kinds
@@ -18,4 +19,4 @@ fresh-determined κs a z z' ws ws' pre p q = (same p q, refl)
 
 pub take-determined : Determined take-kinds.ps take-kinds.r take-reads.Asked take-reads.Learnt
 take-determined κs a z z' ws ws' pre p q =
-    (same p.0 q.0, skip (buffer (same p.1 q.1) (buffer (same p.2 q.2) (skip (buffer (same p.3 q.3) refl)))))
+    (same-took z z' (same p.0 q.0), skip (buffer (same p.1 q.1) (buffer (same p.2 q.2) (skip (buffer (same p.3 q.3) refl)))))

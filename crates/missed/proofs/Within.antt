@@ -8,10 +8,9 @@ use mathlib.Core.Option.{Option, some, none}
 use lib.Dec.{ltb}
 use lib.ListN.{length, drop, length-append}
 use Rattle.base.specs.Choice.{pick}
-use Rattle.recording.specs.Packets.{packet_call}
 use Rattle.recording.proofs.Within.{call-within}
 use Rattle.missed_spec.specs.Line.{longest}
-use Rattle.missed.specs.declared.notes.Took.{Took}
+use Rattle.missed.specs.Wants.{Took}
 use Rattle.missed.specs.Page.{Page, Note, line, unheard, page_call}
 use Rattle.missed.specs.Call.{Part, part_by, takes, TookIs}
 

@@ -11,9 +11,7 @@ use Rattle.ports.specs.ByValue.{fresh_ports}
 use Rattle.recording.specs.Call.{fresh_tape, deck_of, tape_of}
 use Rattle.missed_spec.specs.Line.{longest}
 use Rattle.missed.specs.declared.notes.Notes.{Notes}
-use Rattle.missed.specs.declared.notes.Wants.{Wants}
-use Rattle.missed.specs.declared.notes.Wants.TheVariants.{More, Again, Refused}
-use Rattle.missed.specs.declared.notes.Took.{Took}
+use Rattle.missed.specs.Wants.{Wants, More, Again, Refused, Took}
 use Rattle.missed.specs.Page.{Page, page, Note, line, unheard, page_call}
 
 -- before the first byte: a table that holds no port

@@ -1,3 +1,4 @@
 pub mod Page
+pub mod Wants
 pub mod Call
 pub mod Private

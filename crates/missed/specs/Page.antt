@@ -8,7 +8,6 @@
 use Rattle.std.specs.Prelude.{ℕ, Bool, true, false, List, [], ◌∷◌, ◌++◌}
 use Rattle.std.proofs.Math.Option.{Option, some, none}
 use Rattle.base.specs.Calls.{all, hear}
-use Rattle.packet_spec.specs.Contents.{Packet}
 use Rattle.recording.specs.Deck.{Deck, fresh, deck_owes}
 use Rattle.recording.specs.Packets.{Item, delivered, refused, packet_hand, packet_eat, packet_call}
 use Rattle.ports_spec.specs.declared.Range.{Range}

@@ -4,8 +4,7 @@ use Rattle.std.specs.Prelude.{ℕ, ◌≡◌, List, ◌++◌, length, drop}
 use Rattle.packet_spec.specs.declared.Delivery.{Delivery}
 use Rattle.ports.specs.declared.by_value.Ports.{Ports}
 use Rattle.missed.specs.declared.notes.Notes.{Notes}
-use Rattle.missed.specs.declared.notes.Wants.TheVariants.{Again}
-use Rattle.missed.specs.declared.notes.Took.{Took}
+use Rattle.missed.specs.Wants.{Again, Took}
 use Rattle.missed.specs.Page.{line_of}
 
 -- its line, and the table behind it

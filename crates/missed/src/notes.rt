@@ -2,6 +2,7 @@
 ghost use Rattle.std.specs.Prelude.{◌≡◌, ◌≤◌, length};
 ghost use Rattle.missed_spec.specs.Line.{longest};
 ghost use Rattle.missed.specs.Call.{fresh_notes, page_of, takes, TookIs};
+ghost use Rattle.missed.specs.Wants.{as_took};
 ghost use Rattle.missed.specs.Private.{NotedIs};
 
 use crate::line::put_noted;
@@ -9,7 +10,7 @@ use base::Refusal;
 use packet::Delivery;
 use ports::Ports;
 use ports_spec::Range;
-use recording::{Found, RecordingReader};
+use recording::RecordingReader;
 
 /// A recording whose packets of a range of ports are noted.
 #[derive(Clone, Copy)]
@@ -26,14 +27,12 @@ pub enum Wants {
     More,
     /// The rest of the bytes again.
     Again,
-    /// The call is refused, by this number of the paper.
-    Refused(u8),
 }
 
 /// The result of a call.
 #[derive(Clone, Copy)]
 pub struct Took {
-    pub wants: Wants,
+    pub wants: Result<Wants, Refusal>,
     /// Bytes of the piece taken.
     pub taken: usize,
     /// Bytes of the output written.
@@ -56,34 +55,35 @@ impl Notes {
         }
     }
 
+    // What a call that writes nothing gives.
+    fn unwritten(self, wants: Result<Wants, Refusal>, taken: usize) -> Took
+        ensures { result ≡ record { wants = wants; taken = taken; written = 0; next = self } }
+    {
+        Took {
+            wants,
+            taken,
+            written: 0,
+            next: self,
+        }
+    }
+
     // A packet, and its line; one of a port outside the range is neither noted nor shown.
     fn note(self, taken: usize, delivery: Delivery, out: &mut [u8]) -> Took
         requires { longest ≤ length out.old }
-        ensures { NotedIs self taken delivery result out.old out.new }
+        ensures { NotedIs self taken delivery (as_took result) out.old out.new }
     {
-        let range = self.range;
-        let ports = self.ports;
-        let tape = self.tape;
-        if !range.has(delivery.port) {
-            return Took {
-                wants: Wants::Again,
-                taken,
-                written: 0,
-                next: self,
-            };
+        if !self.range.has(delivery.port) {
+            return self.unwritten(Ok(Wants::Again), taken);
         }
-        let told = ports.note(delivery.port, delivery.sequence);
-        let noted = told.noted;
-        let behind = told.ports;
-        let written = put_noted(out, delivery.port, delivery.sequence, noted);
+        let told = self.ports.note(delivery.port, delivery.sequence);
+        let written = put_noted(out, delivery.port, delivery.sequence, told.noted);
         Took {
-            wants: Wants::Again,
+            wants: Ok(Wants::Again),
             taken,
             written,
             next: Notes {
-                tape,
-                ports: behind,
-                range,
+                ports: told.ports,
+                ..self
             },
         }
     }
@@ -91,38 +91,20 @@ impl Notes {
     /// The next bytes: the line of the next packet, where it is one of the range; refused where the output has no room for any line.
     pub fn take(self, recv: &mut [u8], word: &mut [u8], piece: &[u8], out: &mut [u8]) -> Took
         ensures { TookIs (takes (length out.old) (page_of self recv.old word.old) piece.now)
-            result recv.new word.new out.old out.new }
+            (as_took result) recv.new word.new out.old out.new }
     {
         if out.len() < Notes::ROOM {
-            return Took {
-                wants: Wants::Refused(Refusal::OUTPUT),
-                taken: 0,
-                written: 0,
-                next: self,
-            };
+            return self.unwritten(Err(Refusal::Output), 0);
         }
-        let before = self.tape;
-        let ports = self.ports;
-        let range = self.range;
-        let heard = before.next_packet(recv, word, piece);
-        let taken = heard.taken;
-        let found = heard.found;
-        let tape = heard.tape;
-        let next = Notes { tape, ports, range };
-        match found {
-            Found::More => Took {
-                wants: Wants::More,
-                taken,
-                written: 0,
-                next,
-            },
-            Found::Packet(delivery) => next.note(taken, delivery, out),
-            Found::Refused(number) => Took {
-                wants: Wants::Refused(number),
-                taken,
-                written: 0,
-                next,
-            },
+        let heard = self.tape.next_packet(recv, word, piece);
+        let next = Notes {
+            tape: heard.tape,
+            ..self
+        };
+        match heard.found {
+            Ok(None) => next.unwritten(Ok(Wants::More), heard.taken),
+            Ok(Some(delivery)) => next.note(heard.taken, delivery, out),
+            Err(refusal) => next.unwritten(Err(refusal), heard.taken),
         }
     }
 }

@@ -4,23 +4,20 @@
 #![tactic(auto)]
 
 use channel::Receiver;
-use console::{LAST_PORT, PIECE, Speak, say};
+use console::{Speak, TakePieces, say};
 use missed::{Notes, Wants};
 use ports_spec::Range;
 use std::env::Env;
 use std::io;
-use std::io::Read;
 use std::process::ExitCode;
 
-// What is noted so far, behind a call.
-#[derive(Clone, Copy)]
-struct Turn {
-    // The rest of the piece is to be handed in again.
-    again: bool,
-    // The recording is heard further; else it was said why not.
-    go: bool,
-    taken: usize,
+// A recording whose packets are noted, and the memory that its calls are lent.
+#[derive(Drop)]
+struct Hearing {
     notes: Notes,
+    recv: [u8; Receiver::RAW],
+    word: [u8; Receiver::WORD],
+    out: [u8; Notes::ROOM],
 }
 
 fn main(rt: HostRuntime) -> ExitCode {
@@ -29,127 +26,78 @@ fn main(rt: HostRuntime) -> ExitCode {
 
 // The ports that the arguments name.
 fn run(rt: &(impl Env + Input + Print + Speak)) -> io::Result<()> {
-    let first = console::port(rt, 1);
-    let last = console::port(rt, 2);
-    if console::argument_count(rt) != 3 || first > LAST_PORT || last > LAST_PORT {
+    let (3, Some(first), Some(last)) = (
+        console::argument_count(rt),
+        console::port(rt, 1),
+        console::port(rt, 2),
+    ) else {
         say(
             rt,
             b"usage: missed FIRST LAST <RECORDING; FIRST and LAST are ports\n",
         );
         return Ok(());
-    }
-    hear_all(rt, console::range(first, last))
+    };
+    hear_all(rt, Range { first, last })
 }
 
-// The recording, piece by piece.
+// Standard input, piece by piece as it comes.
 fn hear_all(rt: &(impl Input + Print + Speak), range: Range) -> io::Result<()> {
-    let mut recv = [0u8; Receiver::RAW];
-    let mut word = [0u8; Receiver::WORD];
-    let mut out = [0u8; Notes::ROOM];
-    let mut piece = [0u8; PIECE];
-    let mut notes = Notes::fresh(range);
-    let mut input = rt.reader();
-    for _ in 0..u64::MAX {
-        let Ok(n) = input.read(&mut piece) else {
-            console::say_unread(rt, b"missed");
-            return Ok(());
-        };
-        if n == 0 {
-            finish(rt, notes);
-            return Ok(());
-        }
-        let turn = hear(rt, notes, &mut recv, &mut word, &piece[0..n], &mut out)?;
-        notes = turn.notes;
-        if !turn.go || is_over(rt, notes) {
-            return Ok(());
-        }
+    let mut hearing = Hearing {
+        notes: Notes::fresh(range),
+        recv: [0; Receiver::RAW],
+        word: [0; Receiver::WORD],
+        out: [0; Notes::ROOM],
+    };
+    let ended = console::each_piece(rt, b"missed", &mut hearing)?;
+    if ended {
+        hearing.finish(rt);
     }
     Ok(())
 }
 
-// A piece, until more is wanted.
-fn hear(
-    rt: &(impl Print + Speak),
-    start: Notes,
-    recv: &mut [u8],
-    word: &mut [u8],
-    piece: &[u8],
-    out: &mut [u8],
-) -> io::Result<Turn> {
-    let mut turn = Turn {
-        again: true,
-        go: false,
-        taken: 0,
-        notes: start,
-    };
-    let mut i: usize = 0;
-    for _ in 0..u64::MAX {
-        turn = call(rt, turn.notes, recv, word, &piece[i..], out)?;
-        i = console::onward(i, turn.taken, piece.len());
-        if !turn.again {
-            return Ok(turn);
+impl TakePieces for Hearing {
+    // A piece: whether more is to be read. Nothing behind a wrong byte counts, so that no more is read there.
+    fn take(&mut self, rt: &(impl Print + Speak), piece: &[u8]) -> io::Result<bool> {
+        if !self.note(rt, piece)? {
+            return Ok(false);
         }
-    }
-    Ok(turn)
-}
-
-// One call, and its line.
-fn call(
-    rt: &(impl Print + Speak),
-    start: Notes,
-    recv: &mut [u8],
-    word: &mut [u8],
-    piece: &[u8],
-    out: &mut [u8],
-) -> io::Result<Turn> {
-    let took = start.take(recv, word, piece, out);
-    let taken = took.taken;
-    let notes = took.next;
-    let wants = took.wants;
-    console::print(rt, b"missed", &out[0..base::least(took.written, out.len())])?;
-    Ok(Turn {
-        again: wants_again(wants),
-        go: !is_refused(rt, wants),
-        taken,
-        notes,
-    })
-}
-
-fn wants_again(wants: Wants) -> bool {
-    match wants {
-        Wants::More => false,
-        Wants::Again => true,
-        Wants::Refused(_) => false,
-    }
-}
-
-// Whether a call was refused: no recording of less than 2^64 bytes comes to that.
-fn is_refused(rt: &impl Speak, wants: Wants) -> bool {
-    match wants {
-        Wants::More => false,
-        Wants::Again => false,
-        Wants::Refused(_) => {
-            say(rt, b"missed: the recording is too long\n");
-            true
+        if self.notes.tape.is_wrong() {
+            self.finish(rt);
+            return Ok(false);
         }
+        Ok(true)
     }
 }
 
-// Whether a wrong byte was met: nothing behind it counts, so no more is read.
-fn is_over(rt: &impl Speak, notes: Notes) -> bool {
-    let tape = notes.tape;
-    if tape.is_wrong() {
-        finish(rt, notes);
-        return true;
+impl Hearing {
+    // A piece, until more is wanted: whether the recording is heard further, else it was said why not.
+    fn note(&mut self, rt: &(impl Print + Speak), piece: &[u8]) -> io::Result<bool> {
+        let mut rest = piece;
+        for _ in 0..u64::MAX {
+            let took = self
+                .notes
+                .take(&mut self.recv, &mut self.word, rest, &mut self.out);
+            self.notes = took.next;
+            rest = &rest[took.taken.min(rest.len())..];
+            console::print(rt, b"missed", &self.out[..took.written.min(Notes::ROOM)])?;
+            match took.wants {
+                Ok(Wants::Again) => {}
+                Ok(Wants::More) => return Ok(true),
+                // No recording of less than 2^64 bytes comes to that.
+                Err(_) => {
+                    say(rt, b"missed: the recording is too long\n");
+                    return Ok(false);
+                }
+            }
+        }
+        Ok(true)
     }
-    false
-}
 
-// Whether the recording ends as one, and where it does not.
-fn finish(rt: &impl Speak, notes: Notes) {
-    let tape = notes.tape;
-    let at = tape.spot;
-    if !tape.may_end() {
-        console::say_wrong(rt, b"missed", at.offset);
+    // Whether the recording ends as one, and where it does not.
+    fn finish(&self, rt: &impl Speak) {
+        let tape = self.notes.tape;
+        if !tape.may_end() {
+            console::say_wrong(rt, b"missed", tape.spot.offset);
+        }
     }
 }

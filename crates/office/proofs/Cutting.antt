@@ -20,8 +20,8 @@ use Rattle.stream.specs.Sender.{frames_of}
 use Rattle.channel_spec.specs.Sender.{marked, sending}
 use Rattle.bid.specs.Line.{line_limit}
 use Rattle.bid.specs.Input.{packets_of, complaints}
-use Rattle.office.specs.declared.Started.{Started}
-use Rattle.office.specs.declared.Started.TheVariants.{Ready}
+use Rattle.office.specs.Start.{Started}
+use Rattle.office.specs.Start.{Ready}
 use Rattle.office.specs.Meaning.{sent_for, Said, Desk, waiting, eat, desk_all, sent_by, complaints_by}
 use Rattle.office.specs.Call.{hold_limit, out_limit, fresh_office, starting, hear_by, hear_call, end_bytes, close_call, finish_by, finishing, sound}
 use Rattle.office.specs.Call.{roomy, Fine, first, last_of}

@@ -1,17 +1,21 @@
 -- What the private functions leave.
--- put_is, put-not                whole messages put out, the rest moved
+-- put_is                        whole messages put out, the rest moved
 -- send-asks, send-is, send-not   a bid
 -- line-asks, line-bid, line-none a line's end
 use Prim.Native.Nat.{ℕ, suc, ◌+◌, ◌-◌, ◌*◌, ◌/◌, ◌%◌, ◌≤◌}
 use native.Mathlib.Omega.{arith}
-use native.Mathlib.Nat.{sub-zero}
 use mathlib.Core.Path.{◌≡◌, refl, sym, ◌∙◌, ap, subst}
 use mathlib.Core.List.{List, [], ◌∷◌, ◌++◌, append_assoc}
-use lib.ListN.{length, take, drop, replicate, length-append, length-drop, length-replicate}
+use lib.ListN.{length, take, drop, length-append, length-drop}
 use lib.Seq.{take-take, take_at, length-take-le, drop-drop}
 use Rattle.base.specs.Written.{Outcome, outcome, write, copied, refused as keeps}
-use Rattle.base.specs.declared.Written.{Written}
-use Rattle.base.specs.declared.Written.TheVariants.{Wrote, Refused as No}
+use Rattle.std.specs.Prelude.{Result, Ok, Err}
+use Rattle.std.specs.List.{copy_within}
+use Rattle.std.specs.Result.{result_unwrap_or}
+use Rattle.base.specs.declared.Refusal.{Refusal}
+use Rattle.base.specs.Refusals.{number}
+use Rattle.base.specs.Written.{Written, as_written}
+use Rattle.base.specs.Written.{Wrote, Refused as No}
 use Rattle.base.proofs.Parts.{tail-is}
 use Rattle.base.proofs.Lists.{drop-take}
 use Rattle.base.proofs.Tests.{by-eq, by_le, by-test}
@@ -26,20 +30,18 @@ use Rattle.stream.specs.Sender.{raw_of, appending}
 use Rattle.stream.proofs.Sending.{appending-keeps}
 use Rattle.channel_spec.specs.Sender.{marked, sending}
 use Rattle.bid.specs.Line.{text, reading, Verdict, refused, accepted, judged, bid_of, verdict}
-use Rattle.bid.specs.declared.Found.TheVariants.{Bid, NoBid}
+use Rattle.std.specs.Prelude.{Some, None}
+use Rattle.bid.specs.declared.Bid.{Bid}
 use Rattle.bid.proofs.Reading.{text-is, bid-found, bid-missed}
 use Rattle.bid.proofs.Verdicts.{judged-empty, judged-long, judged-barred, judged-free, verdict-none, verdict-bid}
-use Rattle.office.specs.declared.Answer.TheVariants.{Sent, NoBid as Unread, Refused}
+use Rattle.office.specs.declared.Answer.TheVariants as said
+use Rattle.office.specs.Answer.{Sent}
 use Rattle.office.specs.declared.Ended.{Ended}
 use Rattle.office.specs.Meaning.{ending_by}
 use Rattle.channel_spec.specs.Sender.{whole_bytes, wholes, rest_of, message_bytes}
 use Rattle.office.specs.Call.{held_limit, hold_limit, out_limit}
 use Rattle.office.specs.Private.{EndedIs, PutIs}
-use Rattle.channel_spec.proofs.Marking.{marked-length, wholes-length, rest-short}
-
--- a local's zeros
-abbrev zeros : List ℕ
-zeros = replicate message_bytes 0
+use Rattle.channel_spec.proofs.Marking.{marked-length, wholes-length}
 
 -- ---- whole messages put out
 module _ (hold out : List ℕ) (n : ℕ) (h : n ≤ length hold) (m : n ≤ hold_limit) (room : out_limit ≤ length out) where
@@ -52,9 +54,8 @@ module _ (hold out : List ℕ) (n : ℕ) (h : n ≤ length hold) (m : n ≤ hold
   bs-length : length bs ≡ n
   bs-length = length-take-le n hold h
 
-  first-is : take (whole - 0) hold ≡ wholes bs
-  first-is =
-      ap (λ (k : ℕ). take k hold) (sub-zero whole) ∙ sym (take-take whole n hold (omega arith)) ∙ ap (λ (k : ℕ). take (whole_bytes k) bs) (sym bs-length)
+  first-is : take whole hold ≡ wholes bs
+  first-is = sym (take-take whole n hold (omega arith)) ∙ ap (λ (k : ℕ). take (whole_bytes k) bs) (sym bs-length)
 
   rest-is : take (n - whole) (drop whole hold) ≡ rest_of bs
   rest-is = sym (drop-take whole n hold) ∙ ap (λ (k : ℕ). drop (whole_bytes k) bs) (sym bs-length)
@@ -62,26 +63,22 @@ module _ (hold out : List ℕ) (n : ℕ) (h : n ≤ length hold) (m : n ≤ hold
   fits : length (marked (wholes bs)) ≤ length out
   fits = omega (arith, marked-length (length bs / message_bytes) (wholes bs) (wholes-length bs), bs-length)
 
-  module _ {w : Written} {out' rest hold' : List ℕ} (es : outcome w out' ≡ sending (take (whole - 0) hold) out)
-      (er : rest ≡ copied (take (n - whole) (drop whole hold)) zeros) (eh : hold' ≡ copied (take (n - whole - 0) rest) hold) where
-    put : outcome w out' ≡ write (marked (wholes bs)) out
-    put = es ∙ ap (λ (x : List ℕ). sending x out) first-is
+  written : (w : Result ℕ Refusal) {out' : List ℕ} → outcome (as_written w) out' ≡ write (marked (wholes bs)) out
+      → (result_unwrap_or w 0 ≡ length (marked (wholes bs))) × (out' ≡ marked (wholes bs) ++ drop (length (marked (wholes bs))) out)
+  written (Ok k) e = room-wrote (marked (wholes bs)) out fits e refl
+  written (Err r) e = absurd (room-never (marked (wholes bs)) out fits e refl)
 
-    moved : hold' ≡ copied (rest_of bs) hold
-    moved =
-        let r : List ℕ = rest_of bs in
-        let k : length r ≡ n - whole = length-drop (whole_bytes (length bs)) bs ∙ omega (arith, bs-length) in
-        let z : length r ≤ length zeros = omega (arith, length-replicate {A = ℕ} message_bytes 0, rest-short bs) in
-        let e : take (n - whole - 0) rest ≡ r =
-        ap (take (n - whole - 0)) (er ∙ ap (λ (x : List ℕ). copied x zeros) rest-is ∙ copied-fits r zeros z)
-        ∙ take_at r (drop (length r) zeros) (n - whole - 0) (omega arith) in
-        eh ∙ ap (λ (x : List ℕ). copied x hold) e
+  moved : copy_within hold whole n 0 ≡ copied (rest_of bs) hold
+  moved =
+      let k : length (rest_of bs) ≡ n - whole = length-drop (whole_bytes (length bs)) bs ∙ omega (arith, bs-length) in
+      let z : 0 + (n - whole) ≡ length (rest_of bs) = omega arith in
+      (λ i. rest-is i ++ drop (z i) hold) ∙ sym (copied-fits (rest_of bs) hold (omega arith))
 
-    pub put_is : {r : ℕ} → w ≡ Wrote r → PutIs bs hold out r hold' out'
-    put_is {r} f = let p = room-wrote (marked (wholes bs)) out fits put f in (p.0, moved, p.1)
-
-    pub put-not : {r : ℕ} → w ≡ No r → ⊥
-    put-not f = room-never (marked (wholes bs)) out fits put f
+  pub put_is : (w : Result ℕ Refusal) {r : ℕ} {out' hold' : List ℕ} → outcome (as_written w) out' ≡ sending (take whole hold) out → r ≡ result_unwrap_or w 0
+      → hold' ≡ copy_within hold whole n 0 → PutIs bs hold out r hold' out'
+  put_is w es er eh =
+      let p = written w (es ∙ ap (λ (x : List ℕ). sending x out) first-is) in
+      (er ∙ p.0, eh ∙ moved, p.1)
 
 -- ---- a bid
 module _ (port sequence : ℕ) (payload : List ℕ) (at : ℕ) (hold : List ℕ) (small : at ≤ held_limit) (room : hold_limit ≤ length hold) where
@@ -141,23 +138,26 @@ module _ (port sequence : ℕ) (payload : List ℕ) (at : ℕ) (hold : List ℕ)
       first-all = ap (take (at + n)) held-is ∙ take_at all (drop (length all) hold) (at + n) (omega (arith, all-length, long))
 
       pub send-is : (out : List ℕ) {r : ℕ} {hold₂ out₂ : List ℕ} → PutIs (take (at + n) hold') hold' out r hold₂ out₂
-          → EndedIs (ending_by (judged p) at hold) out (record { answer = Sent r; held = (at + n) % message_bytes }) hold₂ out₂
+          → EndedIs (ending_by (judged p) at hold) out (record { answer = Ok (said.Sent r); held = (at + n) % message_bytes }) hold₂ out₂
       send-is out {r} {hold₂} {out₂} x =
           let q : PutIs all (all ++ drop (length all) hold) out r hold₂ out₂ =
           subst (λ (x : List ℕ). PutIs x (all ++ drop (length all) hold) out r hold₂ out₂) first-all
           (subst (λ (x : List ℕ). PutIs (take (at + n) hold') x out r hold₂ out₂) held-is x) in
           let k : (at + n) % message_bytes ≡ length (rest_of all) = sym (length-drop (whole_bytes (length all)) all ∙ omega (arith, all-length, long)) in
-          subst (λ (v : Verdict). EndedIs (ending_by v at hold) out (record { answer = Sent r; held = (at + n) % message_bytes }) hold₂ out₂) (sym is-accepted)
-          ((λ i. record { answer = Sent (q.0 i); held = k i }), q.1, q.2)
+          subst (λ (v : Verdict). EndedIs (ending_by v at hold) out (record { answer = Ok (said.Sent r); held = (at + n) % message_bytes }) hold₂ out₂)
+          (sym is-accepted) ((λ i. record { answer = Sent (q.0 i); held = k i }), q.1, q.2)
 
     -- refused
-    module _ (n : ℕ) (f : w ≡ No n) where
+    module _ (x : Refusal) (f : w ≡ No (number x)) where
+      abbrev n : ℕ
+      n = number x
+
       answer-is : told.answer ≡ No n
       answer-is = sym (ap (λ (o : Outcome). o.answer) e) ∙ f
 
       by_number : (k : ℕ) → told ≡ keeps k (drop at hold) → judged p ≡ refused k → judged p ≡ refused n
       by_number k g j =
-          let x : No k ≡ No n = sym (ap (λ (o : Outcome). o.answer) g) ∙ answer-is in
+          let u : No k ≡ No n = sym (ap (λ (o : Outcome). o.answer) g) ∙ answer-is in
           let y : k ≡ n = cc in
           j ∙ ap refused y
 
@@ -182,26 +182,27 @@ module _ (port sequence : ℕ) (payload : List ℕ) (at : ℕ) (hold : List ℕ)
       kept-is : hold' ≡ hold
       kept-is = ap (λ (o : Outcome). o.output) e ∙ appending-keeps at p hold n answer-is
 
-      pub send-not : (out : List ℕ) → EndedIs (ending_by (judged p) at hold) out (record { answer = Refused n; held = at }) hold' out
+      pub send-not : (out : List ℕ) → EndedIs (ending_by (judged p) at hold) out (record { answer = Err x; held = at }) hold' out
       send-not out =
-          subst (λ (v : Verdict). EndedIs (ending_by v at hold) out (record { answer = Refused n; held = at }) hold' out) (sym is-refused)
+          subst (λ (v : Verdict). EndedIs (ending_by v at hold) out (record { answer = Err x; held = at }) hold' out) (sym is-refused)
           (refl, kept-is, refl)
 
 -- ---- a line's end
 module _ (l : List ℕ) (at : ℕ) (hold : List ℕ) where
-  pub line-asks : {p s f : ℕ} → reading l ≡ Bid p s f → f ≤ length l
-  line-asks {p} {s} {f} e = let b = bid-found l p s f e in omega (arith, b.from)
+  pub line-asks : {b : Bid} → reading l ≡ Some b → b.from ≤ length l
+  line-asks {b} e = let is = bid-found l b e in omega (arith, is.from)
 
-  pub line-bid : (out : List ℕ) {p s f : ℕ} {hold' out' : List ℕ} {r : Ended} → reading l ≡ Bid p s f
-      → EndedIs (ending_by (judged (plain_packet p s (take (length l - f) (drop f l)))) at hold) out r hold' out'
+  pub line-bid : (out : List ℕ) {b : Bid} {hold' out' : List ℕ} (r : Ended) → reading l ≡ Some b
+      → EndedIs (ending_by (judged (plain_packet b.port b.sequence (take (length l - b.from) (drop b.from l)))) at hold) out r hold' out'
       → EndedIs (ending_by (verdict l) at hold) out r hold' out'
-  line-bid out {p} {s} {f} {hold'} {out'} {r} e x =
-      let b = bid-found l p s f e in
-      let t : take (length l - f) (drop f l) ≡ text l = tail-is f l ∙ ap (λ (n : ℕ). drop n l) b.from ∙ text-is l in
-      let g : plain_packet p s (take (length l - f) (drop f l)) ≡ bid_of l = λ i. plain_packet (b.port i) (b.sequence i) (t i) in
-      subst (λ (v : Verdict). EndedIs (ending_by v at hold) out r hold' out') (ap judged g ∙ sym (verdict-bid l b.both)) x
+  line-bid out {b} {hold'} {out'} r e x =
+      let is = bid-found l b e in
+      let t : take (length l - b.from) (drop b.from l) ≡ text l = tail-is b.from l ∙ ap (λ (n : ℕ). drop n l) is.from ∙ text-is l in
+      let g : plain_packet b.port b.sequence (take (length l - b.from) (drop b.from l)) ≡ bid_of l =
+      λ i. plain_packet (is.port i) (is.sequence i) (t i) in
+      subst (λ (v : Verdict). EndedIs (ending_by v at hold) out r hold' out') (ap judged g ∙ sym (verdict-bid l is.both)) x
 
-  pub line-none : (out : List ℕ) → reading l ≡ NoBid → EndedIs (ending_by (verdict l) at hold) out (record { answer = Unread; held = at }) hold out
+  pub line-none : (out : List ℕ) → reading l ≡ None → EndedIs (ending_by (verdict l) at hold) out (record { answer = Ok said.NoBid; held = at }) hold out
   line-none out e =
-      subst (λ (v : Verdict). EndedIs (ending_by v at hold) out (record { answer = Unread; held = at }) hold out)
+      subst (λ (v : Verdict). EndedIs (ending_by v at hold) out (record { answer = Ok said.NoBid; held = at }) hold out)
       (sym (verdict-none l (bid-missed l e))) (refl, refl, refl)

@@ -3,42 +3,39 @@
 -- eat-feed, eat-other           a byte
 -- hear-all, hear-line           a call that finds no line feed, and one that finds it
 -- heard-more, heard-line        what the code then answers and leaves; stored-fits, what it asks before
--- call-unsound, call-cramped, call-short, call-on, called_on   refusals 10, 11 and 23, or let on
+-- call-on                      a call that is let on
 -- sound-stored, sound-held, roomy-line, roomy-hold            what these tests show
--- close-as                      the end of the input; none-begun, one-begun, what it stands for
--- start-short, start-ready, start-copied          the start
--- finish-unsound, finish-cramped, finish-on       the last block
-use Prim.Native.Nat.{ℕ, suc, ◌+◌, ◌-◌, ◌≤◌, ◌<◌, min}
+-- numbered-as                   the next line's number, start-ready, the start
+-- none-begun, one-begun         what the end of the input stands for
+use Prim.Native.Nat.{ℕ, suc, ◌+◌, ◌-◌, ◌^◌, ◌≤◌, ◌<◌, min}
 use native.Mathlib.Omega.{arith}
-use native.Mathlib.Nat.{sub-zero}
 use mathlib.Core.Path.{◌≡◌, refl, sym, ◌∙◌, ap, subst}
-use mathlib.Core.Bool.{Bool, true, false}
+use mathlib.Core.Bool.{Bool, true}
 use mathlib.Core.List.{List, [], ◌∷◌, ◌++◌, append_assoc, append-nil}
 use mathlib.Core.Option.{Option, none}
 use lib.Dec.{leb}
 use lib.ListN.{length, take, drop, length-drop, take-append-drop}
 use lib.Seq.{sets, sets-eq, length-sets, take-nil, take_all, length-take-le, drop-drop, drop-append-le}
-use borrow.Author.Tests.{eq-eqb, ne_eqb, lt-ltb, le-ltb, le-leb, lt-leb, leb-true}
+use borrow.Author.Tests.{eq-eqb, ne_eqb, le-ltb, le-leb, leb-true}
 use borrow.Rule.Slice.PartMut.{put_mid}
 use Rattle.base.specs.Choice.{pick}
 use Rattle.base.specs.Calls.{unless, one_more}
 use Rattle.base.specs.UpTo.{up_to}
 use Rattle.base.proofs.UpTo.{up-to-is, up-to-short}
-use Rattle.base.specs.Written.{Outcome, refused, copied}
+use Rattle.base.specs.Written.{copied}
 use Rattle.base.proofs.Lists.{over}
 use Rattle.base.proofs.Tests.{by-eq, by_le, and_parts}
-use Rattle.base.proofs.Writing.{copied-fits}
 use Rattle.packet_spec.specs.Escape.{flag}
 use Rattle.bid.specs.Line.{feed, line_limit, verdict}
 use Rattle.bid.specs.Input.{numbered}
 use Rattle.office.specs.declared.Office.{Office}
-use Rattle.office.specs.declared.Started.TheVariants.{Ready, Refused as StartRefused}
-use Rattle.office.specs.declared.Answer.TheVariants.{More, Refused}
-use Rattle.office.specs.declared.Hearing.{Hearing}
+use Rattle.office.specs.Start.{Ready, Refused as StartRefused}
+use Rattle.std.specs.Prelude.{Ok}
+use Rattle.office.specs.declared.Answer.TheVariants as said
 use Rattle.office.specs.declared.Ended.{Ended}
 use Rattle.office.specs.Meaning.{Said, ending_by, Desk, desk, kept, ending_of, ended, eat}
-use Rattle.office.specs.Call.{held_limit, hold_limit, out_limit, fresh_office, starting, sound, roomy, hear_on, denied, hear_by, hear_call, last_feed}
-use Rattle.office.specs.Call.{end_bytes, close_call, HeardIs, finish_by, finishing}
+use Rattle.office.specs.Call.{held_limit, hold_limit, out_limit, fresh_office, starting, sound, roomy, hear_on, hear_by, hear_call, last_feed}
+use Rattle.office.specs.Call.{end_bytes, HeardIs}
 use Rattle.office.specs.Private.{EndedIs}
 
 -- ---- bytes of a line stored
@@ -172,41 +169,40 @@ hear-line (b ∷ bs) d h k =
 
 -- ---- what the code answers and leaves
 module _ (s : Office) (line hold bs : List ℕ) (h : s.stored ≤ line_limit) {n k : ℕ} {line' : List ℕ} (en : n ≡ length (up_to feed bs))
-    (ek : k ≡ min (s.stored + length (take (n - 0) bs)) line_limit) (el : line' ≡ sets line s.stored (take (line_limit - s.stored) (take (n - 0) bs))) where
+    (ek : k ≡ min (s.stored + length (take n bs)) line_limit) (el : line' ≡ sets line s.stored (take (line_limit - s.stored) (take n bs))) where
   abbrev d : Desk
   d = desk s line hold
 
-  run_is : take (n - 0) bs ≡ up_to feed bs
-  run_is = ap (λ (m : ℕ). take m bs) (sub-zero n ∙ en) ∙ sym (up-to-is feed bs)
+  run_is : take n bs ≡ up_to feed bs
+  run_is = ap (λ (m : ℕ). take m bs) en ∙ sym (up-to-is feed bs)
 
   kept-is : desk (record { lines = s.lines; stored = k; held = s.held }) line' hold ≡ kept d (up_to feed bs)
   kept-is =
       (λ i. desk (record { lines = s.lines; stored = ek i; held = s.held }) (el i) hold) ∙ ap (kept d) run_is
 
   pub stored-fits : line_limit ≤ length line → k ≤ length line'
-  stored-fits r = omega (arith, ap length el, length-sets line s.stored (take (line_limit - s.stored) (take (n - 0) bs)))
+  stored-fits r = omega (arith, ap length el, length-sets line s.stored (take (line_limit - s.stored) (take n bs)))
 
   pub heard-more : n ≡ length bs → (out : List ℕ)
-      → HeardIs (hear_on d bs) out (record { answer = More; taken = n; office = record { lines = s.lines; stored = k; held = s.held } }) line' hold out
+      → HeardIs (hear_on d bs) out (record { answer = Ok said.More; taken = n; office = record { lines = s.lines; stored = k; held = s.held } }) line' hold out
   heard-more e out =
       let x : hear_on d bs ≡ (none, n, desk (record { lines = s.lines; stored = k; held = s.held }) line' hold) =
       hear-all bs d h (omega arith) ∙ (λ i. (none, sym en i, sym kept-is i)) in
       subst (λ (y : Option Said × ℕ × Desk). HeardIs y out
-      (record { answer = More; taken = n; office = record { lines = s.lines; stored = k; held = s.held } }) line' hold out)
+      (record { answer = Ok said.More; taken = n; office = record { lines = s.lines; stored = k; held = s.held } }) line' hold out)
       (sym x) (refl, refl, refl, refl)
 
   line-stops : (n ≡ length bs → ⊥) → n < length bs
   line-stops e = by_le (length bs) n (λ m. absurd (e (omega (arith, up-to-short feed bs)))) (λ m. m)
 
-  pub heard-line : (n ≡ length bs → ⊥) → (out : List ℕ) {x : Ended} {hold' out' : List ℕ} {j : ℕ}
-      → EndedIs (ending_by (verdict (take (k - 0) line')) s.held hold) out x hold' out' → j ≡ numbered s.lines
+  pub heard-line : (n ≡ length bs → ⊥) → (out : List ℕ) (x : Ended) {hold' out' : List ℕ} {j : ℕ}
+      → EndedIs (ending_by (verdict (take k line')) s.held hold) out x hold' out' → j ≡ numbered s.lines
       → HeardIs (hear_on d bs) out (record { answer = x.answer; taken = n + 1; office = record { lines = j; stored = 0; held = x.held } }) line' hold' out'
-  heard-line e out {x} {hold'} {out'} {j} ends ej =
+  heard-line e out x {hold'} {out'} {j} ends ej =
       let c : Desk = desk (record { lines = s.lines; stored = k; held = s.held }) line' hold in
       let y : hear_on d bs ≡ ((ended c).0, n + 1, (ended c).1) =
       hear-line bs d h (omega (arith, line-stops e)) ∙ (λ i. ((ended (sym kept-is i)).0, sym en i + 1, (ended (sym kept-is i)).1)) in
-      let f : EndedIs (ending_of c) out x hold' out' =
-      subst (λ (m : ℕ). EndedIs (ending_by (verdict (take m line')) s.held hold) out x hold' out') (sub-zero k) ends in
+      let f : EndedIs (ending_of c) out x hold' out' = ends in
       subst (λ (z : Option Said × ℕ × Desk). HeardIs z out
       (record { answer = x.answer; taken = n + 1; office = record { lines = j; stored = 0; held = x.held } }) line' hold' out')
       (sym y) (
@@ -216,32 +212,10 @@ module _ (s : Office) (line hold bs : List ℕ) (h : s.stored ≤ line_limit) {n
         f.2,
       )
 
--- ---- refusals
-denied-is : (d : Desk) (n : ℕ) {x : Option Said × ℕ × Desk} → x ≡ denied n d → (out : List ℕ) {r : Hearing}
-    → r ≡ record { answer = Refused n; taken = 0; office = d.st } → HeardIs x out r d.line d.hold out
-denied-is d n e out {r} f = subst (λ (y : Option Said × ℕ × Desk). HeardIs y out r d.line d.hold out) (sym e) (f, refl, refl, refl)
-
-module _ (room : ℕ) (d : Desk) (bs : List ℕ) where
-  pub call-unsound : sound d.st ≡ false → (out : List ℕ) {r : Hearing} → r ≡ record { answer = Refused 10; taken = 0; office = d.st }
-      → HeardIs (hear_call room d bs) out r d.line d.hold out
-  call-unsound e out f = denied-is d 10 (ap (λ (t : Bool). hear_by t (roomy d.line d.hold) (leb out_limit room) d bs) e) out f
-
-  module _ (s : sound d.st ≡ true) where
-    pub call-cramped : roomy d.line d.hold ≡ false → (out : List ℕ) {r : Hearing} → r ≡ record { answer = Refused 11; taken = 0; office = d.st }
-        → HeardIs (hear_call room d bs) out r d.line d.hold out
-    call-cramped e out f = denied-is d 11 (λ i. hear_by (s i) (e i) (leb out_limit room) d bs) out f
-
-    module _ (l : roomy d.line d.hold ≡ true) where
-      pub call-short : room < out_limit → (out : List ℕ) {r : Hearing} → r ≡ record { answer = Refused 23; taken = 0; office = d.st }
-          → HeardIs (hear_call room d bs) out r d.line d.hold out
-      call-short k out f = denied-is d 23 (λ i. hear_by (s i) (l i) (lt-leb out_limit room k i) d bs) out f
-
-      pub call-on : out_limit ≤ room → hear_call room d bs ≡ hear_on d bs
-      call-on k i = hear_by (s i) (l i) (le-leb out_limit room k i) d bs
-
-      pub called_on : out_limit ≤ room → (out : List ℕ) {r : Hearing} {line' hold' out' : List ℕ} → HeardIs (hear_on d bs) out r line' hold' out'
-          → HeardIs (hear_call room d bs) out r line' hold' out'
-      called_on k out {r} {line'} {hold'} {out'} x = subst (λ (y : Option Said × ℕ × Desk). HeardIs y out r line' hold' out') (sym (call-on k)) x
+-- ---- behind the refusals
+module _ (room : ℕ) (d : Desk) (bs : List ℕ) (s : sound d.st ≡ true) (l : roomy d.line d.hold ≡ true) where
+  pub call-on : out_limit ≤ room → hear_call room d bs ≡ hear_on d bs
+  call-on k i = hear_by (s i) (l i) (le-leb out_limit room k i) d bs
 
 -- what the tests show
 pub sound-stored : (s : Office) → sound s ≡ true → s.stored ≤ line_limit
@@ -257,34 +231,16 @@ pub roomy-hold : (line hold : List ℕ) → roomy line hold ≡ true → hold_li
 roomy-hold line hold e = leb-true _ _ (and_parts (leb line_limit (length line)) (leb hold_limit (length hold)) e).1
 
 -- the end of the input
-pub close-as : (room : ℕ) (d : Desk) (out : List ℕ) {bs : List ℕ} {r : Hearing} {line' hold' out' : List ℕ} → end_bytes d ≡ bs
-    → HeardIs (hear_call room d bs) out r line' hold' out' → HeardIs (close_call room d) out r line' hold' out'
-close-as room d out {r = r} {line' = line'} {hold' = hold'} {out' = out'} e x =
-    subst (λ (bs : List ℕ). HeardIs (hear_call room d bs) out r line' hold' out') (sym e) x
-
 pub none-begun : (d : Desk) → d.st.stored ≡ 0 → end_bytes d ≡ []
 none-begun d e = ap (λ (t : Bool). pick t [] last_feed) (eq-eqb _ _ e)
 
 pub one-begun : (d : Desk) → (d.st.stored ≡ 0 → ⊥) → end_bytes d ≡ last_feed
 one-begun d n = ap (λ (t : Bool). pick t [] last_feed) (ne_eqb _ _ n)
 
--- the start
-pub start-short : (hold : List ℕ) → length hold < hold_limit → starting hold ≡ (StartRefused 11, hold)
-start-short hold h = ap (λ (t : Bool). pick t (StartRefused 11, hold) (Ready fresh_office, flag ∷ drop 1 hold)) (lt-ltb _ _ h)
+-- the next line's number, as the code counts it
+pub numbered-as : (n : ℕ) → n < 2 ^ 64 → min (n + 1) (2 ^ 64 - 1) ≡ numbered n
+numbered-as n h = grind arith
 
+-- the start
 pub start-ready : (hold : List ℕ) → hold_limit ≤ length hold → starting hold ≡ (Ready fresh_office, flag ∷ drop 1 hold)
 start-ready hold h = ap (λ (t : Bool). pick t (StartRefused 11, hold) (Ready fresh_office, flag ∷ drop 1 hold)) (le-ltb _ _ h)
-
-pub start-copied : (hold : List ℕ) {y : List ℕ} → hold_limit ≤ length hold → y ≡ copied (flag ∷ []) hold → starting hold ≡ (Ready fresh_office, y)
-start-copied hold h e = start-ready hold h ∙ (λ i. (Ready fresh_office, sym (e ∙ copied-fits (flag ∷ []) hold (omega arith)) i))
-
--- the last block
-pub finish-unsound : (s : Office) (hold out : List ℕ) → sound s ≡ false → refused 10 out ≡ finishing s hold out
-finish-unsound s hold out e = sym (ap (λ (t : Bool). finish_by t (leb hold_limit (length hold)) s hold out) e)
-
-pub finish-cramped : (s : Office) (hold out : List ℕ) → sound s ≡ true → length hold < hold_limit → refused 11 out ≡ finishing s hold out
-finish-cramped s hold out e h = sym (λ i. finish_by (e i) (lt-leb hold_limit (length hold) h i) s hold out)
-
-pub finish-on : (s : Office) (hold out : List ℕ) {o : Outcome} → sound s ≡ true → hold_limit ≤ length hold → o ≡ finish_by true true s hold out
-    → o ≡ finishing s hold out
-finish-on s hold out e h f = f ∙ sym (λ i. finish_by (e i) (le-leb hold_limit (length hold) h i) s hold out)

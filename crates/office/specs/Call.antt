@@ -19,10 +19,10 @@ use Rattle.packet_spec.specs.Contents.{plain_limit}
 use Rattle.channel_spec.specs.Sender.{message_bytes, block_bytes, sending}
 use Rattle.bid.specs.Line.{feed, line_limit}
 use Rattle.office.specs.declared.Office.{Office}
-use Rattle.office.specs.declared.Started.{Started}
-use Rattle.office.specs.declared.Started.TheVariants.{Ready, Refused as StartRefused}
-use Rattle.office.specs.declared.Answer.{Answer}
-use Rattle.office.specs.declared.Answer.TheVariants.{More, Sent, NoBid, Refused}
+use Rattle.office.specs.Start.{Started}
+use Rattle.office.specs.Start.{Ready, Refused as StartRefused}
+use Rattle.office.specs.Answer.{Answer, Got, as_got}
+use Rattle.office.specs.Answer.{More, Sent, NoBid, Refused}
 use Rattle.office.specs.declared.Hearing.{Hearing}
 use Rattle.office.specs.Meaning.{Spoken, blocks, unread, refusal, Said, Desk, desk, eat}
 
@@ -108,12 +108,12 @@ answered_out none out = out
 answered_out (some x) out = spoken_out x.1 out
 
 -- the code's result of a call
-abbrev pub heard_of : Option Said × ℕ × Desk → Hearing
+abbrev pub heard_of : Option Said × ℕ × Desk → Got
 heard_of x = record { answer = answered x.0; taken = x.1; office = x.2.st }
 
 -- r is the result of a call, line and hold the buffers and out' the output then, which held out before
 abbrev pub HeardIs : Option Said × ℕ × Desk → List ℕ → Hearing → List ℕ → List ℕ → List ℕ → Type 0
-HeardIs x out r line hold out' = (r ≡ heard_of x) × (line ≡ x.2.line) × (hold ≡ x.2.hold) × (out' ≡ answered_out x.0 out)
+HeardIs x out r line hold out' = (as_got r ≡ heard_of x) × (line ≡ x.2.line) × (hold ≡ x.2.hold) × (out' ≡ answered_out x.0 out)
 
 -- the last block, filled with flags, by: does it pass 10 and 11
 abbrev pub finish_by : Bool → Bool → Office → List ℕ → List ℕ → Outcome

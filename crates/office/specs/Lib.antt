@@ -1,3 +1,5 @@
+pub mod Start
+pub mod Answer
 pub mod Meaning
 pub mod Call
 pub mod Private

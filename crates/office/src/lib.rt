@@ -3,17 +3,16 @@
 
 ghost use Rattle.std.specs.Prelude.{◌≡◌, true, ◌+◌, ◌-◌, ◌≤◌, min, length, take};
 ghost use Rattle.std.proofs.lemmas.List.Edits.{sets};
-ghost use Rattle.base.specs.Written.{outcome};
+ghost use Rattle.base.specs.Written.{as_written, outcome};
 ghost use Rattle.packet_spec.specs.Contents.{plain_packet};
 ghost use Rattle.bid.specs.Line.{line_limit, judged, verdict};
-ghost use Rattle.bid.specs.Input.{numbered};
-ghost use Rattle.office.specs.declared.Answer.TheVariants.{Refused};
+ghost use Rattle.office.specs.Start.{as_started};
 ghost use Rattle.office.specs.Meaning.{ending_by, desk};
 ghost use Rattle.office.specs.Call.{held_limit, hold_limit, out_limit, starting, sound, roomy, hear_on, hear_call, close_call, HeardIs, finishing};
 ghost use Rattle.office.specs.Private.{EndedIs, PutIs};
 
 use base::{Refusal, Written};
-use bid::{Found, Line};
+use bid::Line;
 use channel_spec::Block;
 use packet::Packet;
 
@@ -28,15 +27,6 @@ pub struct Office {
     pub held: usize,
 }
 
-/// What the start answers.
-#[derive(Clone, Copy)]
-pub enum Started {
-    /// One flag is held.
-    Ready(Office),
-    /// The call is refused, by this number of the paper.
-    Refused(u8),
-}
-
 /// What a call answers; the line's number is then `lines` of the state.
 #[derive(Clone, Copy)]
 pub enum Answer {
@@ -46,14 +36,13 @@ pub enum Answer {
     Sent(usize),
     /// A line is no bid.
     NoBid,
-    /// A line, or the call, is refused, by this number of the paper.
-    Refused(u8),
 }
 
 /// The result of a call.
 #[derive(Clone, Copy)]
 pub struct Hearing {
-    pub answer: Answer,
+    /// Or why a line, or the call, is refused.
+    pub answer: Result<Answer, Refusal>,
     /// Bytes of the piece taken.
     pub taken: usize,
     pub office: Office,
@@ -62,7 +51,8 @@ pub struct Hearing {
 // What a line's end gives.
 #[derive(Clone, Copy)]
 struct Ended {
-    answer: Answer,
+    // Or why the line is refused.
+    answer: Result<Answer, Refusal>,
     // Stream bytes held then.
     held: usize,
 }
@@ -73,15 +63,9 @@ fn put_out(hold: &mut [u8], n: usize, out: &mut [u8]) -> usize
     ensures { PutIs (take n hold.old) hold.old out.old result hold.new out.new }
 {
     let whole = n / Block::MESSAGE * Block::MESSAGE;
-    let sent = channel_sender::send(&hold[0..whole], out);
-    let mut rest = [0u8; Block::MESSAGE];
-    base::copy(&hold[whole..n], &mut rest);
-    let left = n - whole;
-    base::copy(&rest[0..left], hold);
-    match sent {
-        Written::Wrote(w) => w,
-        Written::Refused(_) => 0,
-    }
+    let sent = channel_sender::send(&hold[..whole], out).unwrap_or(0);
+    hold.copy_within(whole..n, 0);
+    sent
 }
 
 // A bid: its packet behind the bytes held, and whole messages put out.
@@ -98,15 +82,15 @@ fn send(
         out.old result hold.new out.new }
 {
     match stream::append(hold, held, port, sequence, text) {
-        Written::Wrote(n) => {
+        Ok(n) => {
             let all = held + n;
             Ended {
-                answer: Answer::Sent(put_out(hold, all, out)),
+                answer: Ok(Answer::Sent(put_out(hold, all, out))),
                 held: all % Block::MESSAGE,
             }
         }
-        Written::Refused(number) => Ended {
-            answer: Answer::Refused(number),
+        Err(refusal) => Ended {
+            answer: Err(refusal),
             held,
         },
     }
@@ -119,26 +103,12 @@ fn end_line(line: &[u8], held: usize, hold: &mut [u8], out: &mut [u8]) -> Ended
         out.old result hold.new out.new }
 {
     match bid::read(line) {
-        Found::Bid {
-            port,
-            sequence,
-            from,
-        } => send(port, sequence, &line[from..], held, hold, out),
-        Found::NoBid => Ended {
-            answer: Answer::NoBid,
+        Some(bid) => send(bid.port, bid.sequence, &line[bid.from..], held, hold, out),
+        None => Ended {
+            answer: Ok(Answer::NoBid),
             held,
         },
     }
-}
-
-// The next line's number; it stops at the highest.
-fn numbered(lines: u64) -> u64
-    ensures { result ≡ numbered lines }
-{
-    if lines < u64::MAX {
-        return lines + 1;
-    }
-    u64::MAX
 }
 
 // Stores bytes of a line behind the first `at`, as many as decide; how many there are then.
@@ -149,16 +119,16 @@ fn keep(line: &mut [u8], at: usize, bytes: &[u8]) -> usize
 {
     let end = Office::LINE;
     base::copy(bytes, &mut line[at..end]);
-    at + base::least(bytes.len(), end - at)
+    at + bytes.len().min(end - at)
 }
 
 impl Hearing {
     // The call is refused: nothing is taken.
-    fn refused(number: u8, office: Office) -> Self
-        ensures { result ≡ record { answer = Refused number; taken = 0; office = office } }
+    fn refused(refusal: Refusal, office: Office) -> Self
+        ensures { result ≡ record { answer = Err refusal; taken = 0; office = office } }
     {
         Hearing {
-            answer: Answer::Refused(number),
+            answer: Err(refusal),
             taken: 0,
             office,
         }
@@ -179,15 +149,14 @@ impl Office {
     pub const OUTPUT: usize = Self::HOLD / Block::MESSAGE * Block::LENGTH;
 
     /// Before the first byte: one flag is held.
-    pub fn start(hold: &mut [u8]) -> Started
-        ensures { starting hold.old ≡ (result, hold.new) }
+    pub fn start(hold: &mut [u8]) -> Result<Self, Refusal>
+        ensures { starting hold.old ≡ (as_started result, hold.new) }
     {
         if hold.len() < Self::HOLD {
-            return Started::Refused(Refusal::BUFFER);
+            return Err(Refusal::Buffer);
         }
-        let first = [Packet::FLAG];
-        base::copy(&first, hold);
-        Started::Ready(Office {
+        hold[0] = Packet::FLAG;
+        Ok(Office {
             lines: 0,
             stored: 0,
             held: 1,
@@ -198,20 +167,14 @@ impl Office {
     fn sound(self) -> bool
         ensures { result ≡ sound self }
     {
-        if Office::LINE < self.stored {
-            return false;
-        }
-        self.held <= Office::HELD
+        self.stored <= Office::LINE && self.held <= Office::HELD
     }
 
     // Whether the buffers are long enough.
     fn has_room(line: &[u8], hold: &[u8]) -> bool
         ensures { result ≡ roomy line.now hold.now }
     {
-        if line.len() < Office::LINE {
-            return false;
-        }
-        Office::HOLD <= hold.len()
+        Office::LINE <= line.len() && Office::HOLD <= hold.len()
     }
 
     // A call behind its refusals.
@@ -221,25 +184,20 @@ impl Office {
             out.old result line.new hold.new out.new }
     {
         let n = base::up_to(piece, Line::FEED);
-        let stored = keep(line, self.stored, &piece[0..n]);
+        let stored = keep(line, self.stored, &piece[..n]);
         if n == piece.len() {
             return Hearing {
-                answer: Answer::More,
+                answer: Ok(Answer::More),
                 taken: n,
-                office: Office {
-                    lines: self.lines,
-                    stored,
-                    held: self.held,
-                },
+                office: Office { stored, ..self },
             };
         }
-        let ended = end_line(&line[0..stored], self.held, hold, out);
-        let answer = ended.answer;
+        let ended = end_line(&line[..stored], self.held, hold, out);
         Hearing {
-            answer,
+            answer: ended.answer,
             taken: n + 1,
             office: Office {
-                lines: numbered(self.lines),
+                lines: self.lines.saturating_add(1),
                 stored: 0,
                 held: ended.held,
             },
@@ -252,13 +210,13 @@ impl Office {
             out.old result line.new hold.new out.new }
     {
         if !self.sound() {
-            return Hearing::refused(Refusal::STATE, self);
+            return Hearing::refused(Refusal::State, self);
         }
         if !Office::has_room(line, hold) {
-            return Hearing::refused(Refusal::BUFFER, self);
+            return Hearing::refused(Refusal::Buffer, self);
         }
         if out.len() < Office::OUTPUT {
-            return Hearing::refused(Refusal::OUTPUT, self);
+            return Hearing::refused(Refusal::Output, self);
         }
         self.hear_on(line, hold, piece, out)
     }
@@ -270,22 +228,22 @@ impl Office {
     {
         let feed = [Line::FEED];
         if self.stored == 0 {
-            return self.hear(line, hold, &feed[0..0], out);
+            self.hear(line, hold, &[], out)
+        } else {
+            self.hear(line, hold, &feed, out)
         }
-        self.hear(line, hold, &feed, out)
     }
 
     /// The last block: the bytes held, filled with flags.
     pub fn finish(self, hold: &[u8], out: &mut [u8]) -> Written
-        ensures { outcome result out.new ≡ finishing self hold.now out.old }
+        ensures { outcome (as_written result) out.new ≡ finishing self hold.now out.old }
     {
         if !self.sound() {
-            return Written::Refused(Refusal::STATE);
+            return Err(Refusal::State);
         }
         if hold.len() < Office::HOLD {
-            return Written::Refused(Refusal::BUFFER);
+            return Err(Refusal::Buffer);
         }
-        let held = self.held;
-        channel_sender::send(&hold[0..held], out)
+        channel_sender::send(&hold[..self.held], out)
     }
 }

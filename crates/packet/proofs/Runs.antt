@@ -1,6 +1,6 @@
 -- Laws of `run`, the bytes before the first 7D.
--- shift_none, shift-more, shift-done   bytes that are moved: to where they stand; a turn of the loop, and its end
--- run_moved, moved-within        what moving a run leaves, and its length
+-- shift_none, moved-part         bytes that are moved: to where they stand, and before it
+-- run-within, run_moved, moved-within   where a run ends, and what moving it leaves
 -- found-is, found_within         the place of the 7D behind it, or the end
 -- scan-ends, scan-hands          plain reading ends behind the run, or hands over behind the 7D that follows it
 -- wrong-plain                    .. and goes on behind a right byte
@@ -10,7 +10,6 @@ use mathlib.Core.Path.{◌≡◌, refl, sym, ap, ap₂, ◌∙◌}
 use mathlib.Core.Logic.{◌≢◌}
 use Prim.Native.Nat.{ℕ, suc, ◌+◌, ◌-◌, ◌<◌, ◌≤◌}
 use mathlib.Core.List.{List, [], ◌∷◌, ◌++◌}
-use native.Mathlib.Numerals.{add-one}
 use native.Mathlib.Omega.{arith}
 use borrow.Author.Tests.{eq-eqb, ne_eqb}
 use lib.ListN.{length, take, drop, get_or, set, length-drop, length-take, take-append-drop}
@@ -18,11 +17,12 @@ use lib.Seq.{sets, sets-eq, drop-drop, take-take, length-take-le}
 use Rattle.base.specs.Private.{Laid}
 use Rattle.base.specs.UpTo.{up_to}
 use Rattle.base.proofs.Laid.{laid-append}
-use Rattle.base.proofs.Lists.{part-next, part-over, part-set, drop-take}
+use Rattle.base.proofs.Lists.{part-over, part-set, drop-take}
 use Rattle.base.proofs.Parts.{tail-is}
 use Rattle.base.proofs.Tests.{by-eq, by_le}
 use Rattle.base.proofs.UpTo.{up-to-short, up-to-is}
 use Rattle.packet_spec.specs.Escape.{plain, escaped, wrong_from, wrong_behind}
+use Rattle.std.specs.List.{copy_within}
 use Rattle.packet.specs.Private.{run}
 use Rattle.packet_spec.proofs.Places.{wrong-before}
 
@@ -91,18 +91,17 @@ shift_none l i n h =
     ∙ take-append-drop n l)
     (λ k. ap (sets l i) (part-over l i n (omega arith)))
 
-pub shift-more : (l : List ℕ) (i j n : ℕ) {t : List ℕ} → i < n → n ≤ length l → j ≤ i → sets l j (drop i (take n l)) ≡ t
-    → sets (set l j (get_or l i 0)) (j + 1) (drop (i + 1) (take n (set l j (get_or l i 0)))) ≡ t
-shift-more l i j n h k w inv =
-    ap₂ (sets (set l j (get_or l i 0))) (add-one j) (part-set l (i + 1) n j (get_or l i 0) (omega arith) (omega arith))
-    ∙ sym (ap (sets l j) (part-next l i n h k)) ∙ inv
-
-pub shift-done : (l : List ℕ) (i j n : ℕ) {t : List ℕ} → n ≤ i → sets l j (drop i (take n l)) ≡ t → l ≡ t
-shift-done l i j n h inv = sym (ap (sets l j) (part-over l i n h)) ∙ inv
+-- what `copy_within` leaves
+pub moved-part : (l : List ℕ) (i n j : ℕ) → j ≤ i → i ≤ n → n ≤ length l → copy_within l i n j ≡ sets l j (drop i (take n l))
+moved-part l i n j h k m =
+    let part = drop-take i n l in
+    let long : length (take (n - i) (drop i l)) ≡ n - i = length-take-le (n - i) (drop i l) (omega (arith, length-drop i l)) in
+    sym (ap (sets l j) part ∙ sets-eq (take (n - i) (drop i l)) l j (omega (arith, long))
+    ∙ ap (λ (m : ℕ). take j l ++ take (n - i) (drop i l) ++ drop (j + m) l) long)
 
 -- the run, where its length is known
 module _ (l : List ℕ) (n from : ℕ) {k : ℕ} (e : k ≡ length (run (take (n - from) (drop from l)))) (room : n ≤ length l) where
-  run-within : from ≤ n → from + k ≤ n
+  pub run-within : from ≤ n → from + k ≤ n
   run-within h = omega (arith, up-to-short 0x7D (take (n - from) (drop from l)), length-take-le (n - from) (drop from l) (omega (arith, length-drop from l)))
 
   run-part : from ≤ n → drop from (take (from + k) l) ≡ run (drop from (take n l))

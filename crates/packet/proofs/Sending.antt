@@ -11,7 +11,6 @@ use mathlib.Core.Path.{◌≡◌, refl, sym, ap, ap₂, subst, ◌∙◌}
 use mathlib.Core.Bool.{Bool, true, false}
 use mathlib.Core.List.{List, [], ◌∷◌, ◌++◌, append_assoc}
 use Prim.Native.Nat.{ℕ, ◌+◌, ◌-◌, ◌<◌, ◌≤◌}
-use native.Mathlib.Nat.{sub-zero}
 use native.Mathlib.Omega.{arith}
 use lib.Dec.{eqb, ltb}
 use borrow.Author.Tests.{eq-eqb, ne_eqb, lt-ltb, le-ltb, eqb-false, ltb-false}
@@ -20,7 +19,7 @@ use borrow.Rule.Slice.PartMut.{put_mid, same_len_mid}
 use Rattle.base.specs.Choice.{pick}
 use Rattle.base.specs.Private.{Laid}
 use Rattle.base.specs.Written.{Outcome, outcome, refused, write, copied, Keeps}
-use Rattle.base.specs.declared.Written.TheVariants.{Wrote, Refused}
+use Rattle.base.specs.Written.{Wrote, Refused}
 use Rattle.base.proofs.Laid.{laid_none, laid_more, laid-append, laid-start, laid-take, laid-copied}
 use Rattle.base.proofs.Writing.{refused-keeps, write_keeps, pick-keeps}
 use Rattle.fcs.specs.Fcs.{fcs}
@@ -148,8 +147,8 @@ module _ (p : Packet) {l after : List ℕ} {n : ℕ} (h : Laid l 0 (opening p) a
   pub opening-short : n ≤ opening_most
   opening-short = omega (arith, h.ends, opening-most p most)
 
-  pub opening-part : take (n - 0) after ≡ opening p
-  opening-part = ap (λ (k : ℕ). take k after) (sub-zero n) ∙ laid-take h (omega (arith, opening-most p most))
+  pub opening-part : take n after ≡ opening p
+  opening-part = laid-take h (omega (arith, opening-most p most))
 
 -- stored from the start on, with room
 pub frame-fits : {l bs after : List ℕ} {end : ℕ} → Laid l 0 bs after end → length bs ≤ length l → outcome (Wrote end) after ≡ write bs l

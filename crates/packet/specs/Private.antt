@@ -1,13 +1,18 @@
 -- What private functions alone are promised by.
 -- run           the bytes that plain reading passes over before it hands over
+-- escapes       whether a byte is escaped
 -- opening_most   how long format byte to sequence may be
-use Rattle.std.specs.Prelude.{ℕ, ◌+◌, List}
+use Rattle.std.specs.Prelude.{ℕ, ◌+◌, List, Bool, ◌||◌, eqb}
 use Rattle.base.specs.UpTo.{up_to}
 use Rattle.packet_spec.specs.Contents.{key_most, key_at}
 
 -- the bytes before the first 7D, all where there is none: plain reading passes over them at once
 abbrev pub run : List ℕ → List ℕ
 run bs = up_to 0x7D bs
+
+-- the two bytes that are not sent as they are
+abbrev pub escapes : ℕ → Bool
+escapes b = eqb b 0x7E || eqb b 0x7D
 
 -- format byte to sequence, at most
 abbrev pub opening_most : ℕ

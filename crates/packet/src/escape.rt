@@ -3,12 +3,13 @@ ghost use Rattle.std.specs.Prelude.{◌≡◌, ◌+◌, ◌<◌, ◌≤◌, ltb,
 ghost use Rattle.std.proofs.lemmas.List.Edits.{sets};
 ghost use Rattle.base.specs.Private.{Laid};
 ghost use Rattle.packet_spec.specs.Escape.{escape, escape_byte, plain, escaped, wrong_from, wrong_behind, scan, restored};
-ghost use Rattle.packet.specs.Private.{run};
+ghost use Rattle.packet.specs.Private.{run, escapes};
 
 use crate::search;
 use packet_spec::Escapes;
 
-// Plain reading of raw[at..]: the place of the first wrong byte behind 7D, 0 where there is none.
+// Plain reading of raw[at..]: the place of the first wrong byte behind 7D, 0 where there is none. Two functions and no loop, here and where escapes
+// are undone: the paper names that form, and a run is passed over at once, so there are two calls for each escape.
 #[cycle(scan_escaped_scan_plain)]
 fn scan_plain(raw: &[u8], at: usize) -> usize
     requires { at ≤ length raw.now }
@@ -30,8 +31,7 @@ fn scan_escaped(raw: &[u8], at: usize) -> usize
     if at == raw.len() {
         return 0;
     }
-    let b = raw[at];
-    match b {
+    match raw[at] {
         0x5E | 0x5D => scan_plain(raw, at + 1),
         _ => at,
     }
@@ -56,6 +56,7 @@ pub fn scan(raw: &[u8]) -> Escapes
 }
 
 /// The place of the first byte of raw[from..] that stands behind 7D and is neither 5E nor 5D; 0 where there is none.
+// No Option: the frame reader keeps it in its state, which callers hand in.
 pub fn wrong_behind(raw: &[u8], from: usize) -> usize
     ensures { result ≡ wrong_behind from raw.now }
 {
@@ -78,30 +79,15 @@ fn restored(b: u8) -> u8
     if b == 0x5E { 0x7E } else { 0x7D }
 }
 
-// Moves recv[from..end] to the places from `to` on.
-fn shift(recv: &mut [u8], from: usize, end: usize, to: usize)
-    requires { (end ≤ length recv.old) × (to ≤ from) }
-    ensures { recv.new ≡ sets recv.old to (drop from (take end recv.old)) }
-{
-    if from == to {
-        return;
-    }
-    let mut i = from;
-    let mut j = to;
-    while i < end {
-        recv[j] = recv[i];
-        i += 1;
-        j += 1;
-    }
-}
-
 // Moves the bytes of recv[from..n] before the first 7D to the places from `to` on; how many.
 fn move_run(recv: &mut [u8], n: usize, from: usize, to: usize) -> usize
     requires { (n ≤ length recv.old) × (from ≤ n) × (to ≤ from) }
     ensures { Laid recv.old to (run (drop from (take n recv.old))) recv.new (to + result) }
 {
     let k = search::up_to(&recv[from..n], 0x7D);
-    shift(recv, from, from + k, to);
+    if to < from {
+        recv.copy_within(from..from + k, to);
+    }
     k
 }
 
@@ -134,25 +120,20 @@ fn undo_escaped(recv: &mut [u8], n: usize, from: usize, to: usize) -> usize
     undo_plain(recv, n, from + 1, to + 1)
 }
 
-// How many bytes a byte is once it is escaped.
-fn width(b: u8) -> usize
-    ensures { result ≡ length (escape_byte b) }
+// Whether a byte is escaped.
+fn is_escaped(b: u8) -> bool
+    ensures { result ≡ escapes b }
 {
-    if b == 0x7E {
-        return 2;
-    }
-    if b == 0x7D { 2 } else { 1 }
+    b == 0x7E || b == 0x7D
 }
 
-// How many bytes they are once they are escaped.
+// How many bytes they are once they are escaped. A loop, since the compiler makes no vectors of a chain that filters and counts.
 pub fn escaped_len(bytes: &[u8]) -> usize
     ensures { result ≡ length (escape bytes.now) }
 {
     let mut n: usize = 0;
-    let mut i: usize = 0;
-    while i < bytes.len() {
-        n += width(bytes[i]);
-        i += 1;
+    for b in bytes {
+        n += 1 + usize::from(is_escaped(*b));
     }
     n
 }
@@ -161,10 +142,7 @@ pub fn escaped_len(bytes: &[u8]) -> usize
 pub fn longer(bytes: &[u8], limit: usize) -> bool
     ensures { result ≡ ltb limit (length (escape bytes.now)) }
 {
-    if bytes.len() <= limit / 2 {
-        return false;
-    }
-    limit < escaped_len(bytes)
+    limit / 2 < bytes.len() && limit < escaped_len(bytes)
 }
 
 // Stores a byte, escaped, from `at` on; the place behind.
@@ -172,14 +150,9 @@ fn put_byte(out: &mut [u8], at: usize, b: u8) -> usize
     requires { at + length (escape_byte b) ≤ length out.old }
     ensures { Laid out.old at (escape_byte b) out.new result }
 {
-    if b == 0x7E {
+    if is_escaped(b) {
         out[at] = 0x7D;
-        out[at + 1] = 0x5E;
-        return at + 2;
-    }
-    if b == 0x7D {
-        out[at] = 0x7D;
-        out[at + 1] = 0x5D;
+        out[at + 1] = b - 0x20;
         return at + 2;
     }
     out[at] = b;
@@ -192,10 +165,8 @@ pub fn put(out: &mut [u8], at: usize, bytes: &[u8]) -> usize
     ensures { Laid out.old at (escape bytes.now) out.new result }
 {
     let mut to = at;
-    let mut i: usize = 0;
-    while i < bytes.len() {
-        to = put_byte(out, to, bytes[i]);
-        i += 1;
+    for b in bytes {
+        to = put_byte(out, to, *b);
     }
     to
 }

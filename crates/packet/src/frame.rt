@@ -42,7 +42,7 @@ impl Packet {
 pub fn pair(low: u8, high: u8) -> u16
     ensures { result ≡ pair low high }
 {
-    low as u16 + 256 * (high as u16)
+    u16::from_le_bytes([low, high])
 }
 
 // The number at i.
@@ -53,21 +53,11 @@ fn pair_at(cs: &[u8], i: usize) -> u16
     pair(cs[i], cs[i + 1])
 }
 
-// A byte as a length.
-fn wide(b: u8) -> usize
-    ensures { (result ≡ b) × (result < 256) }
-{
-    b as usize
-}
-
 // Whether so many key bytes may stand in format 0x26.
 pub fn key_sized(k: usize) -> bool
     ensures { result ≡ key_sized k }
 {
-    if k < Packet::KEY_LEAST {
-        return false;
-    }
-    k <= Packet::KEY_MOST
+    Packet::KEY_LEAST <= k && k <= Packet::KEY_MOST
 }
 
 // Whether the key of format byte to last payload byte has such a length, and enough bytes behind it.
@@ -75,11 +65,8 @@ fn key_fits(body: &[u8]) -> bool
     requires { 2 ≤ length body.now }
     ensures { result ≡ key_fits body.now }
 {
-    let k = wide(body[1]);
-    if key_sized(k) {
-        return Packet::KEY_AT + k + Packet::REST_LEAST <= body.len();
-    }
-    false
+    let k = usize::from(body[1]);
+    key_sized(k) && Packet::KEY_AT + k + Packet::REST_LEAST <= body.len()
 }
 
 // Judges port, sequence and payload, which stand behind the head.
@@ -89,10 +76,10 @@ fn judge_packet(format: u8, number: u8, key: &[u8], rest: &[u8]) -> Judged
 {
     let port = pair_at(rest, 0);
     if port::barred(port) {
-        return Judged::Refused(Refusal::PORT);
+        return Judged::Refused(Refusal::Port as u8);
     }
     if escape::longer(&rest[4..], Packet::PAYLOAD) {
-        return Judged::Refused(Refusal::PAYLOAD);
+        return Judged::Refused(Refusal::Payload as u8);
     }
     Judged::Packet(Delivery {
         format,
@@ -110,17 +97,15 @@ fn judge_body(body: &[u8]) -> Judged
     ensures { result ≡ judged (judge_body body.now) }
 {
     let format = body[0];
-    if format == Packet::PLAIN_FORMAT {
-        return judge_packet(format, 0, &body[0..0], &body[1..]);
+    match format {
+        Packet::PLAIN_FORMAT => judge_packet(format, 0, &body[..0], &body[1..]),
+        Packet::KEY_FORMAT if key_fits(body) => {
+            let end = Packet::KEY_AT + usize::from(body[1]);
+            judge_packet(format, body[2], &body[Packet::KEY_AT..end], &body[end..])
+        }
+        Packet::KEY_FORMAT => Judged::Refused(Refusal::Key as u8),
+        _ => Judged::Refused(Refusal::Format as u8),
     }
-    if format != Packet::KEY_FORMAT {
-        return Judged::Refused(Refusal::FORMAT);
-    }
-    if key_fits(body) {
-        let end = Packet::KEY_AT + wide(body[1]);
-        return judge_packet(format, body[2], &body[Packet::KEY_AT..end], &body[end..]);
-    }
-    Judged::Refused(Refusal::KEY)
 }
 
 // Judges contents.
@@ -129,11 +114,11 @@ fn judge_contents(cs: &[u8]) -> Judged
 {
     let n = cs.len();
     if n < 8 {
-        return Judged::Refused(Refusal::SHORT);
+        return Judged::Refused(Refusal::Short as u8);
     }
     let end = n - 2;
     if fcs::fcs(&cs[..end]) != pair_at(cs, end) {
-        return Judged::Refused(Refusal::CHECK);
+        return Judged::Refused(Refusal::Check as u8);
     }
     judge_body(&cs[..end])
 }
@@ -143,11 +128,11 @@ fn close(recv: &mut [u8], raw: usize) -> Judged
     ensures { (result ≡ judged (closed recv.old raw).told) × (recv.new ≡ (closed recv.old raw).recv) }
 {
     if Packet::RAW < raw {
-        return Judged::Refused(Refusal::RAW);
+        return Judged::Refused(Refusal::Raw as u8);
     }
-    let stored = base::least(raw, recv.len());
+    let stored = raw.min(recv.len());
     match escape::scan(&recv[..stored]) {
-        Escapes::Unfinished => Judged::Refused(Refusal::UNFINISHED),
+        Escapes::Unfinished => Judged::Refused(Refusal::Unfinished as u8),
         Escapes::Wrong(place) => Judged::Broken(place),
         Escapes::Right => {
             let n = escape::undo_plain(recv, stored, 0, 0);
@@ -163,7 +148,7 @@ pub fn payload_at(key: u8) -> usize
     if key == 0 {
         5
     } else {
-        Packet::KEY_AT + key as usize + 4
+        Packet::KEY_AT + usize::from(key) + 4
     }
 }
 
@@ -172,10 +157,10 @@ pub fn judge(recv: &mut [u8], raw: usize) -> Judged
     ensures { (result ≡ judged (judging recv.old raw).told) × (recv.new ≡ (judging recv.old raw).recv) }
 {
     if Packet::OVER < raw {
-        return Judged::Refused(Refusal::STATE);
+        return Judged::Refused(Refusal::State as u8);
     }
     if recv.len() < Packet::RAW {
-        return Judged::Refused(Refusal::BUFFER);
+        return Judged::Refused(Refusal::Buffer as u8);
     }
     close(recv, raw)
 }

@@ -5,6 +5,7 @@ ghost use Rattle.packet_spec.specs.Port.{class, barred};
 use packet_spec::Class;
 
 /// The class of a port.
+// Row after row, as the table has them: joined by class the rows would stand out of order.
 pub fn class_of(port: u16) -> Class
     ensures { result ≡ class port }
 {
@@ -26,8 +27,5 @@ pub fn class_of(port: u16) -> Class
 pub fn barred(port: u16) -> bool
     ensures { result ≡ barred port }
 {
-    if 0x7D00 <= port {
-        return port <= 0x7EFF;
-    }
-    false
+    matches!(port, 0x7D00..=0x7EFF)
 }

@@ -9,10 +9,8 @@ fn among(bytes: &[u8], at: usize, c: u8) -> bool
     ensures { result ≡ ltb (length (up_to c (drop at bytes.now))) 16 }
 {
     let mut found = false;
-    let mut i: usize = 0;
-    while i < 16 {
-        found = found | (bytes[at + i] == c);
-        i += 1;
+    for i in 0..16 {
+        found |= bytes[at + i] == c;
     }
     found
 }
@@ -31,25 +29,16 @@ fn passed(bytes: &[u8], c: u8) -> usize
     i
 }
 
-// 1 for the byte `c`.
-fn bit(b: u8, c: u8) -> u16
-    ensures { (result ≡ pick (eqb b c) 1 0) × (result ≤ 1) }
-{
-    if b == c { 1 } else { 0 }
-}
-
 // How many of the sixteen bytes from `at` on stand before the first `c`, by a bit for each: the compiler makes all the bits at once.
 fn within(bytes: &[u8], at: usize, c: u8) -> usize
     requires { at + 16 ≤ length bytes.now }
     ensures { result ≡ length (up_to c (take 16 (drop at bytes.now))) }
 {
     let mut bits: u16 = 0;
-    let mut i: usize = 16;
-    while 0 < i {
-        i -= 1;
-        bits = bits * 2 + bit(bytes[at + i], c);
+    for i in (0..16).rev() {
+        bits = bits * 2 + u16::from(bytes[at + i] == c);
     }
-    u16::trailing_zeros(bits) as usize
+    bits.trailing_zeros() as usize
 }
 
 /// How many bytes stand before the first `c`: `base::up_to`, for long runs. The last bytes are looked at with others that are passed.
@@ -59,6 +48,6 @@ pub fn up_to(bytes: &[u8], c: u8) -> usize
     if bytes.len() < 16 {
         return base::up_to(bytes, c);
     }
-    let at = base::least(passed(bytes, c), bytes.len() - 16);
+    let at = passed(bytes, c).min(bytes.len() - 16);
     at + within(bytes, at, c)
 }

@@ -1,7 +1,7 @@
 //! A packet, written.
 ghost use Rattle.std.specs.Prelude.{◌≡◌, [], ◌++◌, ◌+◌, ◌≤◌, length};
 ghost use Rattle.base.specs.Private.{Laid};
-ghost use Rattle.base.specs.Written.{outcome, write};
+ghost use Rattle.base.specs.Written.{as_written, outcome, write};
 ghost use Rattle.fcs.specs.Fcs.{fcs};
 ghost use Rattle.packet_spec.specs.Contents.{packet_of, plain_packet, key_most, key_at, payload_limit, head, opening, two};
 ghost use Rattle.packet_spec.specs.Escape.{escape};
@@ -17,23 +17,18 @@ use fcs::Register;
 fn two(n: u16) -> [u8; 2]
     ensures { result ≡ two n }
 {
-    [(n % 256) as u8, (n / 256) as u8]
+    n.to_le_bytes()
 }
 
 // Whether key and key number fit the format.
 fn head_fits(format: u8, number: u8, key: &[u8]) -> bool
     ensures { result ≡ head_fits format number (length key.now) }
 {
-    if format == Packet::PLAIN_FORMAT {
-        if key.len() == 0 {
-            return number == 0;
-        }
-        return false;
+    match format {
+        Packet::PLAIN_FORMAT => key.is_empty() && number == 0,
+        Packet::KEY_FORMAT => key_sized(key.len()),
+        _ => false,
     }
-    if format == Packet::KEY_FORMAT {
-        return key_sized(key.len());
-    }
-    false
 }
 
 // Stores format byte and, in format 0x26, key length, key number and key; how many bytes.
@@ -57,13 +52,13 @@ fn put_two(out: &mut [u8], at: usize, n: u16) -> usize
     requires { at + 2 ≤ length out.old }
     ensures { Laid out.old at (two n) out.new result }
 {
-    let b = two(n);
-    out[at] = b[0];
-    out[at + 1] = b[1];
+    let [low, high] = two(n);
+    out[at] = low;
+    out[at + 1] = high;
     at + 2
 }
 
-// Stores format byte to sequence; how many bytes.
+// Stores format byte to sequence; how many bytes. The parts come one by one, as callers of `write_as` hand them in.
 fn put_opening(
     out: &mut [u8],
     format: u8,
@@ -90,17 +85,17 @@ fn check_of(opening: &[u8], payload: &[u8]) -> u16
 // Stores a frame of three parts and its flag, where there is room.
 fn put_frame(opening: &[u8], payload: &[u8], tail: &[u8; 2], out: &mut [u8]) -> Written
     requires { (length opening.now ≤ opening_most) × (length (escape payload.now) ≤ payload_limit) }
-    ensures { outcome result out.new ≡ write (flagged (opening.now ++ payload.now ++ tail.now)) out.old }
+    ensures { outcome (as_written result) out.new ≡ write (flagged (opening.now ++ payload.now ++ tail.now)) out.old }
 {
     let n = escape::escaped_len(opening) + escape::escaped_len(payload) + escape::escaped_len(tail);
     if out.len() <= n {
-        return Written::Refused(Refusal::OUTPUT);
+        return Err(Refusal::Output);
     }
     let a = escape::put(out, 0, opening);
     let b = escape::put(out, a, payload);
     let c = escape::put(out, b, tail);
     out[c] = Packet::FLAG;
-    Written::Wrote(c + 1)
+    Ok(c + 1)
 }
 
 // Stores a packet's frame, where there is room.
@@ -114,13 +109,13 @@ fn put_packet(
     out: &mut [u8],
 ) -> Written
     requires { (length key.now ≤ key_most) × (length (escape payload.now) ≤ payload_limit) }
-    ensures { outcome result out.new ≡
+    ensures { outcome (as_written result) out.new ≡
         write (frame_of (packet_of format number key.now port sequence payload.now)) out.old }
 {
     let mut opening = [0u8; Packet::OPENING];
     let n = put_opening(&mut opening, format, number, key, port, sequence);
-    let tail = two(check_of(&opening[0..n], payload));
-    put_frame(&opening[0..n], payload, &tail, out)
+    let tail = two(check_of(&opening[..n], payload));
+    put_frame(&opening[..n], payload, &tail, out)
 }
 
 /// Writes a packet of either format: its escaped contents, and one flag behind them.
@@ -133,32 +128,32 @@ pub fn write_as(
     payload: &[u8],
     out: &mut [u8],
 ) -> Written
-    ensures { outcome result out.new ≡
+    ensures { outcome (as_written result) out.new ≡
         writing (packet_of format number key.now port sequence payload.now) out.old }
 {
-    if payload.len() == 0 {
-        return Written::Refused(Refusal::EMPTY);
+    if payload.is_empty() {
+        return Err(Refusal::Empty);
     }
     if Packet::PAYLOAD < escape::escaped_len(payload) {
-        return Written::Refused(Refusal::LONG);
+        return Err(Refusal::Long);
     }
     if port::barred(port) {
-        return Written::Refused(Refusal::BARRED);
+        return Err(Refusal::Barred);
     }
-    if head_fits(format, number, key) {
-        return put_packet(format, number, key, port, sequence, payload, out);
+    if !head_fits(format, number, key) {
+        return Err(Refusal::SentKey);
     }
-    Written::Refused(Refusal::SENT_KEY)
+    put_packet(format, number, key, port, sequence, payload, out)
 }
 
 /// Writes a packet of format 0x21.
 pub fn write(port: u16, sequence: u16, payload: &[u8], out: &mut [u8]) -> Written
-    ensures { outcome result out.new ≡ writing (plain_packet port sequence payload.now) out.old }
+    ensures { outcome (as_written result) out.new ≡ writing (plain_packet port sequence payload.now) out.old }
 {
     write_as(
         Packet::PLAIN_FORMAT,
         0,
-        &payload[0..0],
+        &payload[..0],
         port,
         sequence,
         payload,

@@ -6,8 +6,8 @@ use Rattle.paper.specs.Calls as paper
 use Rattle.paper.specs.Packet.{Packet as PaperPacket}
 use Rattle.paper.specs.Frame.{Verdict, delivered, refused as paper_refused, broken as paper_broken}
 use Rattle.base.specs.Written.{Outcome}
-use Rattle.base.specs.declared.Written.{Written}
-use Rattle.base.specs.declared.Written.TheVariants.{Wrote, Refused}
+use Rattle.base.specs.Written.{Written}
+use Rattle.base.specs.Written.{Wrote, Refused}
 use Rattle.packet_spec.specs.Contents.{Packet}
 use Rattle.packet_spec.specs.Frame.{Told, packet, refusal, broken}
 

@@ -42,7 +42,7 @@ pub struct Delivery {
 #[derive(Clone, Copy)]
 pub enum Judged {
     Packet(Delivery),
-    /// Refused, by this number of the paper.
+    /// Refused, by this number of the paper; callers hand such answers in, so it may be any.
     Refused(u8),
     /// Refused with 3: the raw byte at this place, counted from 0, is the first that stands behind 7D and is neither 5E nor 5D.
     Broken(usize),

@@ -2,20 +2,19 @@
 #![tactic(auto)]
 
 ghost use Rattle.std.specs.Prelude.{◌≡◌, ◌∷◌, ◌++◌, ◌+◌, ◌-◌, ◌≤◌, length, take, drop, replicate};
-ghost use Rattle.base.specs.Written.{copied, outcome};
+ghost use Rattle.base.specs.Written.{copied, as_written, outcome};
 ghost use Rattle.word_spec.specs.Word.{values_from, clean, scale, onto, generator, divide, remainder};
 ghost use Rattle.word_spec.specs.Private.{points, stepped};
+ghost use Rattle.parity.specs.Checked.{as_checked};
 ghost use Rattle.parity.specs.Calls.{word_bytes, root_limit, at_powers, at_roots, checked, made};
 
 use base::{Refusal, Written};
 
 /// What the check of a word finds.
-#[derive(Clone, Copy)]
+#[derive(Clone, Copy, Debug, PartialEq, Eq)]
 pub enum Checked {
     Clean,
     Damaged,
-    /// The call is refused, by this number of the paper.
-    Refused(u8),
 }
 
 /// A word: a message, and its parity behind it.
@@ -37,11 +36,9 @@ fn points(first: u8) -> [u8; Word::MOST]
 {
     let mut p = [0u8; Word::MOST];
     let mut x = first;
-    let mut j: usize = 0;
-    while j < Word::MOST {
+    for j in 0..Word::MOST {
         p[j] = x;
         x = field::times(x, field::ALPHA);
-        j += 1;
     }
     p
 }
@@ -51,10 +48,8 @@ fn step(c: u8, p: [u8; Word::MOST], v: [u8; Word::MOST]) -> [u8; Word::MOST]
     ensures { result ≡ stepped c p v }
 {
     let mut next = v;
-    let mut lane: usize = 0;
-    while lane < Word::MOST {
+    for lane in 0..Word::MOST {
         next[lane] = field::plus(field::times(p[lane], next[lane]), c);
-        lane += 1;
     }
     next
 }
@@ -63,14 +58,7 @@ fn step(c: u8, p: [u8; Word::MOST], v: [u8; Word::MOST]) -> [u8; Word::MOST]
 fn zeros(word: &[u8]) -> usize
     ensures { (result ≤ length word.now) × (take result word.now ≡ replicate result 0) }
 {
-    let mut i: usize = 0;
-    while i < word.len() {
-        if word[i] != 0 {
-            return i;
-        }
-        i += 1;
-    }
-    i
+    word.iter().position(|b| *b != 0).unwrap_or(word.len())
 }
 
 /// The values at alpha^j, alpha^(j + 1), .. alpha^(j + 63) of coefficients, the highest first; for j = 1, at all roots that a word may have.
@@ -78,15 +66,15 @@ pub fn at_powers(j: usize, word: &[u8]) -> [u8; Word::MOST]
     ensures { result ≡ at_powers j word.now }
 {
     let mut v = [0u8; Word::MOST];
-    let mut i = zeros(word);
-    if i == word.len() {
+    let passed = zeros(word);
+    if passed == word.len() {
         return v;
     }
     let p = points(field::power(j));
-    while i < word.len() {
-        let next = step(word[i], p, v);
+    for c in &word[passed..] {
+        // by a name of its own: the check does not cover a result that is laid where the argument lies
+        let next = step(*c, p, v);
         v = next;
-        i += 1;
     }
     v
 }
@@ -117,17 +105,17 @@ fn at_first(r: usize, word: &[u8]) -> [u8; Word::MOST]
 
 /// Writes the values of a word at its r roots.
 pub fn at_roots(r: usize, word: &[u8], out: &mut [u8]) -> Written
-    ensures { outcome result out.new ≡ at_roots r word.now out.old }
+    ensures { outcome (as_written result) out.new ≡ at_roots r word.now out.old }
 {
     if Word::MOST < r {
-        return Written::Refused(Refusal::ROOTS);
+        return Err(Refusal::Roots);
     }
     if out.len() < r {
-        return Written::Refused(Refusal::OUTPUT);
+        return Err(Refusal::Output);
     }
     let v = at_first(r, word);
     base::copy(&v[..r], out);
-    Written::Wrote(r)
+    Ok(r)
 }
 
 // Whether a word is zero at the roots 1 to r.
@@ -142,30 +130,22 @@ fn zero_at(r: usize, word: &[u8]) -> bool
         return lanes::is_clean(word);
     }
     let v = at_first(r, word);
-    let mut j: usize = 0;
-    while j < r {
-        if v[j] != 0 {
-            return false;
-        }
-        j += 1;
-    }
-    true
+    v[..r].iter().all(|x| *x == 0)
 }
 
 /// Checks a word with r parity bytes.
-pub fn check(r: usize, word: &[u8]) -> Checked
-    ensures { result ≡ checked r word.now }
+pub fn check(r: usize, word: &[u8]) -> Result<Checked, Refusal>
+    ensures { as_checked result ≡ checked r word.now }
 {
     if Word::MOST < r {
-        return Checked::Refused(Refusal::ROOTS);
+        Err(Refusal::Roots)
+    } else if word.len() != Word::LENGTH {
+        Err(Refusal::Length)
+    } else if zero_at(r, word) {
+        Ok(Checked::Clean)
+    } else {
+        Ok(Checked::Damaged)
     }
-    if word.len() != Word::LENGTH {
-        return Checked::Refused(Refusal::LENGTH);
-    }
-    if zero_at(r, word) {
-        return Checked::Clean;
-    }
-    Checked::Damaged
 }
 
 // Multiplies g, the 0 behind it lent too, by (x - a).
@@ -173,12 +153,10 @@ fn times_root(a: u8, g: &mut [u8])
     ensures { g.new ≡ onto (0 ∷ scale a g.old) g.old }
 {
     let mut last: u8 = 0;
-    let mut i: usize = 0;
-    while i < g.len() {
+    for i in 0..g.len() {
         let x = g[i];
         g[i] = field::plus(field::times(a, last), x);
         last = x;
-        i += 1;
     }
 }
 
@@ -189,12 +167,9 @@ fn generate(r: usize) -> [u8; Word::GENERATOR]
 {
     let mut g = [0u8; Word::GENERATOR];
     g[0] = 1;
-    let mut roots: usize = 0;
-    while roots < r {
+    for roots in 0..r {
         let a = field::power(roots + 1);
-        let end = roots + 2;
-        times_root(a, &mut g[..end]);
-        roots += 1;
+        times_root(a, &mut g[..roots + 2]);
     }
     g
 }
@@ -203,11 +178,8 @@ fn generate(r: usize) -> [u8; Word::GENERATOR]
 pub fn subtract(c: u8, g: &[u8], p: &mut [u8])
     ensures { p.new ≡ onto (scale c g.now) p.old }
 {
-    let n = base::least(g.len(), p.len());
-    let mut i: usize = 0;
-    while i < n {
+    for i in 0..g.len().min(p.len()) {
         p[i] = field::plus(field::times(c, g[i]), p[i]);
-        i += 1;
     }
 }
 
@@ -216,12 +188,9 @@ fn reduce(n: usize, g: &[u8], p: &mut [u8])
     requires { n + length g.now ≤ length p.old }
     ensures { drop n p.new ≡ divide n (1 ∷ g.now) p.old }
 {
-    let mut i: usize = 0;
-    while i < n {
+    for i in 0..n {
         let c = p[i];
-        let next = i + 1;
-        subtract(c, g, &mut p[next..]);
-        i = next;
+        subtract(c, g, &mut p[i + 1..]);
     }
 }
 
@@ -239,25 +208,24 @@ fn put_parity(r: usize, message: &[u8], out: &mut [u8])
         return;
     }
     let n = Word::LENGTH - r;
-    let end = r + 1;
     let g = generate(r);
-    reduce(n, &g[1..end], &mut p);
+    reduce(n, &g[1..r + 1], &mut p);
     base::copy(&p[n..], out);
 }
 
 /// Makes the r parity bytes of a message.
 pub fn make(r: usize, message: &[u8], out: &mut [u8]) -> Written
-    ensures { outcome result out.new ≡ made r message.now out.old }
+    ensures { outcome (as_written result) out.new ≡ made r message.now out.old }
 {
     if Word::MOST < r {
-        return Written::Refused(Refusal::ROOTS);
+        return Err(Refusal::Roots);
     }
     if message.len() != Word::LENGTH - r {
-        return Written::Refused(Refusal::LENGTH);
+        return Err(Refusal::Length);
     }
     if out.len() < r {
-        return Written::Refused(Refusal::OUTPUT);
+        return Err(Refusal::Output);
     }
     put_parity(r, message, out);
-    Written::Wrote(r)
+    Ok(r)
 }

@@ -1,119 +1,136 @@
--- What the loops over a table of ports need.
--- place_here, place-on, place_end    the loop that finds a port
--- free-here, free_on, free-end       .. a free place
--- twice-here, twice-on, twice-end    .. a port held twice
-use mathlib.Core.Path.{◌≡◌, refl, sym, ap, ◌∙◌}
-use mathlib.Core.Bool.{Bool, true, false, not, ◌&&◌, false≢true, true≢false}
-use mathlib.Core.List.{List, [], ◌∷◌}
-use Prim.Native.Nat.{ℕ, suc, ◌+◌, ◌-◌, ◌≤◌, ◌<◌}
-use native.Mathlib.Omega.{arith}
-use native.Mathlib.Numerals.{add-one}
-use borrow.Author.Tests.{lt-ltb, le-ltb}
-use lib.Dec.{ltb}
-use lib.ListN.{length, take, drop, get_or, length-take, length-drop, drop_of_length-le}
-use lib.Seq.{slice-cons, length-take-le}
-use Rattle.base.proofs.Tests.{by_le}
+-- Where a table has a port, and what the calls then are to answer and leave.
+-- place-at, free_at           where a port is held, and the first free place, as they are looked for
+-- found-there, found-none     .. found, and not
+-- is-held                     whether a port is held at all
+-- held-again, held-once       the first place's port is held again behind it, or is not
+-- not-held, held-none         the first place is free, or there is none
+-- note-.., forget-..          the two calls, way by way
+use Rattle.std.proofs.Common.{◌≡◌, ℕ, suc, ◌+◌, Bool, true, false, not, cond, List, [], ◌∷◌, length}
+use Rattle.std.proofs.Common.{position, nat_lt, is_some, Option, Some, None, set, get_or, refl, sym, ap, ◌∙◌, arith}
+use Rattle.std.proofs.lemmas.List.Recursion.{is_position_or_len}
+use Rattle.std.proofs.lemmas.List.Quantifiers.{position-Some}
+use Rattle.base.specs.Choice.{pick}
 use Rattle.ports_spec.specs.declared.Entry.{Entry}
-use Rattle.ports_spec.specs.Ports.{freed, holds, place_of, free_place, twice}
+use Rattle.ports_spec.specs.declared.Noted.{Noted}
+use Rattle.ports_spec.specs.declared.Noted.TheVariants.{First, Refused}
+use Rattle.ports_spec.specs.Forgot.{Forgot, Forgotten, Refused as Unforgotten}
+use Rattle.ports_spec.specs.Distance.{ruled, last_behind}
+use Rattle.ports_spec.proofs.Holding.{holds-is}
+use Rattle.ports_spec.specs.Ports.{freed, entry, unheld, holds, place_of, free_place, last_at, twice, unfit, noting, forgetting}
 
--- ---- the loops: what is left from place i on, of the first n places
-part-next : (t : List Entry) (i n : ℕ) → i < n → n ≤ length t → drop i (take n t) ≡ get_or t i freed ∷ drop (i + 1) (take n t)
-part-next t i n h k = rw add-one (slice-cons i n t freed h k)
+step-held : (b : Bool) (n : ℕ) → pick b 0 (suc n) ≡ cond b 0 (1 + n)
+step-held true n = refl
+step-held false n = omega arith
 
-part-over : (t : List Entry) (i n : ℕ) → n ≤ i → drop i (take n t) ≡ []
-part-over t i n h = drop_of_length-le (take n t) {i = i} (simp length-take (omega arith))
+step-free : (b : Bool) (n : ℕ) → pick b (suc n) 0 ≡ cond (not b) 0 (1 + n)
+step-free true n = omega arith
+step-free false n = refl
 
-module _ (port : ℕ) {es fs : List Entry} {x : Entry} (e : es ≡ x ∷ fs) where
-  place-stop : holds port x ≡ true → place_of port es ≡ 0
-  unfolding place_of
-  place-stop h = rw (e, h) refl
+-- a place, where it is one of so many
+abbrev among : ℕ → ℕ → Option ℕ
+among n size = cond (nat_lt n size) (Some n) None
 
-  place-go : holds port x ≡ false → place_of port es ≡ suc (place_of port fs)
-  unfolding place_of
-  place-go h = rw (e, h) refl
-
-place-nil : (port : ℕ) {es : List Entry} → es ≡ [] → place_of port es ≡ 0
+pub place-at : (port : ℕ) (es : List Entry) → position (holds port) es ≡ among (place_of port es) (length es)
 unfolding place_of
-place-nil port e = rw e refl
+place-at port es =
+    ap (λ n. among n (length es))
+    (sym (is_position_or_len (place_of port) (holds port) refl (λ e rest. step-held (holds port e) (place_of port rest)) es))
 
-module _ (port : ℕ) (t : List Entry) (n i : ℕ) {r : ℕ} (inv : i + place_of port (drop i (take n t)) ≡ r) where
-  pub place_here : i < n → n ≤ length t → holds port (get_or t i freed) ≡ true → i ≡ r
-  place_here h k q = omega (arith, inv, place-stop port (part-next t i n h k) q)
-
-  pub place-on : i < n → n ≤ length t → holds port (get_or t i freed) ≡ false → i + 1 + place_of port (drop (i + 1) (take n t)) ≡ r
-  place-on h k q = omega (arith, inv, place-go port (part-next t i n h k) q)
-
-  pub place_end : n ≤ i → i ≡ r
-  place_end h = omega (arith, inv, place-nil port (part-over t i n h))
-
-module _ {es fs : List Entry} {x : Entry} (e : es ≡ x ∷ fs) where
-  free-stop : x.held ≡ false → free_place es ≡ 0
-  unfolding free_place
-  free-stop h = rw (e, h) refl
-
-  free-go : x.held ≡ true → free_place es ≡ suc (free_place fs)
-  unfolding free_place
-  free-go h = rw (e, h) refl
-
-not-true : (b : Bool) → not b ≡ true → b ≡ false
-not-true true e = absurd (false≢true e)
-not-true false e = refl
-
-not-false : (b : Bool) → not b ≡ false → b ≡ true
-not-false true e = refl
-not-false false e = absurd (true≢false e)
-
-free-nil : {es : List Entry} → es ≡ [] → free_place es ≡ 0
+pub free_at : (es : List Entry) → position (λ e. not e.held) es ≡ among (free_place es) (length es)
 unfolding free_place
-free-nil e = rw e refl
+free_at es =
+    ap (λ n. among n (length es))
+    (sym (is_position_or_len free_place (λ e. not e.held) refl (λ e rest. step-free e.held (free_place rest)) es))
 
-module _ (t : List Entry) (n i : ℕ) {r : ℕ} (inv : i + free_place (drop i (take n t)) ≡ r) where
-  pub free-here : i < n → n ≤ length t → not (get_or t i freed).held ≡ true → i ≡ r
-  free-here h k q = omega (arith, inv, free-stop (part-next t i n h k) (not-true _ q))
+pub found-there : (n size k : ℕ) → among n size ≡ Some k → (nat_lt n size ≡ true) × (n ≡ k)
+found-there n size k e = there (nat_lt n size) e
+  where
+    there : (b : Bool) → cond b (Some n) None ≡ Some k → (b ≡ true) × (n ≡ k)
+    there true e = (refl, cc)
+    there false e = absurd (cc)
 
-  pub free_on : i < n → n ≤ length t → not (get_or t i freed).held ≡ false → i + 1 + free_place (drop (i + 1) (take n t)) ≡ r
-  free_on h k q = omega (arith, inv, free-go (part-next t i n h k) (not-false _ q))
-
-  pub free-end : n ≤ i → i ≡ r
-  free-end h = omega (arith, inv, free-nil (part-over t i n h))
+pub found-none : (n size : ℕ) → among n size ≡ None → nat_lt n size ≡ false
+found-none n size e = there (nat_lt n size) e
+  where
+    there : (b : Bool) → cond b (Some n) None ≡ None → b ≡ false
+    there true e = absurd (cc)
+    there false e = refl
 
 -- ---- held twice
-module _ {es fs : List Entry} {x : Entry} (e : es ≡ x ∷ fs) where
-  twice-stop : x.held && ltb (place_of x.port fs) (length fs) ≡ true → twice es ≡ true
-  unfolding twice
-  twice-stop h = rw (e, h) refl
-
-  twice-go : x.held && ltb (place_of x.port fs) (length fs) ≡ false → twice es ≡ twice fs
-  unfolding twice
-  twice-go h = rw (e, h) refl
-
-twice-nil : {es : List Entry} → es ≡ [] → twice es ≡ false
-unfolding twice
-twice-nil e = rw e refl
-
--- a place from i + 1 on within n is one within what is left there
-within : (a m n : ℕ) (k : ℕ) → k ≡ n - m → m ≤ n → ltb (m + a) n ≡ ltb a k
-within a m n k e h =
-    by_le n (m + a) (λ l. le-ltb (m + a) n l ∙ sym (le-ltb a k (omega (arith, e))))
-    (λ l. lt-ltb (m + a) n l ∙ sym (lt-ltb a k (omega (arith, e))))
-
-module _ (t : List Entry) (n i : ℕ) (h : i < n) (k : n ≤ length t) {place : ℕ} (ep : place ≡ i + 1 + place_of (get_or t i freed).port (drop (i + 1) (take n t)))
+is_some-among : (n size : ℕ) → is_some (among n size) ≡ nat_lt n size
+is_some-among n size = there (nat_lt n size)
   where
-    left : length (drop (i + 1) (take n t)) ≡ n - (i + 1)
-    left = length-drop (i + 1) (take n t) ∙ ap (λ (m : ℕ). m - (i + 1)) (length-take-le n t k)
+    there : (b : Bool) → is_some (cond b (Some n) None) ≡ b
+    there true = refl
+    there false = refl
 
-    same : (get_or t i freed).held && ltb place n ≡ (get_or t i freed).held && ltb (place_of (get_or t i freed).port (drop (i + 1) (take n t)))
-        (length (drop (i + 1) (take n t)))
-    same =
-        ap (λ (b : Bool). (get_or t i freed).held && b)
-        (ap (λ (p : ℕ). ltb p n) ep ∙ within (place_of (get_or t i freed).port (drop (i + 1) (take n t))) (i + 1) n (length (drop (i + 1) (take n t))) left
-        (omega (arith, h)))
+pub is-held : (port : ℕ) (es : List Entry) → is_some (position (holds port) es) ≡ nat_lt (place_of port es) (length es)
+is-held port es = ap is_some (place-at port es) ∙ is_some-among (place_of port es) (length es)
 
-    pub twice-here : {r : Bool} → twice (drop i (take n t)) ≡ r → (get_or t i freed).held && ltb place n ≡ true → true ≡ r
-    twice-here inv q = sym (twice-stop (part-next t i n h k) (sym same ∙ q)) ∙ inv
+module _ {es rest : List Entry} {e : Entry} (at : es ≡ e ∷ rest) where
+  pub held-again : {r : Bool} → twice es ≡ r → e.held ≡ true → is_some (position (holds e.port) rest) ≡ true → true ≡ r
+  unfolding twice
+  held-again inv h k = rw (at, h, sym (is-held e.port rest) ∙ k) at inv
 
-    pub twice-on : {r : Bool} → twice (drop i (take n t)) ≡ r → (get_or t i freed).held && ltb place n ≡ false → twice (drop (i + 1) (take n t)) ≡ r
-    twice-on inv q = sym (twice-go (part-next t i n h k) (sym same ∙ q)) ∙ inv
+  pub not-held : {r : Bool} → twice es ≡ r → e.held ≡ false → twice rest ≡ r
+  unfolding twice
+  not-held inv h = rw (at, h) at inv
 
-pub twice-end : (t : List Entry) (n i : ℕ) {r : Bool} → twice (drop i (take n t)) ≡ r → n ≤ i → false ≡ r
-twice-end t n i inv h = sym (twice-nil (part-over t i n h)) ∙ inv
+  pub held-once : {r : Bool} → twice es ≡ r → e.held ≡ true → is_some (position (holds e.port) rest) ≡ false → twice rest ≡ r
+  unfolding twice
+  held-once inv h k = rw (at, h, sym (is-held e.port rest) ∙ k) at inv
+
+pub held-none : (es : List Entry) {r : Bool} → twice es ≡ r → length es ≡ 0 → false ≡ r
+unfolding twice
+held-none [] inv h = inv
+held-none (e ∷ es) inv h = absurd (omega (arith, h))
+
+-- ---- a packet noted, way by way
+module _ (es : List Entry) (port sequence : ℕ) where
+  pub note-unfit : unfit es ≡ true → ◌≡◌ {A = Noted × List Entry} (Refused 43, es) (noting es port sequence)
+  unfolding noting
+  note-unfit h = rw h refl
+
+  module _ (fit : unfit es ≡ false) where
+    pub note-held : {k : ℕ} → position (holds port) es ≡ Some k → {a : Noted} {l : ℕ} → a ≡ ruled (get_or es k freed).last sequence
+        → l ≡ last_behind (get_or es k freed).last sequence → ◌≡◌ {A = Noted × List Entry} (a, set es k (entry port l)) (noting es port sequence)
+    unfolding noting
+    note-held {k} p ea el =
+        let (h, ek) = found-there (place_of port es) (length es) k (sym (place-at port es) ∙ p) in
+        rw (fit, h, last_at, ek) (λ i. (ea i, set es k (entry port (el i))))
+
+    module _ (away : position (holds port) es ≡ None) where
+      gone : nat_lt (place_of port es) (length es) ≡ false
+      gone = found-none (place_of port es) (length es) (sym (place-at port es) ∙ away)
+
+      pub note-new : {k : ℕ} → position (λ e. not e.held) es ≡ Some k
+          → ◌≡◌ {A = Noted × List Entry} (First, set es k (entry port sequence)) (noting es port sequence)
+      unfolding noting
+      note-new {k} p =
+          let (h, ek) = found-there (free_place es) (length es) k (sym (free_at es) ∙ p) in
+          rw (fit, gone, h, ek) refl
+
+      pub note-full : position (λ e. not e.held) es ≡ None → ◌≡◌ {A = Noted × List Entry} (Refused 40, es) (noting es port sequence)
+      unfolding noting
+      note-full p = rw (fit, gone, found-none (free_place es) (length es) (sym (free_at es) ∙ p)) refl
+
+-- ---- a port forgotten, way by way
+module _ (es : List Entry) (port : ℕ) where
+  pub forget-unfit : unfit es ≡ true → ◌≡◌ {A = Forgot × List Entry} (Unforgotten 43, es) (forgetting es port)
+  unfolding forgetting
+  forget-unfit h = rw h refl
+
+  module _ (fit : unfit es ≡ false) where
+    pub forget-away : position (holds port) es ≡ None → ◌≡◌ {A = Forgot × List Entry} (Unforgotten 41, es) (forgetting es port)
+    unfolding forgetting
+    forget-away p = rw (fit, found-none (place_of port es) (length es) (sym (place-at port es) ∙ p)) refl
+
+    pub forget-held : {k : ℕ} → position (holds port) es ≡ Some k
+        → ◌≡◌ {A = Forgot × List Entry} (Forgotten, set es k (unheld (get_or es k freed).port (get_or es k freed).last)) (forgetting es port)
+    unfolding forgetting
+    forget-held {k} p =
+        let (h, ek) = found-there (place_of port es) (length es) k (sym (place-at port es) ∙ p) in
+        rw (fit, h, last_at, ek) (λ i. (Forgotten, set es k (unheld (its i) (get_or es k freed).last)))
+      where
+        its : (get_or es k freed).port ≡ port
+        its = holds-is port (get_or es k freed) (position-Some (holds port) es k freed p).1

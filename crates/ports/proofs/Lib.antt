@@ -1,4 +1,3 @@
 pub mod Determined
-pub mod Finding
 pub mod Says
-pub mod Tables
+pub mod Finding

@@ -1,15 +1,13 @@
 -- A table of ports by value (request W1).
 -- fresh_ports           one that holds no port
 -- sound_ports           whether it is fit: no port is held twice
--- noted_in, forgot_in   what the two calls on it give
+-- noted_in              what a packet noted in it gives
 use Rattle.std.specs.Prelude.{Bool, not, List}
 use Rattle.ports_spec.specs.Ports.{fresh_table, unfit}
 use Rattle.ports_spec.specs.declared.Entry.{Entry}
 use Rattle.ports_spec.specs.declared.Noted.{Noted}
-use Rattle.ports_spec.specs.declared.Forgot.{Forgot}
 use Rattle.ports.specs.declared.by_value.Ports.{Ports}
 use Rattle.ports.specs.declared.by_value.NotedIn.{NotedIn}
-use Rattle.ports.specs.declared.by_value.ForgotIn.{ForgotIn}
 
 -- 16 free places
 abbrev pub fresh_ports : Ports
@@ -22,7 +20,3 @@ sound_ports t = not (unfit t.entries)
 -- a packet noted in it
 abbrev pub noted_in : Noted × List Entry → NotedIn
 noted_in x = record { noted = x.0; ports = record { entries = x.1 } }
-
--- a port of it forgotten
-abbrev pub forgot_in : Forgot × List Entry → ForgotIn
-forgot_in x = record { forgot = x.0; ports = record { entries = x.1 } }

@@ -1,10 +1,13 @@
 //! A table of ports by value.
-ghost use Rattle.std.specs.Prelude.{◌≡◌, not, length, set};
-ghost use Rattle.ports_spec.specs.Ports.{noting, forgetting, unfit};
-ghost use Rattle.ports.specs.ByValue.{fresh_ports, noted_in, forgot_in, sound_ports};
+ghost use Rattle.std.specs.Prelude.{◌≡◌, List};
+ghost use Rattle.ports_spec.specs.Forgot.{Forgot, as_forgot};
+ghost use Rattle.ports_spec.specs.Ports.{noting, forgetting};
+ghost use Rattle.ports_spec.specs.declared.Entry.{Entry};
+ghost use Rattle.ports.specs.ByValue.{fresh_ports, noted_in, sound_ports};
 
-use crate::places::is_twice;
-use crate::{Entry, Forgot, Noted, Table, decide_forget, decide_note};
+use crate::places::is_unfit;
+use crate::{Entry, Noted};
+use base::Refusal;
 
 /// A table of 16 places, by value.
 #[derive(Clone, Copy)]
@@ -13,6 +16,7 @@ pub struct Ports {
 }
 
 /// What is noted, and the table then.
+// This and the next are no one generic struct: the name of the field says what the call did, where a generic one would say only that it answered.
 #[derive(Clone, Copy)]
 pub struct NotedIn {
     pub noted: Noted,
@@ -22,27 +26,8 @@ pub struct NotedIn {
 /// What is forgotten, and the table then.
 #[derive(Clone, Copy)]
 pub struct ForgotIn {
-    pub forgot: Forgot,
+    pub forgot: Result<(), Refusal>,
     pub ports: Ports,
-}
-
-// One entry put into a table, nothing past the end.
-fn put_in(t: [Entry; 16], i: usize, e: Entry) -> [Entry; 16]
-    ensures { (result ≡ set t i e) × (length t ≡ 16) }
-{
-    if i < Ports::PLACES {
-        let mut next = t;
-        next[i] = e;
-        return next;
-    }
-    t
-}
-
-// Whether no port is held twice.
-fn held_once(t: [Entry; 16]) -> bool
-    ensures { result ≡ not (unfit t) }
-{
-    !is_twice(t, Ports::PLACES)
 }
 
 impl Ports {
@@ -58,47 +43,33 @@ impl Ports {
             port: 0,
             last: 0,
         };
-        let entries = [free; 16];
-        Ports { entries }
+        Ports {
+            entries: [free; 16],
+        }
     }
 
     /// Whether no port is held twice.
     pub fn sound(self) -> bool
         ensures { result ≡ sound_ports self }
     {
-        let es = self.entries;
-        held_once(es)
+        !is_unfit(&self.entries)
     }
 
     /// A delivered packet, as `note`.
     pub fn note(self, port: u16, sequence: u16) -> NotedIn
         ensures { result ≡ noted_in (noting self.entries port sequence) }
     {
-        let es = self.entries;
-        let t = Table {
-            places: Ports::PLACES,
-            entries: es,
-        };
-        let d = decide_note(t, port, sequence);
-        let entries = put_in(es, d.place, d.entry);
-        let ports = Ports { entries };
-        let noted = d.noted;
+        let mut ports = self;
+        let noted = crate::note(&mut ports.entries, port, sequence);
         NotedIn { noted, ports }
     }
 
     /// A port forgotten, as `forget`.
     pub fn forget(self, port: u16) -> ForgotIn
-        ensures { result ≡ forgot_in (forgetting self.entries port) }
+        ensures { ◌≡◌ {A = Forgot × List Entry} (as_forgot result.forgot, result.ports.entries) (forgetting self.entries port) }
     {
-        let es = self.entries;
-        let t = Table {
-            places: Ports::PLACES,
-            entries: es,
-        };
-        let d = decide_forget(t, port);
-        let entries = put_in(es, d.place, d.entry);
-        let ports = Ports { entries };
-        let forgot = d.forgot;
+        let mut ports = self;
+        let forgot = crate::forget(&mut ports.entries, port);
         ForgotIn { forgot, ports }
     }
 }

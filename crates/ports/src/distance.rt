@@ -4,41 +4,31 @@ ghost use Rattle.ports_spec.specs.Distance.{gap, ruled, last_behind};
 
 use crate::Noted;
 
-// Sequence numbers go around.
-const AROUND: u32 = 65536;
 // Distances from here on are negative.
-const HALF: u32 = 32768;
+const HALF: u16 = 32768;
 
 // From last to new, around 65,536.
-fn gap(last: u16, new: u16) -> u32
+fn gap(last: u16, new: u16) -> u16
     ensures { result ≡ gap last new }
 {
-    (new as u32 + AROUND - last as u32) % AROUND
+    new.wrapping_sub(last)
 }
 
 /// What a new number says of a port with this last one.
 pub fn rule(last: u16, new: u16) -> Noted
     ensures { result ≡ ruled last new }
 {
-    let d = gap(last, new);
-    if d == 0 {
-        return Noted::Repeated;
+    match gap(last, new) {
+        0 => Noted::Repeated,
+        1 => Noted::InOrder,
+        d if d < HALF => Noted::Missing(d - 1),
+        _ => Noted::Late,
     }
-    if d == 1 {
-        return Noted::InOrder;
-    }
-    if d < HALF {
-        return Noted::Missing((d - 1) as u16);
-    }
-    Noted::Late
 }
 
 // The last number then.
-pub fn last_behind(last: u16, new: u16) -> u16
+pub(crate) fn last_behind(last: u16, new: u16) -> u16
     ensures { result ≡ last_behind last new }
 {
-    if gap(last, new) < HALF {
-        return new;
-    }
-    last
+    if gap(last, new) < HALF { new } else { last }
 }

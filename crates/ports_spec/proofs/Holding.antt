@@ -1,7 +1,7 @@
 -- When one place holds a port.
 -- holds-is, holds_not   the port that it holds is its own; another one it does not hold
 use mathlib.Core.Path.{◌≡◌}
-use mathlib.Core.Bool.{Bool, true, false}
+use mathlib.Core.Bool.{true, false}
 use mathlib.Core.Logic.{◌≢◌}
 use Prim.Native.Nat.{ℕ}
 use borrow.Author.Tests.{ne_eqb, eqb-true}

@@ -1,25 +1,23 @@
 -- A table that these calls keep never gets 43.
 -- fit-noted, fit-forgotten     a table that is fit stays so
 -- kept-fit, never-43           behind any such calls too, and so 43 is never given
-use mathlib.Core.Path.{◌≡◌, refl, sym, ap, subst, ◌∙◌}
+use mathlib.Core.Path.{◌≡◌, refl, sym, ap, ◌∙◌}
 use mathlib.Core.Bool.{Bool, true, false, ◌&&◌, ◌||◌, true≢false}
 use mathlib.Core.Logic.{◌≢◌}
 use mathlib.Core.List.{List, [], ◌∷◌}
 use mathlib.Core.Option.{none}
-use Prim.Native.Nat.{ℕ, zero, suc, ◌≤◌, ◌<◌}
+use Prim.Native.Nat.{ℕ, suc, ◌≤◌, ◌<◌}
 use native.Mathlib.Omega.{arith}
-use borrow.Author.Tests.{eq-eqb, ne_eqb, eqb-true, ltb-true, ltb-false, le-ltb}
+use borrow.Author.Tests.{eq-eqb, ne_eqb, eqb-true, le-ltb}
 use lib.Dec.{eqb, ltb}
-use lib.ListN.{length, get_or, set, length-set}
+use lib.ListN.{length, set, length-set}
 use Rattle.base.specs.Choice.{pick}
 use Rattle.base.proofs.Tests.{and_parts, or_left, or_right}
 use Rattle.ports_spec.specs.declared.Entry.{Entry}
-use Rattle.ports_spec.specs.declared.Noted.{Noted}
-use Rattle.ports_spec.specs.declared.Noted.TheVariants.{First, Refused}
-use Rattle.ports_spec.specs.declared.Forgot.{Forgot}
-use Rattle.ports_spec.specs.declared.Forgot.TheVariants.{Forgotten, Refused as Unforgotten}
-use Rattle.ports_spec.specs.Distance.{ruled, last_behind}
-use Rattle.ports_spec.specs.Ports.{place_limit, freed, entry, unheld, holds, place_of, free_place, last_of, twice, unfit, last_at, noting, forgetting}
+use Rattle.ports_spec.specs.declared.Noted.TheVariants.{Refused}
+use Rattle.ports_spec.specs.Forgot.{Refused as Unforgotten}
+use Rattle.ports_spec.specs.Distance.{last_behind}
+use Rattle.ports_spec.specs.Ports.{place_limit, entry, unheld, holds, place_of, free_place, last_of, twice, unfit, last_at, noting, forgetting}
 use Rattle.ports_spec.specs.Refusing.{Call, packet, forget, keeps}
 use Rattle.ports_spec.proofs.Laws.{noting_by, forgetting_by, noting-ways, forgetting-ways, once, other-set, away-by}
 use Rattle.ports_spec.proofs.Refusing.{rule-given}

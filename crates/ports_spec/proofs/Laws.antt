@@ -12,24 +12,23 @@
 -- forgotten-at, forgotten-else     its place is freed, and nothing else changes
 -- fresh-fit, fresh-none            a fresh table is fit, and holds no port
 use mathlib.Core.Path.{◌≡◌, refl, sym, ap, subst, ◌∙◌}
-use mathlib.Core.Bool.{Bool, true, false, ◌&&◌, ◌||◌, false≢true, true≢false}
+use mathlib.Core.Bool.{Bool, true, false, ◌&&◌, false≢true, true≢false}
 use mathlib.Core.Logic.{◌≢◌}
 use mathlib.Core.List.{List, [], ◌∷◌}
 use mathlib.Core.Option.{Option, some, none}
 use Prim.Native.Nat.{ℕ, zero, suc, ◌≤◌, ◌<◌}
 use native.Mathlib.Nat.{le_of_suc-le-suc, not-suc-le-zero}
 use native.Mathlib.Omega.{arith}
-use borrow.Author.Tests.{eq-eqb, ne_eqb, eqb-true, ltb-true, ltb-false, lt-ltb, le-ltb}
+use borrow.Author.Tests.{eq-eqb, eqb-true, ltb-true, ltb-false, lt-ltb, le-ltb}
 use lib.Dec.{eqb, ltb}
 use lib.ListN.{length, get_or, set}
 use lib.Seq.{get_or-set_same, get_or-set_other}
 use Rattle.base.specs.Choice.{pick}
-use Rattle.base.proofs.Tests.{and_parts, and-false, or_left, or_right, by_le}
+use Rattle.base.proofs.Tests.{and_parts, or_right, by_le}
 use Rattle.ports_spec.specs.declared.Entry.{Entry}
 use Rattle.ports_spec.specs.declared.Noted.{Noted}
 use Rattle.ports_spec.specs.declared.Noted.TheVariants.{First, Refused}
-use Rattle.ports_spec.specs.declared.Forgot.{Forgot}
-use Rattle.ports_spec.specs.declared.Forgot.TheVariants.{Forgotten, Refused as Unforgotten}
+use Rattle.ports_spec.specs.Forgot.{Forgot, Forgotten, Refused as Unforgotten}
 use Rattle.ports_spec.specs.Distance.{ruled, last_behind}
 use Rattle.ports_spec.specs.Ports.{place_limit, freed, fresh_table, entry, unheld, holds, place_of, free_place, last_of, twice, unfit, last_at}
 use Rattle.ports_spec.specs.Ports.{further, taken, without, noting, forgetting}

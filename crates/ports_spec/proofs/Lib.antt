@@ -7,3 +7,4 @@ pub mod Refusing
 pub mod Rule
 pub mod Signed
 pub mod Determined
+pub mod Told

@@ -5,16 +5,13 @@
 -- seventeen, held-twice, twice-first   a table that is not fit
 -- forgot, not-held      ports forgotten
 -- insides               a range's two ends, and the ports beside them
-use Prim.Native.Nat.{ℕ}
 use mathlib.Core.Path.{◌≡◌, refl}
-use mathlib.Core.Bool.{Bool, true, false}
+use mathlib.Core.Bool.{true, false}
 use mathlib.Core.List.{List, [], ◌∷◌}
 use lib.ListN.{replicate}
 use Rattle.ports_spec.specs.declared.Entry.{Entry}
-use Rattle.ports_spec.specs.declared.Noted.{Noted}
 use Rattle.ports_spec.specs.declared.Noted.TheVariants.{First, InOrder, Repeated, Missing, Late, Refused}
-use Rattle.ports_spec.specs.declared.Forgot.{Forgot}
-use Rattle.ports_spec.specs.declared.Forgot.TheVariants.{Forgotten, Refused as Unforgotten}
+use Rattle.ports_spec.specs.Forgot.{Forgotten, Refused as Unforgotten}
 use Rattle.ports_spec.specs.Distance.{ruled, last_behind}
 use Rattle.ports_spec.specs.Range.{range, every_port, inside}
 use Rattle.ports_spec.specs.Ports.{freed, entry, place_of, free_place, twice, noting, forgetting}

@@ -5,7 +5,7 @@
 -- rule-given                          the distance rule refuses nothing
 use mathlib.Core.Path.{◌≡◌, refl, sym, subst, ◌∙◌}
 use mathlib.Core.Bool.{Bool, true, false, ◌&&◌, ◌||◌, false≢true, true≢false}
-use mathlib.Core.Logic.{◌⊎◌, inl, inr, ⊎_elim}
+use mathlib.Core.Logic.{inl, inr, ⊎_elim}
 use mathlib.Core.List.{List, [], ◌∷◌}
 use Prim.Native.Nat.{ℕ, zero, suc, ◌≤◌, ◌<◌}
 use native.Mathlib.Omega.{arith}
@@ -18,8 +18,7 @@ use Rattle.base.specs.Choice.{pick}
 use Rattle.ports_spec.specs.declared.Entry.{Entry}
 use Rattle.ports_spec.specs.declared.Noted.{Noted}
 use Rattle.ports_spec.specs.declared.Noted.TheVariants.{First, InOrder, Repeated, Missing, Late, Refused}
-use Rattle.ports_spec.specs.declared.Forgot.{Forgot}
-use Rattle.ports_spec.specs.declared.Forgot.TheVariants.{Forgotten, Refused as Unforgotten}
+use Rattle.ports_spec.specs.Forgot.{Forgot, Forgotten, Refused as Unforgotten}
 use Rattle.ports_spec.specs.Distance.{half, gap, ruled}
 use Rattle.ports_spec.specs.Ports.{place_limit, freed, holds, place_of, free_place, twice, unfit, last_at, noting, forgetting}
 use Rattle.ports_spec.specs.Refusing.{HeldTwice, Unfit, Held, Full}

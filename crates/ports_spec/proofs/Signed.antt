@@ -6,8 +6,7 @@ use mathlib.Core.Path.{◌≡◌, refl, sym, ap, ◌∙◌}
 use Prim.Native.Nat.{ℕ, zero, suc, ◌+◌, ◌-◌, ◌%◌, ◌≤◌, ◌<◌}
 use native.Mathlib.Omega.{arith}
 use Rattle.base.proofs.Tests.{by_le}
-use Rattle.ports_spec.specs.declared.Noted.{Noted}
-use Rattle.ports_spec.specs.declared.Noted.TheVariants.{First, InOrder, Repeated, Missing, Late, Refused}
+use Rattle.ports_spec.specs.declared.Noted.TheVariants.{Missing}
 use Rattle.ports_spec.specs.Distance.{around, gap, ruled, last_behind, Distance, ahead, behind, Leads, meaning, follows}
 use Rattle.ports_spec.proofs.Rule.{rule-zero, rule-one, rule-missing, rule-late, last-new, last-late}
 

@@ -4,7 +4,7 @@
 -- ruled, last_behind     what it says, and the port's last number then
 -- Distance, Leads       the request's signed distance
 -- meaning, follows      the same two, in the request's words
-use Rattle.std.specs.Prelude.{ℕ, zero, suc, ◌+◌, ◌-◌, ◌%◌, ◌≤◌, ◌<◌, ◌≡◌, eqb, ltb}
+use Rattle.std.specs.Prelude.{ℕ, zero, suc, ◌+◌, ◌-◌, ◌%◌, ◌≤◌, ◌≡◌, eqb, ltb}
 use Rattle.base.specs.Choice.{pick}
 use Rattle.ports_spec.specs.declared.Noted.{Noted}
 use Rattle.ports_spec.specs.declared.Noted.TheVariants.{InOrder, Repeated, Missing, Late}

@@ -1,3 +1,4 @@
+pub mod Forgot
 pub mod Distance
 pub mod Ports
 pub mod Range

@@ -7,15 +7,14 @@
 -- twice, unfit             43: more than 16 places, or one port held twice
 -- further, taken, without  the table behind a packet, the first of a new port, a port forgotten
 -- noting, forgetting       what the two calls answer and leave
-use Rattle.std.specs.Prelude.{ℕ, zero, suc, Bool, true, false, ◌&&◌, ◌||◌, List, [], ◌∷◌, eqb, ltb, length, get_or, set, replicate}
+use Rattle.std.specs.Prelude.{ℕ, suc, Bool, true, false, ◌&&◌, ◌||◌, List, [], ◌∷◌, eqb, ltb, length, get_or, set, replicate}
 use Rattle.std.proofs.Math.Option.{Option, some, none}
 use Rattle.base.specs.Choice.{pick}
 use Rattle.ports_spec.specs.Distance.{ruled, last_behind}
 use Rattle.ports_spec.specs.declared.Entry.{Entry}
 use Rattle.ports_spec.specs.declared.Noted.{Noted}
 use Rattle.ports_spec.specs.declared.Noted.TheVariants.{First, Refused}
-use Rattle.ports_spec.specs.declared.Forgot.{Forgot}
-use Rattle.ports_spec.specs.declared.Forgot.TheVariants.{Forgotten, Refused as Unforgotten}
+use Rattle.ports_spec.specs.Forgot.{Forgot, Forgotten, Refused as Unforgotten}
 
 -- up to 16 places
 abbrev pub place_limit : ℕ

@@ -6,6 +6,7 @@ ghost use Rattle.std.specs.Prelude.{◌≡◌};
 ghost use Rattle.ports_spec.specs.Range.{every_port, inside};
 
 /// A place of the table.
+// No `Option` of what is held: `without` frees a place and keeps what stands in it, and callers hand in free places with any numbers.
 #[derive(Clone, Copy)]
 pub struct Entry {
     pub held: bool,
@@ -23,14 +24,7 @@ pub enum Noted {
     Missing(u16),
     Late,
     /// Refused, by this number of the paper.
-    Refused(u8),
-}
-
-/// What becomes of a port to forget.
-#[derive(Clone, Copy)]
-pub enum Forgot {
-    Forgotten,
-    /// Refused, by this number of the paper.
+    // Not a `Refusal`: `missed::print_noted` and `board_lines::Piece::lead` print whatever number a caller hands in.
     Refused(u8),
 }
 
@@ -56,9 +50,6 @@ impl Range {
     pub fn has(self, port: u16) -> bool
         ensures { result ≡ inside self port }
     {
-        if self.first <= port {
-            return port <= self.last;
-        }
-        false
+        (self.first..=self.last).contains(&port)
     }
 }

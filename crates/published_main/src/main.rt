@@ -40,7 +40,8 @@ fn print_parity(rt: &impl Print) -> io::Result<()> {
     let mut message = [0u8; 223];
     message[0] = 1;
     let mut out = [0u8; 32];
-    parity::make(32, &message, &mut out);
+    // not refused: so many roots fit, and the message and the output have their lengths
+    let _ = parity::make(32, &message, &mut out);
     println!(rt; "SY_IDD_1019s, figure 6-5: the parity of 1 and 222 zeros, R = 32")?;
     print_bytes(rt, &out)?;
     println!(rt; "")

@@ -4,17 +4,17 @@
 -- frame-read, receiver-read, hunted-read   .. and before one
 use Prim.Native.Nat.{ℕ}
 use mathlib.Core.Path.{◌≡◌, refl}
-use mathlib.Core.Bool.{true, false}
+use mathlib.Core.Bool.{true}
 use mathlib.Core.List.{List, [], ◌∷◌, ◌++◌}
 use lib.ListN.{replicate}
-use Rattle.base.specs.declared.Written.TheVariants as written
+use Rattle.base.specs.Written as written
 use Rattle.packet_spec.specs.declared.Delivery.{Delivery}
 use Rattle.packet_spec.specs.declared.Judged.TheVariants.{Packet, Refused, Broken}
 use Rattle.stream.specs.declared.frame.FrameReader.{FrameReader}
-use Rattle.stream.specs.declared.frame.Heard.TheVariants as plain
+use Rattle.std.specs.Prelude.{None, Some}
 use Rattle.channel_spec.specs.declared.Condition.TheVariants.{Clean, Repaired, Beyond}
-use Rattle.parity.specs.declared.Checked.TheVariants as check
-use Rattle.repair.specs.declared.Mended.TheVariants as repair
+use Rattle.parity.specs.Checked as check
+use Rattle.repair.specs.Mended as repair
 use Rattle.channel.specs.declared.receiver.Receiver.{Receiver}
 use Rattle.channel_spec.specs.declared.Answer.TheVariants.{More, Said, Block, LockLost}
 use Rattle.rack.specs.Words.{written_number, checked_number, mended_number}
@@ -36,8 +36,8 @@ receiver = record {
 }
 
 -- more wanted; a packet; frames refused; lock lost; the three blocks
-pub answers : (of_heard plain.More).number ∷ (of_heard (plain.Said (Packet sent))).number ∷ (of_heard (plain.Said (Refused 12))).number
-    ∷ (of_heard (plain.Said (Broken 7))).number ∷ (of_answer More).number ∷ (of_answer (Said (Packet sent))).number ∷ (of_answer LockLost).number
+pub answers : (of_heard None).number ∷ (of_heard (Some (Packet sent))).number ∷ (of_heard (Some (Refused 12))).number
+    ∷ (of_heard (Some (Broken 7))).number ∷ (of_answer More).number ∷ (of_answer (Said (Packet sent))).number ∷ (of_answer LockLost).number
     ∷ (of_answer (Block Clean)).number ∷ (of_answer (Block (Repaired 16))).number ∷ (of_answer (Block Beyond)).number ∷ []
     ≡ 0 ∷ 256 ∷ 12 ∷ 3 ∷ 0 ∷ 256 ∷ 257 ∷ 258 ∷ 259 ∷ 260 ∷ []
 answers = refl
@@ -50,7 +50,7 @@ pub words : written_number (written.Wrote 32) ∷ written_number (written.Refuse
 words = refl
 
 -- behind a key of three bytes the payload stands at 10: format, key length, key number, key, port, sequence
-pub stream-told : stream_numbers 100 (of_heard (plain.Said (Packet sent))) reader
+pub stream-told : stream_numbers 100 (of_heard (Some (Packet sent))) reader
     ≡ 100 ∷ 0x26 ∷ 102 ∷ 3 ∷ 104 ∷ 105 ∷ 106 ∷ 10 ∷ 1 ∷ 109 ∷ 110 ∷ 111 ∷ []
 stream-told = refl
 
@@ -58,7 +58,7 @@ stream-told = refl
 abbrev everybody : Delivery
 everybody = record { format = 0x21; number = 0; key = 0; port = 104; sequence = 105; length = 106 }
 
-pub plain-told : stream_numbers 100 (of_heard (plain.Said (Packet everybody))) reader
+pub plain-told : stream_numbers 100 (of_heard (Some (Packet everybody))) reader
     ≡ 100 ∷ 0x21 ∷ 0 ∷ 0 ∷ 104 ∷ 105 ∷ 106 ∷ 5 ∷ 1 ∷ 109 ∷ 110 ∷ 111 ∷ []
 plain-told = refl
 

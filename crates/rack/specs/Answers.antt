@@ -12,8 +12,7 @@ use Rattle.packet_spec.specs.Frame.{no_delivery}
 use Rattle.packet_spec.specs.declared.Judged.{Judged}
 use Rattle.packet_spec.specs.declared.Judged.TheVariants.{Packet, Refused, Broken}
 use Rattle.stream.specs.declared.frame.FrameReader.{FrameReader}
-use Rattle.stream.specs.declared.frame.Heard.{Heard}
-use Rattle.stream.specs.declared.frame.Heard.TheVariants as plain
+use Rattle.std.specs.Prelude.{Option, None, Some}
 use Rattle.channel_spec.specs.declared.Condition.{Condition}
 use Rattle.channel_spec.specs.declared.Condition.TheVariants.{Clean, Repaired, Beyond}
 use Rattle.channel.specs.declared.receiver.Receiver.{Receiver}
@@ -32,9 +31,9 @@ of_judged (Refused n) = bare n
 of_judged (Broken k) = record { number = 3; delivery = no_delivery; place = k; repaired = 0 }
 
 -- on the plain stream
-abbrev pub of_heard : Heard → Numbered
-of_heard plain.More = bare 0
-of_heard (plain.Said j) = of_judged j
+abbrev pub of_heard : Option Judged → Numbered
+of_heard None = bare 0
+of_heard (Some j) = of_judged j
 
 -- a block: clean 258, repaired 259 and in how many places, beyond repair 260
 abbrev pub of_block : Condition → Numbered

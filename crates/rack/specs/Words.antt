@@ -4,14 +4,14 @@
 -- mended_number, mending              a word repaired: the number, and the word
 use Rattle.std.specs.Prelude.{ℕ, ◌+◌, List}
 use Rattle.base.specs.Written.{Outcome}
-use Rattle.base.specs.declared.Written.{Written}
-use Rattle.base.specs.declared.Written.TheVariants as written
+use Rattle.base.specs.Written.{Written}
+use Rattle.base.specs.Written as written
 use Rattle.parity.specs.Calls.{made, checked}
-use Rattle.parity.specs.declared.Checked.{Checked}
-use Rattle.parity.specs.declared.Checked.TheVariants as check
+use Rattle.parity.specs.Checked.{Checked}
+use Rattle.parity.specs.Checked as check
 use Rattle.repair.specs.Way.{repaired}
-use Rattle.repair.specs.declared.Mended.{Mended}
-use Rattle.repair.specs.declared.Mended.TheVariants as repair
+use Rattle.repair.specs.Mended.{Mended}
+use Rattle.repair.specs.Mended as repair
 
 -- written: 0
 abbrev pub written_number : Written → ℕ

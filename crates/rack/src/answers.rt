@@ -1,34 +1,28 @@
 //! What an answer tells, in numbers.
 ghost use Rattle.std.specs.Prelude.{◌≡◌};
 ghost use Rattle.packet_spec.specs.Frame.{no_delivery};
-ghost use Rattle.rack.specs.Answers.{bare, of_judged, of_heard, of_block, of_answer, of_call, frame_by, flag_number};
+ghost use Rattle.rack.specs.Answers.{bare, of_judged, of_heard, of_block, of_answer, of_call, frame_by};
 
 use base::Refusal;
 use channel::Answer;
 use channel_spec::Condition;
 use packet::{Delivery, Judged};
-use stream::{FrameReader, Heard};
+use stream::FrameReader;
 
-// The numbers of answers; those below are the paper's, and 0 is "more wanted".
+// The numbers of answers, for C; those below are the paper's, and 0 is "more wanted".
 #[derive(Clone, Copy)]
-pub(crate) struct Number;
-
-impl Number {
-    // The first of them. A word repaired in n places is told as this and n.
-    pub(crate) const FIRST: usize = 256;
-
-    const PACKET: usize = Self::FIRST;
-
-    const LOCK_LOST: usize = Self::FIRST + 1;
-
-    const CLEAN: usize = Self::FIRST + 2;
-
-    const REPAIRED: usize = Self::FIRST + 3;
-
-    const BEYOND: usize = Self::FIRST + 4;
+enum Number {
+    Packet = 256,
+    LockLost = 257,
+    Clean = 258,
+    Repaired = 259,
+    Beyond = 260,
 }
 
-// An answer by its number, and what it tells besides; zeros where it tells nothing.
+// The first of them. A word repaired in n places is told as this and n.
+pub(crate) const FIRST: usize = Number::Packet as usize;
+
+// An answer by its number, and what it tells besides; zeros where it tells nothing. Numbers and no enum: they are what C is told.
 #[derive(Clone, Copy)]
 pub(crate) struct Numbered {
     pub number: usize,
@@ -73,28 +67,25 @@ fn of_judged(judged: Judged) -> Numbered
 {
     match judged {
         Judged::Packet(delivery) => Numbered {
-            number: Number::PACKET,
             delivery,
             place: packet::payload_at(delivery.key),
-            repaired: 0,
+            ..Numbered::bare(Number::Packet as usize)
         },
-        Judged::Refused(n) => Numbered::bare(n as usize),
+        Judged::Refused(n) => Numbered::bare(usize::from(n)),
         Judged::Broken(place) => Numbered {
-            number: Refusal::ESCAPE as usize,
-            delivery: none(),
             place,
-            repaired: 0,
+            ..Numbered::bare(Refusal::Escape as usize)
         },
     }
 }
 
 // .. of a call on a plain stream.
-pub(crate) fn of_heard(heard: Heard) -> Numbered
+pub(crate) fn of_heard(heard: Option<Judged>) -> Numbered
     ensures { result ≡ of_heard heard }
 {
     match heard {
-        Heard::More => Numbered::bare(0),
-        Heard::Said(judged) => of_judged(judged),
+        None => Numbered::bare(0),
+        Some(judged) => of_judged(judged),
     }
 }
 
@@ -103,14 +94,12 @@ fn of_block(condition: Condition) -> Numbered
     ensures { result ≡ of_block condition }
 {
     match condition {
-        Condition::Clean => Numbered::bare(Number::CLEAN),
-        Condition::Repaired(places) => Numbered {
-            number: Number::REPAIRED,
-            delivery: none(),
-            place: 0,
-            repaired: places,
+        Condition::Clean => Numbered::bare(Number::Clean as usize),
+        Condition::Repaired(repaired) => Numbered {
+            repaired,
+            ..Numbered::bare(Number::Repaired as usize)
         },
-        Condition::Beyond => Numbered::bare(Number::BEYOND),
+        Condition::Beyond => Numbered::bare(Number::Beyond as usize),
     }
 }
 
@@ -122,7 +111,7 @@ pub(crate) fn of_answer(answer: Answer) -> Numbered
         Answer::More => Numbered::bare(0),
         Answer::Said(judged) => of_judged(judged),
         Answer::Block(condition) => of_block(condition),
-        Answer::LockLost => Numbered::bare(Number::LOCK_LOST),
+        Answer::LockLost => Numbered::bare(Number::LockLost as usize),
     }
 }
 
@@ -130,13 +119,10 @@ pub(crate) fn of_answer(answer: Answer) -> Numbered
 pub(crate) fn of_call(number: usize) -> bool
     ensures { result ≡ of_call number }
 {
-    if number == Refusal::STATE as usize {
-        return true;
-    }
-    number == Refusal::BUFFER as usize
+    number == Refusal::State as usize || number == Refusal::Buffer as usize
 }
 
-// The frame reader's state from its numbers: every flag but 0 is set.
+// The frame reader's state from its numbers, as C lends them: every flag but 0 is set.
 pub(crate) fn frame_by(opened: u64, raw: u64, stored: u64, place: u64) -> FrameReader
     ensures { result ≡ frame_by opened raw stored place }
 {
@@ -146,11 +132,4 @@ pub(crate) fn frame_by(opened: u64, raw: u64, stored: u64, place: u64) -> FrameR
         stored: stored as usize,
         place: place as usize,
     }
-}
-
-// A flag as a number.
-pub(crate) fn flag_number(flag: bool) -> u64
-    ensures { result ≡ flag_number flag }
-{
-    if flag { 1 } else { 0 }
 }

@@ -3,8 +3,8 @@ ghost use Rattle.std.specs.Prelude.{◌≡◌, ◌%◌};
 ghost use Rattle.rack.specs.Answers.{receiver_of, channel_numbers};
 ghost use Rattle.rack.specs.Call.{hearing};
 
-use crate::answers;
 use crate::answers::Numbered;
+use crate::{answers, reading};
 use channel::{Hunting, Locked, Receiver};
 
 // A byte from its number: the lowest one counts.
@@ -35,37 +35,26 @@ fn receiver_of(s: [u64; 21]) -> Receiver
     }
 }
 
-// The numbers behind a call.
+// The numbers behind a call: those of a plain stream's, and the lock's.
 fn numbers(taken: usize, told: Numbered, receiver: Receiver) -> [u64; 21]
     ensures { result ≡ channel_numbers taken told receiver }
 {
-    let d = told.delivery;
-    let frame = receiver.frame;
     let lock = receiver.lock;
     let last = receiver.hunting;
-    [
-        taken as u64,
-        d.format as u64,
-        d.number as u64,
-        d.key as u64,
-        d.port as u64,
-        d.sequence as u64,
-        d.length as u64,
-        told.place as u64,
-        answers::flag_number(frame.opened),
-        frame.raw as u64,
-        frame.stored as u64,
-        frame.place as u64,
+    let mut all = [0; 21];
+    all[..12].copy_from_slice(&reading::numbers(taken, told, receiver.frame));
+    all[12..].copy_from_slice(&[
         told.repaired as u64,
-        answers::flag_number(receiver.locked),
+        u64::from(receiver.locked),
         lock.word as u64,
         lock.handed as u64,
         lock.marker as u64,
-        last.a as u64,
-        last.b as u64,
-        last.c as u64,
-        last.d as u64,
-    ]
+        u64::from(last.a),
+        u64::from(last.b),
+        u64::from(last.c),
+        u64::from(last.d),
+    ]);
+    all
 }
 
 /// One call on the opportunistic channel: 0 more wanted, 256 a packet, 257 lock lost, 258 a clean block, 259 a repaired one, 260 one beyond
@@ -79,15 +68,10 @@ pub fn aas_channel_read(
     ensures { (result, state.new, recv.new, word.new)
         ≡ hearing state.old recv.old word.old piece.now }
 {
-    let s = *state;
-    let receiver = receiver_of(s);
-    let heard = receiver.hear(recv, word, piece);
-    let answer = heard.answer;
-    let told = answers::of_answer(answer);
-    if answers::of_call(told.number) {
-        return told.number;
+    let heard = receiver_of(*state).hear(recv, word, piece);
+    let told = answers::of_answer(heard.answer);
+    if !answers::of_call(told.number) {
+        *state = numbers(heard.taken, told, heard.receiver);
     }
-    let next = heard.receiver;
-    *state = numbers(heard.taken, told, next);
     told.number
 }

@@ -8,20 +8,20 @@ use crate::answers::Numbered;
 use stream::FrameReader;
 
 // The numbers behind a call.
-fn numbers(taken: usize, told: Numbered, frame: FrameReader) -> [u64; 12]
+pub(crate) fn numbers(taken: usize, told: Numbered, frame: FrameReader) -> [u64; 12]
     ensures { result ≡ stream_numbers taken told frame }
 {
     let d = told.delivery;
     [
         taken as u64,
-        d.format as u64,
-        d.number as u64,
-        d.key as u64,
-        d.port as u64,
-        d.sequence as u64,
+        u64::from(d.format),
+        u64::from(d.number),
+        u64::from(d.key),
+        u64::from(d.port),
+        u64::from(d.sequence),
         d.length as u64,
         told.place as u64,
-        answers::flag_number(frame.opened),
+        u64::from(frame.opened),
         frame.raw as u64,
         frame.stored as u64,
         frame.place as u64,
@@ -32,15 +32,11 @@ fn numbers(taken: usize, told: Numbered, frame: FrameReader) -> [u64; 12]
 pub fn aas_stream_read(state: &mut [u64; 12], recv: &mut [u8], piece: &[u8]) -> usize
     ensures { (result, state.new, recv.new) ≡ reading state.old recv.old piece.now }
 {
-    let s = *state;
-    let frame = answers::frame_by(s[8], s[9], s[10], s[11]);
+    let frame = answers::frame_by(state[8], state[9], state[10], state[11]);
     let read = frame.read(recv, piece);
-    let heard = read.heard;
-    let told = answers::of_heard(heard);
-    if answers::of_call(told.number) {
-        return told.number;
+    let told = answers::of_heard(read.heard);
+    if !answers::of_call(told.number) {
+        *state = numbers(read.taken, told, read.frame);
     }
-    let next = read.frame;
-    *state = numbers(read.taken, told, next);
     told.number
 }

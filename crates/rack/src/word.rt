@@ -1,9 +1,10 @@
 //! Words: parity made, a word checked, a word repaired.
 ghost use Rattle.std.specs.Prelude.{◌≡◌};
+ghost use Rattle.base.specs.Refusals.{number};
 ghost use Rattle.rack.specs.Words.{making, checking, mending};
 
-use crate::answers::Number;
-use base::Written;
+use crate::answers;
+use base::Refusal;
 use parity::Checked;
 use repair::Mended;
 
@@ -11,10 +12,9 @@ use repair::Mended;
 pub fn aas_parity_make(r: usize, message: &[u8], out: &mut [u8]) -> usize
     ensures { (result, out.new) ≡ making r message.now out.old }
 {
-    let written = parity::make(r, message, out);
-    match written {
-        Written::Wrote(_) => 0,
-        Written::Refused(n) => n as usize,
+    match parity::make(r, message, out) {
+        Ok(_) => 0,
+        Err(refusal) => number(refusal),
     }
 }
 
@@ -22,11 +22,10 @@ pub fn aas_parity_make(r: usize, message: &[u8], out: &mut [u8]) -> usize
 pub fn aas_word_check(r: usize, word: &[u8]) -> usize
     ensures { result ≡ checking r word.now }
 {
-    let checked = parity::check(r, word);
-    match checked {
-        Checked::Clean => 0,
-        Checked::Damaged => 1,
-        Checked::Refused(n) => n as usize,
+    match parity::check(r, word) {
+        Ok(Checked::Clean) => 0,
+        Ok(Checked::Damaged) => 1,
+        Err(refusal) => number(refusal),
     }
 }
 
@@ -34,11 +33,17 @@ pub fn aas_word_check(r: usize, word: &[u8]) -> usize
 pub fn aas_word_repair(r: usize, word: &mut [u8]) -> usize
     ensures { (result, word.new) ≡ mending r word.old }
 {
-    let mended = repair::repair(r, word);
-    match mended {
-        Mended::Clean => 0,
-        Mended::Repaired(n) => Number::FIRST + n,
-        Mended::Beyond => 1,
-        Mended::Refused(n) => n as usize,
+    match repair::repair(r, word) {
+        Ok(Mended::Clean) => 0,
+        Ok(Mended::Repaired(n)) => answers::FIRST + n,
+        Ok(Mended::Beyond) => 1,
+        Err(refusal) => number(refusal),
     }
+}
+
+// The paper's number of a refusal: apart, so that the proof of the caller has one case and not one for each refusal.
+fn number(refusal: Refusal) -> usize
+    ensures { result ≡ number refusal }
+{
+    refusal as usize
 }

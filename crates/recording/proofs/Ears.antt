@@ -8,7 +8,7 @@ use Prim.Native.Nat.{ℕ, suc, ◌≤◌}
 use native.Mathlib.Omega.{arith}
 use mathlib.Core.Path.{◌≡◌, refl, sym, ◌∙◌, ap, subst}
 use mathlib.Core.Bool.{Bool, true, false}
-use mathlib.Core.List.{List, [], ◌∷◌, map}
+use mathlib.Core.List.{List, map}
 use mathlib.Core.Option.{Option, some, none}
 use lib.ListN.{length}
 use lib.Dec.{leb}
@@ -22,8 +22,7 @@ use Rattle.packet_spec.specs.Frame.{Told}
 use Rattle.packet_spec.specs.declared.Judged.{Judged}
 use Rattle.stream.specs.Call.{Held, held, take_byte, read_all, read_on, read_call, ReadIs, sound as sound_frame, answered as heard_of}
 use Rattle.stream.specs.declared.frame.Read.{Read}
-use Rattle.stream.specs.declared.frame.Heard.{Heard}
-use Rattle.stream.specs.declared.frame.Heard.TheVariants.{More as NoMore, Said as Says}
+use Rattle.std.specs.Prelude.{Option as Perhaps, None as NoMore, Some as Says}
 use Rattle.stream.proofs.Fine.{fine_of as frame-fine}
 use Rattle.stream.proofs.Cutting.{read-agrees}
 use Rattle.channel_spec.specs.Meaning.{said}
@@ -130,7 +129,7 @@ pub plain-fine : (s : Receiver) (l k : List ℕ) → sound s ≡ true → roomy 
 plain-fine s l k a b = ((and_parts _ _ a).0, leb-true _ _ (and_parts (leb raw_limit (length l)) _ b).0)
 
 -- what tells the frame reader's answers apart
-abbrev heard_tag : Heard → ℕ
+abbrev heard_tag : Perhaps Judged → ℕ
 heard_tag NoMore = 0
 heard_tag (Says j) = 1
 
@@ -141,9 +140,9 @@ heard-more (some t) e = absurd (omega (arith, ap heard_tag e))
 
 heard-said : (o : Option Told) (j : Judged) → heard_of o ≡ Says j → Said j ≡ answered (as_event o)
 heard-said none j e = absurd (omega (arith, ap heard_tag e))
-heard-said (some t) j e = ap (λ (x : Heard). answer_of x) (sym e)
+heard-said (some t) j e = ap (λ (x : Perhaps Judged). answer_of x) (sym e)
   where
-    answer_of : Heard → Answer
+    answer_of : Perhaps Judged → Answer
     answer_of NoMore = More
     answer_of (Says i) = Said i
 

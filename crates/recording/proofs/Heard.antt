@@ -4,9 +4,10 @@
 use Prim.Native.Nat.{ℕ, ◌+◌, ◌-◌, ◌≤◌, ◌<◌}
 use native.Mathlib.Omega.{arith}
 use mathlib.Core.Path.{◌≡◌, sym, ◌∙◌, ap, subst}
-use mathlib.Core.Bool.{Bool, true, false}
+use mathlib.Core.Bool.{true}
 use mathlib.Core.List.{List}
 use mathlib.Core.Option.{Option}
+use Rattle.std.specs.Prelude.{Option as Maybe, Some, None}
 use lib.ListN.{length, take, drop, length-drop}
 use lib.Seq.{drop-drop}
 use Rattle.base.specs.Calls.{after}
@@ -15,6 +16,7 @@ use Rattle.base.proofs.Parts.{tail-is}
 use Rattle.channel_spec.specs.Meaning.{Event}
 use Rattle.channel.specs.Call.{sound, roomy}
 use Rattle.channel_spec.specs.Answer.{answered}
+use Rattle.channel_spec.specs.declared.Answer.{Answer}
 use Rattle.recording.specs.declared.reader.RecordingReader.{RecordingReader}
 use Rattle.recording.specs.declared.reader.Turn.{Turn}
 use Rattle.recording.specs.Deck.{Deck, deck_hear}
@@ -59,9 +61,9 @@ module _ {m : Deck} {bs : List ℕ} {i : ℕ} {t : RecordingReader} {l k : List 
     pub so-within : i + x.taken ≤ length bs
     so-within = so-stays.within
 
-    pub so-on : x.done ≡ false → So m bs (i + x.taken) x.tape l' k' × (0 < x.taken)
+    pub so-on : x.answer ≡ None → So m bs (i + x.taken) x.tape l' k' × (0 < x.taken)
     so-on e =
-        let y : TurnBy false (deck_of t l k) left x l' k' = subst (λ (u : Bool). TurnBy u (deck_of t l k) left x l' k') e turn.0 in
+        let y : TurnBy None (deck_of t l k) left x l' k' = subst (λ (u : Maybe Answer). TurnBy u (deck_of t l k) left x l' k') e turn.0 in
         let d : Option Event × ℕ × Deck = deck_hear (deck_of x.tape l' k') (drop (i + x.taken) bs) in (
           record {
             same =
@@ -74,9 +76,9 @@ module _ {m : Deck} {bs : List ℕ} {i : ℕ} {t : RecordingReader} {l k : List 
           y.1,
         )
 
-    pub so-done : x.done ≡ true → HeardIs m bs (record { answer = x.answer; taken = i + x.taken; tape = x.tape }) l' k'
-    so-done e =
-        let y : TurnBy true (deck_of t l k) left x l' k' = subst (λ (u : Bool). TurnBy u (deck_of t l k) left x l' k') e turn.0 in
+    pub so-done : {a : Answer} → x.answer ≡ Some a → HeardIs m bs (record { answer = a; taken = i + x.taken; tape = x.tape }) l' k'
+    so-done {a} e =
+        let y : TurnBy (Some a) (deck_of t l k) left x l' k' = subst (λ (u : Maybe Answer). TurnBy u (deck_of t l k) left x l' k') e turn.0 in
         let f : deck_hear m bs ≡ after i (deck_hear (deck_of t l k) left) =
         so.same ∙ ap (λ (z : List ℕ). after i (deck_hear (deck_of t l k) z)) (sym left_is) in
         let g : deck_hear m bs ≡ ((deck_hear (deck_of t l k) left).0, i + x.taken, deck_of x.tape l' k') = f ∙ ap (after i) y.1 in

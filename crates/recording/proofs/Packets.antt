@@ -1,70 +1,29 @@
 -- A call for a recording's next packet: refused with 10, with 11, or let on; and a recording's packets by such calls.
--- fetch-unsound, fetch-far, fetch-cramped, fetch-on   the ways out of a call
 -- packets-are        all packets are those among all answers, and the deck behind them is the same
 -- safe-on, safe-behind   bytes that may still come: no call on them is refused, and behind one those that are left may
 -- packet-yields      every way of cutting yields them, from any deck that is safe for the bytes to come, where nothing is owed
 -- packets-taken      .. of a whole recording below 2^64 bytes: the packets among the answers of its stream bytes, and where it ends
 use Prim.Native.Nat.{ℕ, ◌+◌, ◌≤◌}
 use native.Mathlib.Omega.{arith}
-use mathlib.Core.Path.{◌≡◌, refl, sym, ◌∙◌, ap, subst}
-use mathlib.Core.Bool.{Bool, true, false}
+use mathlib.Core.Path.{◌≡◌, ◌∙◌, ap}
+use mathlib.Core.Bool.{false}
 use mathlib.Core.List.{List}
-use mathlib.Core.Option.{Option}
 use lib.ListN.{length, drop, length-drop}
 use Rattle.base.specs.Calls.{joined, Yields}
 use Rattle.base.proofs.Calls.{yields_within, yields-so}
-use Rattle.channel.specs.Call.{sound, roomy}
 use Rattle.channel.proofs.Fine.{fine-is, fine-roomy, fine-fresh}
 use Rattle.listing_spec.specs.Apart.{fresh_spot, apart, on_channel}
 use Rattle.listing_spec.specs.Meaning.{heard}
-use Rattle.recording.specs.declared.reader.RecordingReader.{RecordingReader}
-use Rattle.recording.specs.declared.reader.NextPacket.{NextPacket}
-use Rattle.recording.specs.declared.found.Found.TheVariants as found
 use Rattle.recording.specs.Deck.{Deck, fresh, deck_owes, deck_hand, deck_eat, deck_all}
-use Rattle.recording.specs.Call.{far, deck_of, tape_of, near_spot}
-use Rattle.recording.specs.Packets.{Item, packet_in, packets_in, packet_hand, packet_eat, packet_all, packet_hear, packet_by, packet_call, PacketIs}
+use Rattle.recording.specs.Call.{far}
+use Rattle.recording.specs.Packets.{Item, packet_in, packets_in, packet_hand, packet_eat, packet_all, packet_hear, packet_by, packet_call}
 use Rattle.recording.specs.Packets.{EveryPacket}
-use Rattle.recording.specs.Private.{SoughtIs}
 use Rattle.recording.proofs.Ears.{deck-hand-one}
 use Rattle.recording.proofs.Kept.{Kept, packet-kept}
 use Rattle.recording.proofs.Next.{near-is}
 use Rattle.recording.proofs.Means.{fresh-owes, deck-means}
 use Rattle.recording.proofs.Cutting.{Safe, fewer}
 use Rattle.recording.proofs.Sift.{sift-all}
-
-module _ (t : RecordingReader) (l k bs : List ℕ) where
-  abbrev m : Deck
-  m = deck_of t l k
-
-  -- nothing is taken or changed
-  abbrev refused : ℕ → NextPacket
-  refused n = record { found = found.Refused n; taken = 0; tape = t }
-
-  by : (s n b : Bool) {r : NextPacket} {l' k' : List ℕ} → sound t.receiver ≡ s → near_spot t.spot (length bs) ≡ n → roomy l k ≡ b
-      → PacketIs (packet_by s n b m bs) r l' k' → PacketIs (packet_call m bs) r l' k'
-  by s n b {r} {l'} {k'} e f g h = subst (λ (y : Option Item × ℕ × Deck). PacketIs y r l' k') (sym (λ i. packet_by (e i) (f i) (g i) m bs)) h
-
-  pub fetch-unsound : {r : NextPacket} → sound t.receiver ≡ false → r ≡ refused 10 → PacketIs (packet_call m bs) r l k
-  fetch-unsound e f = by false _ _ e refl refl (f, refl, refl)
-
-  pub fetch-far : {r : NextPacket} → sound t.receiver ≡ true → near_spot t.spot (length bs) ≡ false → r ≡ refused 10
-      → PacketIs (packet_call m bs) r l k
-  fetch-far e n f = by true false _ e n refl (f, refl, refl)
-
-  pub fetch-cramped : {r : NextPacket} → sound t.receiver ≡ true → near_spot t.spot (length bs) ≡ true → roomy l k ≡ false → r ≡ refused 11
-      → PacketIs (packet_call m bs) r l k
-  fetch-cramped e n b f = by true true false e n b (f, refl, refl)
-
-  pub fetch-on : sound t.receiver ≡ true → near_spot t.spot (length bs) ≡ true → roomy l k ≡ true
-      → {r : NextPacket} {l' k' : List ℕ} → SoughtIs m bs r l' k' → PacketIs (packet_call m bs) r l' k'
-  fetch-on e n b {r} {l'} {k'} h =
-      let x : Option Item × ℕ × Deck = packet_hear m bs in
-      let f : (x.0, r.taken, deck_of r.tape l' k') ≡ x = sym h.0.1 in
-      by true true true e n b (
-        (λ i. record { found = h.0.0 i; taken = (f i).1; tape = tape_of (f i).2 }),
-        ap (λ y. y.2.ear.memory.recv) f,
-        ap (λ y. y.2.ear.memory.word) f,
-      )
 
 -- all packets are those among all answers
 pub packets-are : (m : Deck) (bs : List ℕ) → packet_all m bs ≡ (packets_in (deck_all m bs).0, (deck_all m bs).1)

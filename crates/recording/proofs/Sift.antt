@@ -2,9 +2,9 @@
 -- sift_on, sift_by   what goes on behind an answer, by: is it looked for
 -- sift-all    all its answers are those looked for among all answers, and its state is the same
 -- sift-hear   one call: the first answer that is looked for, behind those that are passed over
-use Prim.Native.Nat.{ℕ, zero, suc}
+use Prim.Native.Nat.{ℕ, suc}
 use mathlib.Core.Path.{◌≡◌, refl, ◌∙◌, ap}
-use mathlib.Core.List.{List, [], ◌∷◌}
+use mathlib.Core.List.{List, ◌∷◌}
 use mathlib.Core.Option.{Option, some, none}
 use lib.ListN.{drop}
 use Rattle.base.specs.Calls.{tell, unless, one_more, after, all, hear}

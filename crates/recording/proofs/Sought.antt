@@ -4,10 +4,13 @@
 -- seek-on, seek-done                an answer that is passed over, and one that ends the call
 use Prim.Native.Nat.{ℕ, ◌+◌, ◌-◌, ◌≤◌, ◌<◌}
 use native.Mathlib.Omega.{arith}
-use mathlib.Core.Path.{◌≡◌, refl, sym, ◌∙◌, ap, subst}
-use mathlib.Core.Bool.{Bool, true, false, true≢false, false≢true}
+use mathlib.Core.Path.{◌≡◌, refl, sym, ◌∙◌, ap}
+use mathlib.Core.Bool.{true, false, true≢false, false≢true}
 use mathlib.Core.List.{List}
 use mathlib.Core.Option.{Option, some, none}
+use Rattle.std.specs.Prelude.{Option as Maybe, Result}
+use Rattle.base.specs.declared.Refusal.{Refusal}
+use Rattle.packet_spec.specs.declared.Delivery.{Delivery}
 use lib.ListN.{length, take, drop, length-drop}
 use lib.Seq.{drop-drop}
 use Rattle.base.specs.Calls.{after, told}
@@ -23,9 +26,10 @@ use Rattle.recording.specs.Deck.{Deck, deck_owes, deck_hand, deck_eat, deck_all,
 use Rattle.recording.specs.Call.{far, deck_of}
 use Rattle.recording.specs.Sift.{sifted}
 use Rattle.recording.specs.Packets.{Item, packet_in, packet_hear, found_of}
+use Rattle.recording.specs.Found.{as_found}
 use Rattle.recording.specs.Private.{Stays, HeardIs, passed, found_in, SoughtIs}
 use Rattle.recording.proofs.Ears.{deck-hand-one}
-use Rattle.recording.proofs.Sift.{sift_on, sift_by, sift-hear}
+use Rattle.recording.proofs.Sift.{sift_by, sift-hear}
 
 -- behind i bytes the tape and the buffers stand so, and the call goes on there
 pub record Seeks (m : Deck) (bs : List ℕ) (i : ℕ) (t : RecordingReader) (l k : List ℕ) : Type 0 where
@@ -129,13 +133,14 @@ module _ {m : Deck} {bs : List ℕ} {i : ℕ} {t : RecordingReader} {l k : List 
           omega (arith, y.1, u, v, a, b),
         )
 
-    pub seek-done : passed x.answer ≡ false → SoughtIs m bs (record { found = found_in x.answer; taken = i + x.taken; tape = x.tape }) l' k'
-    seek-done e =
-        let y = ended answer x.taken behind left (sym (ap passed heard.0.0) ∙ e) in
-        let g : packet_hear m bs ≡ (sifted packet_in answer, i + x.taken, behind) = with-answer ∙ ap (after i) y.0 in (
+    pub seek-done : passed x.answer ≡ false → (y : Result (Maybe Delivery) Refusal) → as_found y ≡ found_in x.answer
+        → SoughtIs m bs (record { found = y; taken = i + x.taken; tape = x.tape }) l' k'
+    seek-done e y q =
+        let z = ended answer x.taken behind left (sym (ap passed heard.0.0) ∙ e) in
+        let g : packet_hear m bs ≡ (sifted packet_in answer, i + x.taken, behind) = with-answer ∙ ap (after i) z.0 in (
           (
-            ap found_in heard.0.0 ∙ y.1 ∙ ap found_of (sym (ap (λ z. z.0) g)),
-            g ∙ (λ j. (ap (λ z. z.0) (sym g) j, i + x.taken, behind)),
+            q ∙ ap found_in heard.0.0 ∙ z.1 ∙ ap found_of (sym (ap (λ v. v.0) g)),
+            g ∙ (λ j. (ap (λ v. v.0) (sym g) j, i + x.taken, behind)),
           ),
           seek-stays,
         )

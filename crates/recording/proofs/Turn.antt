@@ -5,9 +5,9 @@
 -- turn-out, turn_end       an answer ends the call, and so does the end of the bytes
 -- turn-run, turn-head      a run, or one byte, is taken
 -- ..-stays                 .. and what stays within its limits
-use Prim.Native.Nat.{ℕ, suc, ◌+◌, ◌-◌, ◌≤◌, ◌<◌}
+use Prim.Native.Nat.{ℕ, suc, ◌+◌, ◌≤◌, ◌<◌}
 use native.Mathlib.Omega.{arith}
-use native.Mathlib.Nat.{sub-zero, add-zero}
+use native.Mathlib.Nat.{add-zero}
 use mathlib.Core.Path.{◌≡◌, refl, sym, ◌∙◌, ap, subst}
 use mathlib.Core.Bool.{Bool, true, false, true≢false}
 use mathlib.Core.List.{List, [], ◌∷◌, ◌++◌}
@@ -73,7 +73,7 @@ most-fits none j d xs h = omega (arith, h.0)
 most-fits (some a) j d xs h = h
 
 module _ (t : Bool) (s : Receiver) (p : Spot) (l k bs : List ℕ) (n : ℕ) (run : n ≡ run_of p (length bs)) (r : Hearing) (l' k' : List ℕ)
-    (call : EarIs t (ear_hear (ear t (memory s l k)) (take (n - 0) bs)) r l' k') where
+    (call : EarIs t (ear_hear (ear t (memory s l k)) (take n bs)) r l' k') where
   abbrev d : Ear
   d = ear t (memory s l k)
 
@@ -87,7 +87,7 @@ module _ (t : Bool) (s : Receiver) (p : Spot) (l k bs : List ℕ) (n : ℕ) (run
   d' = ear t (memory r.receiver l' k')
 
   told : EarIs t x r l' k'
-  told = subst (λ (m : ℕ). EarIs t (ear_hear d (take m bs)) r l' k') (sub-zero n) call
+  told = call
 
   run-most : n ≤ length bs
   run-most = omega arith

@@ -4,7 +4,7 @@
 -- call-within     .. and what is defined of it
 use Prim.Native.Nat.{ℕ, ◌≤◌, zero-le}
 use native.Mathlib.Omega.{arith}
-use mathlib.Core.Path.{◌≡◌, ap}
+use mathlib.Core.Path.{ap}
 use mathlib.Core.Bool.{Bool, true, false}
 use mathlib.Core.List.{List}
 use lib.ListN.{length}
@@ -13,6 +13,7 @@ use Rattle.recording.specs.declared.reader.Hearing.{Hearing}
 use Rattle.recording.specs.declared.reader.NextPacket.{NextPacket}
 use Rattle.recording.specs.Deck.{Deck, deck_hand, deck_eat}
 use Rattle.recording.specs.Call.{near_spot, tape_by, tape_call, NextIs}
+use Rattle.recording.specs.Found.{Got}
 use Rattle.recording.specs.Packets.{packet_hand, packet_eat, packet_by, packet_call, PacketIs}
 use Rattle.recording.proofs.Kept.{within-kept}
 
@@ -40,10 +41,10 @@ pub call-within : (m : Deck) (bs : List ℕ) → (packet_call m bs).1 ≤ length
 call-within m bs =
     packet-by (sound m.ear.memory.st) (near_spot m.spot (length bs)) (roomy m.ear.memory.recv m.ear.memory.word) m bs
 
-pub packet-within : (m : Deck) (bs : List ℕ) {r : NextPacket} {l k : List ℕ} → PacketIs (packet_call m bs) r l k → r.taken ≤ length bs
-packet-within m bs h =
+pub packet-within : (m : Deck) (bs : List ℕ) (r : NextPacket) {l k : List ℕ} → PacketIs (packet_call m bs) r l k → r.taken ≤ length bs
+packet-within m bs r h =
     omega (
       arith,
-      ap (λ (x : NextPacket). x.taken) h.0,
+      ap (λ (x : Got). x.taken) h.0,
       call-within m bs,
     )

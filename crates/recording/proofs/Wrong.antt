@@ -1,9 +1,9 @@
 -- A recording that stands at a wrong byte, and owes no answer, hears nothing more.
 -- wrong-eats    a byte gives no answer, and leaves all as it is
 -- wrong-hears   so does a call: it takes all its bytes and wants more
-use Prim.Native.Nat.{ℕ, zero, suc}
-use mathlib.Core.Path.{◌≡◌, refl, sym, ap, ◌∙◌}
-use mathlib.Core.Bool.{Bool, true}
+use Prim.Native.Nat.{ℕ}
+use mathlib.Core.Path.{◌≡◌, refl, ap, ◌∙◌}
+use mathlib.Core.Bool.{true}
 use mathlib.Core.List.{List, [], ◌∷◌}
 use mathlib.Core.Option.{Option, none}
 use lib.ListN.{length}

@@ -12,8 +12,8 @@ use Rattle.packet_spec.specs.Frame.{packet, refusal, broken, delivery}
 use Rattle.channel_spec.specs.Sender.{word_bytes}
 use Rattle.channel_spec.specs.Meaning.{Event, said, block, lost}
 use Rattle.channel.specs.Call.{sound, roomy}
-use Rattle.recording.specs.declared.found.Found.{Found}
-use Rattle.recording.specs.declared.found.Found.TheVariants as found
+use Rattle.recording.specs.Found.{Found, as_got}
+use Rattle.recording.specs.Found as found
 use Rattle.recording.specs.declared.reader.NextPacket.{NextPacket}
 use Rattle.recording.specs.Deck.{Deck, fresh, deck_owes, deck_hand, deck_eat}
 use Rattle.recording.specs.Call.{near_spot, tape_of}
@@ -72,7 +72,7 @@ found_of (some (refused n)) = found.Refused n
 -- r is the result, l the receive buffer and k the word buffer of a call
 abbrev pub PacketIs : Option Item × ℕ × Deck → NextPacket → List ℕ → List ℕ → Type 0
 PacketIs x r l k =
-    (r ≡ record { found = found_of x.0; taken = x.1; tape = tape_of x.2 }) × (l ≡ x.2.ear.memory.recv) × (k ≡ x.2.ear.memory.word)
+    (as_got r ≡ record { found = found_of x.0; taken = x.1; tape = tape_of x.2 }) × (l ≡ x.2.ear.memory.recv) × (k ≡ x.2.ear.memory.word)
 
 -- a recording is taken from its first byte on, cut in every way, with all buffers that pass 11: the calls come to their end, and P holds of
 -- their packets, and of the deck behind them

@@ -6,6 +6,7 @@
 -- passed, passed_frame, found_in, found_frame   an answer that is passed over on the way to a packet, and what is found in one that is not
 -- FoundIs, SoughtIs    a call for a packet
 use Rattle.std.specs.Prelude.{ℕ, ◌+◌, ◌-◌, ◌≤◌, ◌<◌, min, ◌≡◌, Bool, true, false, List, eqb, ltb, length, drop}
+use Rattle.std.specs.Prelude.{Option as Maybe, Some, None}
 use Rattle.std.proofs.Math.Option.{Option}
 use Rattle.base.specs.Choice.{pick}
 use Rattle.base.specs.Calls.{hear, after}
@@ -26,8 +27,8 @@ use Rattle.recording.specs.declared.reader.RecordingReader.{RecordingReader}
 use Rattle.recording.specs.declared.reader.Hearing.{Hearing}
 use Rattle.recording.specs.declared.reader.Turn.{Turn}
 use Rattle.recording.specs.declared.reader.NextPacket.{NextPacket}
-use Rattle.recording.specs.declared.found.Found.{Found}
-use Rattle.recording.specs.declared.found.Found.TheVariants as found
+use Rattle.recording.specs.Found.{Found, as_found}
+use Rattle.recording.specs.Found as found
 use Rattle.recording.specs.Deck.{Ear, ear, ear_owes, ear_hand, ear_eat, channel_at, Deck, deck_hear}
 use Rattle.recording.specs.Call.{deck_of}
 use Rattle.recording.specs.Packets.{Item, packet_hear, found_of}
@@ -74,10 +75,10 @@ headed t b = record { spot = next t.spot b; channel = channel_at t.spot.place b 
 abbrev pub CallIs : Option Event × ℕ × Deck → Answer → ℕ → RecordingReader → List ℕ → List ℕ → Type 0
 CallIs x a n t l k = (a ≡ answered x.0) × (x ≡ (x.0, n, deck_of t l k))
 
--- by: does the turn end the call. Else the call goes on behind it, a byte further at least
-abbrev pub TurnBy : Bool → Deck → List ℕ → Turn → List ℕ → List ℕ → Type 0
-TurnBy true m bs t l k = CallIs (deck_hear m bs) t.answer t.taken t.tape l k
-TurnBy false m bs t l k = (deck_hear m bs ≡ after t.taken (deck_hear (deck_of t.tape l k) (drop t.taken bs))) × (0 < t.taken)
+-- by: the answer with which the turn ends the call. Without one the call goes on behind it, a byte further at least
+abbrev pub TurnBy : Maybe Answer → Deck → List ℕ → Turn → List ℕ → List ℕ → Type 0
+TurnBy (Some a) m bs t l k = CallIs (deck_hear m bs) a t.taken t.tape l k
+TurnBy None m bs t l k = (deck_hear m bs ≡ after t.taken (deck_hear (deck_of t.tape l k) (drop t.taken bs))) × (0 < t.taken)
 
 -- what stays within its limits behind n bytes
 pub record Stays (m : Deck) (bs : List ℕ) (n : ℕ) (t : RecordingReader) (l k : List ℕ) : Type 0 where
@@ -88,7 +89,7 @@ pub record Stays (m : Deck) (bs : List ℕ) (n : ℕ) (t : RecordingReader) (l k
 
 -- a turn
 abbrev pub TurnIs : Deck → List ℕ → Turn → List ℕ → List ℕ → Type 0
-TurnIs m bs t l k = TurnBy t.done m bs t l k × Stays m bs t.taken t.tape l k
+TurnIs m bs t l k = TurnBy t.answer m bs t l k × Stays m bs t.taken t.tape l k
 
 -- one call
 abbrev pub HeardIs : Deck → List ℕ → Hearing → List ℕ → List ℕ → Type 0
@@ -122,7 +123,7 @@ found_in LockLost = found.More
 
 -- a call with this packet, so many bytes taken and this tape
 abbrev pub FoundIs : Option Item × ℕ × Deck → NextPacket → List ℕ → List ℕ → Type 0
-FoundIs x r l k = (r.found ≡ found_of x.0) × (x ≡ (x.0, r.taken, deck_of r.tape l k))
+FoundIs x r l k = (as_found r.found ≡ found_of x.0) × (x ≡ (x.0, r.taken, deck_of r.tape l k))
 
 -- a call for a packet, behind refusals 10 and 11
 abbrev pub SoughtIs : Deck → List ℕ → NextPacket → List ℕ → List ℕ → Type 0

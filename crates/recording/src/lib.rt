@@ -5,5 +5,4 @@ mod found;
 mod reader;
 mod spot;
 
-pub use found::Found;
 pub use reader::{Hearing, NextPacket, RecordingReader};

@@ -6,19 +6,17 @@ ghost use Rattle.channel.specs.Call.{memory, sound, roomy};
 ghost use Rattle.listing_spec.specs.Apart.{in_stream, well, is_wrong};
 ghost use Rattle.packet_spec.specs.declared.Judged.TheVariants.{Refused};
 ghost use Rattle.channel_spec.specs.declared.Answer.TheVariants.{Said};
-ghost use Rattle.recording.specs.declared.found.Found.TheVariants as found;
+ghost use Rattle.base.specs.Refusals.{number};
 ghost use Rattle.recording.specs.Deck.{ear};
 ghost use Rattle.recording.specs.Call.{fresh_tape, far, deck_of, is_more, near_spot, tape_call, NextIs};
 ghost use Rattle.recording.specs.Packets.{packet_call, PacketIs};
 ghost use Rattle.recording.specs.Private.{ear_hear, EarIs, PlainIs, headed, TurnIs, HeardIs, SoughtIs};
 
-use crate::found::Found;
 use crate::{found, spot};
 use base::Refusal;
 use channel::{Answer, Hearing as ChannelHearing, Receiver};
 use listing_spec::Spot;
-use packet::Judged;
-use stream::Heard;
+use packet::{Delivery, Judged};
 
 /// Where a recording stands, which stream it is, and the receiver; of a plain stream the receiver's frame reader hears.
 #[derive(Clone, Copy)]
@@ -40,7 +38,8 @@ pub struct Hearing {
 /// What a call for a recording's next packet gives.
 #[derive(Clone, Copy)]
 pub struct NextPacket {
-    pub found: Found,
+    /// A delivered packet, or none: more bytes are wanted, all are taken, and no packet is owed. Or why the call is refused.
+    pub found: Result<Option<Delivery>, Refusal>,
     /// Bytes of the piece taken.
     pub taken: usize,
     pub tape: RecordingReader,
@@ -49,9 +48,8 @@ pub struct NextPacket {
 // What a turn of a call gives.
 #[derive(Clone, Copy)]
 struct Turn {
-    // It ends the call.
-    done: bool,
-    answer: Answer,
+    // It ends the call with this answer.
+    answer: Option<Answer>,
     taken: usize,
     tape: RecordingReader,
 }
@@ -60,12 +58,7 @@ struct Turn {
 fn is_more(answer: Answer) -> bool
     ensures { result ≡ is_more answer }
 {
-    match answer {
-        Answer::More => true,
-        Answer::Said(_) => false,
-        Answer::Block(_) => false,
-        Answer::LockLost => false,
-    }
+    matches!(answer, Answer::More)
 }
 
 // Bytes of a plain stream: the frame reader hears them, and the word buffer stays.
@@ -73,25 +66,18 @@ fn listen_plain(receiver: Receiver, recv: &mut [u8], piece: &[u8]) -> ChannelHea
     requires { (sound_frame receiver.frame ≡ true) × (raw_limit ≤ length recv.old) }
     ensures { PlainIs receiver recv.old piece.now result recv.new }
 {
-    let frame = receiver.frame;
-    let hunting = receiver.hunting;
-    let lock = receiver.lock;
-    let read = frame.read(recv, piece);
-    let behind = read.frame;
-    let heard = read.heard;
+    let read = receiver.frame.read(recv, piece);
     let next = Receiver {
-        locked: receiver.locked,
-        hunting,
-        lock,
-        frame: behind,
+        frame: read.frame,
+        ..receiver
     };
-    match heard {
-        Heard::More => ChannelHearing {
+    match read.heard {
+        None => ChannelHearing {
             answer: Answer::More,
             taken: read.taken,
             receiver: next,
         },
-        Heard::Said(judged) => ChannelHearing {
+        Some(judged) => ChannelHearing {
             answer: Answer::Said(judged),
             taken: read.taken,
             receiver: next,
@@ -104,16 +90,15 @@ impl Hearing {
     pub fn is_more(self) -> bool
         ensures { result ≡ is_more self.answer }
     {
-        let answer = self.answer;
-        is_more(answer)
+        is_more(self.answer)
     }
 
     // The call is refused: nothing is taken.
-    fn refused(number: u8, tape: RecordingReader) -> Self
-        ensures { result ≡ record { answer = Said (Refused number); taken = 0; tape = tape } }
+    fn refused(refusal: Refusal, tape: RecordingReader) -> Self
+        ensures { result ≡ record { answer = Said (Refused (number refusal)); taken = 0; tape = tape } }
     {
         Hearing {
-            answer: Answer::Said(Judged::Refused(number)),
+            answer: Answer::Said(Judged::Refused(refusal as u8)),
             taken: 0,
             tape,
         }
@@ -122,11 +107,11 @@ impl Hearing {
 
 impl NextPacket {
     // The call is refused: nothing is taken.
-    fn refused(number: u8, tape: RecordingReader) -> Self
-        ensures { result ≡ record { found = found.Refused number; taken = 0; tape = tape } }
+    fn refused(refusal: Refusal, tape: RecordingReader) -> Self
+        ensures { result ≡ record { found = Err refusal; taken = 0; tape = tape } }
     {
         NextPacket {
-            found: Found::Refused(number),
+            found: Err(refusal),
             taken: 0,
             tape,
         }
@@ -152,11 +137,11 @@ impl RecordingReader {
             (ear_hear (ear self.channel (memory self.receiver recv.old word.old)) piece.now)
             result recv.new word.new }
     {
-        let receiver = self.receiver;
         if self.channel {
-            return receiver.hear(recv, word, piece);
+            self.receiver.hear(recv, word, piece)
+        } else {
+            listen_plain(self.receiver, recv, piece)
         }
-        listen_plain(receiver, recv, piece)
     }
 
     // Behind a byte that is no stream byte.
@@ -164,13 +149,10 @@ impl RecordingReader {
         requires { (self.spot.offset < far) × (in_stream self.spot.place self.spot.count ≡ false) }
         ensures { result ≡ headed self b }
     {
-        let at = self.spot;
-        let place = at.place;
-        let receiver = self.receiver;
         RecordingReader {
-            spot: spot::step(at, b),
-            channel: spot::channel_behind(place, self.channel, b),
-            receiver,
+            spot: spot::step(self.spot, b),
+            channel: spot::channel_behind(self.spot.place, self.channel, b),
+            ..self
         }
     }
 
@@ -179,37 +161,29 @@ impl RecordingReader {
         requires { (sound self.receiver ≡ true) × (roomy recv.old word.old ≡ true) × (self.spot.offset + length piece.now ≤ far) }
         ensures { TurnIs (deck_of self recv.old word.old) piece.now result recv.new word.new }
     {
-        let at = self.spot;
-        let n = spot::run(at, piece.len());
-        let h = self.listen(recv, word, &piece[0..n]);
-        let answer = h.answer;
-        let receiver = h.receiver;
+        let n = spot::run(self.spot, piece.len());
+        let h = self.listen(recv, word, &piece[..n]);
         let tape = RecordingReader {
-            spot: spot::skip(at, h.taken),
-            channel: self.channel,
-            receiver,
+            spot: spot::skip(self.spot, h.taken),
+            receiver: h.receiver,
+            ..self
         };
-        if is_more(answer) {
-            if n < piece.len() {
-                if n == 0 {
-                    return Turn {
-                        done: false,
-                        answer,
-                        taken: 1,
-                        tape: tape.head(piece[0]),
-                    };
-                }
+        if is_more(h.answer) && n < piece.len() {
+            if n == 0 {
                 return Turn {
-                    done: false,
-                    answer,
-                    taken: n,
-                    tape,
+                    answer: None,
+                    taken: 1,
+                    tape: tape.head(piece[0]),
                 };
             }
+            return Turn {
+                answer: None,
+                taken: n,
+                tape,
+            };
         }
         Turn {
-            done: true,
-            answer,
+            answer: Some(h.answer),
             taken: h.taken,
             tape,
         }
@@ -226,8 +200,7 @@ impl RecordingReader {
             let t = tape.turn(recv, word, &piece[i..]);
             tape = t.tape;
             i += t.taken;
-            if t.done {
-                let answer = t.answer;
+            if let Some(answer) = t.answer {
                 return Hearing {
                     answer,
                     taken: i,
@@ -241,8 +214,7 @@ impl RecordingReader {
     fn near(self, n: usize) -> bool
         ensures { result ≡ near_spot self.spot n }
     {
-        let at = self.spot;
-        at.offset <= u64::MAX - n as u64
+        self.spot.offset <= u64::MAX - n as u64
     }
 
     /// The next bytes: at most one answer. Both buffers are measured, also of a plain stream: which stream it is comes in with the bytes.
@@ -250,15 +222,11 @@ impl RecordingReader {
         ensures { NextIs (tape_call (deck_of self recv.old word.old) piece.now)
             result recv.new word.new }
     {
-        let receiver = self.receiver;
-        if !receiver.sound() {
-            return Hearing::refused(Refusal::STATE, self);
-        }
-        if !self.near(piece.len()) {
-            return Hearing::refused(Refusal::STATE, self);
+        if !self.receiver.sound() || !self.near(piece.len()) {
+            return Hearing::refused(Refusal::State, self);
         }
         if !Receiver::has_room(recv, word) {
-            return Hearing::refused(Refusal::BUFFER, self);
+            return Hearing::refused(Refusal::Buffer, self);
         }
         self.hear(recv, word, piece)
     }
@@ -274,10 +242,9 @@ impl RecordingReader {
             let h = tape.hear(recv, word, &piece[i..]);
             tape = h.tape;
             i += h.taken;
-            let answer = h.answer;
-            if !found::is_passed(answer) {
+            if !found::is_passed(h.answer) {
                 return NextPacket {
-                    found: found::found_in(answer),
+                    found: Ok(found::packet_in(h.answer)),
                     taken: i,
                     tape,
                 };
@@ -290,15 +257,11 @@ impl RecordingReader {
         ensures { PacketIs (packet_call (deck_of self recv.old word.old) piece.now)
             result recv.new word.new }
     {
-        let receiver = self.receiver;
-        if !receiver.sound() {
-            return NextPacket::refused(Refusal::STATE, self);
-        }
-        if !self.near(piece.len()) {
-            return NextPacket::refused(Refusal::STATE, self);
+        if !self.receiver.sound() || !self.near(piece.len()) {
+            return NextPacket::refused(Refusal::State, self);
         }
         if !Receiver::has_room(recv, word) {
-            return NextPacket::refused(Refusal::BUFFER, self);
+            return NextPacket::refused(Refusal::Buffer, self);
         }
         self.seek(recv, word, piece)
     }
@@ -307,17 +270,13 @@ impl RecordingReader {
     pub fn may_end(self) -> bool
         ensures { result ≡ well self.spot.place }
     {
-        let at = self.spot;
-        let place = at.place;
-        spot::is_well(place)
+        spot::is_well(self.spot.place)
     }
 
     /// Whether a wrong byte was met: nothing that comes behind it counts, so no more need be read.
     pub fn is_wrong(self) -> bool
         ensures { result ≡ is_wrong self.spot.place }
     {
-        let at = self.spot;
-        let place = at.place;
-        spot::is_wrong(place)
+        spot::is_wrong(self.spot.place)
     }
 }

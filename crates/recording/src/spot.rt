@@ -1,27 +1,23 @@
 //! Where the taking apart of a recording stands: a byte on, or a run of stream bytes on.
-ghost use Rattle.std.specs.Prelude.{◌≡◌, false, ◌+◌, ◌-◌, ◌*◌, ◌<◌, ◌≤◌, eqb};
+ghost use Rattle.std.specs.Prelude.{◌≡◌, false, ◌+◌, ◌*◌, ◌<◌, ◌≤◌};
 ghost use Rattle.listing_spec.specs.Apart.{fresh_spot, on, wrong, left, next, in_stream, well, is_wrong};
 ghost use Rattle.recording.specs.Call.{far};
-ghost use Rattle.base.specs.Choice.{pick};
 ghost use Rattle.recording.specs.Deck.{channel_at};
 ghost use Rattle.recording.specs.Private.{left_at, run_of, on_to, skipped};
 
 use listing_spec::{Place, Spot};
 
-/// The fixed numbers of a recording.
-#[derive(Clone, Copy)]
-pub(crate) struct Bytes;
+/// The first byte of a recorded plain stream.
+const PLAIN: u8 = 0x50;
 
-impl Bytes {
-    /// The first byte of a recorded plain stream.
-    pub const PLAIN: u8 = 0x50;
-    /// The first byte of a recorded opportunistic channel.
-    pub const CHANNEL: u8 = 0x4F;
-    /// A record's mark.
-    pub const MARK: [u8; 2] = [0xF5, 0x5F];
-    /// A stream has at most so many bytes.
-    pub const MOST: u64 = 4294967295;
-}
+/// The first byte of a recorded opportunistic channel.
+const CHANNEL: u8 = 0x4F;
+
+/// A record's mark.
+const MARK: [u8; 2] = [0xF5, 0x5F];
+
+/// A stream has at most so many bytes.
+const MOST: u64 = 4294967295;
 
 /// Before the first byte.
 pub(crate) fn fresh() -> Spot
@@ -39,13 +35,8 @@ fn left_of(place: Place) -> usize
     ensures { (result ≡ left_at place) × (result ≤ 65536) }
 {
     match place {
-        Place::Mode => 0,
-        Place::Mark => 0,
-        Place::Second => 0,
-        Place::Low => 0,
-        Place::High(_) => 0,
-        Place::Inside(k) => k as usize + 1,
-        Place::Wrong => 0,
+        Place::Inside(k) => usize::from(k) + 1,
+        _ => 0,
     }
 }
 
@@ -53,13 +44,8 @@ fn left_of(place: Place) -> usize
 pub(crate) fn run(spot: Spot, n: usize) -> usize
     ensures { result ≡ run_of spot n }
 {
-    let place = spot.place;
-    let count = spot.count;
-    if Bytes::MOST <= count {
-        return 0;
-    }
-    let room = Bytes::MOST - count;
-    base::least(n, base::least(left_of(place), room as usize))
+    let room = MOST.saturating_sub(spot.count);
+    n.min(left_of(spot.place).min(room as usize))
 }
 
 // The place n stream bytes on.
@@ -68,12 +54,12 @@ fn place_on(place: Place, n: usize) -> Place
 {
     let left = left_of(place);
     if n == 0 {
-        return place;
+        place
+    } else if n < left {
+        Place::Inside((left - n - 1) as u16)
+    } else {
+        Place::Mark
     }
-    if n < left {
-        return Place::Inside((left - n - 1) as u16);
-    }
-    Place::Mark
 }
 
 /// Behind n stream bytes of this record.
@@ -81,10 +67,8 @@ pub(crate) fn skip(spot: Spot, n: usize) -> Spot
     requires { (spot.offset + n ≤ far) × (spot.count + n ≤ far) }
     ensures { result ≡ skipped spot n }
 {
-    let place = spot.place;
-    let next = place_on(place, n);
     Spot {
-        place: next,
+        place: place_on(spot.place, n),
         offset: spot.offset + n as u64,
         count: spot.count + n as u64,
     }
@@ -98,7 +82,7 @@ fn on(spot: Spot, place: Place) -> Spot
     Spot {
         place,
         offset: spot.offset + 1,
-        count: spot.count,
+        ..spot
     }
 }
 
@@ -108,52 +92,33 @@ fn wrong(spot: Spot) -> Spot
 {
     Spot {
         place: Place::Wrong,
-        offset: spot.offset,
-        count: spot.count,
+        ..spot
     }
-}
-
-// At a new place, where the byte is the one wanted there.
-fn wanted(spot: Spot, b: u8, want: u8, place: Place) -> Spot
-    requires { spot.offset < far }
-    ensures { result ≡ pick (eqb b want) (on place spot) (wrong spot) }
-{
-    if b == want {
-        return on(spot, place);
-    }
-    wrong(spot)
 }
 
 // The place where a record has so many stream bytes.
 fn place_of(low: u8, high: u8) -> Place
     ensures { result ≡ left (low + 256 * high) }
 {
-    let n = low as u16 + 256 * (high as u16);
-    if n == 0 {
-        return Place::Mark;
+    match u16::from_le_bytes([low, high]) {
+        0 => Place::Mark,
+        n => Place::Inside(n - 1),
     }
-    Place::Inside(n - 1)
 }
 
 /// Behind a byte that is no stream byte.
+#[tactic(auto, unfolding(listing_spec::specs::Apart::next_at, listing_spec::specs::Apart::in_stream))]
 pub(crate) fn step(spot: Spot, b: u8) -> Spot
     requires { (spot.offset < far) × (in_stream spot.place spot.count ≡ false) }
     ensures { result ≡ next spot b }
 {
-    let mark = Bytes::MARK;
-    let place = spot.place;
-    match place {
-        Place::Mode => {
-            if b == Bytes::PLAIN {
-                return on(spot, Place::Mark);
-            }
-            wanted(spot, b, Bytes::CHANNEL, Place::Mark)
-        }
-        Place::Mark => wanted(spot, b, mark[0], Place::Second),
-        Place::Second => wanted(spot, b, mark[1], Place::Low),
+    match spot.place {
+        Place::Mode if b == PLAIN || b == CHANNEL => on(spot, Place::Mark),
+        Place::Mark if b == MARK[0] => on(spot, Place::Second),
+        Place::Second if b == MARK[1] => on(spot, Place::Low),
         Place::Low => on(spot, Place::High(b)),
         Place::High(low) => on(spot, place_of(low, b)),
-        Place::Inside(_) => wrong(spot),
+        Place::Mode | Place::Mark | Place::Second | Place::Inside(_) => wrong(spot),
         Place::Wrong => spot,
     }
 }
@@ -163,13 +128,8 @@ pub(crate) fn channel_behind(place: Place, channel: bool, b: u8) -> bool
     ensures { result ≡ channel_at place b channel }
 {
     match place {
-        Place::Mode => b == Bytes::CHANNEL,
-        Place::Mark => channel,
-        Place::Second => channel,
-        Place::Low => channel,
-        Place::High(_) => channel,
-        Place::Inside(_) => channel,
-        Place::Wrong => channel,
+        Place::Mode => b == CHANNEL,
+        _ => channel,
     }
 }
 
@@ -177,28 +137,12 @@ pub(crate) fn channel_behind(place: Place, channel: bool, b: u8) -> bool
 pub(crate) fn is_well(place: Place) -> bool
     ensures { result ≡ well place }
 {
-    match place {
-        Place::Mode => false,
-        Place::Mark => true,
-        Place::Second => false,
-        Place::Low => false,
-        Place::High(_) => false,
-        Place::Inside(_) => false,
-        Place::Wrong => false,
-    }
+    matches!(place, Place::Mark)
 }
 
 /// Whether a wrong byte was met.
 pub(crate) fn is_wrong(place: Place) -> bool
     ensures { result ≡ is_wrong place }
 {
-    match place {
-        Place::Mode => false,
-        Place::Mark => false,
-        Place::Second => false,
-        Place::Low => false,
-        Place::High(_) => false,
-        Place::Inside(_) => false,
-        Place::Wrong => true,
-    }
+    matches!(place, Place::Wrong)
 }

@@ -22,8 +22,8 @@ use Rattle.field.proofs.Product.{mul_comm}
 use Rattle.field.proofs.Powers.{pow-suc, pow-lt, cancel}
 use Rattle.word_spec.specs.Word.{onto, clean, Zero}
 use Rattle.parity.specs.Calls.{checked, root_limit, word_bytes}
-use Rattle.parity.specs.declared.Checked.{Checked}
-use Rattle.parity.specs.declared.Checked.TheVariants as check
+use Rattle.parity.specs.Checked.{Checked}
+use Rattle.parity.specs.Checked as check
 use Rattle.word_spec.proofs.Sums.{length-onto, bytes-onto, onto-zero}
 use Rattle.word_spec.proofs.Values.{eval_add}
 use Rattle.word_spec.proofs.Clean.{clean-roots}

@@ -9,4 +9,5 @@ pub mod Settled
 pub mod Meeting
 pub mod Promising
 pub mod Loops
+pub mod Telling
 pub mod Determined

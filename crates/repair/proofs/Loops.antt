@@ -1,15 +1,15 @@
 -- A turn and the end of each loop, on the lists that it works on; and what the calls of a function leave together.
--- distance-more, distance-same, distance-done             the places in which words differ
+-- differ, pairs-differ                                    the places in which words differ
 -- sums-are                                                the sums
--- dot-next, dot-done                                      a sum of products
+-- summed, summed-dot                                      a sum of products
 -- equations-next, equations-done                          the equations
--- reduce-next, reduce-done, reduced-is, reduced-zero      the first unknown taken out of every row, and of one
--- pivot-here, pivot-next, pivot-none, normal-is           the pivot
--- behind-some, behind-none                                a solution and the unknown before it
--- solve-zero, solve-free, solve-some, locator-is          a least solution: the locator
--- turned-next, turned-done                                coefficients turned round
--- places-start, places-length, places-next, places-done, value_there   the values at all places
--- back_done, add_start, add-next, point-next              the bytes added, from the last place on
+-- pivot-some, pivot-none, normal-is                       the pivot
+-- reduced-is, reduced-zero                                the first unknown taken out of a row
+-- extended-some                                           a solution and the unknown before it
+-- solve-zero, solve-free, solve-some, solve-none, solve-short   a least solution
+-- locator-is                                              the locator
+-- places-start, places-whole, places-next, places-done, value_there   the values at all places
+-- back_done, add_start, add-next, point-start, point-next              the bytes added, from the last place on
 -- Summed, error-none, error-start, error-next, error-done  the byte to be added at a place
 -- amend-none, amend-some                                  the word that comes of it
 -- mend-far, mend-clean, mend-damaged, mend-refused        .. taken or not
@@ -17,56 +17,58 @@
 use mathlib.Core.Path.{◌≡◌, refl, sym, ap, ap₂, ◌∙◌, subst}
 use mathlib.Core.List.{List, [], ◌∷◌, ◌++◌, append_assoc, append-nil, map, reverse, reverse-cons}
 use Prim.Native.Nat.{ℕ, zero, suc, ◌+◌, ◌-◌, ◌*◌, ◌≤◌, ◌<◌}
-use native.Mathlib.Nat.{le_refl, le_antisymm, suc_inj, pos_of_ne-zero}
-use native.Mathlib.Nat.{add-zero as plus-zero, add_assoc as nat-add-assoc, zero-add as nat-zero-add}
-use native.Mathlib.Numerals.{add-one}
+use native.Mathlib.Nat.{suc_inj, pos_of_ne-zero}
+use native.Mathlib.Nat.{add-zero as plus-zero, zero-add as nat-zero-add}
+use native.Mathlib.Numerals.{add-one, one-add}
 use native.Mathlib.Omega.{arith}
 use lib.Dec.{eqb}
 use borrow.Author.Tests.{eq-eqb, ne_eqb, lt-ltb, le-ltb}
-use borrow.Rule.Slice.PartMut.{put_mid}
-use lib.ListN.{length, take, drop, get_or, set, replicate, drop_of_length-le, length-append, length-drop, length-replicate, get_or-append}
-use lib.Seq.{drop-cons, take-suc, take_all, take_at, take-take, drop-length, take-length, set_at, get_or-take, length-take-le, take-suc-set, drop-set-lt}
+use borrow.Rule.Slice.PartMut.{put_mid, same_len_mid}
+use lib.ListN.{length, take, drop, get_or, set, replicate, length-drop, length-replicate, get_or-append}
+use lib.Seq.{drop-cons, take-suc, take_all, take-take, drop-length, take-length, set_at, get_or-take, length-take-le, take-suc-set}
+use mathlib.Core.Bool.{Bool, true, false, not, cond}
+use Rattle.std.specs.Prelude.{Some, None, find}
+use Rattle.std.specs.List.{filter, fold, zip}
+use Rattle.std.proofs.lemmas.Slice.{take-put_mid}
 use Rattle.base.specs.Choice.{pick}
 use Rattle.base.specs.Bytes.{Bytes}
 use Rattle.base.specs.Written.{Outcome, outcome, copied}
-use Rattle.base.specs.declared.Written.{Written}
+use Rattle.base.specs.Written.{Written}
+use Rattle.base.proofs.Tests.{by-eq}
 use Rattle.base.proofs.Lists.{drop-same}
 use Rattle.base.proofs.Writing.{copied-fits, write-fits}
-use Rattle.base.proofs.Parts.{tail-put, tail-length}
 use Rattle.field.specs.Field.{alpha, add, mul, pow, inverse}
 use Rattle.field.proofs.Sum.{add-zero, zero-add, add_assoc, add_comm}
 use Rattle.field.proofs.Product.{mul-zero, zero-mul, mul_comm}
-use Rattle.field.proofs.Powers.{pow-suc}
+use Rattle.field.proofs.Powers.{pow-suc, pow-zero}
 use Rattle.word_spec.specs.Word.{horner, eval, values_from, scale, onto}
-use Rattle.parity.specs.Calls.{at_powers, at_roots, checked, root_limit, word_bytes}
-use Rattle.parity.specs.declared.Checked.{Checked}
-use Rattle.parity.specs.declared.Checked.TheVariants as check
-use Rattle.word_spec.proofs.Sums.{length-onto}
+use Rattle.parity.specs.Calls.{at_powers, at_roots, checked, root_limit}
+use Rattle.parity.specs.Checked.{Checked}
+use Rattle.parity.specs.Checked as check
 use Rattle.word_spec.proofs.Values.{horner-append}
 use Rattle.word_spec.proofs.Roots.{length-values, values-at}
-use Rattle.repair.specs.declared.Mended.{Mended}
-use Rattle.repair.specs.declared.Mended.TheVariants.{Repaired, Beyond}
+use Rattle.repair.specs.Mended.{Mended}
+use Rattle.repair.specs.Mended.{Repaired, Beyond}
 use Rattle.repair.specs.Promise.{distance, half, Promised}
-use Rattle.repair.specs.Way.{low, tails, dot, sums, windows, head, shift, pivot, normal}
+use Rattle.repair.specs.Way.{low, tails, dot, sums, windows, begins, head, shift, pivot, normal}
 use Rattle.repair.specs.Way.{reduced, extended, solve, error_at, errors, locator, amended, settled, mended}
 use Rattle.repair.proofs.Meeting.{mended-promised}
 
 -- ---- distance
-module _ (n i : ℕ) (a b : List ℕ) {t : ℕ} (inv : n + distance (drop i a) (drop i b) ≡ t) where
-  module _ (h : i < length a) (k : i < length b) where
-    opened : n + (pick (eqb (get_or a i 0) (get_or b i 0)) 0 1 + distance (drop (i + 1) a) (drop (i + 1) b)) ≡ t
-    unfolding distance
-    opened = rw add-one (rw (drop-cons a i 0 h, drop-cons b i 0 k) at inv)
+-- the test of a pair
+abbrev pub differ : ℕ × ℕ → Bool
+differ p = not (eqb p.0 p.1)
 
-    pub distance-more : (get_or a i 0 ≡ get_or b i 0 → ⊥) → n + 1 + distance (drop (i + 1) a) (drop (i + 1) b) ≡ t
-    distance-more q = nat-add-assoc n 1 _ ∙ rw (ne_eqb _ _ q) at opened
-
-    pub distance-same : get_or a i 0 ≡ get_or b i 0 → n + distance (drop (i + 1) a) (drop (i + 1) b) ≡ t
-    distance-same q = ap (λ (d : ℕ). n + d) (sym (nat-zero-add _)) ∙ rw (eq-eqb _ _ q) at opened
-
-  pub distance-done : length a ≤ i → n ≡ t
-  unfolding distance
-  distance-done h = sym (plus-zero n) ∙ rw (drop_of_length-le a h) at inv
+pub pairs-differ : (a b : List ℕ) → length (filter differ (zip a b)) ≡ distance a b
+unfolding distance
+pairs-differ [] b = refl
+pairs-differ (x ∷ a) [] = refl
+pairs-differ (x ∷ a) (y ∷ b) = by (eqb x y) (pairs-differ a b)
+  where
+    by : (t : Bool) → length (filter differ (zip a b)) ≡ distance a b
+        → length (cond (not t) ((x, y) ∷ filter differ (zip a b)) (filter differ (zip a b))) ≡ pick t 0 1 + distance a b
+    by true e = e ∙ sym (nat-zero-add _)
+    by false e = rw e (sym (one-add _))
 
 -- ---- sums: of a word with at most 64 roots they are its values there, written over zeros
 pub sums-are : (r : ℕ) (w : List ℕ) {a : Written} {s : List ℕ} → r ≤ root_limit → outcome a s ≡ at_roots r w (replicate root_limit 0) → s ≡ sums r w
@@ -82,34 +84,28 @@ sums-are r w h e =
     wrote : (at_roots r w (replicate root_limit 0)).output ≡ copied (values_from w 1 r) (replicate root_limit 0)
     wrote = rw (le-ltb root_limit r h) (ap (λ (o : Outcome). o.output) (write-fits (values_from w 1 r) (replicate root_limit 0) room))
 
--- ---- dot
-module _ (a i : ℕ) (u row : List ℕ) {d : ℕ} (inv : add a (dot (drop i u) (drop i row)) ≡ d) where
-  pub dot-next : {t b : ℕ} → i < length u → i < length row → t ≡ mul (get_or u i 0) (get_or row i 0) → b ≡ add a t
-      → add b (dot (drop (i + 1) u) (drop (i + 1) row)) ≡ d
-  unfolding dot
-  dot-next h k et eb = rw (eb, et, add-one, add_assoc) (rw (drop-cons u i 0 h, drop-cons row i 0 k) at inv)
+-- ---- dot: the sum so far, and a product
+abbrev pub summed : ℕ → ℕ × ℕ → ℕ
+summed a p = add a (mul p.0 p.1)
 
-  pub dot-done : length u ≤ i → a ≡ d
-  unfolding dot
-  dot-done h = sym (add-zero a) ∙ rw (drop_of_length-le u h) at inv
+pub summed-dot : (a : ℕ) (u row : List ℕ) → fold summed a (zip u row) ≡ add a (dot u row)
+unfolding dot
+summed-dot a [] row = sym (add-zero a)
+summed-dot a (x ∷ u) [] = sym (add-zero a)
+summed-dot a (x ∷ u) (y ∷ row) = summed-dot (add a (mul x y)) u row ∙ add_assoc a (mul x y) (dot u row)
 
 -- ---- rows, each in turn
 module _ (rows : List (List ℕ)) (i : ℕ) (row : List ℕ) (h : i < length rows) where
   row_put : (rest : List (List ℕ)) → take (i + 1) (set rows i row) ++ rest ≡ take i rows ++ row ∷ rest
   row_put rest = rw (add-one, take-suc-set rows i row h) (append_assoc (take i rows) (row ∷ []) rest)
 
-copied-row : (bs : List ℕ) → length bs ≡ 33 → copied bs (replicate 33 0) ≡ bs
-copied-row bs l =
-    copied-fits bs (replicate 33 0) (omega (arith, length-replicate {A = ℕ} 33 0))
-    ∙ ap (λ (t : List ℕ). bs ++ t) (drop_of_length-le (replicate 33 0) {i = length bs} (omega (arith, length-replicate {A = ℕ} 33 0))) ∙ append-nil bs
-
 module _ (n i : ℕ) (s : List ℕ) (rows : List (List ℕ)) {t : List (List ℕ)} (inv : take i rows ++ windows i (n - i) s ≡ t) where
-  pub equations-next : {row : List ℕ} → i < n → n ≤ length rows → n ≤ 32 → length s ≡ root_limit → row ≡ copied (take (i + 33 - i) (drop i s)) (replicate 33 0)
+  pub equations-next : {row : List ℕ} → i < n → n ≤ length rows → row ≡ take (i + 33 - i) (drop i s)
       → take (i + 1) (set rows i row) ++ windows (i + 1) (n - (i + 1)) s ≡ t
   unfolding windows
-  equations-next {row} h e k l er =
+  equations-next {row} h e er =
       row_put rows i row (omega arith) (windows (i + 1) (n - (i + 1)) s)
-      ∙ ap₂ (λ (x : List ℕ) (j : ℕ). take i rows ++ x ∷ windows j (n - (i + 1)) s) whole (add-one i)
+      ∙ ap₂ (λ (x : List ℕ) (j : ℕ). take i rows ++ x ∷ windows j (n - (i + 1)) s) (er ∙ ap (λ (m : ℕ). take m (drop i s)) same) (add-one i)
       ∙ ap (λ (m : ℕ). take i rows ++ windows i m s) (sym more) ∙ inv
     where
       more : n - i ≡ suc (n - (i + 1))
@@ -118,43 +114,26 @@ module _ (n i : ℕ) (s : List ℕ) (rows : List (List ℕ)) {t : List (List ℕ
       same : i + 33 - i ≡ 33
       same = omega arith
 
-      whole : row ≡ take 33 (drop i s)
-      whole =
-          er ∙ ap (λ (m : ℕ). copied (take m (drop i s)) (replicate 33 0)) same
-          ∙ copied-row (take 33 (drop i s)) (length-take-le 33 (drop i s) (omega (arith, length-drop i s)))
-
-  pub equations-done : i ≤ n → n ≤ i → take n rows ≡ t
+  pub equations-done : i ≡ n → take n rows ≡ t
   unfolding windows
-  equations-done h k =
+  equations-done h =
       let z : n - i ≡ 0 = omega arith in
-      ap (λ (m : ℕ). take m rows) (le_antisymm k h) ∙ sym (append-nil (take i rows)) ∙ rw z at inv
+      ap (λ (m : ℕ). take m rows) (sym h) ∙ sym (append-nil (take i rows)) ∙ rw z at inv
 
-module _ (p : List ℕ) (i : ℕ) (rows : List (List ℕ)) {t : List (List ℕ)} (inv : take i rows ++ map (reduced p) (drop i rows) ≡ t) where
-  pub reduce-next : {row : List ℕ} → i < length rows → row ≡ reduced p (get_or rows i [])
-      → take (i + 1) (set rows i row) ++ map (reduced p) (drop (i + 1) (set rows i row)) ≡ t
-  reduce-next {row} h e =
-      let later : drop (i + 1) (set rows i row) ≡ drop (suc i) rows = rw add-one (drop-set-lt (suc i) rows i row (le_refl (suc i))) in
-      ap (λ (l : List (List ℕ)). take (i + 1) (set rows i row) ++ map (reduced p) l) later
-      ∙ row_put rows i row h (map (reduced p) (drop (suc i) rows))
-      ∙ ap (λ (x : List ℕ). take i rows ++ x ∷ map (reduced p) (drop (suc i) rows)) e
-      ∙ ap (λ (l : List (List ℕ)). take i rows ++ map (reduced p) l) (sym (drop-cons rows i [] h))
-      ∙ inv
+-- ---- the pivot is the row that is found
+pub pivot-some : (rows : List (List ℕ)) {row : List ℕ} → Some row ≡ find begins rows → (pivot rows ≡ row) × (head row ≡ 0 → ⊥)
+unfolding pivot
+pivot-some [] e = absurd (let z : ◌≡◌ {A = ℕ} 0 1 = cc in omega arith)
+pivot-some (r ∷ rows) {row} e =
+    by-eq (head r) 0 (λ z. rw (eq-eqb (head r) 0 z) (pivot-some rows (rw (eq-eqb (head r) 0 z) at e)))
+    (λ n. let same : r ≡ row = let f = rw (ne_eqb (head r) 0 n) at e in cc in rw (ne_eqb (head r) 0 n) (same, λ z. n (ap head same ∙ z)))
 
-  pub reduce-done : length rows ≤ i → rows ≡ t
-  reduce-done h = sym (append-nil (take i rows) ∙ take_all i rows h) ∙ rw (drop_of_length-le rows h) at inv
-
-module _ (i : ℕ) (rows : List (List ℕ)) {t : List ℕ} (inv : pivot (drop i rows) ≡ t) where
-  pub pivot-here : i < length rows → (head (get_or rows i []) ≡ 0 → ⊥) → get_or rows i [] ≡ t
-  unfolding pivot
-  pivot-here h n = rw (ne_eqb _ _ n) at (rw (drop-cons rows i [] h) at inv)
-
-  pub pivot-next : i < length rows → head (get_or rows i []) ≡ 0 → pivot (drop (i + 1) rows) ≡ t
-  unfolding pivot
-  pivot-next h e = rw add-one (rw (eq-eqb _ _ e) at (rw (drop-cons rows i [] h) at inv))
-
-  pub pivot-none : length rows ≤ i → replicate 33 0 ≡ t
-  unfolding pivot
-  pivot-none h = rw (drop_of_length-le rows h) at inv
+pub pivot-none : (rows : List (List ℕ)) → None ≡ find begins rows → head (pivot rows) ≡ 0
+unfolding pivot
+pivot-none [] e = refl
+pivot-none (r ∷ rows) e =
+    by-eq (head r) 0 (λ z. rw (eq-eqb (head r) 0 z) (pivot-none rows (rw (eq-eqb (head r) 0 z) at e)))
+    (λ n. absurd (let f = rw (ne_eqb (head r) 0 n) at e in let z : ◌≡◌ {A = ℕ} 0 1 = cc in omega arith))
 
 -- ---- one row
 scale-zeros : (k : ℕ) (xs : List ℕ) (n : ℕ) → length xs ≡ n → onto (scale k xs) (replicate (suc n) 0) ≡ scale k (xs ++ 0 ∷ [])
@@ -179,45 +158,27 @@ module _ (row : List ℕ) (l : length row ≡ 33) where
       eo ∙ ap (λ (t : List ℕ). onto (scale k t) (replicate 33 0)) tail ∙ scale-zeros k (drop 1 row) 32 (omega (arith, length-drop 1 row))
       ∙ ap (λ (t : ℕ). scale t (shift row)) ek
 
-  pub reduced-is : (p : List ℕ) {s o : List ℕ} → s ≡ copied (take 32 (drop 1 row)) (replicate 33 0) → o ≡ onto (scale (get_or row 0 0) p) s → o ≡ reduced p row
+  pub reduced-is : (p : List ℕ) {s o : List ℕ} → s ≡ take 32 (drop 1 row) → o ≡ onto (scale (get_or row 0 0) p) (s ++ 0 ∷ []) → o ≡ reduced p row
   unfolding reduced
-  reduced-is p es eo =
-      let extended : length (drop 1 row) ≡ 32 = omega (arith, length-drop 1 row) in
-      eo ∙ ap (onto (scale (get_or row 0 0) p))
-      (es ∙ ap (λ (t : List ℕ). copied t (replicate 33 0)) tail
-      ∙ copied-fits (drop 1 row) (replicate 33 0) (omega (arith, length-drop 1 row, length-replicate {A = ℕ} 33 0))
-      ∙ ap (λ (n : ℕ). drop 1 row ++ drop n (replicate 33 0)) extended)
+  reduced-is p es eo = eo ∙ ap (λ (t : List ℕ). onto (scale (get_or row 0 0) p) (t ++ 0 ∷ [])) (es ∙ tail)
 
-  pub reduced-zero : (p : List ℕ) {o : List ℕ} → o ≡ copied (take 32 (drop 1 row)) (replicate 33 0) → get_or row 0 0 ≡ 0 → o ≡ reduced p row
-  reduced-zero p {o} eo z = reduced-is p eo (sym (ap (λ (k : ℕ). onto (scale k p) o) z ∙ nothing-added p o))
+  pub reduced-zero : (p : List ℕ) {s : List ℕ} → s ≡ take 32 (drop 1 row) → get_or row 0 0 ≡ 0 → s ++ 0 ∷ [] ≡ reduced p row
+  reduced-zero p {s} es z =
+      reduced-is p es (sym (ap (λ (k : ℕ). onto (scale k p) (s ++ 0 ∷ [])) z ∙ nothing-added p (s ++ 0 ∷ [])))
 
-behind-is : (p u : List ℕ) → (length u ≡ 0 → ⊥) → extended p u ≡ dot u p ∷ u
+extended-is : (p u : List ℕ) → 0 < length u → extended p u ≡ dot u p ∷ u
 unfolding extended
-behind-is p [] n = absurd (n refl)
-behind-is p (x ∷ u) n = refl
+extended-is p [] n = absurd (omega arith)
+extended-is p (x ∷ u) n = refl
 
-module _ (p v : List ℕ) (k : ℕ) (l : length v ≡ 33) (n : k ≡ 0 → ⊥) (h : k ≤ 32) where
-  found-short : length (take k v) ≡ k
-  found-short = length-take-le k v (omega arith)
-
-  pub behind-some : {x : ℕ} {o : List ℕ} → x ≡ dot (take k v) p → o ≡ copied (take 32 v) (replicate 32 0) → take (k + 1) (x ∷ (o ++ [])) ≡ extended p (take k v)
-  behind-some {x} {o} ex eo =
-      ap (λ (j : ℕ). take j (x ∷ (o ++ []))) (add-one k)
-      ∙ ap₂ (λ (y : ℕ) (t : List ℕ). y ∷ take k t) ex (append-nil o ∙ eo ∙ rest)
-      ∙ ap (λ (t : List ℕ). dot (take k v) p ∷ t) (take-take k 32 v h)
-      ∙ sym (behind-is p (take k v) (λ z. n (sym found-short ∙ z)))
-    where
-      long : length (take 32 v) ≡ 32
-      long = length-take-le 32 v (omega arith)
-
-      rest : copied (take 32 v) (replicate 32 0) ≡ take 32 v
-      rest =
-          copied-fits (take 32 v) (replicate 32 0) (omega (arith, long, length-replicate {A = ℕ} 32 0))
-          ∙ ap (λ (j : ℕ). take 32 v ++ drop j (replicate 32 0)) long ∙ append-nil (take 32 v)
-
-pub behind-none : (p v : List ℕ) (k : ℕ) → k ≡ 0 → take k v ≡ extended p (take k v)
-unfolding extended
-behind-none p v k e = rw e
+-- the first k numbers of v, and the unknown before them
+pub extended-some : (p v : List ℕ) (k : ℕ) → length v ≡ 33 → 0 < k → k ≤ 32 → {u o : List ℕ} {x : ℕ} → u ≡ take k v → x ≡ dot u p → o ≡ take 32 v
+    → take (k + 1) (x ∷ (o ++ [])) ≡ extended p u
+extended-some p v k l n h {u} {o} {x} eu ex eo =
+    ap (λ (j : ℕ). take j (x ∷ (o ++ []))) (add-one k)
+    ∙ ap₂ (λ (y : ℕ) (t : List ℕ). y ∷ take k t) ex (append-nil o ∙ eo)
+    ∙ ap (λ (t : List ℕ). dot u p ∷ t) (take-take k 32 v h ∙ sym eu)
+    ∙ sym (extended-is p u (omega (arith, ap length eu, length-take-le k v (omega arith))))
 
 -- ---- solve, locator
 pub locator-is : (r : ℕ) (s : List ℕ) {rows : List (List ℕ)} {v : List ℕ} → rows ≡ windows 0 (r - half r) s → v ≡ solve (half r + 1) rows → v ≡ locator r s
@@ -229,36 +190,45 @@ module _ (n : ℕ) (rows : List (List ℕ)) where
   unfolding solve
   solve-zero e = rw e
 
-  module _ (z : n ≡ 0 → ⊥) {row : List ℕ} (er : row ≡ pivot rows) where
-    opened-solve : solve n rows ≡ pick (eqb (head row) 0) (1 ∷ []) (extended (normal row) (solve (n - 1) (map (reduced (normal row)) rows)))
+  module _ (z : n ≡ 0 → ⊥) where
+    opened-solve : solve n rows
+        ≡ pick (eqb (head (pivot rows)) 0) (1 ∷ []) (extended (normal (pivot rows)) (solve (n - 1) (map (reduced (normal (pivot rows))) rows)))
     unfolding solve
-    opened-solve = let more : n ≡ suc (n - 1) = let h : 0 < n = pos_of_ne-zero z in omega arith in rw er (ap (λ (m : ℕ). solve m rows) more)
+    opened-solve = let more : n ≡ suc (n - 1) = let h : 0 < n = pos_of_ne-zero z in omega arith in ap (λ (m : ℕ). solve m rows) more
 
-    pub solve-free : head row ≡ 0 → 1 ∷ [] ≡ solve n rows
-    solve-free e = sym (rw (eq-eqb (head row) 0 e) at opened-solve)
+    pub solve-free : None ≡ find begins rows → 1 ∷ [] ≡ solve n rows
+    solve-free e = sym (rw (eq-eqb (head (pivot rows)) 0 (pivot-none rows e)) at opened-solve)
 
-    pub solve-some : (head row ≡ 0 → ⊥) → {p : List ℕ} {reds : List (List ℕ)} {u o : List ℕ} → p ≡ normal row → reds ≡ map (reduced p) rows
-        → u ≡ solve (n - 1) reds → o ≡ extended p u
-        → o ≡ solve n rows
-    solve-some n0 ep ered eu eo = rw (eo, eu, ered, ep) (sym (rw (ne_eqb (head row) 0 n0) at opened-solve))
+    module _ {row p : List ℕ} {reds : List (List ℕ)} (er : Some row ≡ find begins rows) (ep : p ≡ normal row) (ered : reds ≡ map (reduced p) rows) where
+      pub solve-some : {u : List ℕ} → u ≡ solve (n - 1) reds → extended p u ≡ solve n rows
+      solve-some eu =
+          let f = pivot-some rows er in
+          rw (eu, ered, ep, sym f.0)
+          (sym (rw (ne_eqb (head (pivot rows)) 0 (λ y. f.1 (ap head (sym f.0) ∙ y))) at opened-solve))
+
+      pub solve-none : [] ≡ solve (n - 1) reds → [] ≡ solve n rows
+      unfolding extended
+      solve-none eu = solve-some eu
+
+extended-short : (p u : List ℕ) → length (extended p u) ≤ suc (length u)
+unfolding extended
+extended-short p [] = omega arith
+extended-short p (x ∷ u) = omega arith
+
+pub solve-short : (n : ℕ) (rows : List (List ℕ)) → length (solve n rows) ≤ n
+unfolding solve
+solve-short zero rows = omega arith
+solve-short (suc n) rows =
+    by (eqb (head (pivot rows)) 0) (normal (pivot rows)) (solve n (map (reduced (normal (pivot rows))) rows))
+    (solve-short n (map (reduced (normal (pivot rows))) rows))
+  where
+    by : (t : Bool) (p u : List ℕ) → length u ≤ n → length (pick t (1 ∷ []) (extended p u)) ≤ suc n
+    by true p u h = omega arith
+    by false p u h = omega (arith, extended-short p u)
 
 -- ---- a list from its end to its front
 front : (v : List ℕ) (i : ℕ) → 0 < i → i ≤ length v → drop (i - 1) v ≡ get_or v (i - 1) 0 ∷ drop i v
 front v i h k = let same : suc (i - 1) ≡ i = omega arith in drop-cons v (i - 1) 0 (omega arith) ∙ ap (λ (n : ℕ). get_or v (i - 1) 0 ∷ drop n v) same
-
--- ---- turned: the coefficients behind place i stand the other way round before place j
-module _ (v u : List ℕ) (i j : ℕ) (inv : take j u ≡ reverse (drop i v)) where
-  pub turned-next : 0 < i → i ≤ length v → j < length u → take (j + 1) (set u j (get_or v (i - 1) 0)) ≡ reverse (drop (i - 1) v)
-  turned-next h k l =
-      ap (λ (n : ℕ). take n (set u j (get_or v (i - 1) 0))) (add-one j) ∙ take-suc-set u j (get_or v (i - 1) 0) l
-      ∙ ap (λ (t : List ℕ). t ++ get_or v (i - 1) 0 ∷ []) inv
-      ∙ sym (ap (reverse {A = ℕ}) (front v i h k) ∙ reverse-cons (get_or v (i - 1) 0) (drop i v))
-
-  pub turned-done : i ≤ 0 → j + i ≡ length v → take (length v) u ≡ reverse v
-  turned-done h e =
-      let none : i ≡ 0 = omega arith in
-      let all : length v ≡ j = omega arith in
-      ap (λ (n : ℕ). take n u) all ∙ inv ∙ ap (λ (n : ℕ). reverse (drop n v)) none
 
 -- ---- at_places: 64 values more
 values-joined : (u : List ℕ) (j n m : ℕ) → values_from u j n ++ values_from u (j + n) m ≡ values_from u j (n + m)
@@ -274,37 +244,24 @@ unfolding values_from
 places-start u = refl
 
 module _ (u z : List ℕ) (k : ℕ) (l : length z ≡ 256) (inv : take (k * 64) z ≡ values_from u 0 (k * 64)) where
-  module _ (h : k < 4) {p y : List ℕ} (ep : p ≡ at_powers (k * 64) u) (ey : y ≡ copied p (take (256 - k * 64) (drop (k * 64) z))) where
-    came : y ≡ values_from u (k * 64) 64 ++ drop 64 (drop (k * 64) z)
-    came =
-        let rest : take (256 - k * 64) (drop (k * 64) z) ≡ drop (k * 64) z = take_all (256 - k * 64) (drop (k * 64) z)
-        (omega (arith, length-drop (k * 64) z)) in
-        let long : length (values_from u (k * 64) 64) ≡ 64 = length-values u (k * 64) 64 in
-        ey ∙ ap₂ copied ep rest ∙ copied-fits (values_from u (k * 64) 64) (drop (k * 64) z) (omega (arith, long, length-drop (k * 64) z))
-        ∙ ap (λ (n : ℕ). values_from u (k * 64) 64 ++ drop n (drop (k * 64) z)) long
+  pub places-next : k < 4 → {y : List ℕ} → y ≡ at_powers (k * 64) u
+      → take ((k + 1) * 64) (put_mid (k * 64) (k * 64 + 64 - k * 64) z y) ≡ values_from u 0 ((k + 1) * 64)
+  places-next h {y} e =
+      let more : (k + 1) * 64 ≡ k * 64 + length y = omega (arith, ap length e, length-values u (k * 64) 64) in
+      let next : k * 64 + 64 ≡ (k + 1) * 64 = omega arith in
+      take-put_mid (k * 64) (k * 64 + 64 - k * 64) z y ((k + 1) * 64) more (omega arith) ∙ ap₂ ◌++◌ inv e
+      ∙ ap (λ (n : ℕ). values_from u 0 (k * 64) ++ values_from u n 64) (sym (nat-zero-add (k * 64)))
+      ∙ values-joined u 0 (k * 64) 64 ∙ ap (values_from u 0) next
 
-    pub places-length : length (put_mid (k * 64) (256 - k * 64) z y) ≡ 256
-    places-length = ap (λ (n : ℕ). length (put_mid (k * 64) (n - k * 64) z y)) (sym l) ∙ tail-length (k * 64) z y same ∙ l
-      where
-        same : length y ≡ length (drop (k * 64) z)
-        same =
-            ap length came ∙ length-append (values_from u (k * 64) 64) (drop 64 (drop (k * 64) z))
-            ∙ omega (arith, length-values u (k * 64) 64, length-drop 64 (drop (k * 64) z), length-drop (k * 64) z)
+  pub places-whole : k < 4 → (y : List ℕ) → length y ≡ 64 → length (put_mid (k * 64) (k * 64 + 64 - k * 64) z y) ≡ 256
+  places-whole h y e =
+      let n : k * 64 + 64 - k * 64 ≡ 64 = omega arith in
+      let long : length y ≡ length (take (k * 64 + 64 - k * 64) (drop (k * 64) z)) =
+      e ∙ sym (ap (λ (m : ℕ). length (take m (drop (k * 64) z))) n ∙ length-take-le 64 (drop (k * 64) z) (omega (arith, length-drop (k * 64) z))) in
+      same_len_mid (k * 64) (k * 64 + 64 - k * 64) z y long ∙ l
 
-    pub places-next : take ((k + 1) * 64) (put_mid (k * 64) (256 - k * 64) z y) ≡ values_from u 0 ((k + 1) * 64)
-    places-next =
-        let more : (k + 1) * 64 ≡ k * 64 + 64 = omega arith in
-        rw more
-        (ap (take (k * 64 + 64)) (ap (λ (n : ℕ). put_mid (k * 64) (n - k * 64) z y) (sym l) ∙ tail-put (k * 64) z y ∙ ap₂ ◌++◌ inv came
-        ∙ sym (append_assoc (values_from u 0 (k * 64)) (values_from u (k * 64) 64) (drop 64 (drop (k * 64) z)))
-        ∙ ap (λ (t : List ℕ). t ++ drop 64 (drop (k * 64) z)) joined)
-        ∙ take_at (values_from u 0 (k * 64 + 64)) (drop 64 (drop (k * 64) z)) (k * 64 + 64) (length-values u 0 (k * 64 + 64)))
-      where
-        joined : values_from u 0 (k * 64) ++ values_from u (k * 64) 64 ≡ values_from u 0 (k * 64 + 64)
-        joined = ap (λ (n : ℕ). values_from u 0 (k * 64) ++ values_from u n 64) (sym (nat-zero-add (k * 64))) ∙ values-joined u 0 (k * 64) 64
-
-  pub places-done : k ≤ 4 → 4 ≤ k → z ≡ values_from u 0 256
-  places-done h g = let all : k * 64 ≡ 256 = omega arith in sym (take_all 256 z (omega arith)) ∙ rw all at inv
+  pub places-done : k ≡ 4 → z ≡ values_from u 0 256
+  places-done h = let all : k * 64 ≡ 256 = omega arith in sym (take_all 256 z (omega arith)) ∙ rw all at inv
 
 -- the highest coefficient first or last, the value is the same
 low-turned : (v : List ℕ) (x : ℕ) → eval (reverse v) x ≡ low v x
@@ -368,8 +325,11 @@ module _ (v s w₀ : List ℕ) where
       behind : k ≡ length (drop i w₀)
       behind = omega (arith, length-drop i w₀)
 
-pub point-next : (k : ℕ) {x y : ℕ} → x ≡ pow alpha k → y ≡ mul x alpha → y ≡ pow alpha (k + 1)
-point-next k {x} ex ey = ey ∙ mul_comm x alpha ∙ ap (mul alpha) ex ∙ sym (ap (pow alpha) (add-one k) ∙ pow-suc alpha k)
+pub point-start : (n : ℕ) → 1 ≡ pow alpha (n - n)
+point-start n = let none : n - n ≡ 0 = omega arith in sym (ap (pow alpha) none ∙ pow-zero alpha)
+
+pub point-next : (k m : ℕ) → m ≡ k + 1 → {x y : ℕ} → x ≡ pow alpha k → y ≡ mul x alpha → y ≡ pow alpha m
+point-next k m em {x} ex ey = ey ∙ mul_comm x alpha ∙ ap (mul alpha) ex ∙ sym (ap (pow alpha) (em ∙ add-one k) ∙ pow-suc alpha k)
 
 -- ---- error_at: the three sums of the coefficients behind place i
 abbrev pub Summed : List ℕ → List ℕ → ℕ → ℕ → ℕ → ℕ → ℕ → Type 0
@@ -422,42 +382,28 @@ errors-none s [] (suc n) = refl
 errors-none s (x ∷ w) zero = refl
 errors-none s (x ∷ w) (suc n) = ap₂ ◌∷◌ (ap (λ (t : ℕ). add t x) (zero-mul _) ∙ zero-add x) (errors-none s w n)
 
-module _ (r : ℕ) (w : List ℕ) {s : List ℕ} (es : s ≡ sums r w) (k : ℕ) (v : List ℕ) (ev : take k v ≡ locator r s) where
-  pub amend-none : k ≡ 0 → w ≡ amended r w
+module _ (r : ℕ) (w : List ℕ) {s v : List ℕ} (es : s ≡ sums r w) (ev : v ≡ locator r s) where
+  pub amend-none : v ≡ [] → w ≡ amended r w
   unfolding amended
   amend-none z = sym (rw (sym es, sym ev, z) (errors-none s w (length w)))
 
-  pub amend-some : {o : List ℕ} → o ≡ onto (errors (take k v) s (length w)) w → o ≡ amended r w
+  pub amend-some : {o : List ℕ} → o ≡ onto (errors v s (length w)) w → o ≡ amended r w
   unfolding amended
   amend-some e = rw (sym es, sym ev) e
 
 -- ---- mend
-module _ (r : ℕ) (w : List ℕ) (l : length w ≡ word_bytes) {copy : List ℕ} (left : List ℕ) (ec : copy ≡ copied w (replicate word_bytes 0))
-    (el : left ≡ amended r copy) where
-  became : left ≡ amended r w
-  became =
-      el ∙ ap (amended r)
-      (ec ∙ copied-fits w (replicate word_bytes 0) (omega (arith, length-replicate {A = ℕ} word_bytes 0))
-      ∙ ap (λ (n : ℕ). w ++ drop n (replicate word_bytes 0)) l ∙ append-nil w)
-
+module _ (r : ℕ) (w left : List ℕ) (el : left ≡ amended r w) where
   pub mend-far : {n : ℕ} → n ≡ distance w left → half r < n → (Beyond, w) ≡ mended r w
   unfolding mended
-  mend-far en h = rw (sym became, lt-ltb (half r) (distance w left) (rw en at h))
+  mend-far en h = rw (sym el, lt-ltb (half r) (distance w left) (rw en at h))
 
-  module _ {n : ℕ} (en : n ≡ distance w left) (h : n ≤ half r) {c : Checked} (ec' : c ≡ checked r left) where
+  module _ {n : ℕ} (en : n ≡ distance w left) (h : n ≤ half r) {c : Checked} (ec : c ≡ checked r left) where
     near : settled c w left ≡ mended r w
     unfolding mended
-    near = rw (sym became, le-ltb (half r) (distance w left) (rw en at h), ec')
+    near = rw (sym el, le-ltb (half r) (distance w left) (rw en at h), ec)
 
-    pub mend-clean : {o : List ℕ} → c ≡ check.Clean → o ≡ copied left w → (Repaired n, o) ≡ mended r w
-    mend-clean {o} e eo = ap₂ (λ (k : ℕ) (t : List ℕ). (Repaired k, t)) en (eo ∙ back) ∙ rw e at near
-      where
-        long : length left ≡ length w
-        long = ap length became ∙ unfold amended in length-onto _ w
-
-        back : copied left w ≡ left
-        back = copied-fits left w (omega (arith, long)) ∙ ap (λ (t : List ℕ). left ++ t) (drop_of_length-le w {i = length left} (omega (arith, long)))
-            ∙ append-nil left
+    pub mend-clean : {o : List ℕ} → c ≡ check.Clean → o ≡ left → (Repaired n, o) ≡ mended r w
+    mend-clean {o} e eo = ap₂ (λ (k : ℕ) (t : List ℕ). (Repaired k, t)) en eo ∙ rw e at near
 
     pub mend-damaged : c ≡ check.Damaged → (Beyond, w) ≡ mended r w
     mend-damaged e = rw e at near

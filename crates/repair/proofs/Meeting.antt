@@ -10,9 +10,9 @@ use borrow.Author.Tests.{ltb-true, ltb-false}
 use Rattle.base.specs.Choice.{pick}
 use Rattle.base.specs.Bytes.{Bytes}
 use Rattle.parity.specs.Calls.{checked}
-use Rattle.parity.specs.declared.Checked.{Checked}
-use Rattle.parity.specs.declared.Checked.TheVariants as check
-use Rattle.repair.specs.declared.Mended.TheVariants.{Beyond}
+use Rattle.parity.specs.Checked.{Checked}
+use Rattle.parity.specs.Checked as check
+use Rattle.repair.specs.Mended.{Beyond}
 use Rattle.repair.specs.Promise.{distance, half, Promised}
 use Rattle.repair.specs.Way.{amended, settled, mended, repaired_by, repaired}
 use Rattle.repair.proofs.Settled.{is-near, settled-promised}

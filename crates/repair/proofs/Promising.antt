@@ -21,10 +21,10 @@ use Rattle.base.specs.Bytes.{Bytes}
 use Rattle.base.proofs.Tests.{by-eq}
 use Rattle.word_spec.specs.Word.{clean}
 use Rattle.parity.specs.Calls.{checked, root_limit, word_bytes}
-use Rattle.parity.specs.declared.Checked.{Checked}
-use Rattle.parity.specs.declared.Checked.TheVariants as check
-use Rattle.repair.specs.declared.Mended.{Mended}
-use Rattle.repair.specs.declared.Mended.TheVariants.{Clean, Repaired, Beyond, Refused}
+use Rattle.parity.specs.Checked.{Checked}
+use Rattle.parity.specs.Checked as check
+use Rattle.repair.specs.Mended.{Mended}
+use Rattle.repair.specs.Mended.{Clean, Repaired, Beyond, Refused}
 use Rattle.repair.specs.Promise.{distance, half, CleanWord, Near, Promised}
 use Rattle.repair.specs.Way.{amended, settled, mended, repaired_by, repaired}
 use Rattle.word_spec.proofs.Sums.{length-onto}

@@ -18,8 +18,8 @@ use Rattle.field.proofs.Sum.{add-zero}
 use Rattle.field.proofs.Product.{mul-lt}
 use Rattle.word_spec.specs.Word.{eval, values_from, onto, clean}
 use Rattle.parity.specs.Calls.{checked, root_limit, word_bytes}
-use Rattle.parity.specs.declared.Checked.{Checked}
-use Rattle.parity.specs.declared.Checked.TheVariants as check
+use Rattle.parity.specs.Checked.{Checked}
+use Rattle.parity.specs.Checked as check
 use Rattle.word_spec.proofs.Sums.{length-onto, bytes-onto, onto-comm, onto-twice}
 use Rattle.word_spec.proofs.Values.{eval_add}
 use Rattle.word_spec.proofs.Roots.{length-values, bytes-values}

@@ -8,9 +8,9 @@ use Rattle.std.specs.Prelude.{◌≡◌, List, [], ◌∷◌, ℕ, ◌+◌, ◌/
 use Rattle.base.specs.Choice.{pick}
 use Rattle.base.specs.Bytes.{Bytes}
 use Rattle.parity.specs.Calls.{checked}
-use Rattle.parity.specs.declared.Checked.TheVariants as check
-use Rattle.repair.specs.declared.Mended.{Mended}
-use Rattle.repair.specs.declared.Mended.TheVariants.{Clean, Repaired, Beyond, Refused}
+use Rattle.parity.specs.Checked as check
+use Rattle.repair.specs.Mended.{Mended}
+use Rattle.repair.specs.Mended.{Clean, Repaired, Beyond, Refused}
 
 -- the number of places in which two words differ
 unfoldable pub distance : List ℕ → List ℕ → ℕ

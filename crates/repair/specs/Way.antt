@@ -7,19 +7,20 @@
 -- dot                                            a sum of products
 -- sums, windows                                  the sums, and the equations: a row for each, 33 numbers wide
 -- head, shift                                    a row's first coefficient, and the row without it
+-- begins                                         whether that is other than zero
 -- pivot, normal, reduced, extended, solve        elimination, column by column
 -- locator                                        what it is
 -- error_at, errors                                the byte to be added at a place, at all places
 -- amended, settled, mended, repaired_by, repaired  the word that comes of it, and what is answered and left
-use Rattle.std.specs.Prelude.{List, [], ◌∷◌, ◌++◌, map, ℕ, zero, suc, ◌+◌, ◌-◌, eqb, ltb, length, take, drop, get_or, replicate}
+use Rattle.std.specs.Prelude.{Bool, not, List, [], ◌∷◌, ◌++◌, map, ℕ, zero, suc, ◌+◌, ◌-◌, eqb, ltb, length, take, drop, get_or, replicate}
 use Rattle.base.specs.Choice.{pick}
 use Rattle.field.specs.Field.{alpha, add, mul, pow, inverse}
 use Rattle.word_spec.specs.Word.{values_from, scale, onto}
 use Rattle.parity.specs.Calls.{checked, root_limit}
-use Rattle.parity.specs.declared.Checked.{Checked}
-use Rattle.parity.specs.declared.Checked.TheVariants as check
-use Rattle.repair.specs.declared.Mended.{Mended}
-use Rattle.repair.specs.declared.Mended.TheVariants.{Clean, Repaired, Beyond, Refused}
+use Rattle.parity.specs.Checked.{Checked}
+use Rattle.parity.specs.Checked as check
+use Rattle.repair.specs.Mended.{Mended}
+use Rattle.repair.specs.Mended.{Clean, Repaired, Beyond, Refused}
 use Rattle.repair.specs.Promise.{distance, half}
 
 -- the value at x
@@ -54,6 +55,10 @@ head row = get_or row 0 0
 -- a row without its first coefficient, and a zero at the end
 abbrev pub shift : List ℕ → List ℕ
 shift row = drop 1 row ++ 0 ∷ []
+
+-- whether a row begins with another number than zero
+abbrev pub begins : List ℕ → Bool
+begins row = not (eqb (head row) 0)
 
 -- the first row that does not begin with zero; where all do, zeros
 unfoldable pub pivot : List (List ℕ) → List ℕ

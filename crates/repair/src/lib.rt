@@ -4,23 +4,23 @@
 ghost use Rattle.std.specs.Prelude.{◌≡◌, ◌≤◌, length};
 ghost use Rattle.parity.specs.Calls.{root_limit, word_bytes};
 ghost use Rattle.repair.specs.Promise.{distance, Promised};
+ghost use Rattle.repair.specs.Mended.{as_mended};
 ghost use Rattle.repair.specs.Way.{amended, mended};
 
+use base::Refusal;
 use parity::{Checked, Word};
 
 mod places;
 mod rows;
 
 /// What repair finds of a word.
-#[derive(Clone, Copy)]
+#[derive(Clone, Copy, Debug, PartialEq, Eq)]
 pub enum Mended {
     Clean,
     /// So many places are changed.
     Repaired(usize),
     /// The word is beyond repair.
     Beyond,
-    /// The call is refused, by this number of the paper.
-    Refused(u8),
 }
 
 // The number of places in which two words differ.
@@ -28,15 +28,7 @@ fn distance(a: &[u8], b: &[u8]) -> usize
     requires { length a.now ≡ length b.now }
     ensures { result ≡ distance a.now b.now }
 {
-    let mut n: usize = 0;
-    let mut i: usize = 0;
-    while i < a.len() {
-        if a[i] != b[i] {
-            n += 1;
-        }
-        i += 1;
-    }
-    n
+    a.iter().zip(b).filter(|(x, y)| x != y).count()
 }
 
 // Puts in the place of a word what it becomes by its locator.
@@ -45,47 +37,42 @@ fn amend(r: usize, word: &mut [u8])
     ensures { word.new ≡ amended r word.old }
 {
     let mut s = [0u8; Word::MOST];
-    parity::at_roots(r, word, &mut s);
-    let locator = rows::locator(r, &s);
-    let k = locator.n;
-    if k == 0 {
-        return;
+    // Not refused: so many roots fit.
+    let _ = parity::at_roots(r, word, &mut s);
+    if let Some(locator) = rows::locator(r, &s) {
+        places::add(locator.numbers(), &s, word);
     }
-    let v = locator.v;
-    places::add(&v[..k], &s, word);
 }
 
 // Repairs a damaged word: what it becomes is taken where it is near and clean.
 fn mend(r: usize, word: &mut [u8]) -> Mended
     requires { (r ≤ root_limit) × (length word.old ≡ word_bytes) }
-    ensures { (result, word.new) ≡ mended r word.old }
+    ensures { (as_mended (Ok result), word.new) ≡ mended r word.old }
 {
     let mut left = [0u8; Word::LENGTH];
-    base::copy(word, &mut left);
+    left.copy_from_slice(word);
     amend(r, &mut left);
     let n = distance(word, &left);
     if r / 2 < n {
         return Mended::Beyond;
     }
-    let found = parity::check(r, &left);
-    match found {
-        Checked::Clean => {
-            base::copy(&left, word);
+    match parity::check(r, &left) {
+        Ok(Checked::Clean) => {
+            word.copy_from_slice(&left);
             Mended::Repaired(n)
         }
-        Checked::Damaged => Mended::Beyond,
-        Checked::Refused(_) => Mended::Beyond,
+        Ok(Checked::Damaged) => Mended::Beyond,
+        // Not refused: the word is one, and so many roots fit. An arm of its own, as a joined one has no name for its fact in a proof.
+        Err(_) => Mended::Beyond,
     }
 }
 
 /// Repairs a word with r parity bytes, in its place.
-pub fn repair(r: usize, word: &mut [u8]) -> Mended
-    ensures { Promised r word.old result word.new }
+pub fn repair(r: usize, word: &mut [u8]) -> Result<Mended, Refusal>
+    ensures { Promised r word.old (as_mended result) word.new }
 {
-    let found = parity::check(r, word);
-    match found {
-        Checked::Clean => Mended::Clean,
-        Checked::Damaged => mend(r, word),
-        Checked::Refused(n) => Mended::Refused(n),
+    match parity::check(r, word)? {
+        Checked::Clean => Ok(Mended::Clean),
+        Checked::Damaged => Ok(mend(r, word)),
     }
 }

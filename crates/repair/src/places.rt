@@ -14,13 +14,9 @@ fn turned(v: &[u8]) -> [u8; 33]
     ensures { take (length v.now) result ≡ reverse v.now }
 {
     let mut u = [0u8; 33];
-    let mut i: usize = v.len();
-    let mut j: usize = 0;
-    while 0 < i {
-        i -= 1;
-        u[j] = v[i];
-        j += 1;
-    }
+    let n = v.len();
+    u[..n].copy_from_slice(v);
+    u[..n].reverse();
     u
 }
 
@@ -32,12 +28,11 @@ fn at_places(v: &[u8]) -> [u8; POINTS]
     let n = v.len();
     let u = turned(v);
     let mut z = [0u8; POINTS];
-    let mut k: usize = 0;
-    while k < 4 {
+    // By index: of what is written through chunks_mut a proof knows the length alone.
+    for k in 0..4 {
         let at = k * Word::MOST;
         let l = parity::at_powers(at, &u[..n]);
-        base::copy(&l, &mut z[at..]);
-        k += 1;
+        z[at..at + Word::MOST].copy_from_slice(&l);
     }
     z
 }
@@ -54,9 +49,7 @@ fn error_at(l: u8, v: &[u8], s: &[u8], x: u8) -> u8
     let mut a: u8 = 0;
     let mut b: u8 = 0;
     let mut sum: u8 = 0;
-    let mut i: usize = v.len();
-    while 1 < i {
-        i -= 1;
+    for i in (1..v.len()).rev() {
         a = field::plus(v[i], field::times(x, a));
         b = field::plus(a, field::times(x, b));
         sum = field::plus(field::times(a, s[i - 1]), sum);
@@ -70,13 +63,11 @@ pub fn add(v: &[u8], s: &[u8], word: &mut [u8])
     ensures { word.new ≡ onto (errors v.now s.now (length word.old)) word.old }
 {
     let z = at_places(v);
+    let n = word.len();
     let mut x: u8 = 1;
-    let mut k: usize = 0;
-    let mut i: usize = word.len();
-    while 0 < i {
-        i -= 1;
-        word[i] = field::plus(error_at(z[k], v, s, x), word[i]);
+    // By index: of what is written through iter_mut().rev() a proof knows the length alone.
+    for i in (0..n).rev() {
+        word[i] = field::plus(error_at(z[n - 1 - i], v, s, x), word[i]);
         x = field::times(x, field::ALPHA);
-        k += 1;
     }
 }

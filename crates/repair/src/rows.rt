@@ -1,13 +1,52 @@
 //! The equations of the locator, and their solution by elimination. A row has room for 33 coefficients, as many as R = 64 needs.
-ghost use Rattle.std.specs.Prelude.{◌≡◌, map, ◌+◌, ◌≤◌, length, take};
+ghost use Rattle.std.specs.Prelude.{◌≡◌, List, [], ◌∷◌, map, find, unwrap_or, ℕ, ◌≤◌, ◌<◌, length, take};
 ghost use Rattle.parity.specs.Calls.{root_limit};
-ghost use Rattle.repair.specs.Way.{dot, windows, pivot, normal, reduced, extended, solve, locator};
+ghost use Rattle.repair.specs.Way.{dot, windows, begins, normal, reduced, extended, solve, locator};
 
-// A solution: the first n numbers of v. There is none where n is 0.
-#[derive(Clone, Copy)]
-pub struct Found {
-    pub n: usize,
-    pub v: [u8; 33],
+use std::marker::Model;
+
+// A solution: the first n numbers of v, one at least. No Vec, since a library has no heap: the array has room for the longest.
+#[derive(Drop)]
+pub struct Solution {
+    n: usize,
+    v: [u8; 33],
+}
+
+impl Model for Solution {
+    ghost Value = { List ℕ };
+
+    ghost view = { λ s. take s.n s.v };
+
+    ghost invariant = { (λ s. (0 < s.n) × (s.n ≤ 33)) };
+}
+
+impl Solution {
+    // The number 1 alone.
+    fn one() -> Solution
+        ensures { result ≡ 1 ∷ [] }
+    {
+        let mut v = [0u8; 33];
+        v[0] = 1;
+        Solution { n: 1, v }
+    }
+
+    // Its numbers.
+    pub fn numbers(&self) -> &[u8]
+        ensures { (result.now ≡ self.now) × (0 < length result.now) × (length result.now ≤ 33) }
+    {
+        &self.v[..self.n]
+    }
+
+    // The first unknown from the others by the pivot, and before them.
+    fn extended(self, p: [u8; 33]) -> Solution
+        requires { length self ≤ 32 }
+        ensures { result ≡ extended p self }
+    {
+        let mut v = [0u8; 33];
+        v[0] = dot(self.numbers(), &p);
+        v[1..].copy_from_slice(&self.v[..32]);
+        Solution { n: self.n + 1, v }
+    }
 }
 
 // The sum of the products.
@@ -15,13 +54,9 @@ pub fn dot(u: &[u8], row: &[u8]) -> u8
     requires { length u.now ≤ length row.now }
     ensures { result ≡ dot u.now row.now }
 {
-    let mut a: u8 = 0;
-    let mut i: usize = 0;
-    while i < u.len() {
-        a = field::plus(a, field::times(u[i], row[i]));
-        i += 1;
-    }
-    a
+    u.iter()
+        .zip(row)
+        .fold(0, |a, (x, y)| field::plus(a, field::times(*x, *y)))
 }
 
 // The n equations of the sums s, each a row that begins one further on; zeros behind them.
@@ -29,32 +64,21 @@ fn equations(n: usize, s: &[u8]) -> [[u8; 33]; 32]
     requires { (n ≤ 32) × (length s.now ≡ root_limit) }
     ensures { take n result ≡ windows 0 n s.now }
 {
-    let zeros = [0u8; 33];
-    let mut m = [zeros; 32];
-    let mut i: usize = 0;
-    while i < n {
-        let end = i + 33;
+    let mut m = [[0u8; 33]; 32];
+    // By index, each row by itself: of what is written through iter_mut a proof knows the length alone, into m[i] nothing that has a name.
+    for i in 0..n {
         let mut row = [0u8; 33];
-        base::copy(&s[i..end], &mut row);
+        row.copy_from_slice(&s[i..i + 33]);
         m[i] = row;
-        i += 1;
     }
     m
 }
 
-// The first row that does not begin with zero; where all do, zeros.
-fn pivot(rows: &[[u8; 33]]) -> [u8; 33]
-    ensures { result ≡ pivot rows.now }
+// The first row that does not begin with zero.
+fn pivot(rows: &[[u8; 33]]) -> Option<[u8; 33]>
+    ensures { result ≡ find begins rows.now }
 {
-    let mut i: usize = 0;
-    while i < rows.len() {
-        let row = rows[i];
-        if row[0] != 0 {
-            return row;
-        }
-        i += 1;
-    }
-    [0; 33]
+    rows.iter().find(|row| row[0] != 0).copied()
 }
 
 // A row made to begin with 1, which is left out.
@@ -73,11 +97,10 @@ fn reduced(p: [u8; 33], row: [u8; 33]) -> [u8; 33]
 {
     let k = row[0];
     let mut out = [0u8; 33];
-    base::copy(&row[1..], &mut out);
-    if k == 0 {
-        return out;
+    out[..32].copy_from_slice(&row[1..]);
+    if k != 0 {
+        parity::subtract(k, &p, &mut out);
     }
-    parity::subtract(k, &p, &mut out);
     out
 }
 
@@ -85,53 +108,32 @@ fn reduced(p: [u8; 33], row: [u8; 33]) -> [u8; 33]
 fn reduce(p: [u8; 33], rows: &mut [[u8; 33]])
     ensures { rows.new ≡ map (reduced p) rows.old }
 {
-    let mut i: usize = 0;
-    while i < rows.len() {
-        let row = rows[i];
-        rows[i] = reduced(p, row);
-        i += 1;
+    for row in rows.iter_mut() {
+        *row = reduced(p, *row);
     }
-}
-
-// The first unknown from the others by the pivot, and before them.
-fn extended(p: [u8; 33], rest: Found) -> Found
-    requires { (rest.n ≤ 32) × (length rest.v ≡ 33) }
-    ensures { (result.n ≤ rest.n + 1) × (length result.v ≡ 33) × (take result.n result.v ≡ extended p (take rest.n rest.v)) }
-{
-    let k = rest.n;
-    if k == 0 {
-        return rest;
-    }
-    let v = rest.v;
-    let mut out = [0u8; 33];
-    out[0] = dot(&v[..k], &p);
-    base::copy(&v[..32], &mut out[1..]);
-    Found { n: k + 1, v: out }
 }
 
 // A least solution of at most n numbers; the rows are used up.
-fn solve(n: usize, rows: &mut [[u8; 33]]) -> Found
+fn solve(n: usize, rows: &mut [[u8; 33]]) -> Option<Solution>
     requires { n ≤ 33 }
-    ensures { (result.n ≤ n) × (length result.v ≡ 33) × (take result.n result.v ≡ solve n rows.old) }
+    ensures { unwrap_or result [] ≡ solve n rows.old }
 {
     if n == 0 {
-        return Found { n: 0, v: [0; 33] };
+        return None;
     }
-    let row = pivot(rows);
-    if row[0] == 0 {
-        let mut one = [0u8; 33];
-        one[0] = 1;
-        return Found { n: 1, v: one };
-    }
+    let Some(row) = pivot(rows) else {
+        return Some(Solution::one());
+    };
     let p = normal(row);
     reduce(p, rows);
-    extended(p, solve(n - 1, rows))
+    let rest = solve(n - 1, rows)?;
+    Some(rest.extended(p))
 }
 
 // The locator of a word with r parity bytes and the sums s.
-pub fn locator(r: usize, s: &[u8]) -> Found
+pub fn locator(r: usize, s: &[u8]) -> Option<Solution>
     requires { (r ≤ root_limit) × (length s.now ≡ root_limit) }
-    ensures { (result.n ≤ 33) × (length result.v ≡ 33) × (take result.n result.v ≡ locator r s.now) }
+    ensures { unwrap_or result [] ≡ locator r s.now }
 {
     let h = r / 2;
     let n = r - h;

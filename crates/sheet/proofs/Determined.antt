@@ -3,6 +3,7 @@
 use mathlib.Core.Path.{refl}
 use Rattle.base.specs.Determined.{Determined}
 use Rattle.base.proofs.Determining.{same, same_answer, same-output, buffer, skip}
+use Rattle.sheet.proofs.Told.{same-closed}
 use Rattle.sheet.proofs.Sheet.fresh.Kinds as fresh-kinds
 use Rattle.sheet.proofs.Sheet.fresh.Reads as fresh-reads
 use Rattle.sheet.proofs.Sheet.begin.Kinds as begin-kinds
@@ -27,4 +28,4 @@ pub note-determined : Determined note-kinds.ps note-kinds.r note-reads.Asked not
 note-determined κs a z z' ws ws' pre p q = (same p q, refl)
 
 pub close-determined : Determined close-kinds.ps close-kinds.r close-reads.Asked close-reads.Learnt
-close-determined κs a z z' ws ws' pre p q = (same p q, refl)
+close-determined κs a z z' ws ws' pre p q = (same-closed z z' (same p q), refl)

@@ -1,5 +1,5 @@
-pub mod Sums
 pub mod Writing
-pub mod Ways
 pub mod Determined
 pub mod Month
+pub mod Ways
+pub mod Told

@@ -25,8 +25,7 @@ use Rattle.sheet_spec.proofs.Within.{within-every, within-ported}
 use Rattle.sheet_spec.proofs.Counted.{Fit, counted_is}
 use Rattle.sheet.specs.declared.Sheet.{Sheet}
 use Rattle.sheet.specs.declared.Draft.{Draft}
-use Rattle.sheet.specs.declared.Closed.{Closed}
-use Rattle.sheet.specs.declared.Counted.TheVariants.{Counts, Refused}
+use Rattle.sheet.specs.Counted.{Counts, Refused, Closed}
 use Rattle.sheet.specs.Call.{rows_of, sheet_of, tidied, beginning, drafted, adding, noting, notings, run_of, answer_of, closed, beyond, closing, recorded}
 
 -- ---- a month's sheet

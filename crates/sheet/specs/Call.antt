@@ -19,9 +19,7 @@ use Rattle.sheet_spec.specs.Meaning.{Mark, port_limit, Counting, counts, wrong, 
 use Rattle.sheet_spec.specs.Rows.{blank, heard_row, note_in, row_for, cleared, padded, Run, run, settled}
 use Rattle.sheet.specs.declared.Sheet.{Sheet}
 use Rattle.sheet.specs.declared.Draft.{Draft}
-use Rattle.sheet.specs.declared.Closed.{Closed}
-use Rattle.sheet.specs.declared.Counted.{Counted}
-use Rattle.sheet.specs.declared.Counted.TheVariants.{Counts, Wrong, Refused}
+use Rattle.sheet.specs.Counted.{Counted, Counts, Wrong, Refused, Closed}
 
 -- the first so many rows ..
 abbrev pub rows_of : Sheet → List Row

@@ -1,17 +1,24 @@
 -- What private functions alone are promised by.
--- found_in   where a packet's row stands or is to stand, whether it is new, the row before it, and how many rows there are then
-use Rattle.std.specs.Prelude.{ℕ, ◌+◌, not, List, length}
+-- narrow, narrow_row   numbers, and a row, if none passes 64 bits
+-- counted_of           what becomes of a draft's recording
+use Rattle.std.specs.Prelude.{Bool, Option, Some, None}
 use Rattle.base.specs.Choice.{pick}
+use Rattle.sheet_spec.specs.declared.Tally.{Tally}
 use Rattle.sheet_spec.specs.declared.Row.{Row}
-use Rattle.sheet_spec.specs.Rows.{row_for}
-use Rattle.sheet_spec.specs.Places.{place_for, is_old}
-use Rattle.sheet.specs.declared.rows.Found.{Found}
+use Rattle.sheet_spec.specs.Tally.{wide}
+use Rattle.sheet_spec.specs.Rows.{settled}
+use Rattle.sheet.specs.declared.Draft.{Draft}
+use Rattle.sheet.specs.Counted.{Counted, Refused}
+use Rattle.sheet.specs.Call.{beyond, run_of, answer_of}
 
--- what a packet of a port finds: its row; else a new one is put between
-abbrev pub found_in : ℕ → List Row → Found
-found_in port rs = record {
-  at = place_for port rs;
-  new = not (is_old port rs);
-  row = row_for port rs;
-  behind = pick (is_old port rs) (length rs) (length rs + 1);
-}
+-- numbers, if none of them passes 64 bits
+abbrev pub narrow : Tally → Option Tally
+narrow t = pick (wide t) None (Some t)
+
+-- .. and a row of such
+abbrev pub narrow_row : Row → Option Row
+narrow_row r = pick (wide r.tally) None (Some r)
+
+-- a draft's recording at its end
+abbrev pub counted_of : Draft → Bool → Counted
+counted_of d well = pick (beyond d) (Refused 10) (answer_of (settled well (run_of d)))

@@ -1,22 +1,26 @@
 //! The monthly reception sheet (request W13): a line for each port, counted from the delivered packets of many recordings.
 #![tactic(auto)]
 
-ghost use Rattle.std.specs.Prelude.{◌≡◌};
-ghost use Rattle.base.specs.Written.{outcome};
-ghost use Rattle.sheet.specs.Call.{fresh_sheet, tidied, beginning, adding, noting, closing, printing};
+ghost use Rattle.std.specs.Prelude.{◌≡◌, ◌≤◌, length};
+ghost use Rattle.base.specs.Written.{as_written, outcome};
+ghost use Rattle.sheet.specs.Call.{rows_of, sheet_of, fresh_sheet, tidied, beginning, adding, noting, closing, printing};
+ghost use Rattle.sheet.specs.Counted.{as_counted, as_closed};
+ghost use Rattle.sheet_spec.specs.Places.{put_in, PutsIn};
+ghost use Rattle.sheet.specs.Private.{counted_of};
 
 use base::{Refusal, Written};
 use line::print_row;
 use ports_spec::Range;
-use rows::{clear_all, find, put_all, row_at};
+use rows::{alone, find, row_at};
 use sheet_spec::Row;
-use tally::{blank, fits, heard_row};
+use tally::{blank, clear, heard_row};
 
 mod line;
 mod rows;
 mod tally;
 
 /// The sheet: the first so many rows, a port each, in rising order.
+// An array and a count, since a library has no heap; callers hand in counts above 16 too, which are refused (10).
 #[derive(Clone, Copy)]
 pub struct Sheet {
     pub ports: usize,
@@ -30,26 +34,25 @@ pub struct Draft {
     pub before: Sheet,
     /// With the packets of this recording.
     pub after: Sheet,
+    // Two flags and no `Option<Refusal>`: both may be met, in either order, and callers hand in any (`drafted`, `ruling`).
     /// A seventeenth port was met.
     pub full: bool,
     /// A number would have passed 64 bits.
     pub wide: bool,
 }
 
-/// What becomes of a recording.
+/// Why a recording does not count.
 #[derive(Clone, Copy)]
-pub enum Counted {
-    Counts,
+pub enum Uncounted {
     /// It does not end as a recording.
     Wrong,
-    /// Refused, by this number of the paper.
-    Refused(u8),
+    Refused(Refusal),
 }
 
 /// What becomes of a recording, and the sheet then.
 #[derive(Clone, Copy)]
 pub struct Closed {
-    pub counted: Counted,
+    pub counted: Result<(), Uncounted>,
     pub sheet: Sheet,
 }
 
@@ -63,30 +66,51 @@ impl Sheet {
     pub fn fresh() -> Sheet
         ensures { result ≡ fresh_sheet }
     {
-        let free = blank(0);
-        let rows = [free; 16];
-        Sheet { ports: 0, rows }
+        Sheet {
+            ports: 0,
+            rows: [blank(0); 16],
+        }
     }
 
     // The last recording forgotten.
     fn tidied(self) -> Sheet
         ensures { result ≡ tidied self }
     {
+        let ports = self.ports.min(Sheet::PORTS);
+        Sheet {
+            ports,
+            rows: alone(self.rows.map(clear), ports),
+        }
+    }
+
+    // With a packet's row where it was found: in a row's stead, or between.
+    fn with(self, found: Result<usize, usize>, row: Row) -> Sheet
+        requires few { self.ports ≤ 16 }
+        requires fits { PutsIn found (rows_of self) }
+        ensures { result ≡ sheet_of (put_in found row (rows_of self)) }
+    {
         let n = self.ports;
-        let old = self.rows;
-        let rows = clear_all(old, n);
-        let ports = base::least(n, Sheet::PORTS);
-        Sheet { ports, rows }
+        let mut rows = alone(self.rows, n);
+        match found {
+            Ok(at) => {
+                rows[at] = row;
+                Sheet { ports: n, rows }
+            }
+            Err(at) => {
+                rows[at..=n].rotate_right(1);
+                rows[at] = row;
+                Sheet { ports: n + 1, rows }
+            }
+        }
     }
 
     /// The next recording begins.
     pub fn begin(self) -> Draft
         ensures { result ≡ beginning self }
     {
-        let after = self.tidied();
         Draft {
             before: self,
-            after,
+            after: self.tidied(),
             full: false,
             wide: false,
         }
@@ -94,27 +118,15 @@ impl Sheet {
 
     /// Writes row i's line; nothing behind the last row.
     pub fn print(self, i: usize, out: &mut [u8]) -> Written
-        ensures { outcome result out.new ≡ printing self i out.old }
+        ensures { outcome (as_written result) out.new ≡ printing self i out.old }
     {
-        let n = self.ports;
-        let rows = self.rows;
-        if n > Sheet::PORTS {
-            return Written::Refused(Refusal::STATE);
+        if self.ports > Sheet::PORTS {
+            return Err(Refusal::State);
         }
-        if i < n {
-            let row = row_at(rows, n, i);
-            let t = row.tally;
-            return print_row(
-                row.port,
-                t.delivered,
-                t.repeated,
-                t.late,
-                t.missing,
-                t.total,
-                out,
-            );
+        if i < self.ports {
+            return print_row(self.rows[i], out);
         }
-        Written::Wrote(0)
+        Ok(0)
     }
 }
 
@@ -123,91 +135,65 @@ impl Draft {
     pub fn note(self, range: Range, port: u16, sequence: u16) -> Draft
         ensures { result ≡ noting range self port sequence }
     {
-        if !range.has(port) {
-            return self;
+        if range.has(port) {
+            self.add(port, sequence)
+        } else {
+            self
         }
-        self.add(port, sequence)
     }
 
     // A packet that counts.
     fn add(self, port: u16, sequence: u16) -> Draft
         ensures { result ≡ adding self port sequence }
     {
-        let before = self.before;
-        let after = self.after;
-        let n = after.ports;
-        let old = after.rows;
+        let n = self.after.ports;
         if n > Sheet::PORTS {
             return self;
         }
-        let found = find(old, n, port);
-        let ports = found.behind;
-        if ports > Sheet::PORTS {
-            return Draft {
-                before,
-                after,
-                full: true,
-                wide: self.wide,
-            };
+        let rows = self.after.rows;
+        let found = find(&rows[..n], port);
+        if found.is_err() && n == Sheet::PORTS {
+            return Draft { full: true, ..self };
         }
-        let row = found.row;
-        if !fits(row, sequence) {
-            return Draft {
-                before,
-                after,
-                full: self.full,
-                wide: true,
-            };
-        }
-        let heard = heard_row(row, sequence);
-        let rows = put_all(old, n, found.at, found.new, heard);
-        Draft {
-            before,
-            after: Sheet { ports, rows },
-            full: self.full,
-            wide: self.wide,
+        match heard_row(row_at(&rows[..n], found, port), sequence) {
+            Some(row) => Draft {
+                after: self.after.with(found, row),
+                ..self
+            },
+            None => Draft { wide: true, ..self },
         }
     }
 
     /// The recording's end; `well`: it may end so.
     pub fn close(self, well: bool) -> Closed
-        ensures { result ≡ closing self well }
+        ensures { as_closed result ≡ closing self well }
     {
-        let before = self.before;
-        let after = self.after;
-        if before.ports > Sheet::PORTS {
-            return Closed {
-                counted: Counted::Refused(Refusal::STATE),
-                sheet: before,
-            };
+        match self.counted(well) {
+            Ok(()) => Closed {
+                counted: Ok(()),
+                sheet: self.after.tidied(),
+            },
+            Err(why) => Closed {
+                counted: Err(why),
+                sheet: self.before,
+            },
         }
-        if after.ports > Sheet::PORTS {
-            return Closed {
-                counted: Counted::Refused(Refusal::STATE),
-                sheet: before,
-            };
-        }
-        if !well {
-            return Closed {
-                counted: Counted::Wrong,
-                sheet: before,
-            };
-        }
-        if self.full {
-            return Closed {
-                counted: Counted::Refused(Refusal::FULL),
-                sheet: before,
-            };
-        }
-        if self.wide {
-            return Closed {
-                counted: Counted::Refused(Refusal::WIDE),
-                sheet: before,
-            };
-        }
-        Closed {
-            counted: Counted::Counts,
-            sheet: after.tidied(),
+    }
+
+    // Whether the recording counts.
+    fn counted(self, well: bool) -> Result<(), Uncounted>
+        ensures { as_counted result ≡ counted_of self well }
+    {
+        if self.before.ports > Sheet::PORTS || self.after.ports > Sheet::PORTS {
+            Err(Uncounted::Refused(Refusal::State))
+        } else if !well {
+            Err(Uncounted::Wrong)
+        } else if self.full {
+            Err(Uncounted::Refused(Refusal::Full))
+        } else if self.wide {
+            Err(Uncounted::Refused(Refusal::Wide))
+        } else {
+            Ok(())
         }
     }
 }

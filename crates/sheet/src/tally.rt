@@ -1,8 +1,9 @@
 //! A row behind a packet, by request W1's rule.
-ghost use Rattle.std.specs.Prelude.{◌≡◌, not, false, ◌+◌, ◌≤◌, ltb};
-ghost use Rattle.sheet_spec.specs.Tally.{far, plus, one, wide};
+ghost use Rattle.std.specs.Prelude.{◌≡◌, ◌+◌, ◌≤◌};
+ghost use Rattle.sheet_spec.specs.Tally.{plus, one};
 ghost use Rattle.sheet_spec.specs.Rows.{blank, cleared, verdict, heard_row};
 ghost use Rattle.sheet_spec.specs.Places.{last_by};
+ghost use Rattle.sheet.specs.Private.{narrow, narrow_row};
 
 use ports::Noted;
 use sheet_spec::{Row, Tally};
@@ -29,12 +30,10 @@ pub(crate) fn blank(port: u16) -> Row
 pub(crate) fn clear(row: Row) -> Row
     ensures { result ≡ cleared row }
 {
-    let tally = row.tally;
     Row {
-        port: row.port,
-        tally,
         heard: false,
         last: 0,
+        ..row
     }
 }
 
@@ -43,9 +42,10 @@ fn verdict(row: Row, sequence: u16) -> Noted
     ensures { result ≡ verdict row sequence }
 {
     if row.heard {
-        return ports::rule(row.last, sequence);
+        ports::rule(row.last, sequence)
+    } else {
+        Noted::First
     }
-    Noted::First
 }
 
 // One packet's numbers: so many missing before it, and 1 where it is in order, first or after a gap.
@@ -53,12 +53,13 @@ fn counts(repeated: u64, late: u64, missing: u16, timely: u64) -> Tally
     requires { timely ≤ 1 }
     ensures { result ≡ record { delivered = 1; repeated = repeated; late = late; missing = missing; total = missing + timely } }
 {
+    let missing = u64::from(missing);
     Tally {
         delivered: 1,
         repeated,
         late,
-        missing: missing as u64,
-        total: missing as u64 + timely,
+        missing,
+        total: missing + timely,
     }
 }
 
@@ -67,8 +68,7 @@ fn one(noted: Noted) -> Tally
     ensures { result ≡ one noted }
 {
     match noted {
-        Noted::First => counts(0, 0, 0, 1),
-        Noted::InOrder => counts(0, 0, 0, 1),
+        Noted::First | Noted::InOrder => counts(0, 0, 0, 1),
         Noted::Repeated => counts(1, 0, 0, 0),
         Noted::Missing(n) => counts(0, 0, n, 1),
         Noted::Late => counts(0, 1, 0, 0),
@@ -76,53 +76,17 @@ fn one(noted: Noted) -> Tally
     }
 }
 
-// Whether a sum stays within 64 bits.
-fn near(a: u64, b: u64) -> bool
-    ensures { result ≡ not (ltb far (a + b)) }
+// The numbers together, if each stays within 64 bits.
+fn sum(a: Tally, b: Tally) -> Option<Tally>
+    ensures { result ≡ narrow (plus a b) }
 {
-    a <= u64::MAX - b
-}
-
-// Whether all sums do.
-fn all_near(t: Tally, more: Tally) -> bool
-    ensures { result ≡ not (wide (plus t more)) }
-{
-    if !near(t.delivered, more.delivered) {
-        return false;
-    }
-    if !near(t.repeated, more.repeated) {
-        return false;
-    }
-    if !near(t.late, more.late) {
-        return false;
-    }
-    if !near(t.missing, more.missing) {
-        return false;
-    }
-    near(t.total, more.total)
-}
-
-/// Whether a packet's row stays within 64 bits.
-pub(crate) fn fits(row: Row, sequence: u16) -> bool
-    ensures { result ≡ not (wide (heard_row row sequence).tally) }
-{
-    let t = row.tally;
-    let noted = verdict(row, sequence);
-    all_near(t, one(noted))
-}
-
-// The numbers together.
-fn sum(a: Tally, b: Tally) -> Tally
-    requires { wide (plus a b) ≡ false }
-    ensures { result ≡ plus a b }
-{
-    Tally {
-        delivered: a.delivered + b.delivered,
-        repeated: a.repeated + b.repeated,
-        late: a.late + b.late,
-        missing: a.missing + b.missing,
-        total: a.total + b.total,
-    }
+    Some(Tally {
+        delivered: a.delivered.checked_add(b.delivered)?,
+        repeated: a.repeated.checked_add(b.repeated)?,
+        late: a.late.checked_add(b.late)?,
+        missing: a.missing.checked_add(b.missing)?,
+        total: a.total.checked_add(b.total)?,
+    })
 }
 
 // The last number then: a late packet leaves it.
@@ -130,28 +94,21 @@ fn last_by(noted: Noted, last: u16, sequence: u16) -> u16
     ensures { result ≡ last_by noted last sequence }
 {
     match noted {
-        Noted::First => sequence,
-        Noted::InOrder => sequence,
-        Noted::Repeated => sequence,
-        Noted::Missing(_) => sequence,
         Noted::Late => last,
-        Noted::Refused(_) => sequence,
+        _ => sequence,
     }
 }
 
-/// The row behind a packet.
-pub(crate) fn heard_row(row: Row, sequence: u16) -> Row
-    requires { wide (heard_row row sequence).tally ≡ false }
-    ensures { result ≡ heard_row row sequence }
+/// The row behind a packet, if its numbers stay within 64 bits.
+pub(crate) fn heard_row(row: Row, sequence: u16) -> Option<Row>
+    ensures { result ≡ narrow_row (heard_row row sequence) }
 {
-    let t = row.tally;
     let noted = verdict(row, sequence);
-    let more = one(noted);
-    let tally = sum(t, more);
-    Row {
-        port: row.port,
+    let tally = sum(row.tally, one(noted))?;
+    Some(Row {
         tally,
         heard: true,
         last: last_by(noted, row.last, sequence),
-    }
+        ..row
+    })
 }

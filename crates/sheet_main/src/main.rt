@@ -3,35 +3,26 @@
 //! it is at. Behind a wrong byte of a recording it reads no more of it.
 #![tactic(auto)]
 
+use base::Refusal;
 use channel::Receiver;
-use console::{ARGUMENT, LAST_PORT, PIECE, Speak, say};
+use console::{ARGUMENT, PIECE, Speak, say};
 use ports_spec::Range;
-use recording::{Found, RecordingReader};
-use sheet::{Counted, Draft, Sheet};
+use recording::RecordingReader;
+use sheet::{Closed, Draft, Sheet, Uncounted};
 use std::env::Env;
 use std::io::{ErrorKind, Read};
 use std::process::ExitCode;
 use std::rt::Files;
 use std::{fs, io};
 
-// What is heard so far, behind a call.
-#[derive(Clone, Copy)]
-struct Turn {
-    // The rest of the piece is to be handed in again.
-    again: bool,
-    // The recording is heard further.
-    go: bool,
-    taken: usize,
+// A recording that is counted, and the memory that its calls are lent.
+#[derive(Drop)]
+struct Hearing {
+    range: Range,
     tape: RecordingReader,
     draft: Draft,
-}
-
-// A recording heard: whether it could be read to its end, and whether it may end there.
-#[derive(Clone, Copy)]
-struct Finished {
-    whole: bool,
-    well: bool,
-    draft: Draft,
+    recv: [u8; Receiver::RAW],
+    word: [u8; Receiver::WORD],
 }
 
 fn main(rt: HostRuntime) -> ExitCode {
@@ -40,37 +31,40 @@ fn main(rt: HostRuntime) -> ExitCode {
 
 // The ports and the recordings that the arguments name.
 fn run(rt: &(impl Env + Files + Print + Speak)) -> io::Result<()> {
-    let first = console::port(rt, 2);
-    let last = console::port(rt, 3);
     let count = console::argument_count(rt);
-    if count < 5 || first > LAST_PORT || last > LAST_PORT {
-        say(
-            rt,
-            b"usage: sheet progress|quiet FIRST LAST FILE..; FIRST and LAST are ports\n",
-        );
-        return Ok(());
+    match (console::port(rt, 2), console::port(rt, 3)) {
+        (Some(first), Some(last)) if count > 4 => {
+            let shown = console::is_argument(rt, 1, b"progress");
+            print_all(rt, count_all(rt, Range { first, last }, shown, count))
+        }
+        _ => {
+            usage(rt);
+            Ok(())
+        }
     }
-    let shown = console::is_argument(rt, 1, b"progress");
-    print_all(rt, count_all(rt, console::range(first, last), shown, count))
+}
+
+fn usage(rt: &impl Speak) {
+    say(
+        rt,
+        b"usage: sheet progress|quiet FIRST LAST FILE..; FIRST and LAST are ports\n",
+    );
 }
 
 // The sheet of the recordings that the arguments behind the fourth name.
 fn count_all(rt: &(impl Env + Files + Speak), range: Range, shown: bool, count: usize) -> Sheet {
     let mut sheet = Sheet::fresh();
-    let mut i: usize = 4;
-    while i < count {
-        progress(rt, shown, i - 3, count - 4);
+    for i in 4..count {
+        if shown {
+            progress(rt, i - 3, count - 4);
+        }
         sheet = counted(rt, range, sheet, i);
-        i += 1;
     }
     sheet
 }
 
-// Which recording of how many, where that is asked for.
-fn progress(rt: &impl Speak, shown: bool, i: usize, all: usize) {
-    if !shown {
-        return;
-    }
+// Which recording of how many.
+fn progress(rt: &impl Speak, i: usize, all: usize) {
     say(rt, b"recording ");
     console::say_number(rt, i as u64);
     say(rt, b" of ");
@@ -80,22 +74,22 @@ fn progress(rt: &impl Speak, shown: bool, i: usize, all: usize) {
 
 // The sheet with the recording that argument i names.
 fn counted(rt: &(impl Env + Files + Speak), range: Range, sheet: Sheet, i: usize) -> Sheet {
-    let mut name = [0u8; ARGUMENT];
-    let n = console::argument(rt, i, &mut name);
-    let Ok(file) = open(rt, &name[..n]) else {
-        tell(rt, &name[..n], b": cannot be read\n");
-        return sheet;
+    let mut space = [0u8; ARGUMENT];
+    let name = console::argument(rt, i, &mut space);
+    let heard = match open(rt, name) {
+        Ok(file) => hear_all(range, sheet, file),
+        Err(_) => None,
     };
-    let heard = hear_all(range, sheet, file);
-    if !heard.whole {
-        tell(rt, &name[..n], b": cannot be read\n");
-        return sheet;
+    match heard {
+        Some(closed) => {
+            tell_counted(rt, name, closed.counted);
+            closed.sheet
+        }
+        None => {
+            tell(rt, name, b": cannot be read\n");
+            sheet
+        }
     }
-    let draft = heard.draft;
-    let closed = draft.close(heard.well);
-    let answer = closed.counted;
-    tell_counted(rt, &name[..n], answer);
-    closed.sheet
 }
 
 // The file of this name, which is UTF-8.
@@ -106,124 +100,53 @@ fn open<R: Files>(rt: &R, name: &[u8]) -> io::Result<R::File> {
     }
 }
 
-// A recording, piece by piece.
-fn hear_all(range: Range, sheet: Sheet, mut file: impl Read + Drop) -> Finished {
-    let mut recv = [0u8; Receiver::RAW];
-    let mut word = [0u8; Receiver::WORD];
-    let mut piece = [0u8; PIECE];
-    let mut tape = RecordingReader::fresh();
-    let mut draft = sheet.begin();
-    for _ in 0..u64::MAX {
-        let Ok(n) = file.read(&mut piece) else {
-            return unread(draft);
-        };
-        if n == 0 {
-            return ended(tape, draft);
-        }
-        let turn = hear(range, tape, draft, &mut recv, &mut word, &piece[0..n]);
-        tape = turn.tape;
-        draft = turn.draft;
-        if !turn.go {
-            return unread(draft);
-        }
-        if tape.is_wrong() {
-            return ended(tape, draft);
-        }
-    }
-    unread(draft)
-}
-
-// All of it that counts was read.
-fn ended(tape: RecordingReader, draft: Draft) -> Finished {
-    Finished {
-        whole: true,
-        well: tape.may_end(),
-        draft,
-    }
-}
-
-// It could not be read to its end.
-fn unread(draft: Draft) -> Finished {
-    Finished {
-        whole: false,
-        well: false,
-        draft,
-    }
-}
-
-// A piece, until more is wanted.
-fn hear(
-    range: Range,
-    tape: RecordingReader,
-    draft: Draft,
-    recv: &mut [u8],
-    word: &mut [u8],
-    piece: &[u8],
-) -> Turn {
-    let mut turn = Turn {
-        again: true,
-        go: false,
-        taken: 0,
-        tape,
-        draft,
+// A recording, piece by piece; none where it cannot be read to its end, or to a wrong byte.
+fn hear_all(range: Range, sheet: Sheet, mut file: impl Read + Drop) -> Option<Closed> {
+    let mut hearing = Hearing {
+        range,
+        tape: RecordingReader::fresh(),
+        draft: sheet.begin(),
+        recv: [0; Receiver::RAW],
+        word: [0; Receiver::WORD],
     };
-    let mut i: usize = 0;
+    let mut piece = [0u8; PIECE];
     for _ in 0..u64::MAX {
-        turn = call(range, turn.tape, turn.draft, recv, word, &piece[i..]);
-        i = console::onward(i, turn.taken, piece.len());
-        if !turn.again {
-            return turn;
+        let n = file.read(&mut piece).ok()?;
+        hearing.hear(&piece[..n]).ok()?;
+        if n == 0 || hearing.tape.is_wrong() {
+            return Some(hearing.draft.close(hearing.tape.may_end()));
         }
     }
-    turn
+    None
 }
 
-// One call: a packet is noted, and a refused call ends the work.
-fn call(
-    range: Range,
-    start: RecordingReader,
-    draft: Draft,
-    recv: &mut [u8],
-    word: &mut [u8],
-    piece: &[u8],
-) -> Turn {
-    let next = start.next_packet(recv, word, piece);
-    let taken = next.taken;
-    let tape = next.tape;
-    let found = next.found;
-    match found {
-        Found::More => Turn {
-            again: false,
-            go: true,
-            taken,
-            tape,
-            draft,
-        },
-        Found::Packet(delivery) => Turn {
-            again: true,
-            go: true,
-            taken,
-            tape,
-            draft: draft.note(range, delivery.port, delivery.sequence),
-        },
-        Found::Refused(_) => Turn {
-            again: false,
-            go: false,
-            taken,
-            tape,
-            draft,
-        },
+impl Hearing {
+    // A piece, until more is wanted: its packets are noted. No recording of less than 2^64 bytes is refused.
+    fn hear(&mut self, piece: &[u8]) -> Result<(), Refusal> {
+        let mut rest = piece;
+        for _ in 0..u64::MAX {
+            let next = self.tape.next_packet(&mut self.recv, &mut self.word, rest);
+            self.tape = next.tape;
+            rest = &rest[next.taken.min(rest.len())..];
+            let Some(delivery) = next.found? else {
+                break;
+            };
+            self.draft = self
+                .draft
+                .note(self.range, delivery.port, delivery.sequence);
+        }
+        Ok(())
     }
 }
 
 // What becomes of a recording, where it does not count.
-fn tell_counted(rt: &impl Speak, name: &[u8], counted: Counted) {
+fn tell_counted(rt: &impl Speak, name: &[u8], counted: Result<(), Uncounted>) {
     match counted {
-        Counted::Counts => {}
-        Counted::Wrong => tell(rt, name, b": ends in X\n"),
-        Counted::Refused(n) => {
+        Ok(()) => {}
+        Err(Uncounted::Wrong) => tell(rt, name, b": ends in X\n"),
+        Err(Uncounted::Refused(refusal)) => {
             tell(rt, name, b": ");
-            console::say_refused(rt, n);
+            console::say_refused(rt, refusal as u8);
         }
     }
 }
@@ -231,13 +154,11 @@ fn tell_counted(rt: &impl Speak, name: &[u8], counted: Counted) {
 // The lines.
 fn print_all(rt: &(impl Print + Speak), sheet: Sheet) -> io::Result<()> {
     let mut text = [0u8; Sheet::LINE];
-    let mut i: usize = 0;
-    while i < Sheet::PORTS {
+    for i in 0..Sheet::PORTS {
         let written = sheet.print(i, &mut text);
         if !console::put(rt, b"sheet", written, &text)? {
-            return Ok(());
+            break;
         }
-        i += 1;
     }
     Ok(())
 }

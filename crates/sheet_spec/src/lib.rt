@@ -18,6 +18,7 @@ pub struct Tally {
 pub struct Row {
     pub port: u16,
     pub tally: Tally,
+    // No `Option` of the number: a sheet that callers hand in may have any of both, and each row of the laws has both (`row`, `line`).
     /// This recording delivered a packet of it.
     pub heard: bool,
     /// Its last sequence number then.

@@ -4,7 +4,6 @@
 -- before-stops, before-rest, before-stop, no-flag-before   what stands behind a run, and what is not in it
 -- gather-found, gather_none     what the calls of `gather` leave together
 use Prim.Native.Nat.{ℕ, zero, suc, ◌+◌, ◌-◌, ◌≤◌, ◌<◌, min}
-use native.Mathlib.Nat.{sub-zero}
 use native.Mathlib.Omega.{arith}
 use mathlib.Core.Path.{◌≡◌, refl, sym, ◌∙◌, ap, ap₂, subst}
 use mathlib.Core.Bool.{Bool, true, false}
@@ -26,10 +25,10 @@ use Rattle.stream.specs.Private.{before, counted_by, counted, gathered_by}
 
 -- ---- the bytes stored
 pub stored : (l recv : List ℕ) (at : ℕ) {n : ℕ} {y : List ℕ} → at + length l ≤ length recv → n ≡ length (before l)
-    → y ≡ copied (take (n - 0) l) (take (length recv - at) (drop at recv))
+    → y ≡ copied (take n l) (take (length recv - at) (drop at recv))
     → put_mid at (length recv - at) recv y ≡ sets recv at (before l)
 stored l recv at {n} h e c =
-    let b : take (n - 0) l ≡ before l = ap (λ (k : ℕ). take k l) (sub-zero n ∙ e) ∙ sym (up-to-is flag l) in
+    let b : take n l ≡ before l = ap (λ (k : ℕ). take k l) e ∙ sym (up-to-is flag l) in
     (laid-copied {l = recv} {bs = before l} {at = at} (omega (arith, up-to-short flag l))
     (c ∙ ap (λ (x : List ℕ). copied x (take (length recv - at) (drop at recv))) b)).holds
 

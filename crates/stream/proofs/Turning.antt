@@ -26,8 +26,7 @@ use Rattle.packet_spec.specs.declared.Judged.{Judged}
 use Rattle.packet_spec.specs.declared.Judged.TheVariants.{Refused}
 use Rattle.stream.specs.declared.frame.FrameReader.{FrameReader}
 use Rattle.stream.specs.declared.frame.Read.{Read}
-use Rattle.stream.specs.declared.frame.Turn.{Turn}
-use Rattle.stream.specs.declared.frame.Heard.TheVariants.{More, Said}
+use Rattle.std.specs.Prelude.{Option as Answer, Some, None}
 use Rattle.stream.specs.Call.{Held, held, begun, place_limit, noticed, last_raw, store, shut, take_by, read_on, sound, read_by, read_call, read_of, ReadIs}
 use Rattle.stream.specs.Call.{Fine}
 use Rattle.stream.specs.Private.{before, counted_by, counted, placed, looked, gathered_by, gathered, closes, TurnBy, TurnIs}
@@ -172,7 +171,7 @@ module _ (h : Held) (f : Fine h) (l : List ℕ) (some_bytes : 0 < length l) {n :
 
   -- the state's place counts only where the piece ends here: a flag forgets it
   pub turn_end : {g' : FrameReader} → g' ≡ looked g k h.st.stored → n ≡ length l
-      → TurnIs h l (record { done = false; heard = More; taken = n; frame = g' }) k
+      → TurnIs h l (record { heard = None; taken = n; frame = g' }) k
   turn_end {g'} e' e =
       let is : ran h (before l) ≡ held g' k =
       sym (λ i. held ((e' ∙ (λ j. looked (is-counted j) (ek j) h.st.stored) ∙ looked-is h.st.opened h f (before l)) i) (ek i)) in
@@ -192,7 +191,7 @@ module _ (h : Held) (f : Fine h) (l : List ℕ) (some_bytes : 0 < length l) {n :
 
     pub turn-answer : {j : Judged} {k' : List ℕ} {g' : FrameReader} → closes g ≡ true → g' ≡ begun
         → (j ≡ judged (judging k g.raw).told) × (k' ≡ (judging k g.raw).recv)
-        → TurnIs h l (record { done = true; heard = Said j; taken = n + 1; frame = g' }) k'
+        → TurnIs h l (record { heard = Some j; taken = n + 1; frame = g' }) k'
     turn-answer {j} {k'} {g'} c eb e =
         let r = ran h (before l) in
         let raw : r.st.raw ≡ g.raw = ap (λ (x : FrameReader). x.raw) (sym is-counted) in
@@ -206,7 +205,7 @@ module _ (h : Held) (f : Fine h) (l : List ℕ) (some_bytes : 0 < length l) {n :
         ∙ (λ i. (some (closed (sym ek i) (raw i)).told, n + 1, held begun (closed (sym ek i) (raw i)).recv)) in
         record {
           means = (
-            (λ i. record { heard = Said (ej i); taken = n + 1; frame = eb i }) ∙ ap read_of (sym told),
+            (λ i. record { heard = Some (ej i); taken = n + 1; frame = eb i }) ∙ ap read_of (sym told),
             er
                 ∙ ap (λ (x : Option Told × ℕ × Held). x.2.recv) (sym told),
           );
@@ -215,7 +214,7 @@ module _ (h : Held) (f : Fine h) (l : List ℕ) (some_bytes : 0 < length l) {n :
           again = ap sound eb;
         }
 
-    pub turn-opens : {g' : FrameReader} → closes g ≡ false → g' ≡ begun → TurnIs h l (record { done = false; heard = More; taken = n + 1; frame = g' }) k
+    pub turn-opens : {g' : FrameReader} → closes g ≡ false → g' ≡ begun → TurnIs h l (record { heard = None; taken = n + 1; frame = g' }) k
     turn-opens {g'} c eb =
         record {
           means =
@@ -230,21 +229,22 @@ module _ (h : Held) (f : Fine h) (l : List ℕ) (some_bytes : 0 < length l) {n :
 
 -- ---- the loop of a call: the call on the piece is the one on the bytes left, after those taken
 module _ (h₀ : Held) (piece : List ℕ) (f : FrameReader) (l : List ℕ) (at : ℕ) (e : read_on h₀ piece ≡ after at (read_on (held f l) (drop at piece))) where
-  module _ (t : Turn) (l' : List ℕ) (is : TurnIs (held f l) (drop at piece) t l') where
-    pub loop-answer : {r : Read} → t.done ≡ true → r ≡ record { heard = t.heard; taken = at + t.taken; frame = t.frame } → ReadIs (read_on h₀ piece) r l'
+  module _ (t : Read) (l' : List ℕ) (is : TurnIs (held f l) (drop at piece) t l') where
+    pub loop-answer : {r : Read} {j : Judged} → t.heard ≡ Some j → r ≡ record { heard = t.heard; taken = at + t.taken; frame = t.frame }
+        → ReadIs (read_on h₀ piece) r l'
     loop-answer d er =
-        let m = subst (λ (b : Bool). TurnBy b (held f l) (drop at piece) t l') d is.means in (
+        let m = subst (λ (b : Answer Judged). TurnBy b (held f l) (drop at piece) t l') d is.means in (
           er ∙ ap (λ (q : Read). record { heard = q.heard; taken = at + q.taken; frame = q.frame }) m.0 ∙ ap read_of (sym e),
           m.1 ∙ ap (λ (x : Option Told × ℕ × Held). x.2.recv) (sym e),
         )
 
-    pub loop-more : t.done ≡ false → read_on h₀ piece ≡ after (at + t.taken) (read_on (held t.frame l') (drop (at + t.taken) piece))
+    pub loop-more : t.heard ≡ None → read_on h₀ piece ≡ after (at + t.taken) (read_on (held t.frame l') (drop (at + t.taken) piece))
     loop-more d =
-        let m = subst (λ (b : Bool). TurnBy b (held f l) (drop at piece) t l') d is.means in
+        let m = subst (λ (b : Answer Judged). TurnBy b (held f l) (drop at piece) t l') d is.means in
         e ∙ ap (after at) m ∙ after-after at t.taken _
         ∙ ap (λ (x : List ℕ). after (at + t.taken) (read_on (held t.frame l') x)) (drop-drop t.taken at piece)
 
-  pub loop-end : length piece ≤ at → ReadIs (read_on h₀ piece) (record { heard = More; taken = at; frame = f }) l
+  pub loop-end : length piece ≤ at → ReadIs (read_on h₀ piece) (record { heard = None; taken = at; frame = f }) l
   loop-end h =
       let p : read_on h₀ piece ≡ (none, at, held f l) =
       e ∙ ap (λ (x : List ℕ). after at (read_on (held f l) x)) (over piece at h) ∙ (λ i. (none, add-zero at i, held f l)) in
@@ -252,13 +252,13 @@ module _ (h₀ : Held) (piece : List ℕ) (f : FrameReader) (l : List ℕ) (at :
 
 -- ---- a call: refused with 10, with 11, or let on
 module _ (h : Held) (bs : List ℕ) where
-  pub call-unsound : sound h.st ≡ false → ReadIs (read_call h bs) (record { heard = Said (Refused 10); taken = 0; frame = h.st }) h.recv
+  pub call-unsound : sound h.st ≡ false → ReadIs (read_call h bs) (record { heard = Some (Refused 10); taken = 0; frame = h.st }) h.recv
   call-unsound s =
       let e : read_call h bs ≡ (some (refusal 10), 0, h) = ap (λ (t : Bool). read_by t (leb raw_limit (length h.recv)) h bs) s in
       (ap read_of (sym e), ap (λ (x : Option Told × ℕ × Held). x.2.recv) (sym e))
 
   module _ (s : sound h.st ≡ true) where
-    pub call-cramped : length h.recv < raw_limit → ReadIs (read_call h bs) (record { heard = Said (Refused 11); taken = 0; frame = h.st }) h.recv
+    pub call-cramped : length h.recv < raw_limit → ReadIs (read_call h bs) (record { heard = Some (Refused 11); taken = 0; frame = h.st }) h.recv
     call-cramped l =
         let e : read_call h bs ≡ (some (refusal 11), 0, h) = λ i. read_by (s i) (lt-leb raw_limit (length h.recv) l i) h bs in
         (ap read_of (sym e), ap (λ (x : Option Told × ℕ × Held). x.2.recv) (sym e))

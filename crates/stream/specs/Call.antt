@@ -23,8 +23,8 @@ use Rattle.packet_spec.specs.Frame.{Told, refusal, judged, closed, There}
 use Rattle.stream.specs.Meaning.{Reading, waiting, inside}
 use Rattle.stream.specs.declared.frame.FrameReader.{FrameReader}
 use Rattle.stream.specs.declared.frame.Read.{Read}
-use Rattle.stream.specs.declared.frame.Heard.{Heard}
-use Rattle.stream.specs.declared.frame.Heard.TheVariants.{More, Said}
+use Rattle.packet_spec.specs.declared.Judged.{Judged}
+use Rattle.std.specs.Prelude.{Option as Answer, None, Some}
 
 -- state and receive buffer
 pub record Held : Type 0 where
@@ -118,9 +118,9 @@ abbrev pub ThereHeld : Told → Held → Type 0
 ThereHeld a h = There a h.recv
 
 -- the code's answer
-abbrev pub answered : Option Told → Heard
-answered none = More
-answered (some t) = Said (judged t)
+abbrev pub answered : Option Told → Answer Judged
+answered none = None
+answered (some t) = Some (judged t)
 
 -- the code's result of a call
 abbrev pub read_of : Option Told × ℕ × Held → Read

@@ -5,7 +5,7 @@
 -- gathered_by, gathered   the receive buffer after raw bytes more
 -- closes                 whether a flag closes a frame here
 -- TurnBy, TurnIs         what a run and its flag give (means), the bytes taken, some and within those lent, and a state that is sound again
-use Rattle.std.specs.Prelude.{ℕ, suc, ◌+◌, ◌-◌, ◌≤◌, ◌<◌, min, ◌≡◌, Bool, true, false, not, ◌&&◌, List, length, take, drop, eqb}
+use Rattle.std.specs.Prelude.{ℕ, suc, ◌+◌, ◌-◌, ◌≤◌, ◌<◌, min, ◌≡◌, Bool, true, false, not, ◌&&◌, List, length, take, drop, eqb, Option, Some, None}
 use Rattle.std.proofs.lemmas.List.Edits.{sets}
 use Rattle.base.specs.UpTo.{up_to}
 use Rattle.base.specs.Calls.{after}
@@ -13,7 +13,8 @@ use Rattle.packet_spec.specs.Contents.{raw_limit}
 use Rattle.packet_spec.specs.Escape.{flag, byte_before}
 use Rattle.stream.specs.Call.{Held, held, noticed, read_on, sound, ReadIs}
 use Rattle.stream.specs.declared.frame.FrameReader.{FrameReader}
-use Rattle.stream.specs.declared.frame.Turn.{Turn}
+use Rattle.packet_spec.specs.declared.Judged.{Judged}
+use Rattle.stream.specs.declared.frame.Read.{Read}
 
 -- the bytes before the first flag, all where there is none
 abbrev pub before : List ℕ → List ℕ
@@ -50,13 +51,13 @@ abbrev pub closes : FrameReader → Bool
 closes f = f.opened && not (eqb f.raw 0)
 
 -- the answer of a call, or where the call goes on
-abbrev pub TurnBy : Bool → Held → List ℕ → Turn → List ℕ → Type 0
-TurnBy true h bs t l = ReadIs (read_on h bs) (record { heard = t.heard; taken = t.taken; frame = t.frame }) l
-TurnBy false h bs t l = read_on h bs ≡ after t.taken (read_on (held t.frame l) (drop t.taken bs))
+abbrev pub TurnBy : Option Judged → Held → List ℕ → Read → List ℕ → Type 0
+TurnBy (Some j) h bs t l = ReadIs (read_on h bs) t l
+TurnBy None h bs t l = read_on h bs ≡ after t.taken (read_on (held t.frame l) (drop t.taken bs))
 
 -- some bytes are taken, and the state is sound again
-pub record TurnIs (h : Held) (bs : List ℕ) (t : Turn) (l : List ℕ) : Type 0 where
-  pub means : TurnBy t.done h bs t l
+pub record TurnIs (h : Held) (bs : List ℕ) (t : Read) (l : List ℕ) : Type 0 where
+  pub means : TurnBy t.heard h bs t l
   pub some : 0 < t.taken
   pub within : t.taken ≤ length bs
   pub again : sound t.frame ≡ true

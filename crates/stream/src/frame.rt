@@ -18,37 +18,18 @@ pub struct FrameReader {
     pub raw: usize,
     /// How many of them are stored.
     pub stored: usize,
-    /// The place of the first wrong byte behind 7D among them; 0 where there is none.
+    /// The place of the first wrong byte behind 7D among them; 0 where there is none, also in a state that a C program hands in.
     pub place: usize,
-}
-
-/// What a call answers.
-#[derive(Clone, Copy)]
-pub enum Heard {
-    /// More is wanted.
-    More,
-    /// A closed frame, or the call refused.
-    Said(Judged),
 }
 
 /// The result of a call.
 #[derive(Clone, Copy)]
 pub struct Read {
-    pub heard: Heard,
+    /// A closed frame, or the call refused; none where more is wanted.
+    pub heard: Option<Judged>,
     /// Bytes of the piece taken.
     pub taken: usize,
     pub frame: FrameReader,
-}
-
-// What a run of bytes and the flag behind it give.
-#[derive(Clone, Copy)]
-struct Turn {
-    // The flag gave an answer.
-    done: bool,
-    heard: Heard,
-    // Bytes taken.
-    taken: usize,
-    frame: FrameReader,
 }
 
 // Stores the bytes before the first flag from `at` on; how many.
@@ -57,7 +38,7 @@ fn store(recv: &mut [u8], at: usize, bytes: &[u8]) -> usize
     ensures { (result ≡ length (before bytes.now)) × (recv.new ≡ sets recv.old at (before bytes.now)) }
 {
     let n = packet::up_to(bytes, FrameReader::FLAG);
-    base::copy(&bytes[0..n], &mut recv[at..]);
+    base::copy(&bytes[..n], &mut recv[at..]);
     n
 }
 
@@ -92,9 +73,7 @@ impl FrameReader {
     {
         FrameReader {
             opened: true,
-            raw: 0,
-            stored: 0,
-            place: 0,
+            ..FrameReader::fresh()
         }
     }
 
@@ -102,13 +81,9 @@ impl FrameReader {
     pub fn sound(self) -> bool
         ensures { result ≡ sound self }
     {
-        if self.stored != base::least(self.raw, FrameReader::RAW) {
-            return false;
-        }
-        if FrameReader::OVER < self.raw {
-            return false;
-        }
-        self.place <= FrameReader::PLACE
+        self.stored == self.raw.min(FrameReader::RAW)
+            && self.raw <= FrameReader::OVER
+            && self.place <= FrameReader::PLACE
     }
 
     // Counted after n raw bytes more.
@@ -116,16 +91,15 @@ impl FrameReader {
         requires { self.raw ≤ suc raw_limit }
         ensures { result ≡ counted self n }
     {
-        if self.opened {
-            let raw = self.raw + base::least(n, FrameReader::OVER - self.raw);
-            return FrameReader {
-                opened: true,
-                raw,
-                stored: base::least(raw, FrameReader::RAW),
-                place: self.place,
-            };
+        if !self.opened {
+            return self;
         }
-        self
+        let raw = self.raw + n.min(FrameReader::OVER - self.raw);
+        FrameReader {
+            raw,
+            stored: raw.min(FrameReader::RAW),
+            ..self
+        }
     }
 
     // The stored bytes from a place on are looked at: the first wrong one behind 7D is remembered.
@@ -136,12 +110,9 @@ impl FrameReader {
         if self.place != 0 {
             return self;
         }
-        let n = self.stored;
         FrameReader {
-            opened: self.opened,
-            raw: self.raw,
-            stored: n,
-            place: packet::wrong_behind(&recv[0..n], from),
+            place: packet::wrong_behind(&recv[..self.stored], from),
+            ..self
         }
     }
 
@@ -150,57 +121,50 @@ impl FrameReader {
         requires { raw_limit ≤ length recv.old }
         ensures { (result ≡ length (before bytes.now)) × (recv.new ≡ gathered self (before bytes.now) recv.old) }
     {
-        if self.opened {
-            let at = base::least(self.raw, FrameReader::RAW);
-            let n = base::least(FrameReader::RAW - at, bytes.len());
-            let k = store(recv, at, &bytes[0..n]);
-            if k < n {
-                return k;
-            }
-            return n + packet::up_to(&bytes[n..], FrameReader::FLAG);
+        if !self.opened {
+            return packet::up_to(bytes, FrameReader::FLAG);
         }
-        packet::up_to(bytes, FrameReader::FLAG)
+        let at = self.raw.min(FrameReader::RAW);
+        let n = (FrameReader::RAW - at).min(bytes.len());
+        let k = store(recv, at, &bytes[..n]);
+        if k < n {
+            return k;
+        }
+        n + packet::up_to(&bytes[n..], FrameReader::FLAG)
     }
 
     // Whether a flag closes a frame here.
     fn closes(self) -> bool
         ensures { result ≡ closes self }
     {
-        if self.opened {
-            return self.raw != 0;
-        }
-        false
+        self.opened && self.raw != 0
     }
 
     // The bytes up to the first flag, and the flag.
-    fn turn(self, recv: &mut [u8], bytes: &[u8]) -> Turn
+    fn turn(self, recv: &mut [u8], bytes: &[u8]) -> Read
         requires { (sound self ≡ true) × (raw_limit ≤ length recv.old) × (0 < length bytes.now) }
         ensures { TurnIs (held self recv.old) bytes.now result recv.new }
     {
         let n = self.gather(recv, bytes);
         let frame = self.counted(n);
         if n == bytes.len() {
-            return Turn {
-                done: false,
-                heard: Heard::More,
+            return Read {
+                heard: None,
                 taken: n,
                 frame: frame.looked(recv, self.stored),
             };
         }
-        if frame.closes() {
-            let j = packet::judge(recv, frame.raw);
-            return Turn {
-                done: true,
-                heard: Heard::Said(j),
-                taken: n + 1,
-                frame: FrameReader::begun(),
-            };
-        }
-        Turn {
-            done: false,
-            heard: Heard::More,
+        let behind = Read {
+            heard: None,
             taken: n + 1,
             frame: FrameReader::begun(),
+        };
+        if !frame.closes() {
+            return behind;
+        }
+        Read {
+            heard: Some(packet::judge(recv, frame.raw)),
+            ..behind
         }
     }
 
@@ -212,21 +176,15 @@ impl FrameReader {
         let mut frame = self;
         let mut at: usize = 0;
         while at < piece.len() {
-            let t = frame.turn(recv, &piece[at..]);
-            at += t.taken;
-            let f = t.frame;
-            frame = f;
-            if t.done {
-                let heard = t.heard;
-                return Read {
-                    heard,
-                    taken: at,
-                    frame: f,
-                };
+            let turn = frame.turn(recv, &piece[at..]);
+            at += turn.taken;
+            frame = turn.frame;
+            if turn.heard.is_some() {
+                return Read { taken: at, ..turn };
             }
         }
         Read {
-            heard: Heard::More,
+            heard: None,
             taken: at,
             frame,
         }
@@ -238,14 +196,14 @@ impl FrameReader {
     {
         if !self.sound() {
             return Read {
-                heard: Heard::Said(Judged::Refused(Refusal::STATE)),
+                heard: Some(Judged::Refused(Refusal::State as u8)),
                 taken: 0,
                 frame: self,
             };
         }
         if recv.len() < FrameReader::RAW {
             return Read {
-                heard: Heard::Said(Judged::Refused(Refusal::BUFFER)),
+                heard: Some(Judged::Refused(Refusal::Buffer as u8)),
                 taken: 0,
                 frame: self,
             };
@@ -258,14 +216,7 @@ impl FrameReader {
 fn part(recv: &[u8], at: usize, length: usize) -> &[u8]
     ensures { result.now ≡ part at length recv.now }
 {
-    if recv.len() < at {
-        return &recv[..0];
-    }
-    if recv.len() - at < length {
-        return &recv[..0];
-    }
-    let end = at + length;
-    &recv[at..end]
+    recv.get(at..at.saturating_add(length)).unwrap_or(&[])
 }
 
 /// The payload of a delivered packet, where it stands in the receive buffer; an empty part where that is too short to hold it.
@@ -279,5 +230,5 @@ pub fn payload(recv: &[u8], delivery: Delivery) -> &[u8]
 pub fn key(recv: &[u8], delivery: Delivery) -> &[u8]
     ensures { result.now ≡ part key_at delivery.key recv.now }
 {
-    part(recv, Packet::KEY_AT, delivery.key as usize)
+    part(recv, Packet::KEY_AT, usize::from(delivery.key))
 }

@@ -4,5 +4,5 @@
 mod frame;
 mod sender;
 
-pub use frame::{FrameReader, Heard, Read, key, payload};
+pub use frame::{FrameReader, Read, key, payload};
 pub use sender::{append, append_as, begin};

@@ -1,6 +1,6 @@
 //! The sender's stream: begun with one flag, and packet after packet appended.
 ghost use Rattle.std.specs.Prelude.{◌≡◌, [], ◌∷◌};
-ghost use Rattle.base.specs.Written.{outcome, write};
+ghost use Rattle.base.specs.Written.{as_written, outcome, write};
 ghost use Rattle.packet_spec.specs.Contents.{packet_of, plain_packet};
 ghost use Rattle.packet_spec.specs.Escape.{flag};
 ghost use Rattle.stream.specs.Sender.{appending};
@@ -10,13 +10,13 @@ use packet::Packet;
 
 /// Begins a stream: one flag.
 pub fn begin(out: &mut [u8]) -> Written
-    ensures { outcome result out.new ≡ write (flag ∷ []) out.old }
+    ensures { outcome (as_written result) out.new ≡ write (flag ∷ []) out.old }
 {
-    if out.len() == 0 {
-        return Written::Refused(Refusal::OUTPUT);
+    if out.is_empty() {
+        return Err(Refusal::Output);
     }
     out[0] = Packet::FLAG;
-    Written::Wrote(1)
+    Ok(1)
 }
 
 /// Appends a packet of either format to a stream, which is the first `at` bytes of the output.
@@ -30,10 +30,10 @@ pub fn append_as(
     sequence: u16,
     payload: &[u8],
 ) -> Written
-    ensures { outcome result out.new ≡
+    ensures { outcome (as_written result) out.new ≡
         appending at (packet_of format number key.now port sequence payload.now) out.old }
 {
-    let from = base::least(at, out.len());
+    let from = at.min(out.len());
     packet::write_as(
         format,
         number,
@@ -47,14 +47,14 @@ pub fn append_as(
 
 /// Appends a packet of format 0x21.
 pub fn append(out: &mut [u8], at: usize, port: u16, sequence: u16, payload: &[u8]) -> Written
-    ensures { outcome result out.new ≡ appending at (plain_packet port sequence payload.now) out.old }
+    ensures { outcome (as_written result) out.new ≡ appending at (plain_packet port sequence payload.now) out.old }
 {
     append_as(
         out,
         at,
         Packet::PLAIN_FORMAT,
         0,
-        &payload[0..0],
+        &payload[..0],
         port,
         sequence,
         payload,

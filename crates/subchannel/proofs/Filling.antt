@@ -1,94 +1,69 @@
 -- Bytes that only fill a word.
--- fills-none, fills-most           how many are taken in one go
--- Runs, runs-first, runs-next, runs_last   the loop over them
+-- Runs, runs-next, runs-bring, runs_last   the loop over them
 -- turned-placed                    .. and the cells' place
 -- goes-all                         the state behind them
-use Prim.Native.Nat.{ℕ, ◌+◌, ◌-◌, ◌≤◌, ◌<◌, min}
+use Prim.Native.Nat.{ℕ, ◌+◌, ◌≤◌, ◌<◌}
 use native.Mathlib.Omega.{arith}
-use native.Mathlib.Nat.{add-zero}
 use mathlib.Core.Path.{◌≡◌, refl, sym, ◌∙◌, ap, subst}
 use mathlib.Core.Bool.{Bool, true, false}
 use mathlib.Core.List.{List}
 use mathlib.Core.Option.{Option, some, none}
 use lib.ListN.{length, get_or, set}
-use lib.Dec.{ltb}
 use borrow.Author.Tests.{lt-ltb, le-ltb}
 use Rattle.base.specs.Choice.{pick}
 use Rattle.base.proofs.Tests.{by_le}
-use Rattle.interleaver_spec.specs.Running.{matrix, back, taken, full, gave, pull, beyond}
+use Rattle.interleaver_spec.specs.Running.{matrix, back, taken, gave, pull, beyond}
 use Rattle.interleaver_spec.specs.declared.Back.{Back}
-use Rattle.channel_spec.specs.declared.Answer.TheVariants.{More}
 use Rattle.channel_spec.specs.Sender.{word_bytes}
 use Rattle.subchannel_spec.specs.Sender.{group_bytes}
 use Rattle.subchannel.specs.declared.lane.Lane.{Lane}
 use Rattle.subchannel.specs.declared.cells.Turned.{Turned}
 use Rattle.subchannel.specs.declared.sub.Sub.{Sub}
 use Rattle.subchannel.specs.Call.{sub, counts, counted, word_at, grouped, eat}
-use Rattle.subchannel.specs.Private.{is_some, TurnedIs, EatenIs, Going, GoesOn, Fills, filled}
+use Rattle.std.specs.Prelude as code
+use Rattle.subchannel.specs.Private.{TurnedIs, EatenIs, Going, GoesOn, Fills, filled}
 use Rattle.subchannel.proofs.Fine.{pull-placed}
-use Rattle.subchannel.proofs.Steps.{again-full, words_more, eats-brought, eats-group}
-use Rattle.subchannel.proofs.Ways.{going_next}
-
--- ---- how many
-module _ (s : Lane) (a : Bool) (g : s.counts.group ≤ group_bytes) (w : s.counts.word ≤ word_bytes) where
-  pub fills-none : (left : ℕ) → (0 ≤ left) × Fills s a 0
-  fills-none left = (omega arith, record { group = omega arith; word = omega arith; filling = λ h. absurd (omega arith) })
-
-  pub fills-most : {left room most : ℕ} → s.lost ≡ false → s.locked ≡ true → (s.counts.word ≡ word_bytes → ⊥) → s.counts.handed ≡ 0
-      → room ≡ min (group_bytes - s.counts.group) (word_bytes - 1 - s.counts.word) → most ≡ min left room → (2 ≤ s.settings.depth → a ≡ true)
-      → (most ≤ left) × Fills s a most
-  fills-most {left} {room} {most} o l n h r m d =
-      let u : most ≤ left = omega arith in
-      (u, record { group = omega arith; word = omega arith; filling = λ z. (o, l, h, omega arith, d) })
+use Rattle.subchannel.proofs.Steps.{none_is, again-full, words_more, eats-brought, eats-group}
+use Rattle.subchannel.proofs.Ways.{some-none, going_next}
 
 -- ---- one of them
 -- each byte brings one, and the first pass stays as it is
 pulls-all : (d : ℕ) (a : Bool) (p : ℕ) (cs : List ℕ) (b : ℕ) → (2 ≤ d → a ≡ true)
-    → (is_some (pull d (back a (matrix p cs)) b).0 ≡ true) × ((pull d (back a (matrix p cs)) b).1.again ≡ a)
+    → ((pull d (back a (matrix p cs)) b).0 ≡ none → ⊥) × ((pull d (back a (matrix p cs)) b).1.again ≡ a)
 pulls-all d a p cs b h =
     let k : Back = back a (matrix p cs) in
     by_le 2 d
     (λ l.
-    let e : pull d k b ≡ ((taken d (matrix p cs) b).0, back true (taken d (matrix p cs) b).1) =
+    let e : pull d k b ≡ (some (get_or (taken d (matrix p cs) b).1.cells (taken d (matrix p cs) b).1.place 0), back true (taken d (matrix p cs) b).1) =
     ap (λ u. pick u (some b, k) (gave d k b)) (le-ltb d 2 l)
     ∙ ap (λ u. (pick u (taken d (matrix p cs) b).0 none, back u (taken d (matrix p cs) b).1)) (again-full d p a cs (h l)) in
-    (ap (λ (x : Option ℕ × Back). is_some x.0) e, ap (λ (x : Option ℕ × Back). x.1.again) e ∙ sym (h l)))
+    ((λ z. absurd (some-none (sym (ap (λ (x : Option ℕ × Back). x.0) e) ∙ z))), ap (λ (x : Option ℕ × Back). x.1.again) e ∙ sym (h l)))
     (λ l.
     let e : pull d k b ≡ (some b, k) = ap (λ u. pick u (some b, k) (gave d k b)) (lt-ltb d 2 l) in
-    (ap (λ (x : Option ℕ × Back). is_some x.0) e, ap (λ (x : Option ℕ × Back). x.1.again) e))
+    ((λ z. absurd (some-none (sym (ap (λ (x : Option ℕ × Back). x.0) e) ∙ z))), ap (λ (x : Option ℕ × Back). x.1.again) e))
 
 module _ (s : Lane) (a : Bool) (p : ℕ) (cs w : List ℕ) (b : ℕ) (f : Fills s a 1) where
-  eats-filling : {t : Turned} {cs' : List ℕ} → TurnedIs (pull s.settings.depth (back a (matrix p cs)) b) t cs'
+  eats-filling : {t : Turned} {cs' : List ℕ} {y : ℕ} → TurnedIs (pull s.settings.depth (back a (matrix p cs)) b) t cs' → t.brought ≡ code.Some y
       → EatenIs (eat s (back a (matrix p cs)) w b) (record {
-        done = false;
-        answer = More;
-        lane = counted s (counts (s.counts.group + 1) s.counts.marker (s.counts.word + 1) 0);
+        step = record { answer = code.None; lane = counted s (counts (s.counts.group + 1) s.counts.marker (s.counts.word + 1) 0) };
         again = a;
         place = t.place;
-      }) cs' (set w s.counts.word t.byte)
-  eats-filling {t} {cs'} u =
+      }) cs' (set w s.counts.word y)
+  eats-filling {t} {cs'} {y} u r =
       let q = f.filling (omega arith) in
       let z = pulls-all s.settings.depth a p cs b q.4 in
       let m : s.counts.word + 1 < word_bytes = q.3 in
       let v : s.counts.word ≡ word_at s.counts.word = sym (ap (λ t. pick t s.counts.word 0) (lt-ltb s.counts.word word_bytes (omega arith))) in
-      let e = eats-brought s (back a (matrix p cs)) w b u (ap (λ (x : Turned). x.brought) u.0 ∙ z.0) (words_more s t.byte w v m refl) in
+      let e = eats-brought s (back a (matrix p cs)) w b u r (words_more s y w v m refl) in
       let i : s.counts.group + 1 ≤ group_bytes = f.group in
       eats-group s a p cs w b q.0 q.1 (omega arith)
       (subst (λ x. EatenIs (grouped s (back a (matrix p cs)) w b) (record {
-        done = false;
-        answer = More;
-        lane = counted s (counts (s.counts.group + 1) s.counts.marker (s.counts.word + 1) 0);
+        step = record { answer = code.None; lane = counted s (counts (s.counts.group + 1) s.counts.marker (s.counts.word + 1) 0) };
         again = x;
         place = t.place;
-      }) cs' (set w s.counts.word t.byte)) (ap (λ (x : Turned). x.again) u.0 ∙ z.1) e)
+      }) cs' (set w s.counts.word y)) (ap (λ (x : Turned). x.again) u.0 ∙ z.1) e)
 
 -- ---- the loop over them
-goes_first : (s : Lane) (k : Back) (w bs : List ℕ) (from : ℕ) → GoesOn bs from (sub s k) w (from + 0) (sub (filled s 0) k) w
-goes_first s k w bs from s₀ w₀ g =
-    let e : counted s (counts s.counts.group s.counts.marker s.counts.word s.counts.handed) ≡ filled s 0 =
-    λ i. counted s (counts (sym (add-zero s.counts.group) i) s.counts.marker (sym (add-zero s.counts.word) i) s.counts.handed) in
-    subst (λ j. Going s₀ w₀ bs j (sub (filled s 0) k) w) (sym (add-zero from)) (subst (λ x. Going s₀ w₀ bs from (sub x k) w) e g)
-
 module _ {s : Lane} {a : Bool} {n : ℕ} (f : Fills s a n) {k : ℕ} (h : k < n) where
   fills_one : Fills (filled s k) a 1
   fills_one =
@@ -106,13 +81,14 @@ module _ {s : Lane} {a : Bool} {n : ℕ} (f : Fills s a n) {k : ℕ} (h : k < n)
 
   module _ {bs w₁ : List ℕ} {from p : ℕ} {s₁ : Sub} {cs w : List ℕ} (l : from + n ≤ length bs)
       (g : GoesOn bs from s₁ w₁ (from + k) (sub (filled s k) (back a (matrix p cs))) w)
-      {t : Turned} {cs' : List ℕ} (u : TurnedIs (pull s.settings.depth (back a (matrix p cs)) (get_or bs (from + k) 0)) t cs') where
-    goes-next : GoesOn bs from s₁ w₁ (from + (k + 1)) (sub (filled s (k + 1)) (back a (matrix t.place cs'))) (set w (s.counts.word + k) t.byte)
+      {t : Turned} {cs' : List ℕ} {y : ℕ} (u : TurnedIs (pull s.settings.depth (back a (matrix p cs)) (get_or bs (from + k) 0)) t cs')
+      (b : t.brought ≡ code.Some y) where
+    goes-next : GoesOn bs from s₁ w₁ (from + (k + 1)) (sub (filled s (k + 1)) (back a (matrix t.place cs'))) (set w (s.counts.word + k) y)
     goes-next s₀ w₀ i =
         let x : from + k + 1 ≡ from + (k + 1) = omega arith in
-        let r = going_next (g s₀ w₀ i) (omega arith) (eats-filling (filled s k) a p cs w (get_or bs (from + k) 0) fills_one u) refl in
-        subst (λ j. Going s₀ w₀ bs j (sub (filled s (k + 1)) (back a (matrix t.place cs'))) (set w (s.counts.word + k) t.byte)) x
-        (subst (λ y. Going s₀ w₀ bs (from + k + 1) (sub y (back a (matrix t.place cs'))) (set w (s.counts.word + k) t.byte)) one_more r)
+        let r = going_next (g s₀ w₀ i) (omega arith) (eats-filling (filled s k) a p cs w (get_or bs (from + k) 0) fills_one u b) refl in
+        subst (λ j. Going s₀ w₀ bs j (sub (filled s (k + 1)) (back a (matrix t.place cs'))) (set w (s.counts.word + k) y)) x
+        (subst (λ x. Going s₀ w₀ bs (from + k + 1) (sub x (back a (matrix t.place cs'))) (set w (s.counts.word + k) y)) one_more r)
 
 -- k of n bytes, for a lane of depth d with v bytes in the word buffer
 abbrev pub Runs : Bool → ℕ → ℕ → ℕ → ℕ → List ℕ → ℕ → List ℕ → List ℕ → ℕ → ℕ → List ℕ → List ℕ → Type 0
@@ -120,17 +96,20 @@ Runs a n from d v bs p₀ cs₀ w₀ k p cs w =
     (s : Lane) → Fills s a n → s.settings.depth ≡ d → s.counts.word ≡ v
     → GoesOn bs from (sub s (back a (matrix p₀ cs₀))) w₀ (from + k) (sub (filled s k) (back a (matrix p cs))) w
 
-pub runs-first : (a : Bool) (n from d v : ℕ) (bs : List ℕ) (p : ℕ) (cs w : List ℕ) → Runs a n from d v bs p cs w 0 p cs w
-runs-first a n from d v bs p cs w s f e g = goes_first s (back a (matrix p cs)) w bs from
-
 module _ {a : Bool} {n from d v : ℕ} {bs : List ℕ} {p₀ : ℕ} {cs₀ w₀ : List ℕ} {k p : ℕ} {cs w : List ℕ} (r : Runs a n from d v bs p₀ cs₀ w₀ k p cs w) where
-  pub runs-next : k < n → from + n ≤ length bs → {t : Turned} {cs' : List ℕ} → TurnedIs (pull d (back a (matrix p cs)) (get_or bs (from + k) 0)) t cs'
-      → Runs a n from d v bs p₀ cs₀ w₀ (k + 1) t.place cs' (set w (v + k) t.byte)
-  runs-next h l {t} {cs'} u s f e g =
-      subst
-      (λ x. GoesOn bs from (sub s (back a (matrix p₀ cs₀))) w₀ (from + (k + 1)) (sub (filled s (k + 1)) (back a (matrix t.place cs')))
-      (set w (x + k) t.byte))
-      g (goes-next f h l (r s f e g) (subst (λ x. TurnedIs (pull x (back a (matrix p cs)) (get_or bs (from + k) 0)) t cs') (sym e) u))
+  module _ (h : k < n) {t : Turned} {cs' : List ℕ} (u : TurnedIs (pull d (back a (matrix p cs)) (get_or bs (from + k) 0)) t cs') where
+    pub runs-next : from + n ≤ length bs → {y : ℕ} → t.brought ≡ code.Some y → Runs a n from d v bs p₀ cs₀ w₀ (k + 1) t.place cs' (set w (v + k) y)
+    runs-next l {y} b s f e g =
+        subst
+        (λ x. GoesOn bs from (sub s (back a (matrix p₀ cs₀))) w₀ (from + (k + 1)) (sub (filled s (k + 1)) (back a (matrix t.place cs')))
+        (set w (x + k) y))
+        g (goes-next f h l (r s f e g) (subst (λ x. TurnedIs (pull x (back a (matrix p cs)) (get_or bs (from + k) 0)) t cs') (sym e) u) b)
+
+    -- none brings no byte
+    pub runs-bring : (s : Lane) → Fills s a n → s.settings.depth ≡ d → t.brought ≡ code.None → ⊥
+    runs-bring s f e b =
+        let q = f.filling (omega arith) in
+        (pulls-all d a p cs (get_or bs (from + k) 0) (λ l. q.4 (let z = e in omega arith))).0 (none_is _ (sym b ∙ ap (λ (z : Turned). z.brought) u.0))
 
   pub runs_last : n ≤ k → k ≤ n → (s : Lane) → Fills s a n → s.settings.depth ≡ d → s.counts.word ≡ v
       → GoesOn bs from (sub s (back a (matrix p₀ cs₀))) w₀ (from + n) (sub (filled s n) (back a (matrix p cs))) w

@@ -1,15 +1,16 @@
 -- What the code's ways through a call give.
 -- hand-..                              the rest of a stored word
 -- going-first, going_next, going_end, going_done   the loop over the bytes of a piece
--- taken-within, fine-spare, able-of    .. what it asks of its parts
+-- taken-within, fine-spare, able-of    .. what it asks of its parts; some-none: what is there is not nothing
 -- handed-end, bytes-end                one behind the other
 -- call-unsound, call-cramped, call-on  refused with 10, with 11, or let on
+-- some-none                            some is not none
 use Prim.Native.Nat.{ℕ, suc, ◌+◌, ◌-◌, ◌≤◌, ◌<◌}
 use native.Mathlib.Omega.{arith}
 use native.Mathlib.Numerals.{add-one}
 use native.Mathlib.Nat.{add-zero}
 use mathlib.Core.Path.{◌≡◌, refl, sym, ◌∙◌, ap, subst}
-use mathlib.Core.Bool.{Bool, true, false, false≢true}
+use mathlib.Core.Bool.{Bool, true, false}
 use mathlib.Core.List.{List}
 use mathlib.Core.Option.{Option, some, none}
 use lib.ListN.{length, take, drop, get_or, set, length-replicate, drop_of_length-le}
@@ -23,11 +24,12 @@ use Rattle.packet_spec.specs.declared.Judged.{Judged}
 use Rattle.packet_spec.specs.declared.Judged.TheVariants.{Refused}
 use Rattle.parity.specs.Calls.{root_limit}
 use Rattle.stream.specs.declared.frame.Read.{Read}
-use Rattle.stream.specs.declared.frame.Heard.TheVariants as heard
 use Rattle.stream.specs.Call.{Held, held, read_call, ReadIs}
 use Rattle.interleaver_spec.specs.Running.{beyond, matrix, back, fresh_back, pull}
 use Rattle.interleaver_spec.specs.declared.Back.{Back}
 use Rattle.channel_spec.specs.declared.Hunting.{Hunting}
+use Rattle.std.specs.Prelude as code
+use Rattle.channel_spec.specs.declared.Answer.{Answer}
 use Rattle.channel_spec.specs.declared.Answer.TheVariants.{More, Said}
 use Rattle.channel_spec.specs.Sender.{word_bytes}
 use Rattle.channel_spec.specs.Meaning.{Event, said, shift, is_marker}
@@ -43,7 +45,7 @@ use Rattle.subchannel.specs.declared.sub.Hearing.{Hearing}
 use Rattle.subchannel.specs.Call.{Memory, memory, sub, Given, hunt_on, word_at, word_on, group_on, compare_on, mark_on, eat_by, eat, in_memory, eat_byte}
 use Rattle.subchannel.specs.Call.{owed_by, owes, owed, handing, handed, hand_on, sound_lane, sound}
 use Rattle.subchannel.specs.Call.{hear_by, hear_on, hear_call, hearing_of, HearingIs, Fine}
-use Rattle.subchannel.specs.Private.{is_some, Able, EatenIs, HandedBy, HandedIs, spare, BytesIs, Going}
+use Rattle.subchannel.specs.Private.{as_answer, Able, EatenIs, HandedBy, HandedIs, spare, BytesIs, Going}
 use Rattle.subchannel.proofs.Fine.{fine-lane, fine-eat, zero-placed}
 use Rattle.subchannel.proofs.Cutting.{hand-one}
 
@@ -77,7 +79,7 @@ module _ (s : Lane) (l w : List ℕ) (sd : sound_lane s ≡ true) (rm : roomy l 
   pub hand-room : n ≤ length w
   hand-room = let a = fine-some.room in omega arith
 
-  pub hand-none : {a : ℕ} → a ≡ owes s → a ≡ 0 → HandedIs s l w (record { done = false; answer = More; lane = s }) l
+  pub hand-none : {a : ℕ} → a ≡ owes s → a ≡ 0 → HandedIs s l w (record { answer = code.None; lane = s }) l
   hand-none e z = record { means = λ k bs. refl; fine = fine-with; owed = λ d. sym e ∙ z }
 
   module _ {a : ℕ} (en : a ≡ owes s) (nz : a ≡ 0 → ⊥) where
@@ -118,21 +120,21 @@ module _ (s : Lane) (l w : List ℕ) (sd : sound_lane s ≡ true) (rm : roomy l 
         room = fine-some.room;
       }
 
-      pub hand-more : {t : Lane} → r.heard ≡ heard.More → t ≡ next → HandedIs s l w (record { done = false; answer = More; lane = t }) l'
+      pub hand-more : {t : Lane} → r.heard ≡ code.None → t ≡ next → HandedIs s l w (record { answer = code.None; lane = t }) l'
       hand-more m p =
           let x : (k : Back) → (h + r.taken ≡ n) × ((bs : List ℕ) → hear_on (memory (sub s k) l w) bs ≡ hear_on (memory (sub next k) l' w) bs) =
           λ k. stored.read_more owed hand_on eat_byte hand-one n w (at k) (owes_at k) (λ i g. refl) h (held s.frame l) some-owed.3 hand-room
           fine-some.frame e m in
           let z : n - (h + r.taken) ≡ 0 = omega (arith, (x fresh_back).0) in
-          subst (λ t. HandedIs s l w (record { done = false; answer = More; lane = t }) l') (sym p) (record {
+          subst (λ t. HandedIs s l w (record { answer = code.None; lane = t }) l') (sym p) (record {
             means = λ k bs. (x k).1 bs;
             fine = fine-next;
             owed = λ d. owes_at fresh_back (h + r.taken) (held r.frame l') ∙ z;
           })
 
-      pub hand-said : (j : Judged) {t : Lane} → r.heard ≡ heard.Said j → t ≡ next → HandedIs s l w (record { done = true; answer = Said j; lane = t }) l'
+      pub hand-said : (j : Judged) {t : Lane} → r.heard ≡ code.Some j → t ≡ next → HandedIs s l w (record { answer = code.Some (Said j); lane = t }) l'
       hand-said j m p =
-          subst (λ t. HandedIs s l w (record { done = true; answer = Said j; lane = t }) l') (sym p) (record {
+          subst (λ t. HandedIs s l w (record { answer = code.Some (Said j); lane = t }) l') (sym p) (record {
             means = λ k bs.
                 let x = stored.read-said owed hand_on eat_byte hand-one n w (at k) (owes_at k) (λ i g. refl) h (held s.frame l) some-owed.3 hand-room
                 fine-some.frame e j m in
@@ -142,7 +144,7 @@ module _ (s : Lane) (l w : List ℕ) (sd : sound_lane s ≡ true) (rm : roomy l 
                   ap (λ y. y.2.word) (sym q),
                 );
             fine = fine-next;
-            owed = λ d. absurd (false≢true (sym d));
+            owed = λ d. cc;
           })
 
 -- ---- the loop over the bytes of a piece
@@ -173,7 +175,7 @@ not-whole true l a b = refl
 not-whole false true a b = refl
 not-whole false false a b = refl
 
-some-none : {A : Type 0} {x : A} → some x ≡ none → ⊥
+pub some-none : {A : Type 0} {x : A} → some x ≡ none → ⊥
 some-none e = let z : ◌≡◌ {A = ℕ} 0 1 = cc in omega arith
 
 module _ (s : Lane) (z : owes s ≡ 0) where
@@ -207,9 +209,13 @@ module _ (s : Lane) (z : owes s ≡ 0) where
   owes-by false true true k w b q = owes-group (pull s.settings.depth k b).0 w q
   owes-by false true false k w b q = owes-mark (ltb (suc s.counts.marker) 4) (shift s.hunting b) q
 
-none_so : (o : Option Event) → is_some o ≡ false → o ≡ none
+none_so : (o : Option Event) → as_answer o ≡ code.None → o ≡ none
 none_so none e = refl
-none_so (some a) e = absurd (false≢true (sym e))
+none_so (some a) e = cc
+
+some_so : {a : Answer} (o : Option Event) → as_answer o ≡ code.Some a → answered o ≡ a
+some_so none e = cc
+some_so (some a) e = cc
 
 pub going-first : (s : Sub) (w bs : List ℕ) → Fine (memory s spare w) → owes s.lane ≡ 0 → Going s w bs 0 s w
 going-first s w bs i z = record { within = omega arith; fine = i; owed = z; left = λ l. after_none (hear_on (memory s l w) bs) }
@@ -231,10 +237,10 @@ module _ {s₀ : Sub} {w₀ bs : List ℕ} {i : ℕ} {s : Sub} {w : List ℕ} (g
     x = eat s.lane s.back w (get_or bs i 0)
 
     abbrev s' : Sub
-    s' = sub t.lane (back t.again (matrix t.place cs))
+    s' = sub t.step.lane (back t.again (matrix t.place cs))
 
     behind-is : (l : List ℕ) → (in_memory l x).1 ≡ memory s' l w'
-    behind-is l = sym (λ j. memory (sub (e.0 j).lane (back (e.0 j).again (matrix (e.0 j).place (e.1 j)))) l (e.2 j))
+    behind-is l = sym (λ j. memory (sub (e.0 j).step.lane (back (e.0 j).again (matrix (e.0 j).place (e.1 j)))) l (e.2 j))
 
     turn : (l : List ℕ) → hear_on (memory s₀ l w₀) bs
         ≡ after i (unless x.0 1 (memory s' l w') (one_more (hear_on (memory s' l w') (drop (suc i) bs))))
@@ -244,12 +250,12 @@ module _ {s₀ : Sub} {w₀ bs : List ℕ} {i : ℕ} {s : Sub} {w : List ℕ} (g
         ∙ ap (λ c. after i (unless x.0 1 c (one_more (hear_on c (drop (suc i) bs))))) (behind-is l)
 
     -- a turn without answer
-    pub going_next : t.done ≡ false → Going s₀ w₀ bs (i + 1) s' w'
+    pub going_next : t.step.answer ≡ code.None → Going s₀ w₀ bs (i + 1) s' w'
     going_next d =
-        let n : x.0 ≡ none = none_so x.0 (sym (ap (λ (y : Eaten). y.done) e.0) ∙ d) in record {
+        let n : x.0 ≡ none = none_so x.0 (sym (ap (λ (y : Eaten). y.step.answer) e.0) ∙ d) in record {
           within = omega arith;
           fine = subst Fine (behind-is spare) (fine-eat (memory s spare w) (get_or bs i 0) g.owed g.fine);
-          owed = ap (λ (y : Eaten). owes y.lane) e.0
+          owed = ap (λ (y : Eaten). owes y.step.lane) e.0
               ∙ owes-by s.lane g.owed s.lane.lost s.lane.locked (ltb s.lane.counts.group group_bytes) s.back w (get_or bs i 0) n;
           left = λ l.
               turn l ∙ ap (λ o. after i (unless o 1 (memory s' l w') (one_more (hear_on (memory s' l w') (drop (suc i) bs))))) n
@@ -257,26 +263,30 @@ module _ {s₀ : Sub} {w₀ bs : List ℕ} {i : ℕ} {s : Sub} {w : List ℕ} (g
         }
 
     -- a turn that ends the call
-    pub going_end : t.done ≡ true → BytesIs s₀ w₀ bs (record { answer = t.answer; taken = i + 1; sub = s' }) w'
-    going_end d l = by x.0 refl
+    pub going_end : {r : Answer} → t.step.answer ≡ code.Some r → BytesIs s₀ w₀ bs (record { answer = r; taken = i + 1; sub = s' }) w'
+    going_end {r} d l = by x.0 refl
       where
-        by : (o : Option Event) → x.0 ≡ o → HearingIs (hear_on (memory s₀ l w₀) bs) (record { answer = t.answer; taken = i + 1; sub = s' }) l w'
-        by none n = absurd (false≢true (sym (ap (λ (y : Eaten). y.done) e.0 ∙ ap is_some n) ∙ d))
+        told : answered x.0 ≡ r
+        told = some_so x.0 (sym (ap (λ (y : Eaten). y.step.answer) e.0) ∙ d)
+
+        by : (o : Option Event) → x.0 ≡ o → HearingIs (hear_on (memory s₀ l w₀) bs) (record { answer = r; taken = i + 1; sub = s' }) l w'
+        by none n = let z : code.None ≡ code.Some r = ap as_answer (sym n) ∙ sym (ap (λ (y : Eaten). y.step.answer) e.0) ∙ d in cc
         by (some a) n =
             let y = turn l ∙ ap (λ o. after i (unless o 1 (memory s' l w') (one_more (hear_on (memory s' l w') (drop (suc i) bs))))) n in (
-              (λ j. record { answer = (ap (λ (y : Eaten). y.answer) e.0 ∙ ap answered n) j; taken = i + 1; sub = s' }) ∙ ap hearing_of (sym y),
+              (λ j. record { answer = (sym told ∙ ap answered n) j; taken = i + 1; sub = s' }) ∙ ap hearing_of (sym y),
               ap (λ y. y.2.recv) (sym y),
               ap (λ y. y.2.word) (sym y),
             )
 
 -- ---- one behind the other
 module _ (s : Sub) (l w bs : List ℕ) {t : Step} {l' : List ℕ} (e : HandedIs s.lane l w t l') where
-  pub handed-end : t.done ≡ true → HearingIs (hear_on (memory s l w) bs) (record { answer = t.answer; taken = 0; sub = sub t.lane s.back }) l' w
-  handed-end d = subst (λ b. HandedBy b s.lane l w t l' s.back bs) d (e.means s.back bs)
+  pub handed-end : {a : Answer} → t.answer ≡ code.Some a
+      → HearingIs (hear_on (memory s l w) bs) (record { answer = a; taken = 0; sub = sub t.lane s.back }) l' w
+  handed-end d = subst (λ b. HandedBy b s.lane l w t.lane l' s.back bs) d (e.means s.back bs)
 
-  pub bytes-end : {r : Hearing} {w' : List ℕ} → t.done ≡ false → BytesIs (sub t.lane s.back) w bs r w' → HearingIs (hear_on (memory s l w) bs) r l' w'
+  pub bytes-end : {r : Hearing} {w' : List ℕ} → t.answer ≡ code.None → BytesIs (sub t.lane s.back) w bs r w' → HearingIs (hear_on (memory s l w) bs) r l' w'
   bytes-end {r} {w'} d b =
-      subst (λ y. HearingIs y r l' w') (sym (subst (λ b. HandedBy b s.lane l w t l' s.back bs) d (e.means s.back bs))) (b l')
+      subst (λ y. HearingIs y r l' w') (sym (subst (λ b. HandedBy b s.lane l w t.lane l' s.back bs) d (e.means s.back bs))) (b l')
 
 -- ---- the refusals
 module _ (c : Memory) (bs : List ℕ) where

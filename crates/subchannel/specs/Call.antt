@@ -2,7 +2,7 @@
 -- Memory, memory         state, receive buffer and word buffer
 -- sub, lane, counts      .. of its parts; held_in: the frame reader in it
 -- fresh_sub, told_sub, untold   at first; just told its settings; not told
--- telling, telling_of     .. as it is told: 30, 32
+-- telling                .. as it is told: 30, 32; as_telling: the same of the code's result
 -- moved, counted, handing, handed   with other counts, last four bytes, frame reader
 -- hunt_on, word_at, mend_in, word_on, group_on, compare_on, mark_on   one new byte, by where it stands
 -- Given, behind, grouped, eat_by, in_memory   .. and what it gives
@@ -35,15 +35,13 @@ use Rattle.channel_spec.specs.Answer.{answered}
 use Rattle.subchannel_spec.specs.Sender.{message_bytes, group_bytes}
 use Rattle.subchannel_spec.specs.Word.{condition, mend}
 use Rattle.subchannel_spec.specs.Meaning as model
-use Rattle.subchannel_spec.specs.Settings.{settings, within}
+use Rattle.subchannel_spec.specs.Settings.{settings, within, Configured, Done, Refused, as_configured}
 use Rattle.subchannel_spec.specs.declared.Settings.{Settings}
 use Rattle.subchannel.specs.declared.counts.Counts.{Counts}
 use Rattle.subchannel.specs.declared.lane.Lane.{Lane}
 use Rattle.subchannel.specs.declared.sub.Sub.{Sub}
 use Rattle.subchannel.specs.declared.sub.Hearing.{Hearing}
 use Rattle.subchannel.specs.declared.sub.Telling.{Telling}
-use Rattle.subchannel_spec.specs.declared.Configured.{Configured}
-use Rattle.subchannel_spec.specs.declared.Configured.TheVariants.{Done, Refused}
 
 -- state, receive buffer and word buffer
 pub record Memory : Type 0 where
@@ -81,9 +79,9 @@ untold = fresh_sub (settings false 0 0)
 abbrev pub telling : ℕ → ℕ → Configured × Sub
 telling r d = pick (ltb root_limit r) (Refused 30, untold) (pick (ltb depth_limit d) (Refused 32, untold) (Done, told_sub r d))
 
--- the code's result of it
-abbrev pub telling_of : Configured × Sub → Telling
-telling_of x = record { answer = x.0; sub = x.1 }
+-- the same of the code's result
+abbrev pub as_telling : Telling → Configured × Sub
+as_telling x = (as_configured x.answer, x.sub)
 
 -- the frame reader in it
 abbrev pub held_in : Memory → Held

@@ -1,5 +1,5 @@
 -- What private functions alone are promised by.
--- is_some, or_zero      an answer, a byte: whether there is one
+-- as_byte, as_answer   a byte, an answer, if there is one, as the code has them
 -- TurnedIs            a received byte through the interleaver
 -- step_of, WordIs      a step that does not touch the cells; a byte of a word
 -- Able                what a new byte asks of the state and of the word buffer
@@ -10,6 +10,7 @@
 -- Fills, filled       bytes that only fill a word, and the lane behind them
 -- FillAsks, FilledIs  .. and such bytes of a piece
 use Rattle.std.specs.Prelude.{ℕ, ◌+◌, ◌≤◌, ◌<◌, ◌≡◌, Bool, true, false, List, length, drop, replicate}
+use Rattle.std.specs.Prelude as code
 use Rattle.std.proofs.Math.Option.{Option, some, none}
 use Rattle.base.specs.Calls.{after}
 use Rattle.packet_spec.specs.Contents.{raw_limit}
@@ -18,6 +19,7 @@ use Rattle.interleaver_spec.specs.Running.{depth_limit, matrix, back, beyond}
 use Rattle.interleaver_spec.specs.declared.Back.{Back}
 use Rattle.channel_spec.specs.Sender.{word_bytes}
 use Rattle.channel_spec.specs.Meaning.{Event}
+use Rattle.channel_spec.specs.declared.Answer.{Answer}
 use Rattle.channel_spec.specs.Answer.{answered}
 use Rattle.subchannel_spec.specs.Sender.{group_bytes}
 use Rattle.subchannel.specs.declared.lane.Lane.{Lane}
@@ -28,24 +30,24 @@ use Rattle.subchannel.specs.declared.sub.Sub.{Sub}
 use Rattle.subchannel.specs.declared.sub.Hearing.{Hearing}
 use Rattle.subchannel.specs.Call.{memory, sub, counts, counted, Given, owes, hear_on, Fine, HearingIs}
 
--- there is one
-abbrev pub is_some : {A : Type 0} → Option A → Bool
-is_some none = false
-is_some (some a) = true
+-- a byte, if there is one
+abbrev pub as_byte : Option ℕ → code.Option ℕ
+as_byte none = code.None
+as_byte (some y) = code.Some y
 
--- the byte, 0 where there is none
-abbrev pub or_zero : Option ℕ → ℕ
-or_zero none = 0
-or_zero (some y) = y
+-- an answer, if there is one
+abbrev pub as_answer : Option Event → code.Option Answer
+as_answer none = code.None
+as_answer (some a) = code.Some (answered (some a))
 
 -- what a received byte brings, and the cells behind it
 abbrev pub TurnedIs : Option ℕ × Back → Turned → List ℕ → Type 0
 TurnedIs x t cells =
-    (t ≡ record { brought = is_some x.0; byte = or_zero x.0; again = x.1.again; place = x.1.matrix.place }) × (cells ≡ x.1.matrix.cells)
+    (t ≡ record { brought = as_byte x.0; again = x.1.again; place = x.1.matrix.place }) × (cells ≡ x.1.matrix.cells)
 
 -- a step's answer, if there is one, and the lane behind it
 abbrev pub step_of : Option Event × Lane → Step
-step_of x = record { done = is_some x.0; answer = answered x.0; lane = x.1 }
+step_of x = record { answer = as_answer x.0; lane = x.1 }
 
 -- a byte of a word
 abbrev pub WordIs : Option Event × Lane × List ℕ → Step → List ℕ → Type 0
@@ -63,19 +65,19 @@ pub record Able (s : Lane) (l : List ℕ) : Type 0 where
 -- one new byte
 abbrev pub EatenIs : Given → Eaten → List ℕ → List ℕ → Type 0
 EatenIs x t cells word =
-    (t ≡ record { done = is_some x.0; answer = answered x.0; lane = x.1; again = x.2.again; place = x.2.matrix.place })
+    (t ≡ record { step = step_of (x.0, x.1); again = x.2.again; place = x.2.matrix.place })
     × (cells ≡ x.2.matrix.cells) × (word ≡ x.3)
 
--- a stored word's rest, by: does it end the call. Else the call goes on behind it
-abbrev pub HandedBy : Bool → Lane → List ℕ → List ℕ → Step → List ℕ → Back → List ℕ → Type 0
-HandedBy true s l word t l' k bs = HearingIs (hear_on (memory (sub s k) l word) bs) (record { answer = t.answer; taken = 0; sub = sub t.lane k }) l' word
-HandedBy false s l word t l' k bs = hear_on (memory (sub s k) l word) bs ≡ hear_on (memory (sub t.lane k) l' word) bs
+-- a stored word's rest, by the answer that ends the call, if there is one. Else the call goes on behind it
+abbrev pub HandedBy : code.Option Answer → Lane → List ℕ → List ℕ → Lane → List ℕ → Back → List ℕ → Type 0
+HandedBy (code.Some a) s l word t l' k bs = HearingIs (hear_on (memory (sub s k) l word) bs) (record { answer = a; taken = 0; sub = sub t k }) l' word
+HandedBy code.None s l word t l' k bs = hear_on (memory (sub s k) l word) bs ≡ hear_on (memory (sub t k) l' word) bs
 
 -- the rest of a stored word is handed on: no new byte is taken, and the cells stay, whatever they hold
 pub record HandedIs (s : Lane) (l word : List ℕ) (t : Step) (l' : List ℕ) : Type 0 where
-  pub means : (k : Back) (bs : List ℕ) → HandedBy t.done s l word t l' k bs
+  pub means : (k : Back) (bs : List ℕ) → HandedBy t.answer s l word t.lane l' k bs
   pub fine : (k : Back) → beyond s.settings.depth k.matrix.place ≡ false → Fine (memory (sub t.lane k) l' word)
-  pub owed : t.done ≡ false → owes t.lane ≡ 0
+  pub owed : t.answer ≡ code.None → owes t.lane ≡ 0
 
 -- some receive buffer that passes 11
 unfoldable pub spare : List ℕ

@@ -8,9 +8,8 @@ use interleaver::Matrix;
 // What a received byte brings.
 #[derive(Clone, Copy)]
 pub(crate) struct Turned {
-    pub brought: bool,
-    // The byte that it brings, else 0.
-    pub byte: u8,
+    // The byte, if it brings one.
+    pub brought: Option<u8>,
     // Whether the first pass is over behind it.
     pub again: bool,
     // The place behind it.
@@ -30,36 +29,17 @@ pub(crate) fn turn(
 {
     if depth < 2 {
         return Turned {
-            brought: true,
-            byte,
+            brought: Some(byte),
             again,
             place,
         };
     }
     let step = interleaver::step(depth, place);
-    let k = step.cell;
-    cells[k] = byte;
-    let behind = step.next;
-    if again {
-        return Turned {
-            brought: true,
-            byte: cells[behind],
-            again: true,
-            place: behind,
-        };
-    }
-    if place + 1 == Matrix::ROW * depth {
-        return Turned {
-            brought: true,
-            byte: cells[behind],
-            again: true,
-            place: behind,
-        };
-    }
+    cells[step.cell] = byte;
+    let full = again || place + 1 == Matrix::ROW * depth;
     Turned {
-        brought: false,
-        byte: 0,
-        again: false,
-        place: behind,
+        brought: full.then_some(cells[step.next]),
+        again: full,
+        place: step.next,
     }
 }

@@ -31,15 +31,9 @@ impl Counts {
         requires { parity ≤ 255 }
         ensures { result ≡ sound_counts parity self }
     {
-        if Sub::GROUP < self.group {
-            return false;
-        }
-        if 3 < self.marker {
-            return false;
-        }
-        if Sub::WORD < self.word {
-            return false;
-        }
-        self.handed <= Sub::WORD - parity
+        self.group <= Sub::GROUP
+            && self.marker <= 3
+            && self.word <= Sub::WORD
+            && self.handed <= Sub::WORD - parity
     }
 }

@@ -15,29 +15,13 @@ pub(crate) fn plain(lane: Lane, again: bool, left: usize) -> usize
     requires { (lane.counts.group ≤ group_bytes) × (lane.counts.word ≤ word_bytes) }
     ensures { (result ≤ left) × Fills lane again result }
 {
-    let settings = lane.settings;
     let counts = lane.counts;
-    if lane.lost {
+    let brings = again || lane.settings.depth < 2;
+    if lane.lost || !lane.locked || counts.word == Sub::WORD || counts.handed != 0 || !brings {
         return 0;
     }
-    if !lane.locked {
-        return 0;
-    }
-    if counts.word == Sub::WORD {
-        return 0;
-    }
-    if counts.handed != 0 {
-        return 0;
-    }
-    let room = base::least(Sub::GROUP - counts.group, Sub::WORD - 1 - counts.word);
-    let most = base::least(left, room);
-    if again {
-        return most;
-    }
-    if settings.depth < 2 {
-        return most;
-    }
-    0
+    let room = (Sub::GROUP - counts.group).min(Sub::WORD - 1 - counts.word);
+    left.min(room)
 }
 
 // The lane behind n such bytes.
@@ -45,22 +29,14 @@ pub(crate) fn filled(lane: Lane, n: usize) -> Lane
     requires { (lane.counts.group + n ≤ group_bytes) × (lane.counts.word + n ≤ word_bytes) }
     ensures { result ≡ filled lane n }
 {
-    let settings = lane.settings;
     let counts = lane.counts;
-    let hunting = lane.hunting;
-    let frame = lane.frame;
     Lane {
-        settings,
-        locked: lane.locked,
-        lost: lane.lost,
-        hunting,
         counts: Counts {
             group: counts.group + n,
-            marker: counts.marker,
             word: counts.word + n,
-            handed: counts.handed,
+            ..counts
         },
-        frame,
+        ..lane
     }
 }
 
@@ -78,17 +54,15 @@ pub(crate) fn fill(
     requires { FillAsks lane again first word.old piece.now from n }
     ensures { FilledIs lane again first cells.old word.old piece.now from n result cells.new word.new }
 {
-    let settings = lane.settings;
-    let counts = lane.counts;
-    let depth = settings.depth;
-    let at = counts.word;
+    let depth = lane.settings.depth;
+    let at = lane.counts.word;
     let mut place = first;
-    let mut k: usize = 0;
-    while k < n {
+    for k in 0..n {
         let t = cells::turn(cells, again, place, depth, piece[from + k]);
-        word[at + k] = t.byte;
+        if let Some(byte) = t.brought {
+            word[at + k] = byte;
+        }
         place = t.place;
-        k += 1;
     }
     place
 }

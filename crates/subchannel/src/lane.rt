@@ -1,6 +1,6 @@
 //! How far a sub-channel is: all of its state but the interleaver's cells.
 ghost use Rattle.std.specs.Prelude.{◌≡◌, true, false, suc, ◌≤◌, ◌<◌, ltb};
-ghost use Rattle.std.proofs.Math.Option.{some};
+ghost use Rattle.std.proofs.Math.Option.{some, none};
 ghost use Rattle.interleaver_spec.specs.Running.{matrix, back, beyond};
 ghost use Rattle.parity.specs.Calls.{root_limit};
 ghost use Rattle.channel_spec.specs.Meaning.{shift, is_marker};
@@ -26,9 +26,10 @@ use crate::sub::Sub;
 use crate::{cells, word};
 use channel::{Answer, Hunting};
 use interleaver::Matrix;
-use stream::{FrameReader, Heard};
+use stream::FrameReader;
 use subchannel_spec::Settings;
 
+// Two flags and no enum: callers hand a state in, and the laws speak of all its values, unsound ones among them.
 /// The state but for the cells.
 #[derive(Clone, Copy)]
 pub struct Lane {
@@ -44,19 +45,15 @@ pub struct Lane {
 // What a step gives that does not touch the cells.
 #[derive(Clone, Copy)]
 pub(crate) struct Step {
-    // It ends the call.
-    pub done: bool,
-    pub answer: Answer,
+    // The answer, if it ends the call.
+    pub answer: Option<Answer>,
     pub lane: Lane,
 }
 
 // What one new byte gives: all but the cells.
 #[derive(Clone, Copy)]
 pub(crate) struct Eaten {
-    // It ends the call.
-    pub done: bool,
-    pub answer: Answer,
-    pub lane: Lane,
+    pub step: Step,
     pub again: bool,
     pub place: usize,
 }
@@ -66,68 +63,61 @@ impl Lane {
     pub(crate) fn sound(self) -> bool
         ensures { result ≡ sound_lane self }
     {
-        let frame = self.frame;
-        let settings = self.settings;
-        let counts = self.counts;
-        if !frame.sound() {
-            return false;
-        }
-        if settings.within() {
-            return counts.sound(settings.parity);
-        }
-        false
+        self.frame.sound() && self.settings.within() && self.counts.sound(self.settings.parity)
     }
 
     // With other last four bytes, and counts.
     fn moved(self, hunting: Hunting, counts: Counts) -> Self
         ensures { result ≡ moved self hunting counts }
     {
-        let settings = self.settings;
-        let frame = self.frame;
         Lane {
-            settings,
-            locked: self.locked,
-            lost: self.lost,
             hunting,
             counts,
-            frame,
+            ..self
+        }
+    }
+
+    // The call goes on with other last four bytes, and counts.
+    fn on(self, hunting: Hunting, counts: Counts) -> Step
+        ensures { result ≡ step_of (none, moved self hunting counts) }
+    {
+        Step {
+            answer: None,
+            lane: self.moved(hunting, counts),
         }
     }
 
     // A byte while hunting.
-    fn hunt_byte(self, b: u8) -> Self
-        ensures { result ≡ hunt_on (is_marker (shift self.hunting b)) (shift self.hunting b) self }
+    fn hunt_byte(self, b: u8) -> Step
+        ensures { result ≡ step_of (none, hunt_on (is_marker (shift self.hunting b)) (shift self.hunting b) self) }
     {
-        let last = self.hunting;
-        let counts = self.counts;
-        let hunting = last.shift(b);
+        let hunting = self.hunting.shift(b);
         if hunting.at_marker() {
-            let settings = self.settings;
-            let frame = self.frame;
-            return Lane {
-                settings,
-                locked: true,
-                lost: false,
-                hunting,
-                counts: Counts::zero(),
-                frame,
+            return Step {
+                answer: None,
+                lane: Lane {
+                    locked: true,
+                    lost: false,
+                    hunting,
+                    counts: Counts::zero(),
+                    ..self
+                },
             };
         }
-        self.moved(hunting, counts)
+        self.on(hunting, self.counts)
     }
 
     // Lock lost: any open packet is dropped.
     fn lost_at(self, hunting: Hunting) -> Self
         ensures { result ≡ (compare_on false hunting self).1 }
     {
-        let settings = self.settings;
         Lane {
-            settings,
             locked: false,
             lost: true,
             hunting,
             counts: Counts::zero(),
             frame: FrameReader::fresh(),
+            ..self
         }
     }
 
@@ -136,38 +126,24 @@ impl Lane {
         requires { self.counts.marker ≤ 3 }
         ensures { result ≡ step_of (mark_on (ltb (suc self.counts.marker) 4) (shift self.hunting b) self) }
     {
-        let last = self.hunting;
         let counts = self.counts;
-        let hunting = last.shift(b);
-        if counts.marker + 1 < 4 {
-            let more = Counts {
-                group: counts.group,
-                marker: counts.marker + 1,
-                word: counts.word,
-                handed: counts.handed,
-            };
-            return Step {
-                done: false,
-                answer: Answer::More,
-                lane: self.moved(hunting, more),
-            };
+        let hunting = self.hunting.shift(b);
+        let marker = counts.marker + 1;
+        if marker < 4 {
+            return self.on(hunting, Counts { marker, ..counts });
         }
         if hunting.at_marker() {
-            let begun = Counts {
-                group: 0,
-                marker: 0,
-                word: counts.word,
-                handed: counts.handed,
-            };
-            return Step {
-                done: false,
-                answer: Answer::More,
-                lane: self.moved(hunting, begun),
-            };
+            return self.on(
+                hunting,
+                Counts {
+                    group: 0,
+                    marker: 0,
+                    ..counts
+                },
+            );
         }
         Step {
-            done: true,
-            answer: Answer::LockLost,
+            answer: Some(Answer::LockLost),
             lane: self.lost_at(hunting),
         }
     }
@@ -177,54 +153,43 @@ impl Lane {
         requires { Able self word.old × (self.counts.group < group_bytes) }
         ensures { WordIs (group_on (some y) self word.old) result word.new }
     {
-        let settings = self.settings;
         let counts = self.counts;
-        let hunting = self.hunting;
         let at = word::place_in(counts.word);
         word[at] = y;
-        let group = counts.group + 1;
-        if at + 1 < Sub::WORD {
-            let more = Counts {
-                group,
-                marker: counts.marker,
-                word: at + 1,
-                handed: 0,
-            };
-            return Step {
-                done: false,
-                answer: Answer::More,
-                lane: self.moved(hunting, more),
-            };
-        }
-        let condition = word::mend_in(settings.parity, word);
-        let whole = Counts {
-            group,
-            marker: counts.marker,
-            word: Sub::WORD,
+        let stored = Counts {
+            group: counts.group + 1,
+            word: at + 1,
             handed: 0,
+            ..counts
         };
+        let lane = self.moved(self.hunting, stored);
+        if at + 1 < Sub::WORD {
+            return Step { answer: None, lane };
+        }
+        let condition = word::mend_in(self.settings.parity, word);
         Step {
-            done: true,
-            answer: Answer::Block(condition),
-            lane: self.moved(hunting, whole),
+            answer: Some(Answer::Block(condition)),
+            lane,
         }
     }
 
     // A byte of a group that brings none.
-    fn kept_byte(self) -> Self
+    fn kept_byte(self) -> Step
         requires { self.counts.group < group_bytes }
-        ensures { result ≡ moved self self.hunting
-            (counts (suc self.counts.group) self.counts.marker self.counts.word self.counts.handed) }
+        ensures { result ≡ step_of (
+          none,
+          moved self self.hunting
+              (counts (suc self.counts.group) self.counts.marker self.counts.word self.counts.handed),
+        ) }
     {
         let counts = self.counts;
-        let hunting = self.hunting;
-        let more = Counts {
-            group: counts.group + 1,
-            marker: counts.marker,
-            word: counts.word,
-            handed: counts.handed,
-        };
-        self.moved(hunting, more)
+        self.on(
+            self.hunting,
+            Counts {
+                group: counts.group + 1,
+                ..counts
+            },
+        )
     }
 
     // A byte of a group: through the interleaver, and then one of a word, if it brings one.
@@ -240,26 +205,18 @@ impl Lane {
         ensures { EatenIs (grouped self (back again (matrix place cells.old)) word.old b)
             result cells.new word.new }
     {
-        let settings = self.settings;
-        let t = cells::turn(cells, again, place, settings.depth, b);
-        if t.brought {
-            let s = self.word_byte(word, t.byte);
-            let answer = s.answer;
-            let lane = s.lane;
-            return Eaten {
-                done: s.done,
-                answer,
-                lane,
+        let t = cells::turn(cells, again, place, self.settings.depth, b);
+        match t.brought {
+            Some(y) => Eaten {
+                step: self.word_byte(word, y),
                 again: t.again,
                 place: t.place,
-            };
-        }
-        Eaten {
-            done: false,
-            answer: Answer::More,
-            lane: self.kept_byte(),
-            again: t.again,
-            place: t.place,
+            },
+            None => Eaten {
+                step: self.kept_byte(),
+                again: t.again,
+                place: t.place,
+            },
         }
     }
 
@@ -278,33 +235,26 @@ impl Lane {
     {
         if self.lost {
             return Eaten {
-                done: false,
-                answer: Answer::More,
-                lane: self,
+                step: Step {
+                    answer: None,
+                    lane: self,
+                },
                 again,
                 place,
             };
         }
         if !self.locked {
             return Eaten {
-                done: false,
-                answer: Answer::More,
-                lane: self.hunt_byte(b),
+                step: self.hunt_byte(b),
                 again,
                 place,
             };
         }
-        let counts = self.counts;
-        if counts.group < Sub::GROUP {
+        if self.counts.group < Sub::GROUP {
             return self.group_byte(again, place, cells, word, b);
         }
-        let s = self.mark_byte(b);
-        let answer = s.answer;
-        let lane = s.lane;
         Eaten {
-            done: s.done,
-            answer,
-            lane,
+            step: self.mark_byte(b),
             again,
             place,
         }
@@ -315,15 +265,8 @@ impl Lane {
         requires { (self.settings.parity ≤ root_limit) × (self.counts.handed ≤ message_bytes self.settings.parity) }
         ensures { result ≡ owes self }
     {
-        let settings = self.settings;
-        let counts = self.counts;
-        if self.lost {
-            return 0;
-        }
-        if self.locked {
-            if counts.word == Sub::WORD {
-                return Sub::WORD - settings.parity - counts.handed;
-            }
+        if !self.lost && self.locked && self.counts.word == Sub::WORD {
+            return Sub::WORD - self.settings.parity - self.counts.handed;
         }
         0
     }
@@ -332,21 +275,13 @@ impl Lane {
     fn handing(self, handed: usize, frame: FrameReader) -> Self
         ensures { result ≡ handing self handed frame }
     {
-        let settings = self.settings;
-        let counts = self.counts;
-        let hunting = self.hunting;
         Lane {
-            settings,
-            locked: self.locked,
-            lost: self.lost,
-            hunting,
             counts: Counts {
-                group: counts.group,
-                marker: counts.marker,
-                word: counts.word,
                 handed,
+                ..self.counts
             },
             frame,
+            ..self
         }
     }
 
@@ -357,29 +292,18 @@ impl Lane {
     {
         if self.owed() == 0 {
             return Step {
-                done: false,
-                answer: Answer::More,
+                answer: None,
                 lane: self,
             };
         }
-        let settings = self.settings;
-        let counts = self.counts;
-        let frame = self.frame;
-        let from = counts.handed;
-        let to = Sub::WORD - settings.parity;
-        let read = frame.read(recv, &word[from..to]);
-        let behind = read.frame;
-        let lane = self.handing(from + read.taken, behind);
-        let heard = read.heard;
-        match heard {
-            Heard::More => Step {
-                done: false,
-                answer: Answer::More,
-                lane,
-            },
-            Heard::Said(judged) => Step {
-                done: true,
-                answer: Answer::Said(judged),
+        let from = self.counts.handed;
+        let to = Sub::WORD - self.settings.parity;
+        let read = self.frame.read(recv, &word[from..to]);
+        let lane = self.handing(from + read.taken, read.frame);
+        match read.heard {
+            None => Step { answer: None, lane },
+            Some(judged) => Step {
+                answer: Some(Answer::Said(judged)),
                 lane,
             },
         }

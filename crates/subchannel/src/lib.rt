@@ -11,4 +11,4 @@ mod word;
 pub use counts::Counts;
 pub use lane::Lane;
 pub use sub::{Hearing, Sub, Telling};
-pub use subchannel_spec::{Configured, Settings};
+pub use subchannel_spec::Settings;

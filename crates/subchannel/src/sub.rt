@@ -1,8 +1,9 @@
 //! One sub-channel: its state by value, the receive buffer and the word buffer lent.
 ghost use Rattle.std.specs.Prelude.{◌≡◌, true, false};
+ghost use Rattle.base.specs.Refusals.{number};
 ghost use Rattle.channel.specs.Call.{roomy};
 ghost use Rattle.interleaver_spec.specs.Running.{matrix, back};
-ghost use Rattle.subchannel.specs.Call.{Fine, memory, sub, fresh_sub, untold, telling, telling_of, owes, sound, hear_on, hear_call};
+ghost use Rattle.subchannel.specs.Call.{Fine, memory, sub, fresh_sub, untold, telling, as_telling, owes, sound, hear_on, hear_call};
 ghost use Rattle.subchannel.specs.Call.{HearingIs};
 ghost use Rattle.subchannel.specs.Private.{spare, BytesIs};
 
@@ -14,7 +15,7 @@ use channel::{Answer, Hunting, Receiver};
 use interleaver::{Back, Matrix};
 use packet::Judged;
 use stream::FrameReader;
-use subchannel_spec::{Configured, Group, Settings};
+use subchannel_spec::{Group, Settings};
 
 /// The state of one sub-channel.
 #[derive(Clone, Copy)]
@@ -24,10 +25,11 @@ pub struct Sub {
     pub back: Back,
 }
 
+// The sub-channel comes back where the settings are refused, too: so it stands beside the answer, and not in it.
 /// The result of telling a sub-channel its settings.
 #[derive(Clone, Copy)]
 pub struct Telling {
-    pub answer: Configured,
+    pub answer: Result<(), Refusal>,
     pub sub: Sub,
 }
 
@@ -79,27 +81,27 @@ impl Sub {
     }
 
     // Settings refused.
-    fn refused(number: u8) -> Telling
-        ensures { result ≡ telling_of (Configured.Refused number, untold) }
+    fn refused(refusal: Refusal) -> Telling
+        ensures { result ≡ record { answer = Err refusal; sub = untold } }
     {
         Telling {
-            answer: Configured::Refused(number),
+            answer: Err(refusal),
             sub: Sub::untold(),
         }
     }
 
     /// A sub-channel that is just told its settings; where they are refused, one that is not told.
     pub fn told(parity: usize, depth: usize) -> Telling
-        ensures { result ≡ telling_of (telling parity depth) }
+        ensures { as_telling result ≡ telling parity depth }
     {
         if Settings::PARITY < parity {
-            return Sub::refused(Refusal::ROOTS);
+            return Sub::refused(Refusal::Roots);
         }
         if Settings::DEPTH < depth {
-            return Sub::refused(Refusal::DEPTH);
+            return Sub::refused(Refusal::Depth);
         }
         Telling {
-            answer: Configured::Done,
+            answer: Ok(()),
             sub: Sub::with(Settings {
                 told: true,
                 parity,
@@ -112,14 +114,8 @@ impl Sub {
     pub fn sound(self) -> bool
         ensures { result ≡ sound self }
     {
-        let lane = self.lane;
-        let back = self.back;
-        let settings = lane.settings;
-        let matrix = back.matrix;
-        if lane.sound() {
-            return !interleaver::is_beyond(settings.depth, matrix.place);
-        }
-        false
+        self.lane.sound()
+            && !interleaver::is_beyond(self.lane.settings.depth, self.back.matrix.place)
     }
 
     // The bytes of a piece up to the first answer: those that only fill a word in one go, and then the next by itself.
@@ -139,18 +135,18 @@ impl Sub {
         let mut again = passed;
         let mut place = first;
         let mut i: usize = 0;
+        // The place goes on by a whole run and one byte, so that no `for` counts it.
         while i < piece.len() {
             let n = fill::plain(state, again, piece.len() - i - 1);
             let there = fill::fill(state, again, place, &mut cells, word, piece, i, n);
             let full = fill::filled(state, n);
             let last = i + n;
             let e = full.eat(again, there, &mut cells, word, piece[last]);
-            state = e.lane;
+            state = e.step.lane;
             again = e.again;
             place = e.place;
             i = last + 1;
-            if e.done {
-                let answer = e.answer;
+            if let Some(answer) = e.step.answer {
                 return Hearing {
                     answer,
                     taken: i,
@@ -164,13 +160,15 @@ impl Sub {
                 };
             }
         }
-        let matrix = Matrix { place, cells };
         Hearing {
             answer: Answer::More,
             taken: i,
             sub: Sub {
                 lane: state,
-                back: Back { again, matrix },
+                back: Back {
+                    again,
+                    matrix: Matrix { place, cells },
+                },
             },
         }
     }
@@ -181,21 +179,37 @@ impl Sub {
         ensures { HearingIs (hear_on (memory self recv.old word.old) piece.now)
             result recv.new word.new }
     {
-        let lane = self.lane;
-        let back = self.back;
-        let handed = lane.hand_on(recv, word);
-        let next = handed.lane;
-        if handed.done {
-            let answer = handed.answer;
+        let handed = self.lane.hand_on(recv, word);
+        if let Some(answer) = handed.answer {
             return Hearing {
                 answer,
                 taken: 0,
-                sub: Sub { lane: next, back },
+                sub: Sub {
+                    lane: handed.lane,
+                    ..self
+                },
             };
         }
-        let matrix = back.matrix;
-        let cells = matrix.cells;
-        Sub::hear_bytes(next, back.again, matrix.place, cells, word, piece)
+        let back = self.back;
+        Sub::hear_bytes(
+            handed.lane,
+            back.again,
+            back.matrix.place,
+            back.matrix.cells,
+            word,
+            piece,
+        )
+    }
+
+    // A refused call: the state as it was, and no byte taken.
+    fn unheard(self, refusal: Refusal) -> Hearing
+        ensures { result ≡ record { answer = Answer.Said (Judged.Refused (number refusal)); taken = 0; sub = self } }
+    {
+        Hearing {
+            answer: Answer::Said(Judged::Refused(refusal as u8)),
+            taken: 0,
+            sub: self,
+        }
     }
 
     /// One call: at most one answer, and no byte behind the one that caused it is taken.
@@ -204,18 +218,10 @@ impl Sub {
             result recv.new word.new }
     {
         if !self.sound() {
-            return Hearing {
-                answer: Answer::Said(Judged::Refused(Refusal::STATE)),
-                taken: 0,
-                sub: self,
-            };
+            return self.unheard(Refusal::State);
         }
         if !Receiver::has_room(recv, word) {
-            return Hearing {
-                answer: Answer::Said(Judged::Refused(Refusal::BUFFER)),
-                taken: 0,
-                sub: self,
-            };
+            return self.unheard(Refusal::Buffer);
         }
         self.hear_on(recv, word, piece)
     }

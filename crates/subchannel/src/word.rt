@@ -12,21 +12,18 @@ use repair::Mended;
 pub(crate) fn place_in(count: usize) -> usize
     ensures { (result ≡ word_at count) × (result < word_bytes) }
 {
-    if count < Sub::WORD {
-        return count;
-    }
-    0
+    if count < Sub::WORD { count } else { 0 }
 }
 
-// The answer to a word, which is repaired in its place.
+// The answer to a word, which is repaired in its place. channel has such lines of its own: shared, they would be one more public function.
 fn mend(parity: usize, word: &mut [u8]) -> Condition
     ensures { (result ≡ condition parity word.old) × (word.new ≡ mend parity word.old) }
 {
     match repair::repair(parity, word) {
-        Mended::Clean => Condition::Clean,
-        Mended::Repaired(n) => Condition::Repaired(n),
-        Mended::Beyond => Condition::Beyond,
-        Mended::Refused(_) => Condition::Beyond,
+        Ok(Mended::Clean) => Condition::Clean,
+        Ok(Mended::Repaired(n)) => Condition::Repaired(n),
+        Ok(Mended::Beyond) => Condition::Beyond,
+        Err(_) => Condition::Beyond,
     }
 }
 
@@ -35,5 +32,5 @@ pub(crate) fn mend_in(parity: usize, word: &mut [u8]) -> Condition
     requires { word_bytes ≤ length word.old }
     ensures { (result ≡ condition parity (take word_bytes word.old)) × (word.new ≡ mend_in parity word.old) }
 {
-    mend(parity, &mut word[0..Sub::WORD])
+    mend(parity, &mut word[..Sub::WORD])
 }

@@ -1,7 +1,8 @@
 -- Sending group by group.
+-- limited-ok, limited-not                       settings that are not refused are within their limits
 -- group-long                                    a group's bytes
 -- group-state, group-roots, group-depth, group-short, group-wrote   what the call answers and leaves
--- count-roots, count-depth, count-are           what the count answers
+-- count-are                                     what the count answers
 -- group-goes, group-placed                      a call with room writes the next group, and behind it the place is one of the N cells again
 -- groups-sent                                   the groups of a stream, call by call, are what is sent
 -- sent-long                                     so many groups
@@ -15,11 +16,14 @@ use mathlib.Core.Bool.{true, false}
 use mathlib.Core.List.{List, [], ◌∷◌, ◌++◌}
 use lib.ListN.{length, take, drop, length-append, length-take}
 use lib.Seq.{take_all, take-take}
+use Rattle.std.specs.Prelude.{Result, Ok, Err}
+use Rattle.base.specs.declared.Refusal.{Refusal}
+use Rattle.base.specs.declared.Refusal.TheVariants.{Roots, Depth}
 use borrow.Author.Tests.{lt-ltb, le-ltb}
 use Rattle.base.specs.Choice.{pick}
 use Rattle.base.specs.Calls.{joined, run}
 use Rattle.base.specs.Written.{Outcome, outcome, refused, copied}
-use Rattle.base.specs.declared.Written.TheVariants.{Wrote}
+use Rattle.base.specs.Written.{Wrote}
 use Rattle.base.proofs.Lists.{drop-take}
 use Rattle.base.proofs.Tests.{by_le}
 use Rattle.base.proofs.Writing.{write-fits, write-short}
@@ -28,11 +32,22 @@ use Rattle.interleaver_spec.specs.Running.{depth_limit, fresh, push, beyond}
 use Rattle.interleaver_spec.specs.declared.Matrix.{Matrix}
 use Rattle.channel_spec.specs.Sender.{marker}
 use Rattle.subchannel_spec.specs.Sender.{message_bytes, group_words, word_of, missing, closing_words, sent}
-use Rattle.subchannel_sender.specs.Sending.{message_of, words_from, group_next, group_stream, group_written, group_sending, group_count, counting, groups_by}
-use Rattle.subchannel_sender.specs.Private.{group_length, groups_from, GroupIs}
-use Rattle.subchannel_sender.specs.declared.Counted.TheVariants.{Groups, Refused}
+use Rattle.subchannel_sender.specs.Sending.{message_of, words_from, group_next, group_stream, group_written, group_sending, groups_by}
+use Rattle.subchannel_sender.specs.Sending.{group_count, Groups, counting}
+use Rattle.subchannel_sender.specs.Private.{group_length, groups_from, GroupIs, limited}
 use Rattle.subchannel_sender.proofs.Laying.{message-full, four-long, push-long}
 use Rattle.subchannel_sender.proofs.Storing.{push-placed, groups-next, groups-long, sent_is}
+
+-- ---- the limits
+module _ (r d : ℕ) {x : Result Unit Refusal} (p : x ≡ limited r d) where
+  pub limited-not : ((e : Refusal) → x ≡ Err e → ⊥) → (r ≤ root_limit) × (d ≤ depth_limit)
+  limited-not n =
+      by_le r root_limit
+      (λ h. by_le d depth_limit (λ k. (h, k)) (λ k. absurd (n Depth (p ∙ rw (le-ltb root_limit r h, lt-ltb depth_limit d k) refl))))
+      (λ h. absurd (n Roots (p ∙ rw (lt-ltb root_limit r h) refl)))
+
+  pub limited-ok : {u : Unit} → x ≡ Ok u → (r ≤ root_limit) × (d ≤ depth_limit)
+  limited-ok {u} q = limited-not (λ e f. let z : ◌≡◌ {A = Result Unit Refusal} (Ok u) (Err e) = sym q ∙ f in cc)
 
 -- ---- the call
 pub group-long : (r d : ℕ) → r ≤ root_limit → (m : Matrix) (bs : List ℕ) → length (group_next r d m bs).0 ≡ group_length
@@ -91,12 +106,6 @@ module _ (r d : ℕ) (m : Matrix) (bs out : List ℕ) where
 
 -- ---- how many
 module _ (r d n : ℕ) where
-  pub count-roots : root_limit < r → Refused 30 ≡ counting r d n
-  count-roots h = rw (lt-ltb root_limit r h) refl
-
-  pub count-depth : r ≤ root_limit → depth_limit < d → Refused 32 ≡ counting r d n
-  count-depth hr h = rw (le-ltb root_limit r hr, lt-ltb depth_limit d h) refl
-
   pub count-are : r ≤ root_limit → d ≤ depth_limit → Groups (group_count r d n) ≡ counting r d n
   count-are hr hd = rw (le-ltb root_limit r hr, le-ltb depth_limit d hd) refl
 

@@ -1,18 +1,15 @@
 -- What the sender's loops and calls leave.
 -- message-is                       the next message, in an array of a word
 -- word-put                         a word: the message and its parity
--- messages-even, messages-over     how many messages, by the rest
--- groups-flat, groups-deep         how many groups, by the depth
--- half                             a bound of a count
--- sets-all, sets-copied            stores one after the other; further: the stream behind so many bytes more
--- WordsLeft, words-first, words-room, words-next, words-done   the loop over a group's words
+-- sets-all, sets-copied            stores one after the other; further: what is left of a stream
+-- WordsLeft, words-first, words-next, words-done   the loop over a group's words
 -- group-put                        one group: the marker, and its bytes through the interleaver
 -- push-placed, group-as            a push stays among the cells; a group of the same bytes
 -- groups-long                      so many groups
--- GroupsLeft, groups-first, groups-room, groups-next, groups-turn, groups-done   the loop over groups
--- send-roots, send-depth, send-short, send-fits, sent_is   what the call answers and leaves
-use Prim.Native.Nat.{ℕ, zero, suc, ◌+◌, ◌-◌, ◌*◌, ◌/◌, ◌%◌, ◌≤◌, ◌<◌, min}
-use native.Mathlib.Nat.{suc-mul, mod-lt, mod_self, mod-eq_of_lt, mod-add-div', mul-div_cancel, mul-le-mul_left, sub-zero}
+-- GroupsLeft, groups-first, groups-next, groups-turn, groups-done   the loop over groups
+-- send-short, send-fits, sent_is   what the call answers and leaves
+use Prim.Native.Nat.{ℕ, zero, suc, ◌+◌, ◌-◌, ◌*◌, ◌/◌, ◌≤◌, ◌<◌, min}
+use native.Mathlib.Nat.{mod-lt}
 use native.Mathlib.Omega.{arith}
 use mathlib.Core.Path.{◌≡◌, refl, sym, ◌∙◌, ap, subst}
 use mathlib.Core.Bool.{Bool, false, ◌&&◌}
@@ -20,13 +17,13 @@ use mathlib.Core.Option.{Option, some, none}
 use mathlib.Core.List.{List, [], ◌∷◌, ◌++◌, append_assoc, append-nil}
 use lib.ListN.{length, take, drop, replicate, length-append, length-replicate, length-drop, replicate-append-replicate}
 use lib.Seq.{take_all, take_at, drop-drop, length-take-le, sets, sets-eq, length-sets}
-use lib.Dec.{ltb, leb}
+use lib.Dec.{leb}
 use borrow.Author.Tests.{lt-ltb, le-ltb, eq-eqb, le-leb, lt-leb}
 use borrow.Rule.Slice.PartMut.{put_mid}
 use Rattle.base.specs.Choice.{pick}
 use Rattle.base.specs.Written.{Outcome, outcome, refused, write, copied}
-use Rattle.base.specs.declared.Written.{Written}
-use Rattle.base.specs.declared.Written.TheVariants.{Wrote}
+use Rattle.base.specs.Written.{Written}
+use Rattle.base.specs.Written.{Wrote}
 use Rattle.base.specs.Calls.{joined, run, tell}
 use Rattle.base.specs.Private.{Laid}
 use Rattle.base.proofs.Laid.{laid_then, laid-copied}
@@ -43,7 +40,7 @@ use Rattle.interleaver_spec.specs.declared.Matrix.{Matrix}
 use Rattle.interleaver_spec.proofs.Calling.{wrote}
 use Rattle.channel_spec.specs.Sender.{marker}
 use Rattle.base.proofs.Parts.{lent, back}
-use Rattle.subchannel_spec.specs.Sender.{message_bytes, group_words, group_bytes, word_of, missing, closing_words, words_of, grouped}
+use Rattle.subchannel_spec.specs.Sender.{message_bytes, group_words, group_bytes, word_of, closing_words, words_of, grouped}
 use Rattle.subchannel_spec.specs.Sender.{sent as sent-stream}
 use Rattle.subchannel_spec.proofs.Received.{joined-append}
 use Rattle.subchannel_sender.specs.Sending.{sending, message_of, words_from}
@@ -52,88 +49,57 @@ use Rattle.subchannel_sender.proofs.Laying.{message-long, word-long, four-long, 
 use Rattle.subchannel_sender.proofs.Laying.{filled_messages, groups-count, all_words}
 
 -- the next message stands at the start of an array of a word
-pub message-is : (m n : ℕ) (bs : List ℕ) {a : List ℕ} → m ≤ word_bytes → n ≡ min m (length bs) → a ≡ copied (take (n - 0) bs) (replicate word_bytes flag)
-    → take m a ≡ copied bs (replicate m flag)
-message-is m n bs h e f =
+pub message-is : (m n : ℕ) (bs : List ℕ) {x : List ℕ} → m ≤ word_bytes → n ≡ min m (length bs) → x ≡ take n bs
+    → take m (x ++ drop n (replicate word_bytes flag)) ≡ copied bs (replicate m flag)
+message-is m n bs {x} h e f =
     by_le m (length bs)
     (λ g.
     let z : n ≡ m = omega arith in
-    let l : length (take m bs) ≡ m = length-take-le m bs g in
-    ap (take m) (f ∙ ap (λ x. copied (take x bs) (replicate word_bytes flag)) (sub-zero n ∙ z)
-    ∙ copied-fits (take m bs) (replicate word_bytes flag) (omega (arith, length-replicate word_bytes flag)))
-    ∙ take_at (take m bs) _ m l
-    ∙ sym (copied-over bs (replicate m flag) (omega (arith, length-replicate m flag)) ∙ ap (λ x. take x bs) (length-replicate m flag)))
+    let l : length x ≡ m = ap length f ∙ ap (λ k. length (take k bs)) z ∙ length-take-le m bs g in
+    take_at x (drop n (replicate word_bytes flag)) m l ∙ f ∙ ap (λ k. take k bs) z
+    ∙ sym (copied-over bs (replicate m flag) (omega (arith, length-replicate m flag)) ∙ ap (λ k. take k bs) (length-replicate m flag)))
     (λ g.
     let z : n ≡ length bs = omega arith in
-    let t : take (n - 0) bs ≡ bs = ap (λ x. take x bs) (sub-zero n) ∙ take_all n bs (omega arith) in
     let a : length (bs ++ replicate (m - length bs) flag) ≡ m = length-append bs _ ∙ (let y = length-replicate (m - length bs) flag in omega arith) in
-    let s : replicate (word_bytes - length bs) flag ≡ replicate (m - length bs) flag ++ replicate (word_bytes - m) flag =
-    sym (replicate-append-replicate (m - length bs) (word_bytes - m) flag ∙ ap (λ k. replicate k flag)
+    let s : drop n (replicate word_bytes flag) ≡ replicate (m - length bs) flag ++ replicate (word_bytes - m) flag =
+    ap (λ k. drop k (replicate word_bytes flag)) z ∙ drop-same flag (length bs) word_bytes
+    ∙ sym (replicate-append-replicate (m - length bs) (word_bytes - m) flag ∙ ap (λ k. replicate k flag)
     (let y : m - length bs + (word_bytes - m) ≡ word_bytes - length bs = omega arith in y)) in
-    ap (take m) (f ∙ ap (λ x. copied x (replicate word_bytes flag)) t ∙ copied-fits bs (replicate word_bytes flag)
-    (omega (arith, length-replicate word_bytes flag))
-    ∙ ap (λ l. bs ++ l) (drop-same flag (length bs) word_bytes ∙ s) ∙ sym
-    (append_assoc bs (replicate (m - length bs) flag) (replicate (word_bytes - m) flag)))
+    (λ i. take m ((f ∙ take_all n bs (omega arith)) i ++ s i))
+    ∙ ap (take m) (sym (append_assoc bs (replicate (m - length bs) flag) (replicate (word_bytes - m) flag)))
     ∙ take_at (bs ++ replicate (m - length bs) flag) (replicate (word_bytes - m) flag) m a
     ∙ sym (copied-fits bs (replicate m flag) (omega (arith, length-replicate m flag)) ∙ ap (λ l. bs ++ l) (drop-same flag (length bs) m)))
 
 -- the message x and its parity, one behind the other
 word-laid : (r : ℕ) (x o : List ℕ) {o₁ z : List ℕ} {w : Written} → r ≤ root_limit → length x ≡ message_bytes r → word_bytes ≤ length o
-    → o₁ ≡ copied x o → outcome w z ≡ made r x (take (length o₁ - message_bytes r) (drop (message_bytes r) o₁))
+    → o₁ ≡ x ++ drop (length x) o → outcome w z ≡ made r x (take (length o₁ - message_bytes r) (drop (message_bytes r) o₁))
     → put_mid (message_bytes r) (length o₁ - message_bytes r) o₁ z ≡ copied (word_of r x) o
 word-laid r x o {o₁} {z} {w} hr l k e f =
     let m : ℕ = message_bytes r in
     let p : List ℕ = remainder r x in
     let lp : length p ≡ r = length-remainder r x in
     let rest : List ℕ = drop (length x) o in
-    let first : o₁ ≡ x ++ rest = e ∙ copied-fits x o (omega arith) in
     let lr : length rest ≡ length o - length x = length-drop (length x) o in
     let made-is : outcome w z ≡ outcome (Wrote (length p)) (copied p rest) =
-    f ∙ ap (made r x) (lent x rest o₁ m first l)
+    f ∙ ap (made r x) (lent x rest o₁ m e l)
     ∙ (λ i. pick (le-ltb root_limit r hr i) (refused 30 rest) (pick (eq-eqb (length x) m l i) (write p rest) (refused 31 rest))) ∙ write-fits p rest
     (omega arith) in
-    back x rest o₁ m first l z
+    back x rest o₁ m e l z
     ∙ ap (λ y. x ++ y) (ap (λ (y : Outcome). y.output) made-is ∙ copied-fits p rest (omega arith) ∙ ap (λ y. p ++ y) (drop-drop (length p) (length x) o))
     ∙ sym (append_assoc x p (drop (length x + length p) o))
     ∙ (λ i. word_of r x ++ drop (sym (length-append x p) i) o)
     ∙ sym (copied-fits (word_of r x) o (omega (arith, length-append x p)))
 
 -- .. where x is the start of an array that holds the next message
-pub word-put : (r : ℕ) (bs a o : List ℕ) {o₁ z : List ℕ} {w : Written} → r ≤ root_limit → take (message_bytes r) a ≡ message_of r bs → word_bytes ≤ length o
-    → o₁ ≡ copied (take (message_bytes r - 0) a) o
-    → outcome w z ≡ made r (take (message_bytes r - 0) a) (take (length o₁ - message_bytes r) (drop (message_bytes r) o₁))
-    → put_mid (message_bytes r) (length o₁ - message_bytes r) o₁ z ≡ copied (word_of r (message_of r bs)) o
-word-put r bs a o hr q k e f =
-    let x : take (message_bytes r - 0) a ≡ message_of r bs = ap (λ n. take n a) (sub-zero (message_bytes r)) ∙ q in
-    word-laid r (take (message_bytes r - 0) a) o hr (ap length x ∙ message-long r bs) k e f ∙ ap (λ y. copied (word_of r y) o) x
-
--- ---- how many
-module _ (m n : ℕ) (h : 2 ≤ m) where
-  pub messages-even : n % m ≡ 0 → n / m ≡ (n + missing m n) / m
-  messages-even z =
-      let e : missing m n ≡ 0 = ap (λ y. (m - y) % m) z ∙ ap (λ y. y % m) (sub-zero m) ∙ mod_self m in
-      ap (λ y. y / m) (let w : n ≡ n + missing m n = omega arith in w)
-
-  pub messages-over : (n % m ≡ 0 → ⊥) → n / m + 1 ≡ (n + missing m n) / m
-  messages-over z =
-      let l : n % m < m = mod-lt n (omega arith) in
-      let s : n % m + n / m * m ≡ n = mod-add-div' n m in
-      let e : missing m n ≡ m - n % m = mod-eq_of_lt (omega arith) in
-      let f : suc (n / m) * m ≡ n / m * m + m = suc-mul (n / m) m in
-      let g : n + missing m n ≡ suc (n / m) * m = omega arith in
-      (let w : n / m + 1 ≡ suc (n / m) = omega arith in w) ∙ sym (ap (λ y. y / m) g ∙ mul-div_cancel (suc (n / m)) (omega arith))
-
-pub groups-flat : (q d : ℕ) → d < 2 → q / 4 + (q % 4 + 3) / 4 ≡ (q + closing_words d + 3) / group_words
-groups-flat q d h = (let z : q / 4 + (q % 4 + 3) / 4 ≡ (q + 0 + 3) / 4 = omega arith in z) ∙ ap (λ t. (q + pick t 0 d + 3) / group_words) (sym (lt-ltb d 2 h))
-
-pub groups-deep : (q d : ℕ) → 2 ≤ d → q / 4 + (q % 4 + d + 3) / 4 ≡ (q + closing_words d + 3) / group_words
-groups-deep q d h = (let z : q / 4 + (q % 4 + d + 3) / 4 ≡ (q + d + 3) / 4 = omega arith in z) ∙ ap (λ t. (q + pick t 0 d + 3) / group_words)
-    (sym (le-ltb d 2 h))
-
-pub half : (n m : ℕ) → 2 ≤ m → n / m + n / m ≤ n
-half n m h =
-    let s : n % m + n / m * m ≡ n = mod-add-div' n m in
-    let l : n / m * 2 ≤ n / m * m = mul-le-mul_left (n / m) h in omega arith
+pub word-put : (r : ℕ) (bs a o : List ℕ) {x z : List ℕ} {w : Written} → r ≤ root_limit → take (message_bytes r) a ≡ message_of r bs → word_bytes ≤ length o
+    → x ≡ take (message_bytes r) a
+    → outcome w z ≡ made r (take (message_bytes r) a)
+    (take (length (x ++ drop (message_bytes r) o) - message_bytes r) (drop (message_bytes r) (x ++ drop (message_bytes r) o)))
+    → put_mid (message_bytes r) (length (x ++ drop (message_bytes r) o) - message_bytes r) (x ++ drop (message_bytes r) o) z
+    ≡ copied (word_of r (message_of r bs)) o
+word-put r bs a o {x} hr q k e f =
+    let l : length (take (message_bytes r) a) ≡ message_bytes r = ap length q ∙ message-long r bs in
+    word-laid r (take (message_bytes r) a) o hr l k (λ i. e i ++ drop (sym l i) o) f ∙ ap (λ y. copied (word_of r y) o) q
 
 -- ---- stores one after the other
 pub sets-all : (l xs : List ℕ) → length xs ≡ length l → sets l 0 xs ≡ xs
@@ -144,57 +110,56 @@ pub sets-copied : (l xs : List ℕ) → length xs ≤ length l → sets l 0 xs �
 sets-copied l xs h =
     sets-eq xs l 0 (omega arith) ∙ ap (λ n. xs ++ drop n l) (let z : 0 + length xs ≡ length xs = omega arith in z) ∙ sym (copied-fits xs l h)
 
--- the stream behind so many bytes more, or at its end
-pub further : (bs : List ℕ) (from a n : ℕ) → from ≤ length bs → n ≡ min a (length bs - from) → drop (from + n) bs ≡ drop a (drop from bs)
-further bs from a n h e =
-    by_le (from + a) (length bs)
-    (λ l. ap (λ k. drop k bs) (let z : from + n ≡ from + a = omega arith in z) ∙ sym (drop-drop a from bs))
-    (λ l. over bs (from + n) (omega arith) ∙ sym (drop-drop a from bs ∙ over bs (from + a) (omega arith)))
+-- what is left of a stream behind so many bytes, or behind all
+pub further : (bs : List ℕ) (a n : ℕ) → n ≡ min (length bs) a → take (length bs - n) (drop n bs) ≡ drop a bs
+further bs a n e =
+    tail-is n bs
+    ∙ by_le a (length bs) (λ l. ap (λ k. drop k bs) (let z : n ≡ a = omega arith in z)) (λ l. over bs n (omega arith) ∙ sym (over bs a (omega arith)))
 
 -- ---- a group's words
-abbrev pub WordsLeft : ℕ → List ℕ → ℕ → List ℕ → ℕ → Type 0
-WordsLeft r bs from group at =
-    (k : ℕ) × (at + word_bytes * k ≡ 4 * word_bytes) × (sets group at (joined (words_from r k (drop from bs))) ≡ joined (words_from r 4 bs))
+pub record WordsLeft (r : ℕ) (bs rest group : List ℕ) (i : ℕ) : Type 0 where
+  pub left : ℕ
+  pub many : i + left ≡ 4
+  pub long : length group ≡ 4 * word_bytes
+  pub laid : sets group (word_bytes * i) (joined (words_from r left rest)) ≡ joined (words_from r 4 bs)
 
-pub words-first : (r : ℕ) → r ≤ root_limit → (bs group : List ℕ) → length group ≡ 4 * word_bytes → WordsLeft r bs 0 group 0
-words-first r h bs group l = (4, omega arith, sets-all group (joined (words_from r 4 bs)) (four-long r h bs ∙ sym l))
+pub words-first : (r : ℕ) → r ≤ root_limit → (bs group : List ℕ) → length group ≡ 4 * word_bytes → WordsLeft r bs bs group 0
+words-first r h bs group l =
+    record { left = 4; many = refl; long = l; laid = sets-all group (joined (words_from r 4 bs)) (four-long r h bs ∙ sym l) }
 
--- there is room for a word
-pub words-room : (r : ℕ) (bs group : List ℕ) (from at : ℕ) → WordsLeft r bs from group at → at < 4 * word_bytes → length group ≡ 4 * word_bytes
-    → (word_bytes ≤ length (take (4 * word_bytes - at) (drop at group))) × (at + word_bytes ≤ 4 * word_bytes)
-words-room r bs group from at (zero, e, s) a l = absurd (omega arith)
-words-room r bs group from at (suc k, e, s) a l =
-    let z = length-drop at group in
-    (omega (arith, length-take-le (4 * word_bytes - at) (drop at group) (omega arith)), omega arith)
+pub words-next : (r : ℕ) → r ≤ root_limit → (bs rest group : List ℕ) (i n : ℕ) {y : List ℕ} → WordsLeft r bs rest group i → i < 4
+    → n ≡ min (length rest) (message_bytes r)
+    → y ≡ copied (word_of r (message_of r rest)) (take (4 * word_bytes - word_bytes * i) (drop (word_bytes * i) group))
+    → WordsLeft r bs (take (length rest - n) (drop n rest)) (put_mid (word_bytes * i) (4 * word_bytes - word_bytes * i) group y) (i + 1)
+words-next r hr bs rest group i n {y} w h en ey = go w.left refl
+  where
+    go : (a : ℕ) → w.left ≡ a
+        → WordsLeft r bs (take (length rest - n) (drop n rest)) (put_mid (word_bytes * i) (4 * word_bytes - word_bytes * i) group y) (i + 1)
+    go zero q = absurd (let z = w.many in omega arith)
+    go (suc k) q =
+        let at : ℕ = word_bytes * i in
+        let x : List ℕ = word_of r (message_of r rest) in
+        let lx : length x ≡ word_bytes = word-long r hr rest in
+        let lg = w.long in
+        let lm = w.many in
+        let after : List ℕ = put_mid at (4 * word_bytes - at) group y in
+        let v : y ≡ copied x (take (length group - at) (drop at group)) = ey ∙ ap (λ b. copied x (take (b - at) (drop at group))) (sym lg) in
+        let p : Laid group at x after (at + length x) =
+        subst (λ b. Laid group at x (put_mid at (b - at) group y) (at + length x)) lg (laid-copied (omega arith) v) in
+        record {
+          left = k;
+          many = omega arith;
+          long = ap length p.holds ∙ length-sets group at x ∙ lg;
+          laid = (λ j. sets after ((let z : word_bytes * (i + 1) ≡ at + length x = omega arith in z) j)
+              (joined (words_from r k (further rest (message_bytes r) n en j))))
+              ∙ laid_then p (joined (words_from r k (drop (message_bytes r) rest)))
+              ∙ ap (λ z. sets group at (joined (words_from r z rest))) (sym q) ∙ w.laid;
+        }
 
-pub words-next : (r : ℕ) → r ≤ root_limit → (bs group : List ℕ) (from at n : ℕ) {y : List ℕ} → WordsLeft r bs from group at → at < 4 * word_bytes
-    → length group ≡ 4 * word_bytes → from ≤ length bs → n ≡ min (message_bytes r) (length bs - from)
-    → y ≡ copied (word_of r (message_of r (take (length bs - from) (drop from bs)))) (take (4 * word_bytes - at) (drop at group))
-    → (length (put_mid at (4 * word_bytes - at) group y) ≡ 4 * word_bytes)
-    × WordsLeft r bs (from + n) (put_mid at (4 * word_bytes - at) group y) (at + word_bytes)
-words-next r h bs group from at n {y} (zero, e, s) a l f en ey = absurd (omega arith)
-words-next r h bs group from at n {y} (suc k, e, s) a l f en ey =
-    let x : List ℕ = word_of r (message_of r (drop from bs)) in
-    let lx : length x ≡ word_bytes = word-long r h (drop from bs) in
-    let z : List ℕ = joined (words_from r k (drop (from + n) bs)) in
-    let after : List ℕ = put_mid at (4 * word_bytes - at) group y in
-    let t : take (4 * word_bytes - at) (drop at group) ≡ take (length group - at) (drop at group) = ap (λ b. take (b - at) (drop at group)) (sym l) in
-    let w : y ≡ copied x (take (length group - at) (drop at group)) =
-    ey ∙ (λ i. copied (word_of r (message_of r (tail-is from bs i))) (t i)) in
-    let p : Laid group at x after (at + length x) =
-    subst (λ b. Laid group at x (put_mid at (b - at) group y) (at + length x)) l (laid-copied (omega arith) w) in (
-      ap length p.holds ∙ length-sets group at x ∙ l,
-      (
-        k,
-        omega arith,
-        ap (λ j. sets after (at + j) z) (sym lx) ∙ laid_then p z
-            ∙ ap (λ b. sets group at (x ++ joined (words_from r k b))) (further bs from (message_bytes r) n f en) ∙ s,
-      ),
-    )
-
-pub words-done : (r : ℕ) (bs group : List ℕ) (from at : ℕ) → WordsLeft r bs from group at → 4 * word_bytes ≤ at → group ≡ joined (words_from r 4 bs)
-words-done r bs group from at (zero, e, s) h = s
-words-done r bs group from at (suc k, e, s) h = absurd (omega arith)
+pub words-done : (r : ℕ) (bs rest group : List ℕ) (i : ℕ) → WordsLeft r bs rest group i → 4 ≤ i → group ≡ joined (words_from r 4 bs)
+words-done r bs rest group i w h =
+    let z : w.left ≡ 0 = let y = w.many in omega arith in
+    ap (λ a. sets group (word_bytes * i) (joined (words_from r a rest))) (sym z) ∙ w.laid
 
 -- ---- groups
 pub push-placed : (d : ℕ) (bs : List ℕ) (m : Matrix) → beyond d m.place ≡ false → beyond d (run (push d) m bs).1.place ≡ false
@@ -218,7 +183,7 @@ push-placed d (b ∷ bs) m e =
 
 -- one group, from what its calls leave
 pub group-put : (d : ℕ) (m : Matrix) (x out : List ℕ) {o₁ z : List ℕ} {w : Written} {m' : Matrix} → d ≤ depth_limit → beyond d m.place ≡ false
-    → length x ≡ group_bytes → group_length ≤ length out → o₁ ≡ copied marker out
+    → length x ≡ group_bytes → group_length ≤ length out → o₁ ≡ marker ++ drop 4 out
     → ◌≡◌ {A = Outcome × Matrix} (outcome w z, m') (pushing d m x (take (length o₁ - 4) (drop 4 o₁)))
     → GroupIs d m x out m' (put_mid 4 (length o₁ - 4) o₁ z)
 group-put d m x out {o₁} {z} {w} {m'} hd b l k e f =
@@ -226,11 +191,10 @@ group-put d m x out {o₁} {z} {w} {m'} hd b l k e f =
     let lx : length xs ≡ group_bytes = push-long d m x ∙ l in
     let rest : List ℕ = drop 4 out in
     let lr : length rest ≡ length out - 4 = length-drop 4 out in
-    let first : o₁ ≡ marker ++ rest = e ∙ copied-fits marker out (omega arith) in
     let is : ◌≡◌ {A = Outcome × Matrix} (outcome w z, m') (outcome (Wrote (length xs)) (copied xs rest), (run (push d) m x).1) =
-    f ∙ ap (pushing d m x) (lent marker rest o₁ 4 first refl) ∙ sym (wrote d m.place m (run (push d) m x) rest b hd (omega arith)) in (
+    f ∙ ap (pushing d m x) (lent marker rest o₁ 4 e refl) ∙ sym (wrote d m.place m (run (push d) m x) rest b hd (omega arith)) in (
       ap (λ (y : Outcome × Matrix). y.1) is,
-      back marker rest o₁ 4 first refl z
+      back marker rest o₁ 4 e refl z
           ∙ ap (λ y. marker ++ y) (ap (λ (y : Outcome × Matrix). y.0.output) is ∙ copied-fits xs rest (omega arith) ∙ ap (λ y. xs ++ y)
           (drop-drop (length xs) 4 out))
           ∙ sym (append_assoc marker xs (drop (4 + length xs) out)) ∙ (λ i. (marker ++ xs) ++ drop (sym (length-append marker xs) i) out)
@@ -270,69 +234,56 @@ module _ (r d : ℕ) (hr : r ≤ root_limit) where
       ap length (groups-next g m bs) ∙ length-append (marker ++ x) y ∙ (let z = length-append marker x in omega arith)
 
   -- what the loop has left, g groups in all
-  pub record GroupsLeft (g : ℕ) (bs out₀ : List ℕ) (from : ℕ) (m : Matrix) (out : List ℕ) (i : ℕ) : Type 0 where
+  pub record GroupsLeft (g : ℕ) (bs out₀ rest : List ℕ) (m : Matrix) (out : List ℕ) (i : ℕ) : Type 0 where
     pub left : ℕ
     pub many : i + left ≡ g
-    pub within : from ≤ length bs
     pub same : length out ≡ length out₀
     pub placed : beyond d m.place ≡ false
-    pub laid : sets out (group_length * i) (groups_from r d left m (drop from bs)) ≡ sets out₀ 0 (groups_from r d g fresh bs)
+    pub laid : sets out (group_length * i) (groups_from r d left m rest) ≡ sets out₀ 0 (groups_from r d g fresh bs)
 
-  pub groups-first : (g : ℕ) (bs out : List ℕ) {m : Matrix} → m ≡ fresh → GroupsLeft g bs out 0 m out 0
+  pub groups-first : (g : ℕ) (bs out : List ℕ) {m : Matrix} → m ≡ fresh → GroupsLeft g bs out bs m out 0
   groups-first g bs out e =
-      subst (λ m. GroupsLeft g bs out 0 m out 0) (sym e) (record {
+      subst (λ m. GroupsLeft g bs out bs m out 0) (sym e) (record {
         left = g;
         many = omega arith;
-        within = omega arith;
         same = refl;
         placed = by_le 2 d (λ h. rw (le-leb 2 d h, lt-leb (size d) 0 (omega arith)) refl) (λ h. rw (lt-leb 2 d h) refl);
         laid = ap (λ n. sets out n (groups_from r d g fresh bs)) (let z : group_length * 0 ≡ 0 = omega arith in z);
       })
 
-  -- there is room for a group
-  pub groups-room : (g : ℕ) (bs out₀ out : List ℕ) (from i : ℕ) (m : Matrix) → GroupsLeft g bs out₀ from m out i → i < g → g * group_length ≤ length out₀
-      → (group_length * i ≤ length out) × (group_length ≤ length (take (length out - group_length * i) (drop (group_length * i) out)))
-  groups-room g bs out₀ out from i m l h k =
-      let z = l.same in
-      (omega arith, subst (λ x. group_length ≤ length x) (sym (tail-is (group_length * i) out)) (let y = length-drop (group_length * i) out in omega arith))
-
-  pub groups-turn : (g : ℕ) (bs out₀ out : List ℕ) (from i n : ℕ) (m : Matrix) {y : List ℕ} {m' : Matrix} → GroupsLeft g bs out₀ from m out i → i < g
-      → g * group_length ≤ length out₀ → n ≡ min (4 * message_bytes r) (length bs - from)
-      → GroupIs d m (four (take (length bs - from) (drop from bs))) (take (length out - group_length * i) (drop (group_length * i) out)) m' y
-      → GroupsLeft g bs out₀ (from + n) m' (put_mid (group_length * i) (length out - group_length * i) out y) (i + 1)
-  groups-turn g bs out₀ out from i n m {y} {m'} l h k en e = go l.left refl
+  pub groups-turn : (g : ℕ) (bs out₀ rest out : List ℕ) (i n : ℕ) (m : Matrix) {y : List ℕ} {m' : Matrix} → GroupsLeft g bs out₀ rest m out i → i < g
+      → g * group_length ≤ length out₀ → n ≡ min (length rest) (4 * message_bytes r)
+      → GroupIs d m (four rest) (take (length out - group_length * i) (drop (group_length * i) out)) m' y
+      → GroupsLeft g bs out₀ (take (length rest - n) (drop n rest)) m' (put_mid (group_length * i) (length out - group_length * i) out y) (i + 1)
+  groups-turn g bs out₀ rest out i n m {y} {m'} l h k en e = go l.left refl
     where
-      go : (a : ℕ) → l.left ≡ a → GroupsLeft g bs out₀ (from + n) m' (put_mid (group_length * i) (length out - group_length * i) out y) (i + 1)
+      go : (a : ℕ) → l.left ≡ a
+          → GroupsLeft g bs out₀ (take (length rest - n) (drop n rest)) m' (put_mid (group_length * i) (length out - group_length * i) out y) (i + 1)
       go zero q = absurd (let z = l.many in omega arith)
       go (suc a) q =
           let at : ℕ = group_length * i in
-          let fw : List ℕ = four (drop from bs) in
-          let t : four (take (length bs - from) (drop from bs)) ≡ fw = ap four (tail-is from bs) in
+          let fw : List ℕ = four rest in
           let x : List ℕ = marker ++ (run (push d) m fw).0 in
           let lx : length x ≡ group_length = length-append marker (run (push d) m fw).0 ∙
-          (let z = push-long d m fw ∙ four-long r hr (drop from bs) in omega arith) in
-          let w : y ≡ copied x (take (length out - at) (drop at out)) = e.1 ∙ ap
-          (λ z. copied (marker ++ (run (push d) m z).0) (take (length out - at) (drop at out))) t in
-          let mm : m' ≡ (run (push d) m fw).1 = e.0 ∙ ap (λ z. (run (push d) m z).1) t in
+          (let z = push-long d m fw ∙ four-long r hr rest in omega arith) in
           let lm = l.many in
-          let p : Laid out at x (put_mid at (length out - at) out y) (at + length x) = laid-copied (let z = l.same in omega arith) w in
+          let p : Laid out at x (put_mid at (length out - at) out y) (at + length x) = laid-copied (let z = l.same in omega arith) e.1 in
           record {
             left = a;
             many = omega arith;
-            within = let z = l.within in omega arith;
             same = ap length p.holds ∙ length-sets out at x ∙ l.same;
-            placed = ap (λ (z : Matrix). beyond d z.place) mm ∙ push-placed d fw m l.placed;
+            placed = ap (λ (z : Matrix). beyond d z.place) e.0 ∙ push-placed d fw m l.placed;
             laid = (λ j. sets (put_mid at (length out - at) out y) ((let z : group_length * (i + 1) ≡ at + length x = omega arith in z) j)
-                (groups_from r d a (mm j) (further bs from (4 * message_bytes r) n l.within en j)))
-                ∙ laid_then p (groups_from r d a (run (push d) m fw).1 (drop (4 * message_bytes r) (drop from bs)))
-                ∙ ap (sets out at) (sym (groups-next a m (drop from bs))) ∙ ap (λ z. sets out at (groups_from r d z m (drop from bs))) (sym q) ∙ l.laid;
+                (groups_from r d a (e.0 j) (further rest (4 * message_bytes r) n en j)))
+                ∙ laid_then p (groups_from r d a (run (push d) m fw).1 (drop (4 * message_bytes r) rest))
+                ∙ ap (sets out at) (sym (groups-next a m rest)) ∙ ap (λ z. sets out at (groups_from r d z m rest)) (sym q) ∙ l.laid;
           }
 
-  pub groups-done : (g : ℕ) (bs out₀ out : List ℕ) (from i : ℕ) (m : Matrix) → GroupsLeft g bs out₀ from m out i → g ≤ i → g * group_length ≤ length out₀
+  pub groups-done : (g : ℕ) (bs out₀ rest out : List ℕ) (i : ℕ) (m : Matrix) → GroupsLeft g bs out₀ rest m out i → g ≤ i → g * group_length ≤ length out₀
       → out ≡ copied (groups_from r d g fresh bs) out₀
-  groups-done g bs out₀ out from i m l h k =
+  groups-done g bs out₀ rest out i m l h k =
       let z : l.left ≡ 0 = let y = l.many in omega arith in
-      ap (λ a. sets out (group_length * i) (groups_from r d a m (drop from bs))) (sym z) ∙ l.laid
+      ap (λ a. sets out (group_length * i) (groups_from r d a m rest)) (sym z) ∙ l.laid
       ∙ sets-copied out₀ (groups_from r d g fresh bs) (let y = groups-long g fresh bs in omega arith)
 
 -- ---- the call
@@ -363,11 +314,3 @@ module _ (r d : ℕ) (hr : r ≤ root_limit) (hd : d ≤ depth_limit) (bs out : 
   send-fits h f =
       (λ i. outcome (Wrote ((let z : group_length * g ≡ length (sent-stream r d bs) = omega (arith, long) in z) i)) ((f ∙ ap (λ x. copied x out) sent_is) i))
       ∙ sym (write-fits (sent-stream r d bs) out (omega (arith, long))) ∙ within
-
-pub send-roots : (r d : ℕ) (bs out : List ℕ) → root_limit < r → refused 30 out ≡ sending r d bs out
-send-roots r d bs out h =
-    ap (λ t. pick t (refused 30 out) (pick (ltb depth_limit d) (refused 32 out) (write (sent-stream r d bs) out))) (sym (lt-ltb root_limit r h))
-
-pub send-depth : (r d : ℕ) (bs out : List ℕ) → r ≤ root_limit → depth_limit < d → refused 32 out ≡ sending r d bs out
-send-depth r d bs out k h =
-    λ i. pick (sym (le-ltb root_limit r k) i) (refused 30 out) (pick (sym (lt-ltb depth_limit d h) i) (refused 32 out) (write (sent-stream r d bs) out))

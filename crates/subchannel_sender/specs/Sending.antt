@@ -5,8 +5,12 @@
 -- group_stream, group_written     bytes of four messages; a group written, what is taken for it, and the cells
 -- group_sending                  the call that sends one
 -- group_count, counting          how many groups a stream has, and the call that says so
+-- Counted, Groups, Refused       what it answers: so many groups, or a refusal by its number in the paper
+-- as_counted                     the same of what the code answers
 -- groups_by                      what so many calls write, one behind the other
-use Rattle.std.specs.Prelude.{ℕ, zero, suc, ◌+◌, ◌*◌, ◌/◌, min, List, [], ◌∷◌, ◌++◌, ltb, length, drop, replicate}
+use Rattle.std.specs.Prelude.{ℕ, zero, suc, ◌+◌, ◌*◌, ◌/◌, min, List, [], ◌∷◌, ◌++◌, ltb, length, drop, replicate, Result, Ok, Err}
+use Rattle.base.specs.declared.Refusal.{Refusal}
+use Rattle.base.specs.Refusals.{number}
 use Rattle.base.specs.Calls.{joined, run}
 use Rattle.base.specs.Choice.{pick}
 use Rattle.base.specs.Written.{Outcome, refused, write, copied}
@@ -16,8 +20,6 @@ use Rattle.interleaver_spec.specs.Running.{depth_limit, push, beyond}
 use Rattle.interleaver_spec.specs.declared.Matrix.{Matrix}
 use Rattle.channel_spec.specs.Sender.{marker}
 use Rattle.subchannel_spec.specs.Sender.{message_bytes, group_words, word_of, missing, closing_words, sent}
-use Rattle.subchannel_sender.specs.declared.Counted.{Counted}
-use Rattle.subchannel_sender.specs.declared.Counted.TheVariants.{Groups, Refused}
 
 -- 30: R above 64. 32: depth above 64. Then 23 as for every call that writes
 abbrev pub sending : ℕ → ℕ → List ℕ → List ℕ → Outcome
@@ -54,6 +56,16 @@ group_sending r d m bs out =
 -- the groups of a stream of n bytes: its messages, the closing push, and what completes the last
 abbrev pub group_count : ℕ → ℕ → ℕ → ℕ
 group_count r d n = ((n + missing (message_bytes r) n) / message_bytes r + closing_words d + 3) / group_words
+
+-- so many groups, or the call is refused, by this number of the paper
+pub data Counted : Type 0 where
+  Groups : ℕ → Counted
+  Refused : ℕ → Counted
+
+-- what the code answers, by the paper's numbers
+abbrev pub as_counted : Result ℕ Refusal → Counted
+as_counted (Ok n) = Groups n
+as_counted (Err r) = Refused (number r)
 
 -- the call that says so: 30, 32
 abbrev pub counting : ℕ → ℕ → ℕ → Counted

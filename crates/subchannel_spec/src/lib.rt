@@ -30,6 +30,7 @@ impl Group {
     pub const LENGTH: usize = 4 + Self::BYTES;
 }
 
+// A flag and no Option: callers hand settings in, and the laws speak of all their values, also of those that are not told.
 /// What a sub-channel is told.
 #[derive(Clone, Copy)]
 pub struct Settings {
@@ -38,14 +39,6 @@ pub struct Settings {
     pub parity: usize,
     /// The interleaver's depth.
     pub depth: usize,
-}
-
-/// What configuring answers.
-#[derive(Clone, Copy)]
-pub enum Configured {
-    Done,
-    /// The call is refused, by this number of the paper.
-    Refused(u8),
 }
 
 impl Settings {
@@ -59,9 +52,6 @@ impl Settings {
     pub fn within(self) -> bool
         ensures { result ≡ within self }
     {
-        if Self::PARITY < self.parity {
-            return false;
-        }
-        self.depth <= Self::DEPTH
+        self.parity <= Self::PARITY && self.depth <= Self::DEPTH
     }
 }

@@ -1,6 +1,6 @@
 -- Each public function's promise determines its result, and what the lent buffer then holds.
 -- put-byte-determined, put-text-determined, put-number-determined, put-item-determined, deliver-determined   a law of each function
-use mathlib.Core.Path.{◌≡◌, refl, ap}
+use mathlib.Core.Path.{refl, ap}
 use Rattle.base.specs.Determined.{Determined}
 use Rattle.base.proofs.Determining.{same, same_answer, same-output, buffer, skip}
 use Rattle.text.specs.Put.{Place}

@@ -2,7 +2,7 @@
 #![tactic(auto)]
 
 ghost use Rattle.std.specs.Prelude.{◌≡◌, [], ◌∷◌, ◌++◌, take};
-ghost use Rattle.base.specs.Written.{outcome, write};
+ghost use Rattle.base.specs.Written.{as_written, outcome, write};
 ghost use Rattle.text.specs.Text.{decimal};
 ghost use Rattle.text.specs.Put.{Puts};
 
@@ -24,10 +24,8 @@ pub fn put_text(text: &mut [u8], at: usize, bytes: &[u8]) -> usize
     ensures { Puts text.old at bytes.now text.new result }
 {
     let mut end = at;
-    let mut i: usize = 0;
-    while i < bytes.len() {
-        end = put_byte(text, end, bytes[i]);
-        i += 1;
+    for b in bytes {
+        end = put_byte(text, end, *b);
     }
     end
 }
@@ -37,10 +35,10 @@ pub fn put_number(text: &mut [u8], at: usize, n: u64) -> usize
     ensures { Puts text.old at (decimal n) text.new result }
 {
     if n < 10 {
-        return put_byte(text, at, 48 + n as u8);
+        return put_byte(text, at, b'0' + n as u8);
     }
     let end = put_number(text, at, n / 10);
-    put_byte(text, end, 48 + (n % 10) as u8)
+    put_byte(text, end, b'0' + (n % 10) as u8)
 }
 
 /// A number and a byte behind it.
@@ -53,12 +51,12 @@ pub fn put_item(text: &mut [u8], at: usize, n: u64, b: u8) -> usize
 
 /// Writes the first n bytes of a text.
 pub fn deliver(text: &[u8], n: usize, out: &mut [u8]) -> Written
-    ensures { outcome result out.new ≡ write (take n text.now) out.old }
+    ensures { outcome (as_written result) out.new ≡ write (take n text.now) out.old }
 {
-    let length = base::least(n, text.len());
+    let length = n.min(text.len());
     if out.len() < length {
-        return Written::Refused(Refusal::OUTPUT);
+        return Err(Refusal::Output);
     }
-    base::copy(&text[0..length], out);
-    Written::Wrote(length)
+    base::copy(&text[..length], out);
+    Ok(length)
 }

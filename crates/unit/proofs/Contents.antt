@@ -1,7 +1,7 @@
 -- A byte of a payload, by its place.
 -- in-audio, in-fixed, in-gap, in-none, in-opportunistic, in-delimiter, before-delimiter   where it stands
 -- marked-none, marked-some     the delimiter stands only before opportunistic data; length_some: what both take
--- begin-fits, length-laid      how much room they have; how long the payload is
+-- length-laid                  how long the payload is
 -- bits-any                     a bit of bytes is a bit of a byte, or 0 behind them
 use mathlib.Core.Path.{◌≡◌, refl, sym, ap, ◌∙◌}
 use mathlib.Core.List.{List, [], ◌++◌}
@@ -43,11 +43,6 @@ behind-delimiter t m o e j h k = (omega arith, omega arith, omega arith)
 
 within-delimiter : (t m o e j : ℕ) → t + (m + o) ≡ e → m ≡ 5 → j < e - o → e - o - 5 ≤ j → (j - (e - o - 5) ≡ j - t) × (j - t < m) × (t ≤ j)
 within-delimiter t m o e j h f k l = (omega arith, omega arith, omega arith)
-
--- how much room they have
-pub begin-fits : (a f n : ℕ) (d opp : List ℕ) → a + length (marked d opp) + f ≤ n → (length opp ≡ 0 → ⊥) → length d ≡ 5
-    → (length opp ≤ n - f) × (5 ≤ n - f - length opp)
-begin-fits a f n d opp h s e = let k = length_some d opp s in (omega arith, omega arith)
 
 module _ (n : ℕ) (d audio opp fixed : List ℕ) (room : length audio + length (marked d opp) + length fixed ≤ n) (j : ℕ) where
   -- audio and zeros; with the marked data behind them

@@ -10,7 +10,7 @@ use lib.ListN.{length, take, drop, length-append, length-drop}
 use lib.Seq.{paste, take-paste, drop-paste, length-paste, drop-drop, length-take-le, take_all}
 use borrow.Author.Tests.{le-ltb}
 use Rattle.base.specs.Written.{outcome, refused, write}
-use Rattle.base.specs.declared.Written.TheVariants.{Wrote}
+use Rattle.base.specs.Written.{Wrote}
 use Rattle.base.proofs.Writing.{write-short}
 
 -- behind what is pasted, the list is as it was

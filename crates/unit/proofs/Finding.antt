@@ -1,10 +1,10 @@
 -- The delimiter sought, and payload bytes stored.
 -- length-payload                                   how many payload bytes there are
--- begins-not, begins-next, begins-done             a turn of the comparison, and its end
--- five-on, window-of, window-next, window-begins   the five bytes from a place on
+-- begins-same                                      the comparison of as many bytes
+-- window-of, window-next, window-begins            the five bytes from a place on
 -- find-here, find-next, find-over                  a turn of the search: found, not found, and its end
 -- opened-short, opened-is                          what stands behind the first delimiter is the end of what was searched
--- put-more, put-done                               a turn of the loop that stores payload bytes, and its end
+-- put-more                                         a turn of the loop that stores payload bytes
 use mathlib.Core.Path.{◌≡◌, refl, sym, ap, ap₂, ◌∙◌}
 use mathlib.Core.Bool.{Bool, true, false, ◌&&◌}
 use mathlib.Core.List.{List, [], ◌∷◌, ◌++◌}
@@ -13,9 +13,9 @@ use native.Mathlib.Nat.{sub-zero}
 use native.Mathlib.Numerals.{add-one}
 use native.Mathlib.Omega.{arith}
 use lib.Dec.{eqb}
+use lib.Pointwise.{pointwise}
 use lib.ListN.{length, take, drop, get_or, set, length-drop, drop_of_length-le}
 use lib.Seq.{drop-cons, drop-drop, length-take-le, drop-length, get_or-drop, paste, paste-suc}
-use borrow.Author.Tests.{eq-eqb, ne_eqb}
 use Rattle.base.specs.Choice.{pick}
 use Rattle.base.proofs.Lists.{drop-take}
 use Rattle.base.proofs.Tests.{by-test, by_le}
@@ -30,22 +30,12 @@ unfolding payload_of
 length-payload l u = length-pack (payload l) (unwoven (start l) (step l - 1) (heads l) (bits u))
 
 -- ---- the comparison of five bytes
-module _ (d w : List ℕ) (k : ℕ) (h : k < length d) (l : k < length w) where
-  turn : begins (drop k d) (drop k w) ≡ eqb (get_or d k 0) (get_or w k 0) && begins (drop (k + 1) d) (drop (k + 1) w)
-  unfolding begins
-  turn =
-      let f : suc k ≡ k + 1 = omega arith in
-      ap₂ begins (drop-cons d k 0 h) (drop-cons w k 0 l) ∙ ap (λ (x : ℕ). eqb (get_or d k 0) (get_or w k 0) && begins (drop x d) (drop x w)) f
-
-  pub begins-not : (get_or d k 0 ≡ get_or w k 0 → ⊥) → {t : Bool} → begins (drop k d) (drop k w) ≡ t → false ≡ t
-  begins-not n {t} i = sym (turn ∙ ap (λ (x : Bool). x && begins (drop (k + 1) d) (drop (k + 1) w)) (ne_eqb (get_or d k 0) (get_or w k 0) n)) ∙ i
-
-  pub begins-next : get_or d k 0 ≡ get_or w k 0 → {t : Bool} → begins (drop k d) (drop k w) ≡ t → begins (drop (k + 1) d) (drop (k + 1) w) ≡ t
-  begins-next n {t} i = sym (turn ∙ ap (λ (x : Bool). x && begins (drop (k + 1) d) (drop (k + 1) w)) (eq-eqb (get_or d k 0) (get_or w k 0) n)) ∙ i
-
-pub begins-done : (d w : List ℕ) (k : ℕ) → length d ≤ k → {t : Bool} → begins (drop k d) (drop k w) ≡ t → true ≡ t
+pub begins-same : (d w : List ℕ) → length d ≡ length w → pointwise eqb d w ≡ begins d w
 unfolding begins
-begins-done d w k h {t} i = sym (ap (λ (x : List ℕ). begins x (drop k w)) (drop_of_length-le d h)) ∙ i
+begins-same [] [] h = refl
+begins-same [] (y ∷ w) h = absurd (omega arith)
+begins-same (x ∷ d) [] h = absurd (omega arith)
+begins-same (x ∷ d) (y ∷ w) h = ap (λ (t : Bool). eqb x y && t) (begins-same d w (omega arith))
 
 begins-take : (d xs : List ℕ) (m : ℕ) → length d ≤ m → begins d (take m xs) ≡ begins d xs
 unfolding begins
@@ -62,15 +52,6 @@ five-at (_ ∷ []) h = absurd (omega arith)
 five-at (_ ∷ _ ∷ []) h = absurd (omega arith)
 five-at (_ ∷ _ ∷ _ ∷ []) h = absurd (omega arith)
 five-at (_ ∷ _ ∷ _ ∷ _ ∷ []) h = absurd (omega arith)
-
-pub five-on : (w : List ℕ) (b : ℕ) → length w ≡ 5 → get_or w 1 0 ∷ get_or w 2 0 ∷ get_or w 3 0 ∷ get_or w 4 0 ∷ b ∷ [] ≡ drop 1 w ++ b ∷ []
-five-on (x ∷ y ∷ z ∷ u ∷ v ∷ []) b h = refl
-five-on (x ∷ y ∷ z ∷ u ∷ v ∷ _ ∷ w) b h = absurd (omega arith)
-five-on [] b h = absurd (omega arith)
-five-on (_ ∷ []) b h = absurd (omega arith)
-five-on (_ ∷ _ ∷ []) b h = absurd (omega arith)
-five-on (_ ∷ _ ∷ _ ∷ []) b h = absurd (omega arith)
-five-on (_ ∷ _ ∷ _ ∷ _ ∷ []) b h = absurd (omega arith)
 
 module _ (p : List ℕ) (j : ℕ) where
   pub window-of : {a b c d e : ℕ} → j + 5 ≤ length p → a ≡ get_or p j 0 → b ≡ get_or p (j + 1) 0 → c ≡ get_or p (j + 2) 0 → d ≡ get_or p (j + 3) 0
@@ -179,6 +160,3 @@ put-more before after p at from i b e w h k =
     ap₂ (λ (x : List ℕ) (y : ℕ). set x (at + i) y) e (w ∙ sym (get_or-drop from p i 0))
     ∙ paste-suc before at (drop from p) i 0 h (omega (arith, length-drop from p))
     ∙ ap (paste before at (drop from p)) (sym (add-one i))
-
-pub put-done : (before after p : List ℕ) (at from i n : ℕ) → after ≡ paste before at (drop from p) i → i ≡ n → after ≡ paste before at (drop from p) n
-put-done before after p at from i n e w = e ∙ ap (paste before at (drop from p)) w

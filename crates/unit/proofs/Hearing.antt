@@ -1,14 +1,16 @@
 -- What the reader's code finds, as the definitions have it.
 -- reach                                     the header bits of an accepted length stand within its bits
 -- Lent, Onward                              what the code has found: a whole unit; the bit is not before the header
+-- lent-of, onward-of                        .. from its facts
 -- heads-few, step-some                      how many there are, and that they stand apart
 -- payload-low, table-low                    the numbers of an accepted length are low enough to reckon with
 -- payload-before, payload-once, payload-gap   a payload bit
 -- byte-reach, byte_of                       a payload byte
 -- SoFar, hear-none, hear-more, hear-done    the loop that reads the header; low, at_low: its numbers
--- named-24, named-23, named-22, is-22       the sequence named
-use mathlib.Core.Path.{◌≡◌, refl, sym, ap, ap₂, ◌∙◌}
-use mathlib.Core.Bool.{false}
+-- named-24, named-23, named-22, named-is    the sequence named
+-- some-bits, code-one                       what a sequence's number tells of it
+use mathlib.Core.Path.{◌≡◌, refl, sym, ap, ap₂, subst, ◌∙◌}
+use mathlib.Core.Bool.{Bool, true, false}
 use mathlib.Core.List.{List}
 use Prim.Native.Nat.{ℕ, zero, suc, ◌+◌, ◌-◌, ◌*◌, ◌/◌, ◌^◌, ◌≤◌, ◌<◌, min}
 use native.Mathlib.Nat.{pow-succ', pow-le-pow_right, mul-suc, sub-zero, pos_of_ne-zero}
@@ -17,13 +19,18 @@ use native.Mathlib.Omega.{arith}
 use lib.Dec.{eqb}
 use lib.ListN.{length, take, drop, get_or}
 use lib.Seq.{drop-drop}
+use Rattle.std.specs.Prelude.{Option, None, Some, cond, find}
 use Rattle.base.specs.Choice.{pick}
+use Rattle.base.proofs.Tests.{by_le}
 use Rattle.unit_spec.specs.Bits.{digits, bits, number, pack}
 use Rattle.unit_spec.specs.Tables.{cw0, cw1, cw2, cw3, cw4, heads, start, step, payload, lent, unfit}
 use Rattle.unit_spec.specs.Reading.{heard, unwoven, header_of, payload_of, is_header, named}
 use Rattle.unit_spec.proofs.Bits.{length-bits}
 use Rattle.unit_spec.proofs.Rows.{by_row, accepted, few, fits}
 use Rattle.unit_spec.proofs.Carrying.{holds, spans}
+use Rattle.unit.specs.Private.{bits_of, code, headers, begun}
+use Rattle.unit.specs.declared.table.Header.{Header}
+use Rattle.unit.specs.declared.table.Header.TheVariants as header
 use Rattle.unit.proofs.Unwoven.{Reach, reaches, at-start, at_once, at_gap, length-unwoven, heard-from, heard-next}
 
 -- within l bits
@@ -51,6 +58,12 @@ pub record Onward (l : ℕ) (u : List ℕ) (t first n s : ℕ) : Type 0 where
   pub apart : s ≡ step l
 
 module _ {l : ℕ} {u : List ℕ} {t first : ℕ} where
+  pub lent-of : unfit l ≡ false → lent l ≤ length u → first ≡ start l → Lent l u t first
+  lent-of fit long begin = record { fit = fit; long = long; begin = begin }
+
+  pub onward-of : {n s : ℕ} → Lent l u t first → first ≤ t → n ≡ heads l → s ≡ step l → Onward l u t first n s
+  onward-of on past many apart = record { on = on; past = past; many = many; apart = apart }
+
   pub payload-before : Lent l u t first → t < first → get_or (bits u) t 0 ≡ get_or (unwoven (start l) (step l - 1) (heads l) (bits u)) t 0
   payload-before k h = sym (at-start (start l) (step l - 1) (heads l) (bits u) t (reach l u k.fit k.long) (omega (arith, k.begin)))
 
@@ -181,5 +194,50 @@ module _ (h : ℕ) where
   unfolding named is_header number digits
   named-22 = refl
 
-pub is-22 : (n : ℕ) → 22 ≤ n → n ≤ 24 → (n ≡ 24 → ⊥) → (n ≡ 23 → ⊥) → 22 ≡ n
-is-22 n h k a b = omega arith
+found : (a b c d e : Bool)
+    → code (cond a (Some header.Cw0) (cond b (Some header.Cw1) (cond c (Some header.Cw2) (cond d (Some header.Cw3) (cond e (Some header.Cw4) None)))))
+    ≡ pick a cw0 (pick b cw1 (pick c cw2 (pick d cw3 (pick e cw4 0))))
+found true b c d e = refl
+found false true c d e = refl
+found false false true d e = refl
+found false false false true e = refl
+found false false false false true = refl
+found false false false false false = refl
+
+one-of : (P : ℕ → Type 0) (n : ℕ) → 22 ≤ n → n ≤ 24 → P 24 → P 23 → P 22 → P n
+one-of P n lo hi a b c =
+    by_le n 22 (λ h. let e : 22 ≡ n = omega arith in subst P e c)
+    (λ h. by_le n 23 (λ k. let e : 23 ≡ n = omega arith in subst P e b) (λ k. let e : 24 ≡ n = omega arith in subst P e a))
+
+pub named-is : (n h : ℕ) → 22 ≤ n → n ≤ 24 → code (find (begun (24 - n) h) headers) ≡ named n h
+named-is n h lo hi =
+    one-of (λ (m : ℕ). code (find (begun (24 - m) h) headers) ≡ named m h) n lo hi
+    (found (eqb h cw0) (eqb h cw1) (eqb h cw2) (eqb h cw3) (eqb h cw4) ∙ named-24 h)
+    (found (eqb h (cw0 / 2)) (eqb h (cw1 / 2)) (eqb h (cw2 / 2)) (eqb h (cw3 / 2)) (eqb h (cw4 / 2)) ∙ named-23 h)
+    (found (eqb h (cw0 / 4)) (eqb h (cw1 / 4)) (eqb h (cw2 / 4)) (eqb h (cw3 / 4)) (eqb h (cw4 / 4)) ∙ named-22 h)
+
+-- a sequence is its 24 bits, none of them no bits
+pub some-bits : (h : Header) → bits_of h ≡ 0 → ⊥
+some-bits header.Cw0 e = omega arith
+some-bits header.Cw1 e = omega arith
+some-bits header.Cw2 e = omega arith
+some-bits header.Cw3 e = omega arith
+some-bits header.Cw4 e = omega arith
+
+decoded : ℕ → Option Header
+decoded n =
+    pick (eqb n cw0) (Some header.Cw0)
+    (pick (eqb n cw1) (Some header.Cw1)
+    (pick (eqb n cw2) (Some header.Cw2) (pick (eqb n cw3) (Some header.Cw3) (pick (eqb n cw4) (Some header.Cw4) None))))
+
+decodes : (o : Option Header) → decoded (code o) ≡ o
+unfolding decoded
+decodes None = refl
+decodes (Some header.Cw0) = refl
+decodes (Some header.Cw1) = refl
+decodes (Some header.Cw2) = refl
+decodes (Some header.Cw3) = refl
+decodes (Some header.Cw4) = refl
+
+pub code-one : (a b : Option Header) → code a ≡ code b → a ≡ b
+code-one a b e = sym (decodes a) ∙ ap decoded e ∙ decodes b

@@ -2,15 +2,16 @@
 -- unit-before, unit-heading, unit-between, unit-behind   a bit before, of, between and behind the header bits
 -- header_at                                              a header bit, by its number
 -- Held, Onward                                           what the code has found: the parts fit; the bit is not before the header
+-- held-of, onward-of                                     .. from its facts
 -- bit-before, bit-heading, bit-between, bit-behind       the same of the payload that is laid out
--- step-some, behind-fits, heading-fits, between-fits     what the code reckons with is not below 0
+-- step-some, heading-fits                                what the code reckons with is not below 0
 -- length-bits-unit                                       there are eight to a byte
 -- spread_none, spread-more, spread-done, byte-within     the loop over the bytes
 use mathlib.Core.Path.{◌≡◌, refl, sym, ap, ap₂, subst, ◌∙◌}
 use mathlib.Core.Bool.{false}
 use mathlib.Core.List.{List, [], ◌∷◌, ◌++◌}
 use Prim.Native.Nat.{ℕ, zero, suc, ◌+◌, ◌-◌, ◌*◌, ◌/◌, ◌%◌, ◌≤◌, ◌<◌}
-use native.Mathlib.Nat.{mod-add-div', le-mul_of_pos_right, pos_of_ne-zero, div-le_self, add-sub_cancel_left, mul-div_cancel, mul-mod_left}
+use native.Mathlib.Nat.{mod-add-div', le-mul_of_pos_right, pos_of_ne-zero, add-sub_cancel_left, mul-div_cancel, mul-mod_left}
 use native.Mathlib.Numerals.{add-one}
 use native.Mathlib.Omega.{arith}
 use lib.ListN.{length, take, drop, get_or, set}
@@ -97,6 +98,13 @@ pub record Onward (l cw : ℕ) (d audio opp fixed : List ℕ) (i n first s m : �
   pub many : m ≡ heads l
 
 module _ {l cw : ℕ} {d audio opp fixed : List ℕ} {i n first : ℕ} where
+  pub held-of : unfit l ≡ false → filled d audio opp fixed ≤ n → n ≡ payload l → first ≡ start l → Held l cw d audio opp fixed i n first
+  held-of fit fill all begin = record { fit = fit; fill = omega arith; all = all; begin = begin }
+
+  pub onward-of : {s m : ℕ} → Held l cw d audio opp fixed i n first → first ≤ i → s ≡ step l → m ≡ heads l
+      → Onward l cw d audio opp fixed i n first s m
+  onward-of on past apart many = record { on = on; past = past; apart = apart; many = many }
+
   module _ (k : Held l cw d audio opp fixed i n first) where
     -- the payload
     abbrev laid : List ℕ
@@ -130,9 +138,6 @@ module _ {l cw : ℕ} {d audio opp fixed : List ℕ} {i n first : ℕ} where
     pub step-some : 0 < s
     step-some = omega (arith, k.apart, some k.on)
 
-    pub behind-fits : m ≤ (i - first) / s → m ≤ i
-    behind-fits q = omega (arith, div-le_self (i - first) s)
-
     pub bit-behind : m ≤ (i - first) / s → get_or (bits (laid_out n d audio opp fixed)) (i - m) 0 ≡ get_or (unit_bits l cw body) i 0
     bit-behind q =
         same k.on (i - m) ∙ ap (λ (x : ℕ). get_or (bits body) (i - x) 0) k.many
@@ -149,9 +154,6 @@ module _ {l cw : ℕ} {d audio opp fixed : List ℕ} {i n first : ℕ} where
       bit-heading r =
           ap (λ (x : ℕ). get_or (digits 24 cw) x 0) is-place
           ∙ unit-heading l cw body (some k.on) (length-of k.on) i from_start few-before (sym is-rest ∙ r)
-
-      pub between-fits : ((i - first) % s ≡ 0 → ⊥) → (i - first) / s + 1 ≤ i
-      between-fits r = omega (arith, under (i - first) s step-some r)
 
       pub bit-between : ((i - first) % s ≡ 0 → ⊥)
           → get_or (bits (laid_out n d audio opp fixed)) (i - ((i - first) / s + 1)) 0 ≡ get_or (unit_bits l cw body) i 0

@@ -5,9 +5,10 @@
 -- Told             the parts told are the sequence's, and g says whether it announces opportunistic data
 -- Parted           both parts fit into the payload, which has w bytes
 -- Sought           opportunistic data is announced, and o bytes of it are found
--- is-low, low, is-fit, long, whole, heads-told, is-named, is-told, parted, searched   what follows of them, and how the next is made
--- not-a-unit, too_short, unnamed, not-told, no-audio, no-fixed, unmarked              each refusal
--- plain-room, plainly, marked-room, marked                                            the contents are read
+-- fit-of, whole, headed, is-named, is-told, parted, sought-of                         how each is made
+-- is-low, low, is-fit, long, heads-told, searched                                     what follows of them
+-- not-a-unit, too_short, unnamed, nameless, not-told, no-audio, no-fixed, unmarked              each refusal
+-- plainly, marked-room, marked                                                        the contents are read
 use mathlib.Core.Path.{◌≡◌, refl, sym, ap, ap₂, ◌∙◌}
 use mathlib.Core.Bool.{Bool, true, false}
 use mathlib.Core.List.{List, ◌++◌, append-nil}
@@ -21,7 +22,10 @@ use Rattle.unit_spec.specs.Tables.{sequence, heads, payload, lent, unfit, announ
 use Rattle.unit_spec.specs.Unit.{opened}
 use Rattle.unit_spec.specs.Reading.{header_of, payload_of, named, middle, read_parts, read_unit}
 use Rattle.unit_spec.proofs.Rows.{accepted, few}
-use Rattle.unit.proofs.Hearing.{payload-low}
+use Rattle.std.specs.Prelude.{Option, None, Some, find}
+use Rattle.unit.specs.Private.{bits_of, code, headers, begun}
+use Rattle.unit.specs.declared.table.Header.{Header}
+use Rattle.unit.proofs.Hearing.{payload-low, named-is, some-bits}
 use Rattle.unit.proofs.Finding.{length-payload, opened-short, opened-is}
 use Rattle.unit_spec.proofs.Ways.{no_name, wrong-told, wrong-fit, read_plain, not_found, read_found, bad-length, bad-unit, read_is}
 
@@ -62,6 +66,9 @@ place : (w x o a : ℕ) → x ≡ w - a → o ≤ x → a ≤ w → (a + (x - o)
 place w x o a e h k = (omega arith, omega arith)
 
 module _ {l : ℕ} {d : List ℕ} {a f : ℕ} {u out : List ℕ} where
+  pub fit-of : {b : Bool} → b ≡ unfit l → b ≡ false → Fit l d a f u out
+  fit-of e n = record { fit = sym e ∙ n }
+
   pub is-low : Fit l d a f u out → l ≤ 146176
   is-low k = (accepted l k.fit).0
 
@@ -91,6 +98,17 @@ module _ {l : ℕ} {d : List ℕ} {a f : ℕ} {u out : List ℕ} where
 
       pub is-named : (c ≡ 0 → ⊥) → Named l d a f u out c
       is-named n = record { on = k; name = named-as; some = n }
+
+  -- the sequence that the code finds, as a number
+  module _ (k : Whole l d a f u out) {x y : ℕ} (ex : x ≡ heads l) (ey : y ≡ header_of l u) where
+    name-of : {o : Option Header} → o ≡ find (begun (24 - x) y) headers → code o ≡ named x y
+    name-of e = let n = heads-told l ex in ap code e ∙ named-is x y n.0 n.1
+
+    pub nameless : {o : Option Header} → o ≡ find (begun (24 - x) y) headers → o ≡ None → refused 52 out ≡ read_unit l d a f u out
+    nameless e z = unnamed k ex ey (name-of e) (ap code z)
+
+    pub headed : {h : Header} → Some h ≡ find (begun (24 - x) y) headers → Named l d a f u out (bits_of h)
+    headed {h} e = is-named k ex ey (name-of e) (some-bits h)
 
   module _ {c : ℕ} (k : Named l d a f u out c) where
     is : read_parts (payload l) c d a f (payload_of l u) out ≡ read_unit l d a f u out
@@ -124,9 +142,6 @@ module _ {l : ℕ} {d : List ℕ} {a f : ℕ} {u out : List ℕ} where
     abbrev p : List ℕ
     p = payload_of l u
 
-    pub plain-room : a + 0 + f ≤ payload l
-    plain-room = omega (arith, k.room)
-
     pub plainly : g ≡ 0 → {v : Outcome} → v ≡ write (take a p ++ take 0 (drop (payload l - f - 0) p) ++ drop (payload l - f) p) out
         → v ≡ read_unit l d a f u out
     plainly z e =
@@ -143,6 +158,10 @@ module _ {l : ℕ} {d : List ℕ} {a f : ℕ} {u out : List ℕ} where
     length-searched : length (drop a (take (w - f) p)) ≡ w - f - a
     length-searched =
         length-drop a (take (w - f) p) ∙ ap (λ (t : ℕ). t - a) (length-take-le (w - f) p (omega (arith, k.all, length-payload l u)))
+
+  pub sought-of : {c g w o : ℕ} → Parted l d a f u out c g w → (g ≡ 0 → ⊥) → o ≡ length (opened d (drop a (take (w - f) (payload_of l u))))
+      → Sought l d a f u out c g w o
+  sought-of k n e = record { on = k; some = n; found = e }
 
   module _ {c g w o : ℕ} (k : Sought l d a f u out c g w o) where
     abbrev q : List ℕ

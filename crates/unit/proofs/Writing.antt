@@ -4,7 +4,7 @@
 -- Mixed            cw is the sequence of the parts
 -- Roomy            the payload has n bytes, and the parts fit into it
 -- Seen             the delimiter is not found earlier than it is written
--- roomy, is_seen, short, fills, asks                                     how the next is made; the length is low; what `hidden` and `spread` ask
+-- fit-of, mixed-of, roomy, is_seen, short                                how each is made; the length is low
 -- refuse-length, refuse-mix, refuse-room, refuse-hidden, refuse-output   each refusal
 -- wrote                                                                  the unit is written
 use mathlib.Core.Path.{◌≡◌, sym, ap, ap₂, ◌∙◌}
@@ -17,11 +17,14 @@ use lib.ListN.{length, drop}
 use borrow.Author.Tests.{eq-eqb, ne_eqb, ltb-false, le-ltb}
 use Rattle.base.specs.Choice.{pick}
 use Rattle.base.specs.Written.{outcome, refused, write}
-use Rattle.base.specs.declared.Written.TheVariants.{Wrote}
+use Rattle.base.specs.Written.{Wrote}
 use Rattle.base.proofs.Writing.{write-short}
 use Rattle.unit_spec.specs.Tables.{sequence, payload, lent, unfit}
 use Rattle.unit_spec.specs.Unit.{filled, laid_out, unit, hidden, written}
 use Rattle.unit_spec.proofs.Rows.{accepted}
+use Rattle.unit.specs.Private.{bits_of}
+use Rattle.unit.specs.declared.table.Header.{Header}
+use Rattle.unit.proofs.Hearing.{some-bits}
 use Rattle.unit.proofs.Filling.{length_marked}
 use Rattle.unit_spec.proofs.Carrying.{length-unit}
 use Rattle.unit_spec.proofs.Ways.{mixed, whole, written_is}
@@ -49,6 +52,13 @@ unfolding written
 refuse-length l d audio opp fixed out eu e = simp (sym eu ∙ e)
 
 module _ {l : ℕ} {d audio opp fixed out : List ℕ} where
+  pub fit-of : {u : Bool} → u ≡ unfit l → u ≡ false → length d ≡ 5 → Fit l d audio opp fixed out
+  fit-of e n five = record { fit = sym e ∙ n; five = five }
+
+  pub mixed-of : Fit l d audio opp fixed out → (h : Header) → bits_of h ≡ sequence (length audio) (length fixed) (length opp)
+      → Mixed l d audio opp fixed out (bits_of h)
+  mixed-of k h e = record { on = k; mix = e; some = some-bits h }
+
   pub refuse-mix : Fit l d audio opp fixed out → {cw : ℕ} → cw ≡ sequence (length audio) (length fixed) (length opp) → cw ≡ 0
       → refused 51 out ≡ written l d audio opp fixed out
   unfolding written
@@ -70,9 +80,6 @@ module _ {l : ℕ} {d audio opp fixed out : List ℕ} where
       roomy w = record { on = k; all = en; room = ltb-false _ _ (sym same ∙ w) }
 
   module _ {cw n : ℕ} (k : Roomy l d audio opp fixed out cw n) where
-    pub fills : filled d audio opp fixed ≤ n
-    fills = omega (arith, k.all, k.room)
-
     module _ {h : Bool} (eh : h ≡ hidden d (n - filled d audio opp fixed) opp) where
       there : h ≡ hidden d (payload l - filled d audio opp fixed) opp
       there = eh ∙ ap (λ (x : ℕ). hidden d (x - filled d audio opp fixed) opp) k.all
@@ -97,11 +104,6 @@ module _ {l : ℕ} {d audio opp fixed out : List ℕ} where
 
     length_whole : length (whole l d audio opp fixed) ≡ lent l
     length_whole = length-unit l (mixed l d audio opp fixed) (laid_out (payload l) d audio opp fixed)
-
-    -- what `spread` asks
-    pub asks : {m : ℕ} → m ≡ lent l → m ≤ 18272 → {k : ℕ} → m ≤ k
-        → (unfit l ≡ false) × (filled d audio opp fixed ≤ payload l) × (m ≡ lent l) × (m ≤ 18272) × (m ≤ k)
-    asks e b r = (fit, k.on.room, e, b, r)
 
     module _ {m : ℕ} (em : m ≡ lent l) where
       pub refuse-output : length out < m → refused 23 out ≡ written l d audio opp fixed out

@@ -16,7 +16,7 @@ pub(crate) fn byte_bit(b: u8, k: usize) -> u8
     requires { k < 8 }
     ensures { (result ≡ get_or (digits 8 b) k 0) × (result < 2) }
 {
-    bit(b as u32, 8, k)
+    bit(u32::from(b), 8, k)
 }
 
 /// Bit t of bytes; 0 behind them.
@@ -25,12 +25,14 @@ pub fn bit_at(bytes: &[u8], t: usize) -> u8
 {
     let i = t / 8;
     if i < bytes.len() {
-        return byte_bit(bytes[i], t % 8);
+        byte_bit(bytes[i], t % 8)
+    } else {
+        0
     }
-    0
 }
 
-/// Eight bits as a byte.
+/// Eight bits as a byte. They are handed in one by one, since each is known to be a bit by its own call: of an array, or of a closure that gives
+/// them, the same would have to be said of every place, and be taken apart here.
 pub(crate) fn byte(a: u8, b: u8, c: u8, d: u8, e: u8, f: u8, g: u8, h: u8) -> u8
     requires { (a < 2) × (b < 2) × (c < 2) × (d < 2) × (e < 2) × (f < 2) × (g < 2) × (h < 2) }
     ensures { result ≡ number 0 (a ∷ b ∷ c ∷ d ∷ e ∷ f ∷ g ∷ h ∷ []) }

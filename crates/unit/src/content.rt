@@ -2,65 +2,71 @@
 ghost use Rattle.std.specs.Prelude.{◌≡◌, ◌≤◌, ◌<◌, get_or};
 ghost use Rattle.unit_spec.specs.Bits.{bits};
 ghost use Rattle.unit_spec.specs.Unit.{filled, laid_out};
+ghost use Rattle.unit.specs.Private.{hidden_in};
 
 use crate::bit;
+
+/// A payload of `length` bytes, which hold its parts.
+#[derive(Clone, Copy)]
+pub(crate) struct Payload<'a> {
+    pub(crate) length: usize,
+    pub(crate) delimiter: [u8; 5],
+    pub(crate) audio: &'a [u8],
+    pub(crate) opportunistic: &'a [u8],
+    pub(crate) fixed: &'a [u8],
+    ghost room: { filled delimiter audio.now opportunistic.now fixed.now ≤ length },
+}
+
+impl Payload<'_> {
+    // Byte j; 0 behind the last.
+    fn byte(&self, j: usize) -> u8
+        ensures { result ≡ get_or (laid_out self.now.length self.now.delimiter self.now.audio.now self.now.opportunistic.now self.now.fixed.now) j 0 }
+    {
+        if j < self.audio.len() {
+            return self.audio[j];
+        }
+        let end = self.length - self.fixed.len();
+        if end <= j {
+            return at(self.fixed, j - end);
+        }
+        if self.opportunistic.is_empty() {
+            return 0;
+        }
+        let begin = end - self.opportunistic.len();
+        if begin <= j {
+            return self.opportunistic[j - begin];
+        }
+        if begin - 5 <= j {
+            return self.delimiter[j - (begin - 5)];
+        }
+        0
+    }
+
+    /// Bit t; 0 behind the last.
+    pub(crate) fn bit(&self, t: usize) -> u8
+        ensures { (result
+            ≡ get_or (bits (laid_out self.now.length self.now.delimiter self.now.audio.now self.now.opportunistic.now self.now.fixed.now)) t 0) × (result < 2) }
+    {
+        bit::byte_bit(self.byte(t / 8), t % 8)
+    }
+
+    /// Whether the delimiter would be found earlier than it is written.
+    pub(crate) fn is_hidden(&self) -> bool
+        ensures { result ≡ hidden_in self.now.length self.now.delimiter self.now.audio.now self.now.opportunistic.now self.now.fixed.now }
+    {
+        if self.opportunistic.is_empty() {
+            return false;
+        }
+        if self.length - self.audio.len() - self.fixed.len() - 5 == self.opportunistic.len() {
+            return false;
+        }
+        self.delimiter == [0; 5]
+    }
+}
 
 // Byte i; 0 behind the last.
 fn at(bytes: &[u8], i: usize) -> u8
     ensures { result ≡ get_or bytes.now i 0 }
 {
-    if i < bytes.len() {
-        return bytes[i];
-    }
-    0
-}
-
-// Byte j of a payload of n bytes; 0 behind the last.
-fn payload_byte(
-    n: usize,
-    delimiter: [u8; 5],
-    audio: &[u8],
-    opportunistic: &[u8],
-    fixed: &[u8],
-    j: usize,
-) -> u8
-    requires { filled delimiter audio.now opportunistic.now fixed.now ≤ n }
-    ensures { result ≡ get_or (laid_out n delimiter audio.now opportunistic.now fixed.now) j 0 }
-{
-    if j < audio.len() {
-        return audio[j];
-    }
-    let end = n - fixed.len();
-    if end <= j {
-        return at(fixed, j - end);
-    }
-    if opportunistic.len() == 0 {
-        return 0;
-    }
-    let begin = end - opportunistic.len();
-    if begin <= j {
-        return opportunistic[j - begin];
-    }
-    if begin - 5 <= j {
-        return delimiter[j - (begin - 5)];
-    }
-    0
-}
-
-/// Bit t of a payload of n bytes; 0 behind the last.
-pub(crate) fn payload_bit(
-    n: usize,
-    delimiter: [u8; 5],
-    audio: &[u8],
-    opportunistic: &[u8],
-    fixed: &[u8],
-    t: usize,
-) -> u8
-    requires { filled delimiter audio.now opportunistic.now fixed.now ≤ n }
-    ensures { (result ≡ get_or (bits (laid_out n delimiter audio.now opportunistic.now fixed.now)) t 0) × (result < 2) }
-{
-    bit::byte_bit(
-        payload_byte(n, delimiter, audio, opportunistic, fixed, t / 8),
-        t % 8,
-    )
+    if i < bytes.len() { bytes[i] } else { 0 }
 }

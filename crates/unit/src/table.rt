@@ -1,6 +1,7 @@
 //! Tables 5-3 and 5-4 of source document 003.
-ghost use Rattle.std.specs.Prelude.{◌≡◌, true, ◌-◌, ◌≤◌, ◌<◌};
-ghost use Rattle.unit_spec.specs.Tables.{most, most_bytes, sequence, heads, start, step, payload, lent, unfit};
+ghost use Rattle.std.specs.Prelude.{◌≡◌, ◌≤◌, ◌<◌};
+ghost use Rattle.unit_spec.specs.Tables.{most, most_bytes, sequence, heads, start, step, payload, lent, unfit, announced};
+ghost use Rattle.unit.specs.Private.{bits_of, code};
 
 // Lengths of units, in bits.
 #[derive(Clone, Copy)]
@@ -13,44 +14,49 @@ impl Length {
     const LONG: usize = 72000;
 }
 
-/// The header sequences of table 5-3 that are not reserved.
-#[derive(Clone, Copy)]
-pub struct Header;
-
-impl Header {
+/// The header sequences of table 5-3 that are not reserved, by their 24 bits.
+#[derive(Clone, Copy, PartialEq, Eq)]
+pub enum Header {
     /// Audio alone.
-    pub const CW0: u32 = 0x38D8D3;
+    Cw0 = 0x38D8D3,
     /// Audio and opportunistic data.
-    pub const CW1: u32 = 0xCE3634;
+    Cw1 = 0xCE3634,
     /// Audio and fixed data.
-    pub const CW2: u32 = 0xE3634C;
+    Cw2 = 0xE3634C,
     /// All three.
-    pub const CW3: u32 = 0x8D8D33;
+    Cw3 = 0x8D8D33,
     /// Fixed data alone.
-    pub const CW4: u32 = 0x3634CE;
+    Cw4 = 0x3634CE,
 }
 
-// a - b, at least 0.
-fn less(a: usize, b: usize) -> usize
-    ensures { result ≡ a - b }
-{
-    if a < b {
-        return 0;
+impl Header {
+    /// Its 24 bits.
+    pub fn bits(self) -> u32
+        ensures { result ≡ bits_of self }
+    {
+        self as u32
     }
-    a - b
+
+    /// 1 where it announces opportunistic data, else 0: a length, for `sequence`, which looks only at whether there is any.
+    pub fn announced(self) -> usize
+        ensures { result ≡ announced (bits_of self) }
+    {
+        match self {
+            Header::Cw1 | Header::Cw3 => 1,
+            Header::Cw0 | Header::Cw2 | Header::Cw4 => 0,
+        }
+    }
 }
 
 /// How many header bits a unit has.
 pub fn heads(size: usize) -> usize
     ensures { result ≡ heads size }
 {
-    if size % 8 == 0 {
-        return 24;
+    match size % 8 {
+        0 => 24,
+        7 => 23,
+        _ => 22,
     }
-    if size % 8 == 7 {
-        return 23;
-    }
-    22
 }
 
 /// How many bits stand before the first header bit.
@@ -60,10 +66,10 @@ pub fn start(size: usize) -> usize
     if size < Length::LONG {
         return 120;
     }
-    if size % 8 == 0 {
-        return size - 30000;
+    match size % 8 {
+        0 => size - 30000,
+        _ => size / 8 * 8 - 29999,
     }
-    size / 8 * 8 - 29999
 }
 
 /// How many bits it is from one header bit to the next; 0 where there is no room for them.
@@ -71,39 +77,32 @@ pub fn step(size: usize) -> usize
     ensures { result ≡ step size }
 {
     if size < Length::LONG {
-        if size % 8 == 0 {
-            return less(size, 120) / 24;
-        }
-        if size % 8 == 7 {
-            return less(size / 8, 14) / 23 * 8;
-        }
-        return less(size / 8, 14) / 22 * 8;
+        let behind = (size / 8).saturating_sub(14);
+        return match size % 8 {
+            0 => size.saturating_sub(120) / 24,
+            7 => behind / 23 * 8,
+            _ => behind / 22 * 8,
+        };
     }
-    if size % 8 == 0 {
-        return 1248;
+    match size % 8 {
+        0 => 1248,
+        7 => 1304,
+        _ => 1360,
     }
-    if size % 8 == 7 {
-        return 1304;
-    }
-    1360
 }
 
 /// Whether there is no unit of this length.
 pub fn unfit(size: usize) -> bool
     ensures { result ≡ unfit size }
 {
-    if Length::MOST < size {
-        return true;
-    }
-    step(size) == 0
+    Length::MOST < size || step(size) == 0
 }
 
 /// The payload bytes of a unit.
 pub fn payload(size: usize) -> usize
     ensures { result ≡ payload size }
 {
-    let h = heads(size);
-    less(size, h) / 8
+    size.saturating_sub(heads(size)) / 8
 }
 
 /// The bytes that a unit takes.
@@ -111,30 +110,20 @@ pub(crate) fn lent(size: usize) -> usize
     requires { size ≤ most }
     ensures { (result ≡ lent size) × (result ≤ most_bytes) }
 {
-    (size + 7) / 8
+    size.div_ceil(8)
 }
 
-/// The header sequence of a mix of content, by the lengths of its parts; 0 where there is none.
-pub fn sequence(audio: usize, fixed: usize, opportunistic: usize) -> u32
-    ensures { result ≡ sequence audio fixed opportunistic }
+/// The header sequence of a mix of content, by the lengths of its parts.
+pub fn sequence(audio: usize, fixed: usize, opportunistic: usize) -> Option<Header>
+    ensures { code result ≡ sequence audio fixed opportunistic }
 {
-    if audio == 0 {
-        if opportunistic == 0 {
-            if fixed == 0 {
-                return 0;
-            }
-            return Header::CW4;
-        }
-        return 0;
+    match (audio, fixed, opportunistic) {
+        (0, 0, _) => None,
+        (0, _, 0) => Some(Header::Cw4),
+        (0, _, _) => None,
+        (_, 0, 0) => Some(Header::Cw0),
+        (_, 0, _) => Some(Header::Cw1),
+        (_, _, 0) => Some(Header::Cw2),
+        _ => Some(Header::Cw3),
     }
-    if fixed == 0 {
-        if opportunistic == 0 {
-            return Header::CW0;
-        }
-        return Header::CW1;
-    }
-    if opportunistic == 0 {
-        return Header::CW2;
-    }
-    Header::CW3
 }

@@ -1,89 +1,78 @@
 //! Units, written.
-ghost use Rattle.std.specs.Prelude.{◌≡◌, ◌++◌, ◌+◌, ◌*◌, ◌-◌, ◌≤◌, ◌<◌, ltb, eqb, get_or, take, drop};
+ghost use Rattle.std.specs.Prelude.{◌≡◌, false, ◌++◌, ◌+◌, ◌*◌, ◌≤◌, ◌<◌, ltb, eqb, get_or, length, take, drop};
 ghost use Rattle.base.specs.Choice.{pick};
-ghost use Rattle.base.specs.Written.{outcome};
+ghost use Rattle.base.specs.Written.{as_written, outcome};
 ghost use Rattle.unit_spec.specs.Bits.{number};
-ghost use Rattle.unit_spec.specs.Unit.{filled, zeros, written};
-ghost use Rattle.unit.specs.Private.{hidden_in, BitOf, ByteOf, BytesOf, bits_in, unit_in};
+ghost use Rattle.unit_spec.specs.Tables.{most_bytes, payload, lent, unfit};
+ghost use Rattle.unit_spec.specs.Unit.{written};
+ghost use Rattle.unit.specs.Private.{bits_of, bits_in, unit_in};
 
-use crate::{bit, content, table};
+use crate::content::Payload;
+use crate::table::Header;
+use crate::{bit, table};
 use base::{Refusal, Written};
 
-// Bit k of byte j of a unit.
-fn unit_bit(
+// A unit of `size` bits, with its header and its payload.
+#[derive(Clone, Copy)]
+struct Unit<'a> {
     size: usize,
-    cw: u32,
-    delimiter: [u8; 5],
-    audio: &[u8],
-    opportunistic: &[u8],
-    fixed: &[u8],
-    j: usize,
-    k: usize,
-) -> u8
-    requires { BitOf size delimiter audio.now opportunistic.now fixed.now j k }
-    ensures { (result ≡ get_or (bits_in size cw delimiter audio.now opportunistic.now fixed.now) (j * 8 + k) 0) × (result < 2) }
-{
-    let i = j * 8 + k;
-    let n = table::payload(size);
-    let first = table::start(size);
-    if i < first {
-        return content::payload_bit(n, delimiter, audio, opportunistic, fixed, i);
-    }
-    let step = table::step(size);
-    let heads = table::heads(size);
-    let h = (i - first) / step;
-    if heads <= h {
-        return content::payload_bit(n, delimiter, audio, opportunistic, fixed, i - heads);
-    }
-    if (i - first) % step == 0 {
-        return bit::bit(cw, 24, h);
-    }
-    content::payload_bit(n, delimiter, audio, opportunistic, fixed, i - (h + 1))
+    header: Header,
+    contents: Payload<'a>,
+    ghost fit: { unfit size ≡ false },
+    ghost all: { contents.length ≡ payload size },
 }
 
-// Byte j of a unit.
-fn unit_byte(
-    size: usize,
-    cw: u32,
-    delimiter: [u8; 5],
-    audio: &[u8],
-    opportunistic: &[u8],
-    fixed: &[u8],
-    j: usize,
-) -> u8
-    requires { ByteOf size delimiter audio.now opportunistic.now fixed.now j }
-    ensures { result ≡ number 0 (take 8 (drop (j * 8) (bits_in size cw delimiter audio.now opportunistic.now fixed.now))) }
-{
-    let a = unit_bit(size, cw, delimiter, audio, opportunistic, fixed, j, 0);
-    let b = unit_bit(size, cw, delimiter, audio, opportunistic, fixed, j, 1);
-    let c = unit_bit(size, cw, delimiter, audio, opportunistic, fixed, j, 2);
-    let d = unit_bit(size, cw, delimiter, audio, opportunistic, fixed, j, 3);
-    let e = unit_bit(size, cw, delimiter, audio, opportunistic, fixed, j, 4);
-    let f = unit_bit(size, cw, delimiter, audio, opportunistic, fixed, j, 5);
-    let g = unit_bit(size, cw, delimiter, audio, opportunistic, fixed, j, 6);
-    let h = unit_bit(size, cw, delimiter, audio, opportunistic, fixed, j, 7);
-    bit::byte(a, b, c, d, e, f, g, h)
-}
+impl Unit<'_> {
+    // Bit k of byte j.
+    fn bit(&self, j: usize, k: usize) -> u8
+        requires { (j < most_bytes) × (k < 8) }
+        ensures { (result ≡ get_or (bits_in self.now.size (bits_of self.now.header) self.now.contents.delimiter self.now.contents.audio.now
+            self.now.contents.opportunistic.now self.now.contents.fixed.now) (j * 8 + k) 0) × (result < 2) }
+    {
+        let i = j * 8 + k;
+        let first = table::start(self.size);
+        if i < first {
+            return self.contents.bit(i);
+        }
+        let step = table::step(self.size);
+        let heads = table::heads(self.size);
+        let h = (i - first) / step;
+        if heads <= h {
+            return self.contents.bit(i - heads);
+        }
+        if (i - first) % step == 0 {
+            return bit::bit(self.header.bits(), 24, h);
+        }
+        self.contents.bit(i - (h + 1))
+    }
 
-// The n bytes of a unit.
-fn spread(
-    size: usize,
-    cw: u32,
-    delimiter: [u8; 5],
-    audio: &[u8],
-    opportunistic: &[u8],
-    fixed: &[u8],
-    n: usize,
-    out: &mut [u8],
-)
-    requires { BytesOf size delimiter audio.now opportunistic.now fixed.now n out.old }
-    ensures { out.new
-        ≡ unit_in size cw delimiter audio.now opportunistic.now fixed.now ++ drop n out.old }
-{
-    let mut j: usize = 0;
-    while j < n {
-        out[j] = unit_byte(size, cw, delimiter, audio, opportunistic, fixed, j);
-        j += 1;
+    // Byte j.
+    fn byte(&self, j: usize) -> u8
+        requires { (j < lent self.now.size) × (j < most_bytes) }
+        ensures { result
+            ≡ number 0 (take 8 (drop (j * 8) (bits_in self.now.size (bits_of self.now.header) self.now.contents.delimiter self.now.contents.audio.now
+            self.now.contents.opportunistic.now self.now.contents.fixed.now))) }
+    {
+        let a = self.bit(j, 0);
+        let b = self.bit(j, 1);
+        let c = self.bit(j, 2);
+        let d = self.bit(j, 3);
+        let e = self.bit(j, 4);
+        let f = self.bit(j, 5);
+        let g = self.bit(j, 6);
+        let h = self.bit(j, 7);
+        bit::byte(a, b, c, d, e, f, g, h)
+    }
+
+    // Its n bytes: by index, as of what stands where through `iter_mut` nothing is known behind the loop.
+    fn spread(&self, n: usize, out: &mut [u8])
+        requires { (n ≡ lent self.now.size) × (n ≤ most_bytes) × (n ≤ length out.old) }
+        ensures { out.new ≡ unit_in self.now.size (bits_of self.now.header) self.now.contents.delimiter self.now.contents.audio.now
+            self.now.contents.opportunistic.now self.now.contents.fixed.now ++ drop n out.old }
+    {
+        for j in 0..n {
+            out[j] = self.byte(j);
+        }
     }
 }
 
@@ -91,53 +80,11 @@ fn spread(
 fn overfull(n: usize, audio: usize, opportunistic: usize, fixed: usize) -> bool
     ensures { result ≡ ltb n (audio + pick (eqb opportunistic 0) 0 (5 + opportunistic) + fixed) }
 {
-    if n < audio {
+    if n < audio || n - audio < fixed {
         return true;
-    }
-    if n - audio < fixed {
-        return true;
-    }
-    if opportunistic == 0 {
-        return false;
     }
     let left = n - audio - fixed;
-    if left < 5 {
-        return true;
-    }
-    left - 5 < opportunistic
-}
-
-// Whether a delimiter is zeros.
-fn zeros(delimiter: [u8; 5]) -> bool
-    ensures { result ≡ zeros delimiter }
-{
-    if delimiter[0] != 0 {
-        return false;
-    }
-    if delimiter[1] != 0 {
-        return false;
-    }
-    if delimiter[2] != 0 {
-        return false;
-    }
-    if delimiter[3] != 0 {
-        return false;
-    }
-    delimiter[4] == 0
-}
-
-// Whether the delimiter would be found earlier than it is written: n payload bytes hold the parts.
-fn hidden(n: usize, delimiter: [u8; 5], audio: &[u8], opportunistic: &[u8], fixed: &[u8]) -> bool
-    requires { filled delimiter audio.now opportunistic.now fixed.now ≤ n }
-    ensures { result ≡ hidden_in n delimiter audio.now opportunistic.now fixed.now }
-{
-    if opportunistic.len() == 0 {
-        return false;
-    }
-    if n - audio.len() - fixed.len() - 5 == opportunistic.len() {
-        return false;
-    }
-    zeros(delimiter)
+    opportunistic > 0 && (left < 5 || left - 5 < opportunistic)
 }
 
 /// Writes a unit of `size` bits.
@@ -149,27 +96,38 @@ pub fn write(
     fixed: &[u8],
     out: &mut [u8],
 ) -> Written
-    ensures { outcome result out.new
+    ensures { outcome (as_written result) out.new
         ≡ written size delimiter audio.now opportunistic.now fixed.now out.old }
 {
     if table::unfit(size) {
-        return Written::Refused(Refusal::UNIT);
+        return Err(Refusal::Unit);
     }
-    let cw = table::sequence(audio.len(), fixed.len(), opportunistic.len());
-    if cw == 0 {
-        return Written::Refused(Refusal::MIX);
+    let Some(header) = table::sequence(audio.len(), fixed.len(), opportunistic.len()) else {
+        return Err(Refusal::Mix);
+    };
+    let length = table::payload(size);
+    if overfull(length, audio.len(), opportunistic.len(), fixed.len()) {
+        return Err(Refusal::Parts);
     }
-    let n = table::payload(size);
-    if overfull(n, audio.len(), opportunistic.len(), fixed.len()) {
-        return Written::Refused(Refusal::PARTS);
-    }
-    if hidden(n, delimiter, audio, opportunistic, fixed) {
-        return Written::Refused(Refusal::DELIMITER);
+    let contents = Payload {
+        length,
+        delimiter,
+        audio,
+        opportunistic,
+        fixed,
+    };
+    if contents.is_hidden() {
+        return Err(Refusal::Delimiter);
     }
     let m = table::lent(size);
     if out.len() < m {
-        return Written::Refused(Refusal::OUTPUT);
+        return Err(Refusal::Output);
     }
-    spread(size, cw, delimiter, audio, opportunistic, fixed, m, out);
-    Written::Wrote(m)
+    let unit = Unit {
+        size,
+        header,
+        contents,
+    };
+    unit.spread(m, out);
+    Ok(m)
 }

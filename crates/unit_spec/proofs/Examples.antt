@@ -6,7 +6,7 @@ use mathlib.Core.List.{List, [], ◌∷◌, ◌++◌, map}
 use Prim.Native.Nat.{ℕ, suc}
 use lib.ListN.{length, replicate}
 use Rattle.base.specs.Written.{Outcome, outcome, refused}
-use Rattle.base.specs.declared.Written.TheVariants.{Wrote}
+use Rattle.base.specs.Written.{Wrote}
 use Rattle.unit_spec.specs.Bits.{digits, bits, number, pack}
 use Rattle.unit_spec.specs.Tables.{sequence, heads, start, step, payload, lent, unfit, announced}
 use Rattle.unit_spec.specs.Unit.{weave, begins, opened, laid_out, unit_bits, unit, hidden, written}

@@ -12,7 +12,7 @@ use lib.Seq.{take-append_seam, drop-append_seam, take_at, drop_at}
 use Rattle.base.specs.Choice.{pick}
 use Rattle.base.specs.Bytes.{IsByte, Bytes}
 use Rattle.base.specs.Written.{Outcome, write}
-use Rattle.base.specs.declared.Written.TheVariants.{Wrote}
+use Rattle.base.specs.Written.{Wrote}
 use Rattle.base.proofs.Bytes.{each_append, each-replicate}
 use Rattle.base.proofs.Writing.{write-is}
 use Rattle.unit_spec.specs.Tables.{heads, payload, announced}

@@ -13,7 +13,7 @@ use lib.ListN.{length, take, drop}
 use borrow.Author.Tests.{eq-eqb, ne_eqb, lt-ltb, le-ltb, ltb-false, eqb-false}
 use Rattle.base.specs.Choice.{pick}
 use Rattle.base.specs.Written.{Outcome, refused, write}
-use Rattle.base.specs.declared.Written.TheVariants.{Wrote}
+use Rattle.base.specs.Written.{Wrote}
 use Rattle.unit_spec.specs.Tables.{sequence, heads, payload, lent, unfit, announced}
 use Rattle.unit_spec.specs.Unit.{opened, filled, laid_out, unit, hidden, written}
 use Rattle.unit_spec.specs.Reading.{header_of, payload_of, named, middle, read_parts, read_unit}

@@ -3,8 +3,8 @@
 -- mender     the word of R parity bytes, mended
 use Rattle.std.specs.Prelude.{ℕ}
 use Rattle.paper.specs.Word.{Block, undamaged, repaired, beyond, Mender}
-use Rattle.repair.specs.declared.Mended.{Mended}
-use Rattle.repair.specs.declared.Mended.TheVariants.{Clean, Repaired, Beyond, Refused}
+use Rattle.repair.specs.Mended.{Mended}
+use Rattle.repair.specs.Mended.{Clean, Repaired, Beyond, Refused}
 use Rattle.repair.specs.Way.{repaired as repaired_word}
 
 -- what repair finds of a word

@@ -1,5 +1,6 @@
 -- What long division by the generator leaves of bytes, and by a product for other roots.
--- fed-start, fed-next, fed-done   the division byte by byte: its beginning, a turn of k bytes, its end
+-- fed-append                      the division byte by byte, of bytes behind others
+-- fed-start, fed-next, fed-done   .. its beginning, a turn of k bytes, its end
 -- worth, spent               what a 1 is worth before the first place; bytes that go, each replaced by what it is worth
 -- fed-leading                as many bytes at once as go: each is worth its multiple of what a 1 in its place leaves
 -- residue-value              it has the value of the bytes at every root
@@ -80,7 +81,7 @@ fed-begun g k (suc n) w h l =
     more : k - n ≡ suc (k - suc n)
     more = omega arith
 
-fed-append : (g xs v w : List ℕ) → fed_all g xs (v ++ w) ≡ fed_all g (fed_all g xs v) w
+pub fed-append : (g xs v w : List ℕ) → fed_all g xs (v ++ w) ≡ fed_all g (fed_all g xs v) w
 unfolding fed_all
 fed-append g xs [] w = refl
 fed-append g xs (b ∷ v) w = fed-append g (fed g xs b) v w

@@ -1,32 +1,18 @@
--- `board_lines::put_block_told` meets its contract.
-use borrow.Author.Rules.{rules}
-use mathlib.Core.Path.{refl}
+use Rattle.std.proofs.Common.{refl, inl, inr}
 use Rattle.board_lines.proofs.Pieces.{clean_line, repaired-line, beyond-line, untold}
 use Rattle.board_lines.proofs.put_block_told.Goals as goal
 
-pub returns-then-blocks : goal.returns-then-blocks
-returns-then-blocks c =
-    let t = c.before.before in
-    let u = t.before.before.before in
-    let v = u.before in
-    clean_line u.if-blocks.true v.in-Clean.is t.put_text.ensures
+pub returns-in-Clean : goal.returns-in-Clean
+returns-in-Clean c = clean_line c.if-blocks.true c.in-Clean.is c.put_text.ensures
 
-pub returns-then-blocks-2 : goal.returns-then-blocks-2
-returns-then-blocks-2 c =
-    let t = c.before.before in
-    let u = t.before.before.before.before in
-    let v = u.before.before.before in
-    let w = v.before.before in
-    repaired-line _ v.if-blocks-2.true w.in-Repaired.is u.put_text-a.ensures t.put_item.ensures
-
-pub returns-else-blocks : goal.returns-else-blocks
-returns-else-blocks c =
-    untold c.if-blocks.false c.before.in-Clean.is refl
-
-pub returns-else-blocks-2 : goal.returns-else-blocks-2
-returns-else-blocks-2 c =
-    untold c.if-blocks-2.false c.before.before.in-Repaired.is refl
+pub returns-in-Repaired : goal.returns-in-Repaired
+returns-in-Repaired c = repaired-line _ c.if-blocks-2.true c.in-Repaired.is c.put_text-a.ensures c.put_item.ensures
 
 pub returns-in-Beyond : goal.returns-in-Beyond
-returns-in-Beyond c =
-    beyond-line _ c.before.before.before.before.before.in-Beyond.is c.before.before.put_text-in-Beyond.ensures
+returns-in-Beyond c = beyond-line _ c.in-Beyond.is c.put_text-in-Beyond.ensures
+
+pub returns-in-Clean-2 : goal.returns-in-Clean-2
+returns-in-Clean-2 c = elim c.in-Clean-2.is [ inl e ↦ untold c.if-blocks.false e refl | inr h ↦ untold c.if-blocks.false h.1 refl ]
+
+pub returns-in-Clean-2-2 : goal.returns-in-Clean-2-2
+returns-in-Clean-2-2 c = elim c.in-Clean-2.is [ inl e ↦ untold c.if-blocks-2.false e refl | inr h ↦ untold c.if-blocks-2.false h.1 refl ]

@@ -1,32 +1,31 @@
--- `board_lines::put_shown` meets its contract.
-use borrow.Author.Rules.{rules}
+use Rattle.std.proofs.Common.{◌≡◌, ◌≤◌, ◌<◌, arith, rules}
 use Rattle.text.proofs.Putting.{put_as}
 use Rattle.board_lines.proofs.Pieces.{shown-backslash, shown-low, shown-high, shown-plain}
 use Rattle.board_lines.proofs.put_shown.Goals as goal
+use Rattle.board_lines.proofs.put_shown.Goals.{in_default-via-then-b-lt32, in_default-via-else-b-lt32+else-b-lt127}
 
-pub returns-then-b-eq92 : goal.returns-then-b-eq92
-returns-then-b-eq92 c =
-    put_as c.before.before.put_text.ensures (shown-backslash _ c.before.before.before.before.before.if-b-eq92.true)
+pub returns-in-92 : goal.returns-in-92
+returns-in-92 c = put_as c.put_text.ensures (shown-backslash _ c.in-92.is)
 
-pub returns-then-b-lt32 : goal.returns-then-b-lt32
-returns-then-b-lt32 c =
-    let t = c.before.before in
-    let u = t.before.before in
-    let v = u.before in
-    put_as t.put_numbered.ensures (shown-low _ v.if-b-eq92.false u.if-b-lt32.true)
+pub returns-in-32-to-126 : goal.returns-in-32-to-126
+returns-in-32-to-126 c =
+    let b = c.args.b in
+    let n : b ≡ 92 → ⊥ = search rules in
+    let h : 32 ≤ b = omega arith in
+    let k : b ≤ 126 = omega arith in
+    put_as c.put_text-in-32-to-126.ensures (shown-plain b n h k)
 
-pub returns-then-b-gt126 : goal.returns-then-b-gt126
-returns-then-b-gt126 c =
-    let t = c.before.before in
-    let u = t.before.before in
-    let v = u.before in
-    let w = v.before in
-    put_as t.put_numbered-then-b-gt126.ensures (shown-high _ w.if-b-eq92.false v.if-b-lt32.false u.if-b-gt126.true)
-
-pub returns : goal.returns
-returns c =
-    let t = c.before.before in
-    let u = t.before.before.before in
-    let v = u.before in
-    let w = v.before in
-    put_as t.put_text-2.ensures (shown-plain _ w.if-b-eq92.false v.if-b-lt32.false u.if-b-gt126.false)
+pub returns-in_default : goal.returns-in_default
+returns-in_default c =
+    let b = c.args.b in
+    elim c.in_default.branch [
+      | in_default-via-then-b-lt32 w ↦
+          let n : b ≡ 92 → ⊥ = search rules in
+          let h : b < 32 = omega arith in
+          put_as c.put_numbered.ensures (shown-low b n h)
+      | in_default-via-else-b-lt32+else-b-lt127 w ↦
+          let n : b ≡ 92 → ⊥ = search rules in
+          let h : 32 ≤ b = omega arith in
+          let k : 126 < b = omega arith in
+          put_as c.put_numbered.ensures (shown-high b n h k)
+    ]

@@ -1,5 +1,4 @@
 -- `listing_lines::print_end` meets its contract.
-use borrow.Author.Rules.{rules}
 use Rattle.text.proofs.Delivering.{delivers}
 use Rattle.listing_lines.proofs.Short.{end_short}
 use Rattle.listing_lines.proofs.Writing.{end-put}

@@ -1,5 +1,4 @@
 -- `listing_lines::print_wrong` meets its contract.
-use borrow.Author.Rules.{rules}
 use Rattle.text.proofs.Delivering.{delivers}
 use Rattle.listing_lines.proofs.Short.{wrong-short}
 use Rattle.listing_lines.proofs.Writing.{wrong-put}

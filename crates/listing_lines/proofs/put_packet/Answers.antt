@@ -1,5 +1,4 @@
 -- `listing_lines::put_packet` meets its contract.
-use borrow.Author.Rules.{rules}
 use mathlib.Core.Path.{ap, ◌∙◌}
 use Rattle.listing_spec.specs.Lines.{letter}
 use Rattle.listing_lines.proofs.Writing.{packet-put}

@@ -1,13 +1,8 @@
 -- `listing_lines::put_told` meets its contract.
-use borrow.Author.Rules.{rules}
 use Rattle.listing_spec.specs.Lines.{told}
 use Rattle.text.proofs.Putting.{put-case}
 use Rattle.listing_lines.proofs.Writing.{refused-put, broken-put}
 use Rattle.listing_lines.proofs.put_told.Goals as goal
-
-pub returns-in-Packet : goal.returns-in-Packet
-returns-in-Packet c =
-    put-case told c.in-Packet.is c.put_packet.ensures
 
 pub returns-in-Refused : goal.returns-in-Refused
 returns-in-Refused c =

@@ -37,10 +37,10 @@ unfolding wrong_from
     (search rules) (search rules) (search rules)
     (λ c.
     let a = c.args in
-    rw (next a.raw.now a.at (omega arith)) (simp (right-in _ c.in-94.if-b-lt93-own.false c.in-94.if-b-lt95-own.true)
-    (c.scan_plain.ensures ∙ wrong-plain (drop (a.at + 1) a.raw.now) _ a.at (λ z. absurd (omega (arith, z, c.in-94.if-b-lt95-own.true))))))
-    (λ c. let a = c.args in rw (next a.raw.now a.at (omega arith)) (simp (right-low _ c.in_default.if-b-lt93-own.true)))
-    (λ c. let a = c.args in rw (next a.raw.now a.at (omega arith)) (simp (right-high _ c.in_default.if-b-lt95-own.false))))
+    rw (next a.raw.now a.at (omega arith)) (simp (right-in _ c.in-94.if-raw-at-lt93-own.false c.in-94.if-this-lt95-own.true)
+    (c.scan_plain.ensures ∙ wrong-plain (drop (a.at + 1) a.raw.now) _ a.at (λ z. absurd (omega (arith, z, c.in-94.if-this-lt95-own.true))))))
+    (λ c. let a = c.args in rw (next a.raw.now a.at (omega arith)) (simp (right-low _ c.in_default.if-raw-at-lt93-own.true)))
+    (λ c. let a = c.args in rw (next a.raw.now a.at (omega arith)) (simp (right-high _ c.in_default.if-this-lt95-own.false))))
     (λ t. plain.spec (up-to-reads.Asked, up-to-reads.Learnt, below 1 escaped-kinds.ps μ_escaped escaped-reads.Pre t, escaped-reads.Post)
     (at 1 plain-kinds.ps μ_plain plain-reads.Pre t) plain-reads.Post
     (search rules) (search rules) (search rules) (search rules)

@@ -1,5 +1,5 @@
 -- `packet::frame::judge` meets its contract: each return by the tests that led there.
-use mathlib.Core.Path.{sym, ◌∙◌}
+use mathlib.Core.Path.{◌∙◌}
 use borrow.Author.Rules.{rules}
 use Rattle.packet_spec.proofs.Judging.{both, judging-over, judging-short, judging-is}
 use Rattle.packet.proofs.frame.judge.Statement.{statement}

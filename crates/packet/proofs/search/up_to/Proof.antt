@@ -16,10 +16,10 @@ up_to_spec =
     (λ c.
     let a = c.before.before.before.before.before.args in
     let short = up-to-short a.c a.bytes.now in
-    let e = sought a.c c.before.least-at.result a.bytes.now (omega arith) (omega (arith, short)) c.within.ensures in
+    let e = sought a.c c.before.min-at.result a.bytes.now (omega arith) (omega (arith, short)) c.within.ensures in
     omega (arith, e, short))
     (λ c.
     let a = c.before.before.before.before.before.args in
     let short = up-to-short a.c a.bytes.now in
-    let e = sought a.c c.before.least-at.result a.bytes.now (omega arith) (omega (arith, short)) c.within.ensures in
+    let e = sought a.c c.before.min-at.result a.bytes.now (omega arith) (omega (arith, short)) c.within.ensures in
     (e, omega (arith, e, short))))

@@ -1,17 +1,17 @@
--- `ports::is_twice` meets its contract.
-use Rattle.std.proofs.Common.{arith, sym, ◌∙◌}
-use Rattle.ports.proofs.Finding.{twice-here, twice-on, twice-end}
+-- `ports::places::is_twice` meets its contract.
+use Rattle.ports.proofs.Finding.{held-again, not-held, held-once, held-none}
+use Rattle.ports.proofs.places.is_twice.Goals.{else-e-via-then-e+else-is_some, else-e-via-else-e}
 use Rattle.ports.proofs.places.is_twice.Goals as goal
 
-pub returns-then-repeats : goal.returns-then-repeats
-returns-then-repeats c =
-    twice-here _ _ _ c.loop-i-test.true (omega arith) c.place_from-place.ensures c.loop-i.invariant.1 (sym c.repeats.ensures ∙ c.if-repeats.true)
+pub returns-then-is_some : goal.returns-then-is_some
+returns-then-is_some c =
+    held-again c.in-Some.ensures.cases.0 c.loop-e.invariant c.if-e.true (cc)
 
-pub loop-i-preserved : goal.loop-i-preserved
-loop-i-preserved c = (
-  omega arith,
-  twice-on _ _ _ c.loop-i-test.true (omega arith) c.place_from-place.ensures c.loop-i.invariant.1 (sym c.repeats.ensures ∙ c.if-repeats.false),
-)
+pub loop-e-preserved : goal.loop-e-preserved
+loop-e-preserved c = elim c.else-e.branch [
+  | else-e-via-then-e+else-is_some w ↦ held-once c.in-Some.ensures.cases.0 c.loop-e.invariant w.if-e.true (cc)
+  | else-e-via-else-e w ↦ not-held c.in-Some.ensures.cases.0 c.loop-e.invariant w.if-e.false
+]
 
 pub returns : goal.returns
-returns c = twice-end _ _ _ c.loop-i.invariant.1 c.loop-i-test.false
+returns c = held-none _ c.loop-e.invariant c.in_default.ensures.cases

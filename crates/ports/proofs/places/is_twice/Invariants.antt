@@ -1,10 +1,10 @@
--- Among the places passed none is held again, so what is left decides.
-use Rattle.std.proofs.Common.{◌≡◌, ◌-◌, ◌≤◌, drop, take}
+-- What is left decides.
+use Rattle.std.proofs.Common.{◌≡◌, length}
 use Rattle.ports_spec.specs.Ports.{twice}
 use Rattle.ports.proofs.places.is_twice.Given as goal
 
-abbrev pub invariant-loop-i : goal.invariant-loop-i
-invariant-loop-i l = (l.i ≤ l.n) × (twice (drop l.i (take l.n l.t)) ≡ twice (take l.n l.t))
+abbrev pub invariant-loop-e : goal.invariant-loop-e
+invariant-loop-e l = twice l.rest ≡ twice l.fn.table
 
-abbrev pub decreases-loop-i : goal.decreases-loop-i
-decreases-loop-i l = l.n - l.i
+abbrev pub decreases-loop-e : goal.decreases-loop-e
+decreases-loop-e l = length l.rest

@@ -1,0 +1,6 @@
+use Rattle.board_spec.proofs.Split.{lead-short}
+use Rattle.board_lines.proofs.Pieces.{piece-put}
+use Rattle.board_lines.proofs.Piece.lead.Goals as goal
+
+pub returns : goal.returns
+returns c = piece-put c.put_lead-length.ensures (lead-short c.args.noted c.args.delivery)

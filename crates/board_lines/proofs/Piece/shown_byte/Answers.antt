@@ -1,0 +1,5 @@
+use Rattle.board_lines.proofs.Pieces.{piece-put, shown-short}
+use Rattle.board_lines.proofs.Piece.shown_byte.Goals as goal
+
+pub returns : goal.returns
+returns c = piece-put c.put_shown-length.ensures (shown-short c.args.b)

@@ -1,6 +1,0 @@
--- A call goes on within the piece.
-use Rattle.std.proofs.Common.{◌≤◌, length}
-use Rattle.capture_main.proofs.hear.Given as goal
-
-abbrev pub invariant-loop : goal.invariant-loop
-invariant-loop g l = l.i ≤ length l.piece

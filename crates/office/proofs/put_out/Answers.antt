@@ -1,0 +1,7 @@
+use Rattle.office.proofs.Putting.{put_is}
+use Rattle.office.proofs.put_out.Goals as goal
+
+pub returns : goal.returns
+returns c =
+    let a = c.args in
+    put_is a.hold.now a.out.now a.n c.requires.0 c.requires.1 c.requires.2 c.send.result c.send.ensures c.unwrap_or-sent.ensures c.copy_within.ensures.after
