@@ -1,6 +1,9 @@
 -- Laws of `run`, the bytes before the first 7D.
 -- shift_none, moved-part         bytes that are moved: to where they stand, and before it
 -- run-within, run_moved, moved-within   where a run ends, and what moving it leaves
+-- lent-start, lent-take, lent-within   what a part that was lent from the start on, and stored into, leaves
+-- last-is                        the last byte compared with 7D
+-- told-right, told-wrong         behind a 7D: a right byte, and a wrong one
 -- found-is, found_within         the place of the 7D behind it, or the end
 -- scan-ends, scan-hands          plain reading ends behind the run, or hands over behind the 7D that follows it
 -- wrong-plain                    .. and goes on behind a right byte
@@ -9,21 +12,29 @@
 use mathlib.Core.Path.{◌≡◌, refl, sym, ap, ap₂, ◌∙◌}
 use mathlib.Core.Logic.{◌≢◌}
 use Prim.Native.Nat.{ℕ, suc, ◌+◌, ◌-◌, ◌<◌, ◌≤◌}
-use mathlib.Core.List.{List, [], ◌∷◌, ◌++◌}
+use mathlib.Core.Bool.{true, false}
+use mathlib.Core.List.{List, [], ◌∷◌, ◌++◌, append_assoc}
 use native.Mathlib.Omega.{arith}
 use borrow.Author.Tests.{eq-eqb, ne_eqb}
-use lib.ListN.{length, take, drop, get_or, set, length-drop, length-take, take-append-drop}
-use lib.Seq.{sets, sets-eq, drop-drop, take-take, length-take-le}
+use lib.ListN.{length, take, drop, get_or, set, length-drop, take-append-drop, length-append}
+use Rattle.std.proofs.lemmas.List.{drop-append-le}
+use lib.Seq.{sets, sets-eq, drop-drop, take-take, length-take-le, take_at, drop-set-lt}
 use Rattle.base.specs.Private.{Laid}
 use Rattle.base.specs.UpTo.{up_to}
-use Rattle.base.proofs.Laid.{laid-append}
-use Rattle.base.proofs.Lists.{part-over, part-set, drop-take}
+use Rattle.base.proofs.Laid.{laid-append, laid-start}
+use Rattle.base.proofs.Lists.{next, part-over, drop-take}
 use Rattle.base.proofs.Parts.{tail-is}
 use Rattle.base.proofs.Tests.{by-eq, by_le}
 use Rattle.base.proofs.UpTo.{up-to-short, up-to-is}
-use Rattle.packet_spec.specs.Escape.{plain, escaped, wrong_from, wrong_behind}
+use Rattle.packet_spec.specs.Escape.{plain, escaped, last, right, wrong_from, wrong_behind}
 use Rattle.std.specs.List.{copy_within}
+use Rattle.std.specs.Prelude.{Option, Some, None, eqb}
+use Rattle.std.specs.Option.{option_eq, option_copied}
+use Rattle.std.specs.List.{slice_get}
+use Rattle.std.proofs.lemmas.Option.{get_or_from_slice_get, slice_get-get_or, slice_get_within}
+use denote.Bor.{Bor}
 use Rattle.packet.specs.Private.{run}
+use Rattle.packet_spec.proofs.Escaping.{last-at}
 use Rattle.packet_spec.proofs.Places.{wrong-before}
 
 plain-all : (bs : List ℕ) → length bs ≤ length (run bs) → plain bs ≡ run bs
@@ -45,8 +56,8 @@ wrong-plain bs p at n = let e : at + 1 ≡ suc at = omega arith in rw e (wrong-b
 
 -- the bytes from a place on, by the byte before them
 module _ (l : List ℕ) (from : ℕ) where
-  pub at-start : from ≡ 0 → wrong_from 0 0 (drop 0 l) ≡ wrong_behind from l
-  at-start e = simp (eq-eqb from 0 e) (ap (λ (i : ℕ). wrong_from 0 i (drop i l)) (sym e))
+  pub at-start : from ≡ 0 → wrong_from 0 from (drop from l) ≡ wrong_behind from l
+  at-start e = simp (eq-eqb from 0 e)
 
   pub behind-escape : from ≢ 0 → get_or l (from - 1) 0 ≡ 0x7D → wrong_from 0x7D from (drop from l) ≡ wrong_behind from l
   behind-escape n e = simp (ne_eqb from 0 n) (ap (λ (p : ℕ). wrong_from p from (drop from l)) (sym e))
@@ -100,33 +111,26 @@ moved-part l i n j h k m =
     ∙ ap (λ (m : ℕ). take j l ++ take (n - i) (drop i l) ++ drop (j + m) l) long)
 
 -- the run, where its length is known
-module _ (l : List ℕ) (n from : ℕ) {k : ℕ} (e : k ≡ length (run (take (n - from) (drop from l)))) (room : n ≤ length l) where
-  pub run-within : from ≤ n → from + k ≤ n
-  run-within h = omega (arith, up-to-short 0x7D (take (n - from) (drop from l)), length-take-le (n - from) (drop from l) (omega (arith, length-drop from l)))
+module _ (l : List ℕ) (from : ℕ) {k : ℕ} (e : k ≡ length (run (take (length l - from) (drop from l)))) where
+  run-long : k ≡ length (run (drop from l))
+  run-long = e ∙ ap (λ (x : List ℕ). length (run x)) (tail-is from l)
 
-  run-part : from ≤ n → drop from (take (from + k) l) ≡ run (drop from (take n l))
-  run-part h =
+  pub run-within : from ≤ length l → from + k ≤ length l
+  run-within h = omega (arith, run-long, up-to-short 0x7D (drop from l), length-drop from l)
+
+  run-part : drop from (take (from + k) l) ≡ run (drop from l)
+  run-part =
       let j : from + k - from ≡ k = omega arith in
-      drop-take from (from + k) l
-      ∙ ap (λ (m : ℕ). take m (drop from l)) j
-      ∙ sym (take-take k (n - from) (drop from l) (omega (arith, run-within h)))
-      ∙ ap (λ (m : ℕ). take m (take (n - from) (drop from l))) e
-      ∙ sym (up-to-is 0x7D (take (n - from) (drop from l)))
-      ∙ ap run (sym (drop-take from n l))
+      drop-take from (from + k) l ∙ ap (λ (m : ℕ). take m (drop from l)) (j ∙ run-long) ∙ sym (up-to-is 0x7D (drop from l))
 
-  pub run_moved : from ≤ n → (to : ℕ) {after : List ℕ} → after ≡ sets l to (drop from (take (from + k) l))
-      → Laid l to (run (drop from (take n l))) after (to + k)
-  run_moved h to s =
-      record {
-        ends = ap (λ (m : ℕ). to + m) (e ∙ ap (λ (x : List ℕ). length (run x)) (sym (drop-take from n l)));
-        holds = s ∙ ap (sets l to) (run-part h);
-      }
+  pub run_moved : (to : ℕ) {after : List ℕ} → after ≡ sets l to (drop from (take (from + k) l)) → Laid l to (run (drop from l)) after (to + k)
+  run_moved to s = record { ends = ap (λ (m : ℕ). to + m) run-long; holds = s ∙ ap (sets l to) run-part }
 
 -- ---- handing over
 -- stores before a place leave what is left
-part-sets : (l bs : List ℕ) (i n j : ℕ) → j + length bs ≤ i → j + length bs ≤ n → drop i (take n (sets l j bs)) ≡ drop i (take n l)
-part-sets l [] i n j h k = refl
-part-sets l (b ∷ bs) i n j h k = part-sets (set l j b) bs i n (suc j) (omega arith) (omega arith) ∙ part-set l i n j b (omega arith) (omega arith)
+part-sets : (l bs : List ℕ) (i j : ℕ) → j + length bs ≤ i → drop i (sets l j bs) ≡ drop i l
+part-sets l [] i j h = refl
+part-sets l (b ∷ bs) i j h = part-sets (set l j b) bs i (suc j) (omega arith) ∙ drop-set-lt i l j b (omega arith)
 
 pub found-is : (l : List ℕ) (at : ℕ) {k : ℕ} → k ≡ length (run (take (length l - at) (drop at l))) → at + k ≡ at + length (run (drop at l))
 found-is l at e = ap (λ (k : ℕ). at + k) (e ∙ ap (λ (x : List ℕ). length (run x)) (tail-is at l))
@@ -138,9 +142,9 @@ module _ (l : List ℕ) (at : ℕ) {i : ℕ} (e : i ≡ at + length (run (drop a
   pub scan-ends : i ≡ length l → 0 ≡ wrong_from 0 at (drop at l)
   scan-ends h = sym (wrong-all (drop at l) 0 at (λ z. absurd (omega (arith, z))) (omega (arith, length-drop at l)))
 
-  pub scan-hands : {s : ℕ} → i < length l → s ≡ wrong_from 0x7D (i + 1) (drop (i + 1) l) → s ≡ wrong_from 0 at (drop at l)
-  scan-hands h p =
-      p ∙ (λ j. wrong_from 0x7D (place j) (here j)) ∙ sym (wrong-run (drop at l) 0 at (λ z. absurd (omega (arith, z))) (omega (arith, length-drop at l)))
+  pub scan-hands : i < length l → wrong_from 0x7D (i + 1) (drop (i + 1) l) ≡ wrong_from 0 at (drop at l)
+  scan-hands h =
+      (λ j. wrong_from 0x7D (place j) (here j)) ∙ sym (wrong-run (drop at l) 0 at (λ z. absurd (omega (arith, z))) (omega (arith, length-drop at l)))
     where
       place : i + 1 ≡ at + suc (length (run (drop at l)))
       place = omega arith
@@ -148,25 +152,61 @@ module _ (l : List ℕ) (at : ℕ) {i : ℕ} (e : i ≡ at + length (run (drop a
       here : drop (i + 1) l ≡ drop (suc (length (run (drop at l)))) (drop at l)
       here = let k : i + 1 ≡ at + suc (length (run (drop at l))) = omega arith in rw k (sym (drop-drop (suc (length (run (drop at l)))) at l))
 
-module _ (l m : List ℕ) (n from to k : ℕ) (h : Laid l to (run (drop from (take n l))) m (to + k)) where
-  moved_length : n ≤ length l → (k ≡ length (run (drop from (take n l)))) × (length (drop from (take n l)) ≡ n - from)
-  moved_length w = (omega arith, omega (arith, length-drop from (take n l), length-take n l))
+module _ (l m : List ℕ) (from to k : ℕ) (h : Laid l to (run (drop from l)) m (to + k)) where
+  moved_length : k ≡ length (run (drop from l))
+  moved_length = omega arith
 
-  pub moved-within : n ≤ length l → from ≤ n → from + k ≤ n
-  moved-within w u = omega (arith, (moved_length w).0, (moved_length w).1, up-to-short 0x7D (drop from (take n l)))
+  pub moved-within : from ≤ length l → from + k ≤ length l
+  moved-within u = omega (arith, moved_length, length-drop from l, up-to-short 0x7D (drop from l))
 
-  pub undo-ends : n ≤ length l → from + k ≡ n → Laid l to (plain (drop from (take n l))) m (to + k)
-  undo-ends w e = rw (plain-all (drop from (take n l)) (omega (arith, (moved_length w).0, (moved_length w).1))) h
+  pub undo-ends : from + k ≡ length l → Laid l to (plain (drop from l)) m (to + k)
+  undo-ends e = rw (plain-all (drop from l) (omega (arith, moved_length, length-drop from l))) h
 
-  pub undo-hands : {after : List ℕ} {end : ℕ} → n ≤ length l → from + k < n → to ≤ from
-      → Laid m (to + k) (escaped (drop (from + k + 1) (take n m))) after end → Laid l to (plain (drop from (take n l))) after end
-  undo-hands w u v p =
-      rw (plain-run (drop from (take n l)) (omega (arith, (moved_length w).0, (moved_length w).1))) (laid-append h (rw here at p))
+  pub undo-hands : {after : List ℕ} {end : ℕ} → from + k < length l → to ≤ from
+      → Laid m (to + k) (escaped (drop (from + k + 1) m)) after end → Laid l to (plain (drop from l)) after end
+  undo-hands u v p = rw (plain-run (drop from l) (omega (arith, moved_length, length-drop from l))) (laid-append h (rw here at p))
     where
-      here : drop (from + k + 1) (take n m) ≡ drop (suc (length (run (drop from (take n l))))) (drop from (take n l))
+      here : drop (from + k + 1) m ≡ drop (suc (length (run (drop from l)))) (drop from l)
       here =
-          let e : from + k + 1 ≡ from + suc (length (run (drop from (take n l)))) = omega (arith, (moved_length w).0) in
-          ap (λ (x : List ℕ). drop (from + k + 1) (take n x)) h.holds
-          ∙ part-sets l (run (drop from (take n l))) (from + k + 1) n to (omega (arith, (moved_length w).0)) (omega (arith, (moved_length w).0))
-          ∙ ap (λ (x : ℕ). drop x (take n l)) e
-          ∙ sym (drop-drop (suc (length (run (drop from (take n l))))) from (take n l))
+          let e : from + k + 1 ≡ from + suc (length (run (drop from l))) = omega (arith, moved_length) in
+          ap (λ (x : List ℕ). drop (from + k + 1) x) h.holds
+          ∙ part-sets l (run (drop from l)) (from + k + 1) to (omega (arith, moved_length))
+          ∙ ap (λ (x : ℕ). drop x l) e
+          ∙ sym (drop-drop (suc (length (run (drop from l)))) from l)
+
+-- a part from the start on was lent, and stored into from its start on
+module _ (l : List ℕ) (n : ℕ) {bs after : List ℕ} {end : ℕ} (h : Laid (take n l) 0 bs after end) (room : length bs ≤ length (take n l)) where
+  pub lent-start : after ++ drop n l ≡ bs ++ drop (length bs) l
+  lent-start =
+      ap (λ (x : List ℕ). x ++ drop n l) (laid-start h room)
+      ∙ append_assoc bs (drop (length bs) (take n l)) (drop n l)
+      ∙ ap (λ (x : List ℕ). bs ++ x)
+      (sym (drop-append-le (length bs) (take n l) (drop n l) room) ∙ ap (drop (length bs)) (take-append-drop n l))
+
+  pub lent-take : take end (after ++ drop n l) ≡ bs
+  lent-take = ap (take end) lent-start ∙ take_at bs (drop (length bs) l) end (omega (arith, h.ends))
+
+  pub lent-within : end ≤ length (after ++ drop n l)
+  lent-within = omega (arith, h.ends, ap length lent-start, length-append bs (drop (length bs) l))
+
+-- ---- the last byte, and places told
+pub last-is : (l : List ℕ) (o : Option (Bor ℕ)) (x : Bor ℕ) → option_copied o ≡ slice_get l (length l - 1) → x.now ≡ 0x7D
+    → option_eq (λ (y z : Bor ℕ). eqb y.now z.now) o (Some x) ≡ eqb (last 0 l) 0x7D
+unfolding last
+last-is [] None x e h = refl
+last-is (b ∷ l) None x e h =
+    absurd (let z = e ∙ slice_get-get_or (b ∷ l) (length (b ∷ l) - 1) 0 (omega arith) in cc)
+last-is l (Some y) x e h =
+    let w = slice_get_within l (length l - 1) y.now (sym e) in
+    ap₂ (λ (m n : ℕ). eqb m n) (sym (get_or_from_slice_get l (length l - 1) y.now 0 (sym e)) ∙ sym (last-at 0 l (omega (arith, w)))) h
+
+-- a right byte behind 7D is passed ..
+pub told-right : (l : List ℕ) (at : ℕ) → at < length l → right (get_or l at 0) ≡ true → get_or l at 0 ≢ 0x7D
+    → wrong_from 0 (at + 1) (drop (at + 1) l) ≡ wrong_from 0x7D at (drop at l)
+unfolding wrong_from
+told-right l at h r n = rw (next l at h) (simp r (wrong-plain (drop (at + 1) l) (get_or l at 0) at n))
+
+-- .. and a wrong one is told
+pub told-wrong : (l : List ℕ) (at : ℕ) → at < length l → right (get_or l at 0) ≡ false → at ≡ wrong_from 0x7D at (drop at l)
+unfolding wrong_from
+told-wrong l at h r = rw (next l at h) (simp r)

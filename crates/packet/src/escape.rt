@@ -1,6 +1,5 @@
 //! Escapes: undone on reading, counted and stored on writing.
-ghost use Rattle.std.specs.Prelude.{◌≡◌, ◌+◌, ◌<◌, ◌≤◌, ltb, length, take, drop};
-ghost use Rattle.std.proofs.lemmas.List.Edits.{sets};
+ghost use Rattle.std.specs.Prelude.{◌≡◌, ◌+◌, ◌<◌, ◌≤◌, ltb, length, drop};
 ghost use Rattle.base.specs.Private.{Laid};
 ghost use Rattle.packet_spec.specs.Escape.{escape, escape_byte, plain, escaped, wrong_from, wrong_behind, scan, restored};
 ghost use Rattle.packet.specs.Private.{run, escapes};
@@ -9,7 +8,8 @@ use crate::search;
 use packet_spec::Escapes;
 
 // Plain reading of raw[at..]: the place of the first wrong byte behind 7D, 0 where there is none. Two functions and no loop, here and where escapes
-// are undone: the paper names that form, and a run is passed over at once, so there are two calls for each escape.
+// are undone: the paper names that form, and a run is passed over at once, so there are two calls for each escape. A number and no Option: the
+// compiler makes no loop of calls that hand on an Option, which takes half as long again, and stack for each escape.
 #[cycle(scan_escaped_scan_plain)]
 fn scan_plain(raw: &[u8], at: usize) -> usize
     requires { at ≤ length raw.now }
@@ -41,18 +41,13 @@ fn scan_escaped(raw: &[u8], at: usize) -> usize
 pub fn scan(raw: &[u8]) -> Escapes
     ensures { result ≡ scan raw.now }
 {
-    let n = raw.len();
-    if n == 0 {
-        return Escapes::Right;
-    }
-    if raw[n - 1] == 0x7D {
+    if raw.last() == Some(&0x7D) {
         return Escapes::Unfinished;
     }
-    let place = scan_plain(raw, 0);
-    if place == 0 {
-        return Escapes::Right;
+    match scan_plain(raw, 0) {
+        0 => Escapes::Right,
+        place => Escapes::Wrong(place),
     }
-    Escapes::Wrong(place)
 }
 
 /// The place of the first byte of raw[from..] that stands behind 7D and is neither 5E nor 5D; 0 where there is none.
@@ -63,10 +58,7 @@ pub fn wrong_behind(raw: &[u8], from: usize) -> usize
     if raw.len() <= from {
         return 0;
     }
-    if from == 0 {
-        return scan_plain(raw, 0);
-    }
-    if raw[from - 1] == 0x7D {
+    if from != 0 && raw[from - 1] == 0x7D {
         return scan_escaped(raw, from);
     }
     scan_plain(raw, from)
@@ -79,45 +71,47 @@ fn restored(b: u8) -> u8
     if b == 0x5E { 0x7E } else { 0x7D }
 }
 
-// Moves the bytes of recv[from..n] before the first 7D to the places from `to` on; how many.
-fn move_run(recv: &mut [u8], n: usize, from: usize, to: usize) -> usize
-    requires { (n ≤ length recv.old) × (from ≤ n) × (to ≤ from) }
-    ensures { Laid recv.old to (run (drop from (take n recv.old))) recv.new (to + result) }
+// Moves the bytes of recv[from..] before the first 7D to the places from `to` on; how many.
+// Buffer and places come one by one here and below: a struct of all three would say what it leaves in the buffer by nested pairs (`.exit.0.now`),
+// one of the two places would keep one of two bounds, and both say no more plainly what stands where.
+fn move_run(recv: &mut [u8], from: usize, to: usize) -> usize
+    requires { (from ≤ length recv.old) × (to ≤ from) }
+    ensures { Laid recv.old to (run (drop from recv.old)) recv.new (to + result) }
 {
-    let k = search::up_to(&recv[from..n], 0x7D);
+    let k = search::up_to(&recv[from..], 0x7D);
     if to < from {
         recv.copy_within(from..from + k, to);
     }
     k
 }
 
-// Plain reading of recv[from..n]: stored, escapes undone, from `to` on; the place behind.
+// Plain reading of recv[from..]: stored, escapes undone, from `to` on; the place behind.
 #[cycle(undo_escaped_undo_plain)]
-pub fn undo_plain(recv: &mut [u8], n: usize, from: usize, to: usize) -> usize
-    requires { (n ≤ length recv.old) × (from ≤ n) × (to ≤ from) }
-    ensures { Laid recv.old to (plain (drop from (take n recv.old))) recv.new result }
+pub fn undo_plain(recv: &mut [u8], from: usize, to: usize) -> usize
+    requires { (from ≤ length recv.old) × (to ≤ from) }
+    ensures { Laid recv.old to (plain (drop from recv.old)) recv.new result }
 {
-    let k = move_run(recv, n, from, to);
+    let k = move_run(recv, from, to);
     let at = from + k;
     let end = to + k;
-    if at == n {
+    if at == recv.len() {
         return end;
     }
-    undo_escaped(recv, n, at + 1, end)
+    undo_escaped(recv, at + 1, end)
 }
 
 // Escaped reading of the same, behind a 7D.
 #[cycle(undo_escaped_undo_plain)]
-fn undo_escaped(recv: &mut [u8], n: usize, from: usize, to: usize) -> usize
-    requires { (n ≤ length recv.old) × (from ≤ n) × (to < from) }
-    ensures { Laid recv.old to (escaped (drop from (take n recv.old))) recv.new result }
+fn undo_escaped(recv: &mut [u8], from: usize, to: usize) -> usize
+    requires { (from ≤ length recv.old) × (to < from) }
+    ensures { Laid recv.old to (escaped (drop from recv.old)) recv.new result }
 {
-    if from == n {
+    if from == recv.len() {
         return to;
     }
     let b = restored(recv[from]);
     recv[to] = b;
-    undo_plain(recv, n, from + 1, to + 1)
+    undo_plain(recv, from + 1, to + 1)
 }
 
 // Whether a byte is escaped.

@@ -135,7 +135,7 @@ fn close(recv: &mut [u8], raw: usize) -> Judged
         Escapes::Unfinished => Judged::Refused(Refusal::Unfinished as u8),
         Escapes::Wrong(place) => Judged::Broken(place),
         Escapes::Right => {
-            let n = escape::undo_plain(recv, stored, 0, 0);
+            let n = escape::undo_plain(&mut recv[..stored], 0, 0);
             judge_contents(&recv[..n])
         }
     }

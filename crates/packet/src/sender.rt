@@ -31,22 +31,6 @@ fn head_fits(format: u8, number: u8, key: &[u8]) -> bool
     }
 }
 
-// Stores format byte and, in format 0x26, key length, key number and key; how many bytes.
-fn put_head(out: &mut [u8], format: u8, number: u8, key: &[u8]) -> usize
-    requires { (length key.now ≤ key_most) × (key_at + key_most ≤ length out.old) }
-    ensures { Laid out.old 0 (head format number key.now) out.new result }
-{
-    out[0] = format;
-    if format != Packet::KEY_FORMAT {
-        return 1;
-    }
-    let k = key.len();
-    out[1] = k as u8;
-    out[2] = number;
-    base::copy(key, &mut out[Packet::KEY_AT..]);
-    Packet::KEY_AT + k
-}
-
 // Stores a number as two bytes, low first; the place behind.
 fn put_two(out: &mut [u8], at: usize, n: u16) -> usize
     requires { at + 2 ≤ length out.old }
@@ -56,23 +40,6 @@ fn put_two(out: &mut [u8], at: usize, n: u16) -> usize
     out[at] = low;
     out[at + 1] = high;
     at + 2
-}
-
-// Stores format byte to sequence; how many bytes. The parts come one by one, as callers of `write_as` hand them in.
-fn put_opening(
-    out: &mut [u8],
-    format: u8,
-    number: u8,
-    key: &[u8],
-    port: u16,
-    sequence: u16,
-) -> usize
-    requires { (length key.now ≤ key_most) × (opening_most ≤ length out.old) }
-    ensures { Laid out.old 0 (opening (packet_of format number key.now port sequence [])) out.new result }
-{
-    let a = put_head(out, format, number, key);
-    let b = put_two(out, a, port);
-    put_two(out, b, sequence)
 }
 
 // The check of opening and payload, one behind the other.
@@ -98,24 +65,57 @@ fn put_frame(opening: &[u8], payload: &[u8], tail: &[u8; 2], out: &mut [u8]) -> 
     Ok(c + 1)
 }
 
-// Stores a packet's frame, where there is room.
-fn put_packet(
+// What a packet is made of, once the tests of `write_as` are passed.
+#[derive(Clone, Copy)]
+struct Parts<'a> {
     format: u8,
     number: u8,
-    key: &[u8],
+    key: &'a [u8],
     port: u16,
     sequence: u16,
-    payload: &[u8],
-    out: &mut [u8],
-) -> Written
-    requires { (length key.now ≤ key_most) × (length (escape payload.now) ≤ payload_limit) }
-    ensures { outcome (as_written result) out.new ≡
-        write (frame_of (packet_of format number key.now port sequence payload.now)) out.old }
-{
-    let mut opening = [0u8; Packet::OPENING];
-    let n = put_opening(&mut opening, format, number, key, port, sequence);
-    let tail = two(check_of(&opening[..n], payload));
-    put_frame(&opening[..n], payload, &tail, out)
+    payload: &'a [u8],
+    ghost few: { length key.now ≤ key_most },
+    ghost short: { length (escape payload.now) ≤ payload_limit },
+}
+
+impl Parts<'_> {
+    // Stores format byte and, in format 0x26, key length, key number and key; how many bytes.
+    fn put_head(&self, out: &mut [u8]) -> usize
+        requires { key_at + key_most ≤ length out.old }
+        ensures { Laid out.old 0 (head self.now.format self.now.number self.now.key.now) out.new result }
+    {
+        out[0] = self.format;
+        if self.format != Packet::KEY_FORMAT {
+            return 1;
+        }
+        let k = self.key.len();
+        out[1] = k as u8;
+        out[2] = self.number;
+        base::copy(self.key, &mut out[Packet::KEY_AT..]);
+        Packet::KEY_AT + k
+    }
+
+    // Stores format byte to sequence; how many bytes.
+    fn put_opening(&self, out: &mut [u8]) -> usize
+        requires { opening_most ≤ length out.old }
+        ensures { Laid out.old 0
+            (opening (packet_of self.now.format self.now.number self.now.key.now self.now.port self.now.sequence [])) out.new result }
+    {
+        let a = self.put_head(out);
+        let b = put_two(out, a, self.port);
+        put_two(out, b, self.sequence)
+    }
+
+    // Stores the packet's frame, where there is room.
+    fn put(&self, out: &mut [u8]) -> Written
+        ensures { outcome (as_written result) out.new ≡
+            write (frame_of (packet_of self.now.format self.now.number self.now.key.now self.now.port self.now.sequence self.now.payload.now)) out.old }
+    {
+        let mut opening = [0u8; Packet::OPENING];
+        let n = self.put_opening(&mut opening);
+        let tail = two(check_of(&opening[..n], self.payload));
+        put_frame(&opening[..n], self.payload, &tail, out)
+    }
 }
 
 /// Writes a packet of either format: its escaped contents, and one flag behind them.
@@ -143,7 +143,15 @@ pub fn write_as(
     if !head_fits(format, number, key) {
         return Err(Refusal::SentKey);
     }
-    put_packet(format, number, key, port, sequence, payload, out)
+    let parts = Parts {
+        format,
+        number,
+        key,
+        port,
+        sequence,
+        payload,
+    };
+    parts.put(out)
 }
 
 /// Writes a packet of format 0x21.

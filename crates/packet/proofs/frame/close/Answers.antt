@@ -1,20 +1,20 @@
 use Rattle.std.proofs.Common.{ap, sym, ◌∙◌, List, ℕ}
 use lib.Seq.{length-take-le}
-use Rattle.base.proofs.Laid.{laid-start, laid-take, laid-within}
 use Rattle.packet_spec.specs.Frame.{judged, judge_contents, closed_by}
-use Rattle.packet_spec.proofs.Judging.{both, closed-over, closed-stored, plain-room}
+use Rattle.packet_spec.proofs.Escaping.{plain-short}
+use Rattle.packet_spec.proofs.Judging.{both, closed-over, closed-stored}
+use Rattle.packet.proofs.Runs.{lent-start, lent-take, lent-within}
 use Rattle.packet.proofs.frame.close.Goals as goal
 
 pub returns-then-raw-gt-RAW : goal.returns-then-raw-gt-RAW
 returns-then-raw-gt-RAW c = both (closed-over c.args.recv.now c.args.raw c.if-raw-gt-RAW.true)
 
 pub slice_bounds-judge_contents-end : goal.slice_bounds-judge_contents-end
-slice_bounds-judge_contents-end c =
-    laid-within c.undo_plain-n.ensures (plain-room c.args.recv.now c.min-stored.result) c.undo_plain-n.auto.recv
+slice_bounds-judge_contents-end c = lent-within c.args.recv.now c.min-stored.result c.undo_plain-n.ensures (plain-short _)
 
 pub slice_bounds-judge_contents-end-in-Right : goal.slice_bounds-judge_contents-end-in-Right
 slice_bounds-judge_contents-end-in-Right c =
-    sym (length-take-le _ _ (laid-within c.undo_plain-n.ensures (plain-room c.args.recv.now c.min-stored.result) c.undo_plain-n.auto.recv))
+    sym (length-take-le _ _ (lent-within c.args.recv.now c.min-stored.result c.undo_plain-n.ensures (plain-short _)))
 
 pub returns-in-Unfinished : goal.returns-in-Unfinished
 unfolding closed_by
@@ -29,7 +29,10 @@ returns-in-Wrong c =
 pub returns-in-Right : goal.returns-in-Right
 unfolding closed_by
 returns-in-Right c =
+    let l = c.args.recv.now in
+    let n = c.min-stored.result in
     let u = c.undo_plain-n.ensures in
-    let r = plain-room c.args.recv.now c.min-stored.result in
-    let j = both (closed-stored c.args.recv.now c.args.raw c.if-raw-gt-RAW.false c.min-stored.ensures _ (sym c.scan.ensures ∙ c.in-Right.is)) in
-    (c.judge_contents.ensures ∙ ap (λ (x : List ℕ). judged (judge_contents x)) (laid-take u r) ∙ j.0, laid-start u r ∙ j.1)
+    let j = both (closed-stored l c.args.raw c.if-raw-gt-RAW.false c.min-stored.ensures _ (sym c.scan.ensures ∙ c.in-Right.is)) in (
+      c.judge_contents.ensures ∙ ap (λ (x : List ℕ). judged (judge_contents x)) (lent-take l n u (plain-short _)) ∙ j.0,
+      lent-start l n u (plain-short _) ∙ j.1,
+    )

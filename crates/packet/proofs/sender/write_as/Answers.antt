@@ -22,6 +22,6 @@ returns-then-not-head_fits c =
 
 pub returns : goal.returns
 returns c =
-    c.put_packet.ensures
+    c.put.ensures
     ∙ sym (write-frame _ c.args.out.now (eqb-false _ _ (sym c.is_empty.ensures ∙ c.if-is_empty.false)) (omega arith)
     (sym c.barred.ensures ∙ c.if-barred.false) (sym c.head_fits.ensures ∙ c.if-not-head_fits.false))
