@@ -1,10 +1,10 @@
 -- Laws of the search for a byte, sixteen bytes at a time.
 -- found-more                  a turn of the loop over sixteen bytes
--- passed-more, passed-found   sixteen bytes among which there is no c, and among which there is one
+-- chunks-passed               how many chunks of sixteen bytes are passed
 -- Seen, seen_none, seen_more, seen_all, seen-fits   the loop that makes a bit of each of sixteen bytes: its start, a turn, its end, its numbers
 -- sought                      the bytes passed, and those of the sixteen behind them
-use mathlib.Core.Path.{◌≡◌, sym, ap, ap₂, ◌∙◌, subst}
-use mathlib.Core.Bool.{Bool, true, false, ◌||◌}
+use mathlib.Core.Path.{◌≡◌, refl, sym, ap, ap₂, ◌∙◌, subst}
+use mathlib.Core.Bool.{Bool, true, false, not, ◌||◌}
 use mathlib.Core.List.{List, [], ◌∷◌}
 use Prim.Native.Nat.{ℕ, zero, suc, ◌+◌, ◌-◌, ◌*◌, ◌/◌, ◌%◌, ◌^◌, ◌<◌, ◌≤◌}
 use native.Mathlib.Nat.{lt_of_lt_of_le, pow-suc}
@@ -14,12 +14,18 @@ use lib.Count.{count_trailing_zeros, under}
 use lib.Dec.{eqb, ltb}
 use lib.ListN.{length, take, drop, get_or, length-drop}
 use lib.Pow.{pow_mono}
-use lib.Seq.{drop-drop, length-take-le, get_or-take, get_or-drop}
+use lib.Seq.{length-take-le, get_or-take, get_or-drop}
+use Rattle.std.proofs.Common.{cond}
+use Rattle.std.specs.List.{position_or_len, position}
+use Rattle.std.specs.Option.{unwrap_or}
+use Rattle.std.specs.Prelude.{Option}
+use Rattle.std.proofs.lemmas.List.Sums.{prefix_len-le-length}
+use Rattle.std.specs.Simd.{first_chunks}
 use Rattle.base.specs.Choice.{pick}
 use Rattle.base.specs.UpTo.{up_to}
 use Rattle.base.proofs.Lists.{next, over}
 use Rattle.base.proofs.Tests.{by-eq, by_le}
-use Rattle.base.proofs.UpTo.{up-to-here, up-to-more, up-to-take, up-to-long}
+use Rattle.base.proofs.UpTo.{up-to-here, up-to-more, up-to-short, up-to-take, up-to-long}
 
 up-to-behind : (c n : ℕ) (l : List ℕ) → n ≤ length (up_to c l) → n + length (up_to c (drop n l)) ≡ length (up_to c l)
 unfolding up_to
@@ -29,32 +35,65 @@ up-to-behind c (suc n) (b ∷ l) h =
     by-eq b c (λ e. let k = simp (eq-eqb b c e) at h in absurd (omega (arith, k)))
     (λ m. let k = simp (ne_eqb b c m) at h in simp (ne_eqb b c m) (omega (arith, up-to-behind c n l (omega (arith, k)))))
 
-pub found-more : (c : ℕ) (l : List ℕ) (at i : ℕ) {found : Bool} → at + i < length l → found ≡ ltb (length (up_to c (drop at l))) i
-    → found || eqb (get_or l (at + i) 0) c ≡ ltb (length (up_to c (drop at l))) (i + 1)
-found-more c l at i h e =
+pub found-more : (c : ℕ) (l : List ℕ) (i : ℕ) {found : Bool} → i < length l → found ≡ ltb (length (up_to c l)) i
+    → found || eqb (get_or l i 0) c ≡ ltb (length (up_to c l)) (i + 1)
+found-more c l i h e =
     by_le i n
     (λ (k : i ≤ n).
-    let q : i + length (up_to c (drop (at + i) l)) ≡ n = ap (λ (x : List ℕ). i + length (up_to c x)) (sym (drop-drop i at l))
-    ∙ up-to-behind c i (drop at l) k in
+    let q = up-to-behind c i l k in
     ap (λ (f : Bool). f || eqb b c) (e ∙ le-ltb n i k)
-    ∙ by-eq b c (λ s. eq-eqb b c s ∙ sym (lt-ltb n (i + 1) (omega (arith, q, ap length (up-to-here c l (at + i) h s)))))
-    (λ m. ne_eqb b c m ∙ sym (le-ltb n (i + 1) (omega (arith, q, ap length (up-to-more c l (at + i) h m))))))
+    ∙ by-eq b c (λ s. eq-eqb b c s ∙ sym (lt-ltb n (i + 1) (omega (arith, q, ap length (up-to-here c l i h s)))))
+    (λ m. ne_eqb b c m ∙ sym (le-ltb n (i + 1) (omega (arith, q, ap length (up-to-more c l i h m))))))
     (λ (k : n < i). ap (λ (f : Bool). f || eqb b c) (e ∙ lt-ltb n i k) ∙ sym (lt-ltb n (i + 1) (omega arith)))
   where
     n : ℕ
-    n = length (up_to c (drop at l))
+    n = length (up_to c l)
 
     b : ℕ
-    b = get_or l (at + i) 0
+    b = get_or l i 0
 
-pub passed-more : (c i : ℕ) (l : List ℕ) {f : Bool} → i ≤ length (up_to c l) → f ≡ ltb (length (up_to c (drop i l))) 16 → f ≡ false
-    → i + 16 ≤ length (up_to c l)
-passed-more c i l h e t = omega (arith, ltb-false (length (up_to c (drop i l))) 16 (sym e ∙ t), up-to-behind c i l h)
+-- ---- sixteen bytes at a time
+-- whether c is among the first sixteen
+abbrev here : ℕ → List ℕ → Bool
+here c bs = ltb (length (up_to c bs)) 16
 
--- the bytes passed, and fewer than sixteen before the first c behind them
-pub passed-found : (c i : ℕ) (l : List ℕ) {f : Bool} → i ≤ length (up_to c l) → f ≡ ltb (length (up_to c (drop i l))) 16 → f ≡ true
-    → length (up_to c l) < i + 16
-passed-found c i l h e t = omega (arith, ltb-true (length (up_to c (drop i l))) 16 (sym e ∙ t), up-to-behind c i l h)
+-- how many chunks are passed, of k that the bytes begin with
+sixteens : (c k : ℕ) (l : List ℕ) → k * 16 ≤ length l → length l < k * 16 + 16
+    → (16 * position_or_len (here c) (first_chunks 16 k l) ≤ length (up_to c l))
+    × (length (up_to c l) < 16 * position_or_len (here c) (first_chunks 16 k l) + 16)
+sixteens c zero l h m = (omega arith, omega (arith, up-to-short c l))
+sixteens c (suc k) l h m =
+    go (here c (take 16 l)) refl (sixteens c k (drop 16 l) (omega (arith, length-drop 16 l)) (omega (arith, length-drop 16 l)))
+  where
+    rest : ℕ
+    rest = position_or_len (here c) (first_chunks 16 k (drop 16 l))
+
+    go : (t : Bool) → here c (take 16 l) ≡ t
+        → (16 * rest ≤ length (up_to c (drop 16 l))) × (length (up_to c (drop 16 l)) < 16 * rest + 16)
+        → (16 * cond (not t) (1 + rest) 0 ≤ length (up_to c l)) × (length (up_to c l) < 16 * cond (not t) (1 + rest) 0 + 16)
+    go true e r =
+        let short = ltb-true (length (up_to c (take 16 l))) 16 e in
+        (omega arith, by_le 16 (length (up_to c l)) (λ g. absurd (omega (arith, up-to-long c 16 l g, short))) (λ g. omega arith))
+    go false e r =
+        let long = ltb-false (length (up_to c (take 16 l))) 16 e in
+        let more : 16 ≤ length (up_to c l) =
+        by_le 16 (length (up_to c l)) (λ g. g) (λ g. absurd (omega (arith, ap length (up-to-take c 16 l g), long))) in
+        let q = up-to-behind c 16 l more in
+        (omega (arith, r.0, q), omega (arith, r.1, q))
+
+found-place : (t : List ℕ → Bool) (ws : List (List ℕ)) → unwrap_or (position t ws) (length ws) ≡ position_or_len t ws
+found-place t ws =
+    let n = position_or_len t ws in
+    by_le (length ws) n (λ h. simp (le-ltb n (length ws) h) (omega (arith, h, prefix_len-le-length (λ x. not (t x)) ws)))
+    (λ h. simp (lt-ltb n (length ws) h))
+
+pub chunks-passed : (c : ℕ) (l : List ℕ) {ws : List (List ℕ)} {r : Option ℕ} {m : ℕ} → ws ≡ first_chunks 16 (length l / 16) l
+    → r ≡ position (here c) ws → m ≡ unwrap_or r (length ws) → (16 * m ≤ length (up_to c l)) × (length (up_to c l) < 16 * m + 16)
+chunks-passed c l {ws} {r} {m} chunks place found =
+    let is : m ≡ position_or_len (here c) (first_chunks 16 (length l / 16) l) =
+    found ∙ ap (λ (o : Option ℕ). unwrap_or o (length ws)) place ∙ found-place (here c) ws ∙ ap (position_or_len (here c)) chunks in
+    let s = sixteens c (length l / 16) l (omega arith) (omega arith) in
+    (omega (arith, is, s.0), omega (arith, is, s.1))
 
 -- ---- a bit for each byte: as many are not set below the lowest that is as bytes stand before the first c
 abbrev pub Seen : ℕ → ℕ → ℕ → List ℕ → Type 0

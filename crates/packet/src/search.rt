@@ -3,14 +3,13 @@ ghost use Rattle.std.specs.Prelude.{◌≡◌, ◌+◌, ◌≤◌, ◌<◌, eqb,
 ghost use Rattle.base.specs.Choice.{pick};
 ghost use Rattle.base.specs.UpTo.{up_to};
 
-// Whether `c` is among the sixteen bytes from `at` on. There is no way out of the loop, so that the compiler looks at all of them at once.
-fn among(bytes: &[u8], at: usize, c: u8) -> bool
-    requires { at + 16 ≤ length bytes.now }
-    ensures { result ≡ ltb (length (up_to c (drop at bytes.now))) 16 }
+// Whether `c` is among sixteen bytes. There is no way out of the loop, so that the compiler looks at all of them at once.
+fn among(bytes: &[u8; 16], c: u8) -> bool
+    ensures { result ≡ ltb (length (up_to c bytes.now)) 16 }
 {
     let mut found = false;
-    for i in 0..16 {
-        found |= bytes[at + i] == c;
+    for b in bytes {
+        found |= *b == c;
     }
     found
 }
@@ -19,14 +18,12 @@ fn among(bytes: &[u8], at: usize, c: u8) -> bool
 fn passed(bytes: &[u8], c: u8) -> usize
     ensures { (result ≤ length (up_to c bytes.now)) × (length (up_to c bytes.now) < result + 16) }
 {
-    let mut i: usize = 0;
-    while 16 <= bytes.len() - i {
-        if among(bytes, i, c) {
-            return i;
-        }
-        i += 16;
-    }
-    i
+    let (chunks, _) = bytes.as_chunks::<16>();
+    let n = chunks
+        .iter()
+        .position(|chunk| among(chunk, c))
+        .unwrap_or(chunks.len());
+    16 * n
 }
 
 // How many of the sixteen bytes from `at` on stand before the first `c`, by a bit for each: the compiler makes all the bits at once.
