@@ -26,7 +26,8 @@ fn passed(bytes: &[u8], c: u8) -> usize
     16 * n
 }
 
-// How many of the sixteen bytes from `at` on stand before the first `c`, by a bit for each: the compiler makes all the bits at once.
+// How many of the sixteen bytes from `at` on stand before the first `c`, by a bit for each: the compiler makes all the bits at once. By places and
+// no chain: of an iterator that runs backwards a loop knows only the items that it gave, and not which are left.
 fn within(bytes: &[u8], at: usize, c: u8) -> usize
     requires { at + 16 ≤ length bytes.now }
     ensures { result ≡ length (up_to c (take 16 (drop at bytes.now))) }
