@@ -64,14 +64,14 @@ fn fall(w: u64) -> u16
 fn enter_eight(bits: u16, number: u64) -> u16
     ensures { result ≡ entered 64 bits number }
 {
-    fall(number ^ (bits as u64))
+    fall(number ^ u64::from(bits))
 }
 
 // One byte enters the register, its eight bits at once: `y` has the bits that call for the polynomial, which is added for each.
 fn enter(register: u16, byte: u8) -> u16
     ensures { result ≡ entered 8 register byte }
 {
-    let mixed = register ^ (byte as u16);
+    let mixed = register ^ u16::from(byte);
     let x = mixed % 256;
     let y = x ^ (x * 16 % 256);
     (mixed / 256) ^ ((y * 256) ^ (y * 8) ^ (y / 16))
@@ -94,7 +94,7 @@ fn folded(bits: u16, eights: &[[u8; 8]]) -> u16
     requires { 4 ≤ length eights.now }
     ensures { result ≡ register bits (concat eights.now) }
 {
-    let mut a = eight(&eights[0]) ^ (bits as u64);
+    let mut a = eight(&eights[0]) ^ u64::from(bits);
     let mut b = eight(&eights[1]);
     let mut c = eight(&eights[2]);
     let mut d = eight(&eights[3]);

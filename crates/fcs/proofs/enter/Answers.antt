@@ -4,4 +4,4 @@ use Rattle.fcs.proofs.Entering.{byte-enters}
 use Rattle.fcs.proofs.enter.Goals as goal
 
 pub returns : goal.returns
-returns c = byte-enters c.args.register c.args.byte (omega arith)
+returns c = rw c.from.ensures (byte-enters c.args.register c.args.byte (omega arith))

@@ -4,4 +4,4 @@ use Rattle.fcs.proofs.Eights.{eight-enters}
 use Rattle.fcs.proofs.enter_eight.Goals as goal
 
 pub returns : goal.returns
-returns c = c.fall.ensures ∙ eight-enters c.args.bits c.args.number (omega arith)
+returns c = rw c.from.ensures at c.fall.ensures ∙ eight-enters c.args.bits c.args.number (omega arith)

@@ -7,12 +7,12 @@ use Rattle.fcs.proofs.Folding.{waiting, fit-more, folded-first, folded-next}
 use Rattle.fcs.proofs.folded.Goals as goal
 
 pub loop-bytes-init : goal.loop-bytes-init
-loop-bytes-init c = record {
+loop-bytes-init c = rw c.from.ensures (record {
   fit = (xor_lt 64 c.eight.result c.args.bits (omega arith) (omega arith), omega arith, omega arith, omega arith);
   left =
       folded-first c.args.bits c.args.eights.now c.eight.result c.eight-b.result c.eight-c.result c.eight-d.result c.requires (omega arith) c.eight.ensures
       c.eight-b.ensures c.eight-c.ensures c.eight-d.ensures;
-}
+})
 
 pub loop-bytes-preserved : goal.loop-bytes-preserved
 loop-bytes-preserved c =
