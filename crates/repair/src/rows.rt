@@ -3,6 +3,7 @@ ghost use Rattle.std.specs.Prelude.{◌≡◌, List, [], ◌∷◌, map, find, u
 ghost use Rattle.parity.specs.Calls.{root_limit};
 ghost use Rattle.repair.specs.Way.{dot, windows, begins, normal, reduced, extended, solve, locator};
 
+use parity::Roots;
 use std::marker::Model;
 
 // A solution: the first n numbers of v, one at least. No Vec, since a library has no heap: the array has room for the longest.
@@ -130,13 +131,13 @@ fn solve(n: usize, rows: &mut [[u8; 33]]) -> Option<Solution>
     Some(rest.extended(p))
 }
 
-// The locator of a word with r parity bytes and the sums s.
-pub fn locator(r: usize, s: &[u8]) -> Option<Solution>
-    requires { (r ≤ root_limit) × (length s.now ≡ root_limit) }
-    ensures { unwrap_or result [] ≡ locator r s.now }
+// The locator of a word with so many roots and the sums s.
+pub fn locator(roots: Roots, s: &[u8]) -> Option<Solution>
+    requires { length s.now ≡ root_limit }
+    ensures { unwrap_or result [] ≡ locator roots.count s.now }
 {
-    let h = r / 2;
-    let n = r - h;
+    let h = roots.count / 2;
+    let n = roots.count - h;
     let mut rows = equations(n, s);
     solve(h + 1, &mut rows[..n])
 }
