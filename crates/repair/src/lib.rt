@@ -40,7 +40,7 @@ fn amend(roots: Roots, word: &mut [u8])
     // Not refused: so many roots fit.
     let _ = parity::at_roots(roots.count, word, &mut s);
     if let Some(locator) = rows::locator(roots, &s) {
-        places::add(locator.numbers(), &s, word);
+        places::add(&locator, &s, word);
     }
 }
 

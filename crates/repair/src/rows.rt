@@ -1,9 +1,8 @@
 //! The equations of the locator, and their solution by elimination. A row has room for 33 coefficients, as many as R = 64 needs.
 ghost use Rattle.std.specs.Prelude.{◌≡◌, List, [], ◌∷◌, map, find, unwrap_or, ℕ, ◌≤◌, ◌<◌, length, take};
-ghost use Rattle.parity.specs.Calls.{root_limit};
 ghost use Rattle.repair.specs.Way.{dot, windows, begins, normal, reduced, extended, solve, locator};
 
-use parity::Roots;
+use parity::{Roots, Word};
 use std::marker::Model;
 
 // A solution: the first n numbers of v, one at least. No Vec, since a library has no heap: the array has room for the longest.
@@ -61,8 +60,8 @@ pub fn dot(u: &[u8], row: &[u8]) -> u8
 }
 
 // The n equations of the sums s, each a row that begins one further on; zeros behind them.
-fn equations(n: usize, s: &[u8]) -> [[u8; 33]; 32]
-    requires { (n ≤ 32) × (length s.now ≡ root_limit) }
+fn equations(n: usize, s: &[u8; Word::MOST]) -> [[u8; 33]; 32]
+    requires { n ≤ 32 }
     ensures { take n result ≡ windows 0 n s.now }
 {
     let mut m = [[0u8; 33]; 32];
@@ -132,8 +131,7 @@ fn solve(n: usize, rows: &mut [[u8; 33]]) -> Option<Solution>
 }
 
 // The locator of a word with so many roots and the sums s.
-pub fn locator(roots: Roots, s: &[u8]) -> Option<Solution>
-    requires { length s.now ≡ root_limit }
+pub fn locator(roots: Roots, s: &[u8; Word::MOST]) -> Option<Solution>
     ensures { unwrap_or result [] ≡ locator roots.count s.now }
 {
     let h = roots.count / 2;
