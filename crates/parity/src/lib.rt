@@ -58,8 +58,8 @@ fn points(first: u8) -> [u8; Word::MOST]
 {
     let mut p = [0u8; Word::MOST];
     let mut x = first;
-    for j in 0..Word::MOST {
-        p[j] = x;
+    for point in p.iter_mut() {
+        *point = x;
         x = field::times(x, field::ALPHA);
     }
     p
@@ -70,6 +70,7 @@ fn step(c: u8, p: [u8; Word::MOST], v: [u8; Word::MOST]) -> [u8; Word::MOST]
     ensures { result ≡ stepped c p v }
 {
     let mut next = v;
+    // By index: tried by array::from_fn, of which a proof knows a call at each lane, but not with what its closure had captured.
     for lane in 0..Word::MOST {
         next[lane] = field::plus(field::times(p[lane], next[lane]), c);
     }
@@ -170,10 +171,10 @@ fn times_root(a: u8, g: &mut [u8])
     ensures { g.new ≡ onto (0 ∷ scale a g.old) g.old }
 {
     let mut last: u8 = 0;
-    for i in 0..g.len() {
-        let x = g[i];
-        g[i] = field::plus(field::times(a, last), x);
-        last = x;
+    for x in g.iter_mut() {
+        let next = field::plus(field::times(a, last), *x);
+        last = *x;
+        *x = next;
     }
 }
 
@@ -194,6 +195,7 @@ fn generate(roots: Roots) -> [u8; Word::GENERATOR]
 pub fn subtract(c: u8, g: &[u8], p: &mut [u8])
     ensures { p.new ≡ onto (scale c g.now) p.old }
 {
+    // By index: of what is written through iter_mut().zip(..) a proof knows the length alone.
     for i in 0..g.len().min(p.len()) {
         p[i] = field::plus(field::times(c, g[i]), p[i]);
     }
@@ -204,6 +206,7 @@ fn reduce(n: usize, g: &[u8], p: &mut [u8])
     requires { n + length g.now ≤ length p.old }
     ensures { drop n p.new ≡ divide n (1 ∷ g.now) p.old }
 {
+    // By index: each turn lends what stands behind its place.
     for i in 0..n {
         let c = p[i];
         subtract(c, g, &mut p[i + 1..]);
