@@ -1,5 +1,5 @@
 -- What bits are worth, in lanes: five bits at a time, and eight bytes of a division.
--- sums, sum_is, passed     some of five bits' rows added in one number: the arms of the `match`, and its last one
+-- sums, sum_is             some of five bits' rows added in one number: the arms of the `match`
 -- adding-is                .. in four
 -- raised-next             a row doubled so many times
 -- worths-are               the eight worths, each from the one before it
@@ -7,7 +7,7 @@
 use mathlib.Core.Path.{◌≡◌, refl, sym, ap, ap₂, ◌∙◌, subst}
 use mathlib.Core.Bool.{Bool, true, false}
 use mathlib.Core.List.{List, [], ◌∷◌, ◌++◌, map, map-append}
-use Prim.Native.Nat.{ℕ, zero, suc, ◌+◌, ◌*◌, ◌/◌, ◌%◌, ◌^◌, ◌≤◌, ◌<◌}
+use Prim.Native.Nat.{ℕ, zero, suc, ◌+◌, ◌*◌, ◌/◌, ◌%◌, ◌^◌, ◌<◌}
 use native.Mathlib.Nat.{mod-lt, mul-zero, zero-mul, one-mul}
 use native.Mathlib.Numerals.{add-one}
 use native.Mathlib.Omega.{arith}
@@ -177,15 +177,6 @@ added-are a b c d e = (
     ),
   ),
 )
-
--- v is none of the first n numbers: the arms before the last
-abbrev Apart : ℕ → ℕ → Type 0
-Apart zero v = Unit {0}
-Apart (suc n) v = Apart n v × (v ≡ n → ⊥)
-
-pub passed : (n v : ℕ) → Apart n v → n ≤ v
-passed zero v h = omega arith
-passed (suc n) v h = let e : v ≡ n → ⊥ = h.1 in omega (arith, passed n v h.0)
 
 module _ (n a b c d e y : ℕ) (eb : bytes_of 8 b ≡ following n 1 (bytes_of 8 a) (bytes_of 8 y)) (ec : bytes_of 8 c ≡ following n 2 (bytes_of 8 b) (bytes_of 8 y))
     (ed : bytes_of 8 d ≡ following n 3 (bytes_of 8 c) (bytes_of 8 y)) (ee : bytes_of 8 e ≡ following n 4 (bytes_of 8 d) (bytes_of 8 y)) where

@@ -30,14 +30,36 @@ impl Word {
     const GENERATOR: usize = Self::MOST + 1;
 }
 
+/// How many roots a word has: so many of its bytes are parity. The number is public, since the clauses of other crates name it.
+#[derive(Clone, Copy)]
+pub struct Roots {
+    pub count: usize,
+    pub ghost few: { count ≤ root_limit },
+}
+
+impl TryFrom<usize> for Roots {
+    ghost use Rattle.parity.specs.Roots.{Taken};
+
+    type Error = Refusal;
+
+    ghost try_from_gives = { Taken };
+
+    fn try_from(count: usize) -> Result<Roots, Refusal> {
+        if Word::MOST < count {
+            return Err(Refusal::Roots);
+        }
+        Ok(Roots { count })
+    }
+}
+
 // 64 points from the first on, each alpha times the one before it.
 fn points(first: u8) -> [u8; Word::MOST]
     ensures { result ≡ points first root_limit }
 {
     let mut p = [0u8; Word::MOST];
     let mut x = first;
-    for j in 0..Word::MOST {
-        p[j] = x;
+    for point in p.iter_mut() {
+        *point = x;
         x = field::times(x, field::ALPHA);
     }
     p
@@ -48,6 +70,7 @@ fn step(c: u8, p: [u8; Word::MOST], v: [u8; Word::MOST]) -> [u8; Word::MOST]
     ensures { result ≡ stepped c p v }
 {
     let mut next = v;
+    // By index: tried by array::from_fn, and the proof did not close: of a lane it tells of a call at some state of the closure, not of what that captured.
     for lane in 0..Word::MOST {
         next[lane] = field::plus(field::times(p[lane], next[lane]), c);
     }
@@ -91,12 +114,11 @@ fn at_all(word: &[u8]) -> [u8; Word::MOST]
     v
 }
 
-// Values of which the first r are those of a word at its roots: with at most 32 roots one division is enough.
-fn at_first(r: usize, word: &[u8]) -> [u8; Word::MOST]
-    requires { r ≤ root_limit }
-    ensures { take r result ≡ values_from word.now 1 r }
+// Values of which the first are those of a word at its roots: with at most 32 roots one division is enough.
+fn at_first(roots: Roots, word: &[u8]) -> [u8; Word::MOST]
+    ensures { take roots.count result ≡ values_from word.now 1 roots.count }
 {
-    if r <= lanes::ROOTS {
+    if roots.count <= lanes::ROOTS {
         let left = lanes::left(word);
         return at_powers(1, &left);
     }
@@ -107,41 +129,37 @@ fn at_first(r: usize, word: &[u8]) -> [u8; Word::MOST]
 pub fn at_roots(r: usize, word: &[u8], out: &mut [u8]) -> Written
     ensures { outcome (as_written result) out.new ≡ at_roots r word.now out.old }
 {
-    if Word::MOST < r {
-        return Err(Refusal::Roots);
-    }
+    let roots = Roots::try_from(r)?;
     if out.len() < r {
         return Err(Refusal::Output);
     }
-    let v = at_first(r, word);
+    let v = at_first(roots, word);
     base::copy(&v[..r], out);
     Ok(r)
 }
 
-// Whether a word is zero at the roots 1 to r.
-fn zero_at(r: usize, word: &[u8]) -> bool
-    requires { r ≤ root_limit }
-    ensures { result ≡ clean r word.now }
+// Whether a word is zero at its roots.
+fn zero_at(roots: Roots, word: &[u8]) -> bool
+    ensures { result ≡ clean roots.count word.now }
 {
-    if r == 0 {
+    if roots.count == 0 {
         return true;
     }
-    if r == lanes::ROOTS {
+    if roots.count == lanes::ROOTS {
         return lanes::is_clean(word);
     }
-    let v = at_first(r, word);
-    v[..r].iter().all(|x| *x == 0)
+    let v = at_first(roots, word);
+    v[..roots.count].iter().all(|x| *x == 0)
 }
 
 /// Checks a word with r parity bytes.
 pub fn check(r: usize, word: &[u8]) -> Result<Checked, Refusal>
     ensures { as_checked result ≡ checked r word.now }
 {
-    if Word::MOST < r {
-        Err(Refusal::Roots)
-    } else if word.len() != Word::LENGTH {
+    let roots = Roots::try_from(r)?;
+    if word.len() != Word::LENGTH {
         Err(Refusal::Length)
-    } else if zero_at(r, word) {
+    } else if zero_at(roots, word) {
         Ok(Checked::Clean)
     } else {
         Ok(Checked::Damaged)
@@ -153,23 +171,22 @@ fn times_root(a: u8, g: &mut [u8])
     ensures { g.new ≡ onto (0 ∷ scale a g.old) g.old }
 {
     let mut last: u8 = 0;
-    for i in 0..g.len() {
-        let x = g[i];
-        g[i] = field::plus(field::times(a, last), x);
-        last = x;
+    for x in g.iter_mut() {
+        let next = field::plus(field::times(a, last), *x);
+        last = *x;
+        *x = next;
     }
 }
 
-// The generator for r roots, with zeros behind.
-fn generate(r: usize) -> [u8; Word::GENERATOR]
-    requires { r ≤ root_limit }
-    ensures { result ≡ generator r ++ replicate (root_limit - r) 0 }
+// The generator for so many roots, with zeros behind.
+fn generate(roots: Roots) -> [u8; Word::GENERATOR]
+    ensures { result ≡ generator roots.count ++ replicate (root_limit - roots.count) 0 }
 {
     let mut g = [0u8; Word::GENERATOR];
     g[0] = 1;
-    for roots in 0..r {
-        let a = field::power(roots + 1);
-        times_root(a, &mut g[..roots + 2]);
+    for j in 0..roots.count {
+        let a = field::power(j + 1);
+        times_root(a, &mut g[..j + 2]);
     }
     g
 }
@@ -178,6 +195,7 @@ fn generate(r: usize) -> [u8; Word::GENERATOR]
 pub fn subtract(c: u8, g: &[u8], p: &mut [u8])
     ensures { p.new ≡ onto (scale c g.now) p.old }
 {
+    // By index: of what is written through iter_mut().zip(..) a proof knows the length alone.
     for i in 0..g.len().min(p.len()) {
         p[i] = field::plus(field::times(c, g[i]), p[i]);
     }
@@ -188,6 +206,7 @@ fn reduce(n: usize, g: &[u8], p: &mut [u8])
     requires { n + length g.now ≤ length p.old }
     ensures { drop n p.new ≡ divide n (1 ∷ g.now) p.old }
 {
+    // By index: each turn lends what stands behind its place.
     for i in 0..n {
         let c = p[i];
         subtract(c, g, &mut p[i + 1..]);
@@ -195,21 +214,20 @@ fn reduce(n: usize, g: &[u8], p: &mut [u8])
 }
 
 // Stores the parity of a message from the start of out on.
-fn put_parity(r: usize, message: &[u8], out: &mut [u8])
-    requires r_le_root_limit { r ≤ root_limit }
-    requires message_len { length message.now ≡ word_bytes - r }
-    ensures { out.new ≡ copied (remainder r message.now) out.old }
+fn put_parity(roots: Roots, message: &[u8], out: &mut [u8])
+    requires { length message.now ≡ word_bytes - roots.count }
+    ensures { out.new ≡ copied (remainder roots.count message.now) out.old }
 {
     let mut p = [0u8; Word::LENGTH];
     base::copy(message, &mut p);
-    if r == lanes::ROOTS {
+    if roots.count == lanes::ROOTS {
         let left = lanes::left(&p);
         base::copy(&left, out);
         return;
     }
-    let n = Word::LENGTH - r;
-    let g = generate(r);
-    reduce(n, &g[1..r + 1], &mut p);
+    let n = Word::LENGTH - roots.count;
+    let g = generate(roots);
+    reduce(n, &g[1..roots.count + 1], &mut p);
     base::copy(&p[n..], out);
 }
 
@@ -217,15 +235,13 @@ fn put_parity(r: usize, message: &[u8], out: &mut [u8])
 pub fn make(r: usize, message: &[u8], out: &mut [u8]) -> Written
     ensures { outcome (as_written result) out.new ≡ made r message.now out.old }
 {
-    if Word::MOST < r {
-        return Err(Refusal::Roots);
-    }
+    let roots = Roots::try_from(r)?;
     if message.len() != Word::LENGTH - r {
         return Err(Refusal::Length);
     }
     if out.len() < r {
         return Err(Refusal::Output);
     }
-    put_parity(r, message, out);
+    put_parity(roots, message, out);
     Ok(r)
 }

@@ -1,18 +1,19 @@
 //! The altered places of a word and their bytes. A polynomial has its lowest coefficient first here.
-ghost use Rattle.std.specs.Prelude.{◌≡◌, reverse, ◌≤◌, ◌<◌, length, take};
+ghost use Rattle.std.specs.Prelude.{◌≡◌, reverse, ◌≤◌, length, take};
 ghost use Rattle.word_spec.specs.Word.{values_from, onto};
 ghost use Rattle.repair.specs.Way.{low, error_at, errors};
 
+use crate::rows::Solution;
 use parity::Word;
 
 // So many powers of alpha as blocks of 64 give: the points of all places, and one more.
 const POINTS: usize = 4 * Word::MOST;
 
 // The coefficients with the highest first, and zeros behind them.
-fn turned(v: &[u8]) -> [u8; 33]
-    requires { length v.now ≤ 33 }
+fn turned(v: &Solution) -> [u8; 33]
     ensures { take (length v.now) result ≡ reverse v.now }
 {
+    let v = v.numbers();
     let mut u = [0u8; 33];
     let n = v.len();
     u[..n].copy_from_slice(v);
@@ -21,11 +22,10 @@ fn turned(v: &[u8]) -> [u8; 33]
 }
 
 // The values at 1, alpha, .. alpha^255, 64 at once: at the points of all places, the last place first.
-fn at_places(v: &[u8]) -> [u8; POINTS]
-    requires { length v.now ≤ 33 }
+fn at_places(v: &Solution) -> [u8; POINTS]
     ensures { result ≡ values_from (reverse v.now) 0 256 }
 {
-    let n = v.len();
+    let n = v.numbers().len();
     let u = turned(v);
     let mut z = [0u8; POINTS];
     // By index: of what is written through chunks_mut a proof knows the length alone.
@@ -39,16 +39,18 @@ fn at_places(v: &[u8]) -> [u8; POINTS]
 
 // The byte to be added at the place of the point x, where the value is l. At a root three sums go together: a, the value of the
 // coefficients passed, which is the next one of the quotient by the root; b, the quotient's own value; and its product with the sums.
-fn error_at(l: u8, v: &[u8], s: &[u8], x: u8) -> u8
-    requires { (l ≡ low v.now x) × (0 < length v.now) × (length v.now ≤ length s.now) }
+fn error_at(l: u8, v: &Solution, s: &[u8; Word::MOST], x: u8) -> u8
+    requires { l ≡ low v.now x }
     ensures { result ≡ error_at v.now s.now x }
 {
     if l != 0 {
         return 0;
     }
+    let v = v.numbers();
     let mut a: u8 = 0;
     let mut b: u8 = 0;
     let mut sum: u8 = 0;
+    // By index, from the last on: a chain would hand the three sums on as a triple, and is no plainer.
     for i in (1..v.len()).rev() {
         a = field::plus(v[i], field::times(x, a));
         b = field::plus(a, field::times(x, b));
@@ -58,8 +60,8 @@ fn error_at(l: u8, v: &[u8], s: &[u8], x: u8) -> u8
 }
 
 // Adds its byte at every place, the last one first, whose point is 1.
-pub fn add(v: &[u8], s: &[u8], word: &mut [u8])
-    requires { (0 < length v.now) × (length v.now ≤ 33) × (length v.now ≤ length s.now) × (length word.old ≤ 256) }
+pub fn add(v: &Solution, s: &[u8; Word::MOST], word: &mut [u8])
+    requires { length word.old ≤ 256 }
     ensures { word.new ≡ onto (errors v.now s.now (length word.old)) word.old }
 {
     let z = at_places(v);

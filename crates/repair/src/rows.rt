@@ -1,8 +1,8 @@
 //! The equations of the locator, and their solution by elimination. A row has room for 33 coefficients, as many as R = 64 needs.
 ghost use Rattle.std.specs.Prelude.{◌≡◌, List, [], ◌∷◌, map, find, unwrap_or, ℕ, ◌≤◌, ◌<◌, length, take};
-ghost use Rattle.parity.specs.Calls.{root_limit};
 ghost use Rattle.repair.specs.Way.{dot, windows, begins, normal, reduced, extended, solve, locator};
 
+use parity::{Roots, Word};
 use std::marker::Model;
 
 // A solution: the first n numbers of v, one at least. No Vec, since a library has no heap: the array has room for the longest.
@@ -60,12 +60,12 @@ pub fn dot(u: &[u8], row: &[u8]) -> u8
 }
 
 // The n equations of the sums s, each a row that begins one further on; zeros behind them.
-fn equations(n: usize, s: &[u8]) -> [[u8; 33]; 32]
-    requires { (n ≤ 32) × (length s.now ≡ root_limit) }
+fn equations(n: usize, s: &[u8; Word::MOST]) -> [[u8; 33]; 32]
+    requires { n ≤ 32 }
     ensures { take n result ≡ windows 0 n s.now }
 {
     let mut m = [[0u8; 33]; 32];
-    // By index, each row by itself: of what is written through iter_mut a proof knows the length alone, into m[i] nothing that has a name.
+    // By index, each row by itself: of what is written through iter_mut().zip(..) a proof knows the length alone, into m[i] nothing that has a name.
     for i in 0..n {
         let mut row = [0u8; 33];
         row.copy_from_slice(&s[i..i + 33]);
@@ -130,13 +130,12 @@ fn solve(n: usize, rows: &mut [[u8; 33]]) -> Option<Solution>
     Some(rest.extended(p))
 }
 
-// The locator of a word with r parity bytes and the sums s.
-pub fn locator(r: usize, s: &[u8]) -> Option<Solution>
-    requires { (r ≤ root_limit) × (length s.now ≡ root_limit) }
-    ensures { unwrap_or result [] ≡ locator r s.now }
+// The locator of a word with so many roots and the sums s.
+pub fn locator(roots: Roots, s: &[u8; Word::MOST]) -> Option<Solution>
+    ensures { unwrap_or result [] ≡ locator roots.count s.now }
 {
-    let h = r / 2;
-    let n = r - h;
+    let h = roots.count / 2;
+    let n = roots.count - h;
     let mut rows = equations(n, s);
     solve(h + 1, &mut rows[..n])
 }

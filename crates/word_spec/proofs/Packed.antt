@@ -1,8 +1,7 @@
 -- The bytes of a number, all at once.
 -- size, lows, ones            how many numbers n bytes have; n bytes of 7F, and n of 01
--- low_fits, high_fits         doubling eight bytes at once keeps within them
 -- length-bytes, bytes-bytes   so many, and each a byte
--- bytes-xor, bytes-double     sum and double of the number, byte by byte; room for the latter
+-- bytes-xor, bytes-double     sum and double of the number, byte by byte
 -- bytes-behind, bytes-first, bytes-head   a byte behind the others, and the first one apart
 -- bytes-both                  a number behind another
 -- bytes-zero, zero-append     all are zero exactly where the number is; of lists joined, where both are
@@ -14,7 +13,7 @@ use Prim.Native.Nat.{ℕ, zero, suc, ◌+◌, ◌*◌, ◌/◌, ◌%◌, ◌<◌
 use native.Mathlib.Nat.{add-mul, mul_assoc, mul_comm, mul_right_comm, div-add-mod', mod-lt, div-div-eq-div-mul}
 use native.Mathlib.Omega.{arith}
 use lib.Arith.{digits_div, digits_mod, mod-mul}
-use lib.Bits.{bit_xor, bit_and, xor_shr, xor_mod, and_block, xor_block, and_le_r, and_mask}
+use lib.Bits.{bit_xor, bit_and, xor_shr, xor_mod, and_block, xor_block, and_mask}
 use lib.Dec.{eqb, eqb→eq, ltb, ltb→lt}
 use lib.ListN.{length, length-append}
 use borrow.Author.Tests.{eq-eqb, ne_eqb}
@@ -167,15 +166,6 @@ bytes-double (suc n) x =
 
     small : x % 256 < 256
     small = mod-lt x (omega arith)
-
--- both parts are numbers of eight bytes
-pub low_fits : (x : ℕ) → bit_and x (lows 8) * 2 < size 8
-unfolding lows size
-low_fits x = omega (arith, and_le_r x 0x7F7F7F7F7F7F7F7F)
-
-pub high_fits : (x : ℕ) → bit_and x (ones 8) * (polynomial % 256) < size 8
-unfolding ones size
-high_fits x = omega (arith, and_le_r x 0x0101010101010101)
 
 -- ---- zero
 pub zero-append : (xs ys : List ℕ) → is_zero (xs ++ ys) ≡ is_zero xs && is_zero ys

@@ -20,7 +20,7 @@ use lib.Seq.{drop-cons, drop-drop, take-suc}
 use borrow.Author.Tests.{eqb-true}
 use Rattle.base.specs.Bytes.{IsByte, Bytes}
 use Rattle.base.proofs.Bytes.{each_append, each-replicate}
-use Rattle.base.proofs.Lists.{next, over}
+use Rattle.base.proofs.Lists.{over}
 use Rattle.base.proofs.Tests.{and_parts}
 use Rattle.field.specs.Field.{alpha, add, mul, pow}
 use Rattle.field.proofs.Sum.{zero-add}

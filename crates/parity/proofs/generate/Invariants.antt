@@ -4,5 +4,5 @@ use Rattle.word_spec.specs.Word.{generator}
 use Rattle.parity.specs.Calls.{root_limit}
 use Rattle.parity.proofs.generate.Given as goal
 
-abbrev pub invariant-loop-roots : goal.invariant-loop-roots
-invariant-loop-roots l = l.g ≡ generator l.roots ++ replicate (root_limit - l.roots) 0
+abbrev pub invariant-loop-j : goal.invariant-loop-j
+invariant-loop-j l = l.g ≡ generator l.j ++ replicate (root_limit - l.j) 0

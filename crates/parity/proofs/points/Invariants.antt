@@ -4,8 +4,8 @@ use Rattle.word_spec.specs.Private.{points}
 use Rattle.parity.specs.Calls.{root_limit}
 use Rattle.parity.proofs.points.Given as goal
 
-abbrev pub invariant-loop-j : goal.invariant-loop-j
-invariant-loop-j l = record {
-  long : length l.p ≡ root_limit;
-  left : take l.j l.p ++ points l.x (root_limit - l.j) ≡ points l.first root_limit;
+abbrev pub invariant-loop-point : goal.invariant-loop-point
+invariant-loop-point l = record {
+  long : length l.point-items ≡ root_limit;
+  left : take l.point-index l.point-items ++ points l.x (root_limit - l.point-index) ≡ points l.first root_limit;
 }

@@ -5,9 +5,9 @@ use Rattle.repair.proofs.amend.Goals as goal
 
 pub returns-in-Some : goal.returns-in-Some
 returns-in-Some c =
-    amend-some c.args.r c.args.word.now (sums-are _ _ c.requires.0 c.at_roots.ensures)
-    (c.numbers.ensures.0 ∙ ap (λ o. unwrap_or o []) (sym c.in-Some.is) ∙ c.locator.ensures) c.add.ensures
+    amend-some c.args.roots.count c.args.word.now (sums-are _ _ c.args.roots.few c.at_roots.ensures)
+    (ap (λ o. unwrap_or o []) (sym c.in-Some.is) ∙ c.locator.ensures) c.add.ensures
 
 pub returns-in_default : goal.returns-in_default
 returns-in_default c =
-    amend-none c.args.r c.args.word.now (sums-are _ _ c.requires.0 c.at_roots.ensures) (ap (λ o. unwrap_or o []) (sym c.in_default.is) ∙ c.locator.ensures) refl
+    amend-none c.args.roots.count c.args.word.now (sums-are _ _ c.args.roots.few c.at_roots.ensures) (ap (λ o. unwrap_or o []) (sym c.in_default.is) ∙ c.locator.ensures) refl

@@ -10,4 +10,5 @@ use Rattle.repair.proofs.repair.Goals as goal
 pub returns-in-Damaged : goal.returns-in-Damaged
 returns-in-Damaged c =
     repair-damaged c.args.r c.args.word.now (bytes_of c.args.word.now (λ i. search rules)) c.check.ensures
-    (checked-found c.in_ok-check.was c.in-Damaged.is) (as_mended (Ok c.mend.result)) c.mend.new.word c.mend.ensures
+    (checked-found c.in_ok-check.was c.in-Damaged.is) (as_mended (Ok c.mend.result)) c.mend.new.word
+    (rw c.in_ok-roots.ensures at c.mend.ensures)

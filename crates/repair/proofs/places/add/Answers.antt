@@ -10,12 +10,9 @@ loop-i-init c = record { point = point-start (length c.args.word.now); added = a
 
 pub error_at-requires : goal.error_at-requires
 error_at-requires c =
-    let here : length c.args.word.now - 1 - (c.loop-i.i - 1) ≡ length c.args.word.now - c.loop-i.i = omega arith in (
-      ap (λ k. get_or c.at_places-z.result k 0) here
-          ∙ value_there c.args.v.now (length c.args.word.now - c.loop-i.i) (omega arith) c.at_places-z.ensures c.loop-i.invariant.point,
-      c.requires.0,
-      c.requires.2,
-    )
+    let here : length c.args.word.now - 1 - (c.loop-i.i - 1) ≡ length c.args.word.now - c.loop-i.i = omega arith in
+    ap (λ k. get_or c.at_places-z.result k 0) here
+    ∙ value_there c.args.v.now (length c.args.word.now - c.loop-i.i) (omega arith) c.at_places-z.ensures c.loop-i.invariant.point
 
 pub loop-i-preserved : goal.loop-i-preserved
 loop-i-preserved c = record {
