@@ -1,7 +1,7 @@
 //! How far a sub-channel is: all of its state but the interleaver's cells.
 ghost use Rattle.std.specs.Prelude.{◌≡◌, true, false, suc, ◌≤◌, ◌<◌, ltb};
 ghost use Rattle.std.proofs.Math.Option.{some, none};
-ghost use Rattle.interleaver_spec.specs.Running.{matrix, back, beyond};
+ghost use Rattle.interleaver_spec.specs.Running.{beyond};
 ghost use Rattle.parity.specs.Calls.{root_limit};
 ghost use Rattle.channel_spec.specs.Meaning.{shift, is_marker};
 ghost use Rattle.channel.specs.Call.{roomy};
@@ -25,7 +25,7 @@ use crate::counts::Counts;
 use crate::sub::Sub;
 use crate::{cells, word};
 use channel::{Answer, Hunting};
-use interleaver::Matrix;
+use interleaver::Back;
 use stream::FrameReader;
 use subchannel_spec::Settings;
 
@@ -42,20 +42,12 @@ pub struct Lane {
     pub frame: FrameReader,
 }
 
-// What a step gives that does not touch the cells.
+// What a step gives: all but the cells and the word.
 #[derive(Clone, Copy)]
 pub(crate) struct Step {
     // The answer, if it ends the call.
     pub answer: Option<Answer>,
     pub lane: Lane,
-}
-
-// What one new byte gives: all but the cells.
-#[derive(Clone, Copy)]
-pub(crate) struct Eaten {
-    pub step: Step,
-    pub again: bool,
-    pub place: usize,
 }
 
 impl Lane {
@@ -193,71 +185,34 @@ impl Lane {
     }
 
     // A byte of a group: through the interleaver, and then one of a word, if it brings one.
-    fn group_byte(
-        self,
-        again: bool,
-        place: usize,
-        cells: &mut [u8; Matrix::CELLS],
-        word: &mut [u8],
-        b: u8,
-    ) -> Eaten
-        requires { Able self word.old × (self.counts.group < group_bytes) × (beyond self.settings.depth place ≡ false) }
-        ensures { EatenIs (grouped self (back again (matrix place cells.old)) word.old b)
-            result cells.new word.new }
+    fn group_byte(self, back: &mut Back, word: &mut [u8], b: u8) -> Step
+        requires { Able self word.old × (self.counts.group < group_bytes) × (beyond self.settings.depth back.old.matrix.place ≡ false) }
+        ensures { EatenIs (grouped self back.old word.old b) result back.new word.new }
     {
-        let t = cells::turn(cells, again, place, self.settings.depth, b);
-        match t.brought {
-            Some(y) => Eaten {
-                step: self.word_byte(word, y),
-                again: t.again,
-                place: t.place,
-            },
-            None => Eaten {
-                step: self.kept_byte(),
-                again: t.again,
-                place: t.place,
-            },
+        match cells::turn(back, self.settings.depth, b) {
+            Some(y) => self.word_byte(word, y),
+            None => self.kept_byte(),
         }
     }
 
     // One new byte.
-    pub(crate) fn eat(
-        self,
-        again: bool,
-        place: usize,
-        cells: &mut [u8; Matrix::CELLS],
-        word: &mut [u8],
-        b: u8,
-    ) -> Eaten
-        requires { Able self word.old × (beyond self.settings.depth place ≡ false) }
-        ensures { EatenIs (eat self (back again (matrix place cells.old)) word.old b)
-            result cells.new word.new }
+    pub(crate) fn eat(self, back: &mut Back, word: &mut [u8], b: u8) -> Step
+        requires { Able self word.old × (beyond self.settings.depth back.old.matrix.place ≡ false) }
+        ensures { EatenIs (eat self back.old word.old b) result back.new word.new }
     {
         if self.lost {
-            return Eaten {
-                step: Step {
-                    answer: None,
-                    lane: self,
-                },
-                again,
-                place,
+            return Step {
+                answer: None,
+                lane: self,
             };
         }
         if !self.locked {
-            return Eaten {
-                step: self.hunt_byte(b),
-                again,
-                place,
-            };
+            return self.hunt_byte(b);
         }
         if self.counts.group < Sub::GROUP {
-            return self.group_byte(again, place, cells, word, b);
+            return self.group_byte(back, word, b);
         }
-        Eaten {
-            step: self.mark_byte(b),
-            again,
-            place,
-        }
+        self.mark_byte(b)
     }
 
     // Message bytes of a stored word that are not handed on yet.
