@@ -1,8 +1,9 @@
 //! How far a sub-channel is: all of its state but the interleaver's cells.
-ghost use Rattle.std.specs.Prelude.{◌≡◌, true, false, suc, ◌≤◌, ◌<◌, ltb};
+ghost use Rattle.std.specs.Prelude.{◌≡◌, true, false, suc, ◌≤◌, ◌<◌, ltb, length};
 ghost use Rattle.std.proofs.Math.Option.{some, none};
 ghost use Rattle.interleaver_spec.specs.Running.{beyond};
 ghost use Rattle.parity.specs.Calls.{root_limit};
+ghost use Rattle.channel_spec.specs.Sender.{word_bytes};
 ghost use Rattle.channel_spec.specs.Meaning.{shift, is_marker};
 ghost use Rattle.channel.specs.Call.{roomy};
 ghost use Rattle.subchannel_spec.specs.Sender.{message_bytes, group_bytes};
@@ -140,19 +141,17 @@ impl Lane {
         }
     }
 
-    // A byte of a word: stored behind those before it. The whole word gives the block's answer.
-    fn word_byte(self, word: &mut [u8], y: u8) -> Step
-        requires { Able self word.old × (self.counts.group < group_bytes) }
+    // A byte of a word, with the counts behind it in the group: stored behind those before it. The whole word gives the block's answer.
+    fn word_byte(self, behind: Counts, word: &mut [u8], y: u8) -> Step
+        requires { (word_bytes ≤ length word.old) × (behind ≡ counts (suc self.counts.group) self.counts.marker self.counts.word self.counts.handed) }
         ensures { WordIs (group_on (some y) self word.old) result word.new }
     {
-        let counts = self.counts;
-        let at = word::place_in(counts.word);
+        let at = word::place_in(behind.word);
         word[at] = y;
         let stored = Counts {
-            group: counts.group + 1,
             word: at + 1,
             handed: 0,
-            ..counts
+            ..behind
         };
         let lane = self.moved(self.hunting, stored);
         if at + 1 < Sub::WORD {
@@ -165,33 +164,19 @@ impl Lane {
         }
     }
 
-    // A byte of a group that brings none.
-    fn kept_byte(self) -> Step
-        requires { self.counts.group < group_bytes }
-        ensures { result ≡ step_of (
-          none,
-          moved self self.hunting
-              (counts (suc self.counts.group) self.counts.marker self.counts.word self.counts.handed),
-        ) }
-    {
-        let counts = self.counts;
-        self.on(
-            self.hunting,
-            Counts {
-                group: counts.group + 1,
-                ..counts
-            },
-        )
-    }
-
+    // That the lent cells and word buffer fit is asked here and by `eat`: the check covers no struct with a ghost field beside a `&mut`.
     // A byte of a group: through the interleaver, and then one of a word, if it brings one.
     fn group_byte(self, back: &mut Back, word: &mut [u8], b: u8) -> Step
         requires { Able self word.old × (self.counts.group < group_bytes) × (beyond self.settings.depth back.old.matrix.place ≡ false) }
         ensures { EatenIs (grouped self back.old word.old b) result back.new word.new }
     {
+        let behind = Counts {
+            group: self.counts.group + 1,
+            ..self.counts
+        };
         match cells::turn(back, self.settings.depth, b) {
-            Some(y) => self.word_byte(word, y),
-            None => self.kept_byte(),
+            Some(y) => self.word_byte(behind, word, y),
+            None => self.on(self.hunting, behind),
         }
     }
 
