@@ -14,6 +14,7 @@ use interleaver::{Back, Matrix};
 use packet::Judged;
 use subchannel::{Lane, Sub};
 
+// A flag beside lane and place and not an enum: callers hand the state in, and the laws speak of each value that it can have.
 /// A sub-channel's state but for its cells.
 #[derive(Clone, Copy)]
 pub struct Seat {
@@ -111,6 +112,8 @@ impl Receiver {
         self.a.sound() && self.b.sound() && self.c.sound() && self.d.sound()
     }
 
+    // four_senders has a `put` and a `get` of this shape: shared, they would be one more public type below both, with two public functions, and
+    // each definition would be one field deeper.
     // One of the four exchanged.
     fn put(self, number: usize, seat: Seat) -> Self
         ensures { result ≡ seats (put (whole self []) number (seated seat [])) }

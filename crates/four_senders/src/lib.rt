@@ -53,6 +53,8 @@ impl Sender {
         self.a.within() && self.b.within() && self.c.within() && self.d.within()
     }
 
+    // four_receivers has a `put` and a `get` of this shape: shared, they would be one more public type below both, with two public functions, and
+    // each definition would be one field deeper.
     // One of the four exchanged.
     fn put(self, number: usize, told: Settings) -> Self
         ensures { result ≡ put self number told }

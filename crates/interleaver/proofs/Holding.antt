@@ -49,13 +49,14 @@ module _ (d : ℕ) (deep : 2 ≤ d) (k : Back) (bs out : List ℕ) (n : ℕ) (h 
         (λ i. (sym (copied-fits [] out (omega arith)) i, back k.again (e i)))
         ∙ ap (λ (x : List ℕ × Back). (copied x.0 out, x.1)) (sym (all_held d bs n k.again k.matrix h held-is l))
 
-    pub kept-some : {f g : Matrix} {o : List ℕ} → n < length bs → length bs ≤ length out + n → f ≡ (run (taken d) k.matrix (take n bs)).1
-        → (o, g) ≡ left (taken d) (take (length bs - n) (drop n bs)) 0 f out → (o, back true g) ≡ given d k bs out
-    kept-some {f} {g} {o} l room p q =
+    -- the others at the depth that the first n leave, which is the same
+    pub kept-some : {f g : Matrix} {c : ℕ} {o : List ℕ} → n < length bs → length bs ≤ length out + n → c ≡ d → f ≡ (run (taken d) k.matrix (take n bs)).1
+        → (o, g) ≡ left (taken c) (take (length bs - n) (drop n bs)) 0 f out → (o, back true g) ≡ given d k bs out
+    kept-some {f} {g} {c} {o} l room same p q =
         let m : Matrix = (run (taken d) k.matrix (take n bs)).1 in
         let y : length (run (taken d) m (drop n bs)).0 ≡ length (drop n bs) = taken-length d m (drop n bs) in
         let z : length (drop n bs) ≡ length bs - n = length-drop n bs in
         let s : ◌≡◌ {A = List ℕ × Matrix} (o, g) (copied (run (taken d) m (drop n bs)).0 out, (run (taken d) m (drop n bs)).1) =
-        q ∙ (λ i. left (taken d) (take_all (length bs - n) (drop n bs) (omega arith) i) 0 (p i) out) ∙ left_out (taken d) (drop n bs) m out (omega arith) in
+        q ∙ (λ i. left (taken (same i)) (take_all (length bs - n) (drop n bs) (omega arith) i) 0 (p i) out) ∙ left_out (taken d) (drop n bs) m out (omega arith) in
         ap (λ (x : List ℕ × Matrix). (x.0, back true x.1)) s
         ∙ ap (λ (x : List ℕ × Back). (copied x.0 out, x.1)) (sym (some-given d bs n k.again k.matrix h held-is l))

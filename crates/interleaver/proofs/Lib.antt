@@ -1,4 +1,3 @@
 pub mod Loops
 pub mod Holding
-pub mod Steps
 pub mod Determined

@@ -1,16 +1,18 @@
 //! The byte interleaver, running: each write is followed at once by a read.
 #![tactic(auto)]
 
-ghost use Rattle.std.specs.Prelude.{◌≡◌, false, ◌+◌, ◌*◌, ◌≤◌, ◌<◌, length};
-ghost use Rattle.base.specs.Calls.{run};
+ghost use Rattle.std.specs.Prelude.{◌≡◌, false, ◌*◌, ◌≤◌};
 ghost use Rattle.base.specs.Written.{as_written, outcome};
-ghost use Rattle.interleaver_spec.specs.Places.{width, cell};
-ghost use Rattle.interleaver_spec.specs.Running.{depth_limit, size, next, matrix, fresh, fresh_back, sent, taken};
+ghost use Rattle.interleaver_spec.specs.Places.{width};
+ghost use Rattle.interleaver_spec.specs.Running.{depth_limit, fresh, fresh_back};
 ghost use Rattle.interleaver_spec.specs.Running.{beyond, step_at, pushing, closing_bytes, closing, pulling};
-ghost use Rattle.interleaver.specs.Private.{left, held, Ready, given};
+ghost use Rattle.interleaver.specs.Private.{held, Ready, given};
+
+mod turn;
 
 use base::{Refusal, Written};
 pub use interleaver_spec::{Back, Matrix, Step};
+use turn::Turn;
 
 // Two structs and not one over the state's type: no function takes both, and each state has the name here that it has where it is lent.
 /// What a push answers.
@@ -26,9 +28,6 @@ pub struct Pulled {
     pub written: Written,
     pub back: Back,
 }
-
-// From output to output the column moves on by so many, around 255.
-const STEP: usize = 53;
 
 /// The sender's side, no byte pushed yet.
 pub fn fresh() -> Matrix
@@ -68,9 +67,14 @@ pub fn push(matrix: Matrix, depth: usize, bytes: &[u8], out: &mut [u8]) -> Pushe
         base::copy(bytes, out);
         return Pushed { written, matrix };
     }
+    let mut cells = matrix.cells;
+    let turn = Turn { depth, place }.send(&mut cells, bytes, out);
     Pushed {
         written,
-        matrix: send(matrix.cells, place, depth, bytes, out),
+        matrix: Matrix {
+            place: turn.place,
+            cells,
+        },
     }
 }
 
@@ -109,7 +113,7 @@ pub fn pull(back: Back, depth: usize, bytes: &[u8], out: &mut [u8]) -> Pulled
             back,
         };
     }
-    let kept = held(depth, back.again, place, bytes.len());
+    let kept = held(&back, depth, bytes.len());
     if out.len() < bytes.len() - kept {
         return Pulled {
             written: Err(Refusal::Output),
@@ -132,17 +136,25 @@ fn take(back: Back, depth: usize, bytes: &[u8], kept: usize, out: &mut [u8]) -> 
     requires { Ready depth back bytes.now out.old kept }
     ensures { (out.new, result) ≡ given depth back bytes.now out.old }
 {
-    let matrix = back.matrix;
-    let first = keep(matrix.cells, matrix.place, depth, &bytes[..kept]);
+    let place = back.matrix.place;
+    let mut cells = back.matrix.cells;
+    let first = Turn { depth, place }.keep(&mut cells, &bytes[..kept]);
     if kept == bytes.len() {
         return Back {
-            matrix: first,
-            ..back
+            again: back.again,
+            matrix: Matrix {
+                place: first.place,
+                cells,
+            },
         };
     }
+    let last = first.give(&mut cells, &bytes[kept..], out);
     Back {
         again: true,
-        matrix: give(first.cells, first.place, depth, &bytes[kept..], out),
+        matrix: Matrix {
+            place: last.place,
+            cells,
+        },
     }
 }
 
@@ -162,31 +174,10 @@ pub fn step(depth: usize, place: usize) -> Step
     if depth < 2 || Matrix::DEEPEST < depth || is_beyond(depth, place) {
         return Step { cell: 0, next: 0 };
     }
+    let turn = Turn { depth, place };
     Step {
-        cell: cell(depth, place),
-        next: next(depth, place),
-    }
-}
-
-// The cell that the output of a place is read from.
-fn cell(depth: usize, place: usize) -> usize
-    requires { (0 < depth) × (depth ≤ depth_limit) × (place < depth_limit * width) }
-    ensures { (result ≡ cell depth place) × (result < depth_limit * width) }
-{
-    let row = (place - (Matrix::ROW - 1) * (place / Matrix::ROW)) % depth;
-    let column = STEP * place % Matrix::ROW;
-    row * Matrix::ROW + column
-}
-
-// The place behind one, around N.
-fn next(depth: usize, place: usize) -> usize
-    requires { (depth ≤ depth_limit) × (place < size depth) }
-    ensures { (result ≡ next depth place) × (result < size depth) }
-{
-    if place + 1 < Matrix::ROW * depth {
-        place + 1
-    } else {
-        0
+        cell: turn.cell(),
+        next: turn.next().place,
     }
 }
 
@@ -201,68 +192,12 @@ fn closing_bytes(depth: usize) -> usize
 }
 
 // How many of n received bytes give none back.
-fn held(depth: usize, again: bool, place: usize, n: usize) -> usize
-    requires { (depth ≤ depth_limit) × (beyond depth place ≡ false) }
-    ensures { (result ≡ held depth again place n) × (result ≤ n) }
+fn held(back: &Back, depth: usize, n: usize) -> usize
+    requires { (depth ≤ depth_limit) × (beyond depth back.now.matrix.place ≡ false) }
+    ensures { (result ≡ held depth back.now.again back.now.matrix.place n) × (result ≤ n) }
 {
-    if depth < 2 || again {
+    if depth < 2 || back.again {
         return 0;
     }
-    n.min(Matrix::ROW * depth - 1 - place)
-}
-
-// The sender's bytes at depth 2 or more. Not one loop with the two below: which cell is written and which is read is all that they do.
-fn send(
-    from: [u8; Matrix::CELLS],
-    first: usize,
-    depth: usize,
-    bytes: &[u8],
-    out: &mut [u8],
-) -> Matrix
-    requires { (2 ≤ depth) × (depth ≤ depth_limit) × (first < size depth) × (length bytes.now ≤ length out.old) }
-    ensures { (out.new, result) ≡ left (sent depth) bytes.now 0 (matrix first from) out.old }
-{
-    let mut cells = from;
-    let mut place = first;
-    for (i, &byte) in bytes.iter().enumerate() {
-        cells[place] = byte;
-        out[i] = cells[cell(depth, place)];
-        place = next(depth, place);
-    }
-    Matrix { place, cells }
-}
-
-// Received bytes stored, none of which gives one back.
-fn keep(from: [u8; Matrix::CELLS], first: usize, depth: usize, bytes: &[u8]) -> Matrix
-    requires { (2 ≤ depth) × (depth ≤ depth_limit) × (first < size depth) }
-    ensures { (result ≡ (run (taken depth) (matrix first from) bytes.now).1) × (result.place < size depth) }
-{
-    let mut cells = from;
-    let mut place = first;
-    for &byte in bytes {
-        cells[cell(depth, place)] = byte;
-        place = next(depth, place);
-    }
-    Matrix { place, cells }
-}
-
-// Received bytes stored, each of which gives one back.
-fn give(
-    from: [u8; Matrix::CELLS],
-    first: usize,
-    depth: usize,
-    bytes: &[u8],
-    out: &mut [u8],
-) -> Matrix
-    requires { (2 ≤ depth) × (depth ≤ depth_limit) × (first < size depth) × (length bytes.now ≤ length out.old) }
-    ensures { (out.new, result) ≡ left (taken depth) bytes.now 0 (matrix first from) out.old }
-{
-    let mut cells = from;
-    let mut place = first;
-    for (i, &byte) in bytes.iter().enumerate() {
-        cells[cell(depth, place)] = byte;
-        place = next(depth, place);
-        out[i] = cells[place];
-    }
-    Matrix { place, cells }
+    n.min(Matrix::ROW * depth - 1 - back.matrix.place)
 }

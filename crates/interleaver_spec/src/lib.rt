@@ -2,6 +2,7 @@
 //! `interleaver` makes these calls. Read specs/.
 #![tactic(auto)]
 
+// An array, of whose cells a depth has the first N, and no Vec: a library has no heap.
 /// The sender's side: the place whose turn it is, and the cells, up to 64 rows of 255.
 #[derive(Clone, Copy)]
 pub struct Matrix {

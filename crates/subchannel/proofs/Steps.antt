@@ -14,7 +14,7 @@ use mathlib.Core.Option.{Option, some, none}
 use lib.ListN.{set}
 use lib.Dec.{eqb, ltb}
 use borrow.Author.Tests.{lt-ltb}
-use Rattle.interleaver_spec.specs.Running.{size, matrix, back, full, pull}
+use Rattle.interleaver_spec.specs.Running.{size, full, pull}
 use Rattle.interleaver_spec.specs.declared.Back.{Back}
 use Rattle.base.specs.Bytes.{Bytes}
 use Rattle.repair.specs.Mended.{Mended}
@@ -26,15 +26,13 @@ use Rattle.subchannel_spec.specs.Sender.{group_bytes}
 use Rattle.subchannel_spec.specs.Word.{condition, mend}
 use Rattle.subchannel.specs.declared.lane.Lane.{Lane}
 use Rattle.subchannel.specs.declared.lane.Step.{Step}
-use Rattle.subchannel.specs.declared.cells.Turned.{Turned}
 use Rattle.subchannel.specs.Call.{counts, moved, word_at, word_on, group_on, grouped, eat_by, eat}
-use Rattle.subchannel.specs.declared.lane.Eaten.{Eaten}
 use Rattle.std.specs.Prelude as code
-use Rattle.subchannel.specs.Private.{as_byte, TurnedIs, step_of, WordIs, EatenIs}
+use Rattle.subchannel.specs.Private.{as_byte, step_of, WordIs, EatenIs}
 
 -- ---- through the interleaver
-pub again-full : (d p : ℕ) (a : Bool) (cs : List ℕ) → a ≡ true → full d (back a (matrix p cs)) ≡ true
-again-full d p a cs e = ap (λ t. t || eqb (p + 1) (size d)) e
+pub again-full : (d : ℕ) (k : Back) → k.again ≡ true → full d k ≡ true
+again-full d k e = ap (λ t. t || eqb (k.matrix.place + 1) (size d)) e
 
 -- ---- words
 pub mended-told : (r : ℕ) (w : List ℕ) → Bytes w → {a x : Mended} {o : List ℕ} → Promised r w a o → a ≡ x → (condition_by x ≡ condition r w) × (o ≡ mend r w)
@@ -69,19 +67,18 @@ pub none_is : (o : Option ℕ) → code.None ≡ as_byte o → o ≡ none
 none_is none e = refl
 none_is (some y) e = cc
 
-module _ (s : Lane) (k : Back) (w : List ℕ) (b : ℕ) {t : Turned} {cs : List ℕ} (u : TurnedIs (pull s.settings.depth k b) t cs) where
+module _ (s : Lane) (k : Back) (w : List ℕ) (b : ℕ) where
   abbrev x : Option ℕ × Back
   x = pull s.settings.depth k b
 
-  pub eats-brought : {v : Step} {w' : List ℕ} {y : ℕ} → t.brought ≡ code.Some y → WordIs (group_on (some y) s w) v w'
-      → EatenIs (grouped s k w b) (record { step = v; again = t.again; place = t.place }) cs w'
-  eats-brought {v} {w'} {y} p e =
-      let o : some y ≡ x.0 = sym (some_is x.0 (sym p ∙ ap (λ (z : Turned). z.brought) u.0)) in
+  pub eats-brought : {t : code.Option ℕ} {k' : Back} → t ≡ as_byte x.0 → k' ≡ x.1 → {v : Step} {w' : List ℕ} {y : ℕ} → t ≡ code.Some y
+      → WordIs (group_on (some y) s w) v w' → EatenIs (grouped s k w b) v k' w'
+  eats-brought {t} {k'} u g {v} {w'} {y} p e =
+      let o : some y ≡ x.0 = sym (some_is x.0 (sym p ∙ u)) in
       let q : v ≡ step_of ((group_on x.0 s w).0, (group_on x.0 s w).1) = e.0 ∙ ap (λ z. step_of ((group_on z s w).0, (group_on z s w).1)) o in
-      ((λ i. record { step = q i; again = (u.0 i).again; place = (u.0 i).place }), u.1, e.1 ∙ ap (λ z. (group_on z s w).2) o)
+      (q, g, e.1 ∙ ap (λ z. (group_on z s w).2) o)
 
-module _ (s : Lane) (a : Bool) (p : ℕ) (cs w : List ℕ) (b : ℕ) where
-  pub eats-group : {r : Eaten} {cs' w' : List ℕ} → s.lost ≡ false → s.locked ≡ true → s.counts.group < group_bytes
-      → EatenIs (grouped s (back a (matrix p cs)) w b) r cs' w' → EatenIs (eat s (back a (matrix p cs)) w b) r cs' w'
-  eats-group {r} {cs'} {w'} po pl h e =
-      subst (λ x. EatenIs x r cs' w') (λ i. eat_by (sym po i) (sym pl i) (sym (lt-ltb s.counts.group group_bytes h) i) s (back a (matrix p cs)) w b) e
+  pub eats-group : {r : Step} {k' : Back} {w' : List ℕ} → s.lost ≡ false → s.locked ≡ true → s.counts.group < group_bytes
+      → EatenIs (grouped s k w b) r k' w' → EatenIs (eat s k w b) r k' w'
+  eats-group {r} {k'} {w'} po pl h e =
+      subst (λ x. EatenIs x r k' w') (λ i. eat_by (sym po i) (sym pl i) (sym (lt-ltb s.counts.group group_bytes h) i) s k w b) e

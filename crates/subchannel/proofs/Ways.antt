@@ -25,7 +25,7 @@ use Rattle.packet_spec.specs.declared.Judged.TheVariants.{Refused}
 use Rattle.parity.specs.Calls.{root_limit}
 use Rattle.stream.specs.declared.frame.Read.{Read}
 use Rattle.stream.specs.Call.{Held, held, read_call, ReadIs}
-use Rattle.interleaver_spec.specs.Running.{beyond, matrix, back, fresh_back, pull}
+use Rattle.interleaver_spec.specs.Running.{beyond, fresh_back, pull}
 use Rattle.interleaver_spec.specs.declared.Back.{Back}
 use Rattle.channel_spec.specs.declared.Hunting.{Hunting}
 use Rattle.std.specs.Prelude as code
@@ -39,7 +39,6 @@ use Rattle.channel_spec.specs.Answer.{answered}
 use Rattle.subchannel_spec.specs.Sender.{message_bytes, group_bytes}
 use Rattle.subchannel.specs.declared.lane.Lane.{Lane}
 use Rattle.subchannel.specs.declared.lane.Step.{Step}
-use Rattle.subchannel.specs.declared.lane.Eaten.{Eaten}
 use Rattle.subchannel.specs.declared.sub.Sub.{Sub}
 use Rattle.subchannel.specs.declared.sub.Hearing.{Hearing}
 use Rattle.subchannel.specs.Call.{Memory, memory, sub, Given, hunt_on, word_at, word_on, group_on, compare_on, mark_on, eat_by, eat, in_memory, eat_byte}
@@ -232,15 +231,15 @@ module _ {s₀ : Sub} {w₀ bs : List ℕ} {i : ℕ} {s : Sub} {w : List ℕ} (g
         ap (λ y. y.2.word) (sym x),
       )
 
-  module _ (h : i < length bs) {t : Eaten} {cs w' : List ℕ} (e : EatenIs (eat s.lane s.back w (get_or bs i 0)) t cs w') where
+  module _ (h : i < length bs) {t : Step} {k' : Back} {w' : List ℕ} (e : EatenIs (eat s.lane s.back w (get_or bs i 0)) t k' w') where
     abbrev x : Given
     x = eat s.lane s.back w (get_or bs i 0)
 
     abbrev s' : Sub
-    s' = sub t.step.lane (back t.again (matrix t.place cs))
+    s' = sub t.lane k'
 
     behind-is : (l : List ℕ) → (in_memory l x).1 ≡ memory s' l w'
-    behind-is l = sym (λ j. memory (sub (e.0 j).step.lane (back (e.0 j).again (matrix (e.0 j).place (e.1 j)))) l (e.2 j))
+    behind-is l = sym (λ j. memory (sub (e.0 j).lane (e.1 j)) l (e.2 j))
 
     turn : (l : List ℕ) → hear_on (memory s₀ l w₀) bs
         ≡ after i (unless x.0 1 (memory s' l w') (one_more (hear_on (memory s' l w') (drop (suc i) bs))))
@@ -250,12 +249,12 @@ module _ {s₀ : Sub} {w₀ bs : List ℕ} {i : ℕ} {s : Sub} {w : List ℕ} (g
         ∙ ap (λ c. after i (unless x.0 1 c (one_more (hear_on c (drop (suc i) bs))))) (behind-is l)
 
     -- a turn without answer
-    pub going_next : t.step.answer ≡ code.None → Going s₀ w₀ bs (i + 1) s' w'
+    pub going_next : t.answer ≡ code.None → Going s₀ w₀ bs (i + 1) s' w'
     going_next d =
-        let n : x.0 ≡ none = none_so x.0 (sym (ap (λ (y : Eaten). y.step.answer) e.0) ∙ d) in record {
+        let n : x.0 ≡ none = none_so x.0 (sym (ap (λ (y : Step). y.answer) e.0) ∙ d) in record {
           within = omega arith;
           fine = subst Fine (behind-is spare) (fine-eat (memory s spare w) (get_or bs i 0) g.owed g.fine);
-          owed = ap (λ (y : Eaten). owes y.step.lane) e.0
+          owed = ap (λ (y : Step). owes y.lane) e.0
               ∙ owes-by s.lane g.owed s.lane.lost s.lane.locked (ltb s.lane.counts.group group_bytes) s.back w (get_or bs i 0) n;
           left = λ l.
               turn l ∙ ap (λ o. after i (unless o 1 (memory s' l w') (one_more (hear_on (memory s' l w') (drop (suc i) bs))))) n
@@ -263,14 +262,14 @@ module _ {s₀ : Sub} {w₀ bs : List ℕ} {i : ℕ} {s : Sub} {w : List ℕ} (g
         }
 
     -- a turn that ends the call
-    pub going_end : {r : Answer} → t.step.answer ≡ code.Some r → BytesIs s₀ w₀ bs (record { answer = r; taken = i + 1; sub = s' }) w'
+    pub going_end : {r : Answer} → t.answer ≡ code.Some r → BytesIs s₀ w₀ bs (record { answer = r; taken = i + 1; sub = s' }) w'
     going_end {r} d l = by x.0 refl
       where
         told : answered x.0 ≡ r
-        told = some_so x.0 (sym (ap (λ (y : Eaten). y.step.answer) e.0) ∙ d)
+        told = some_so x.0 (sym (ap (λ (y : Step). y.answer) e.0) ∙ d)
 
         by : (o : Option Event) → x.0 ≡ o → HearingIs (hear_on (memory s₀ l w₀) bs) (record { answer = r; taken = i + 1; sub = s' }) l w'
-        by none n = let z : code.None ≡ code.Some r = ap as_answer (sym n) ∙ sym (ap (λ (y : Eaten). y.step.answer) e.0) ∙ d in cc
+        by none n = let z : code.None ≡ code.Some r = ap as_answer (sym n) ∙ sym (ap (λ (y : Step). y.answer) e.0) ∙ d in cc
         by (some a) n =
             let y = turn l ∙ ap (λ o. after i (unless o 1 (memory s' l w') (one_more (hear_on (memory s' l w') (drop (suc i) bs))))) n in (
               (λ j. record { answer = (sym told ∙ ap answered n) j; taken = i + 1; sub = s' }) ∙ ap hearing_of (sym y),

@@ -1,7 +1,6 @@
 -- What private functions alone are promised by.
 -- as_byte, as_answer   a byte, an answer, if there is one, as the code has them
--- TurnedIs            a received byte through the interleaver
--- step_of, WordIs      a step that does not touch the cells; a byte of a word
+-- step_of, WordIs      what a step gives, but for cells and word; a byte of a word
 -- Able                what a new byte asks of the state and of the word buffer
 -- EatenIs             one new byte
 -- HandedBy, HandedIs  the rest of a stored word
@@ -15,7 +14,7 @@ use Rattle.std.proofs.Math.Option.{Option, some, none}
 use Rattle.base.specs.Calls.{after}
 use Rattle.packet_spec.specs.Contents.{raw_limit}
 use Rattle.parity.specs.Calls.{root_limit}
-use Rattle.interleaver_spec.specs.Running.{depth_limit, matrix, back, beyond}
+use Rattle.interleaver_spec.specs.Running.{depth_limit, beyond}
 use Rattle.interleaver_spec.specs.declared.Back.{Back}
 use Rattle.channel_spec.specs.Sender.{word_bytes}
 use Rattle.channel_spec.specs.Meaning.{Event}
@@ -24,8 +23,6 @@ use Rattle.channel_spec.specs.Answer.{answered}
 use Rattle.subchannel_spec.specs.Sender.{group_bytes}
 use Rattle.subchannel.specs.declared.lane.Lane.{Lane}
 use Rattle.subchannel.specs.declared.lane.Step.{Step}
-use Rattle.subchannel.specs.declared.lane.Eaten.{Eaten}
-use Rattle.subchannel.specs.declared.cells.Turned.{Turned}
 use Rattle.subchannel.specs.declared.sub.Sub.{Sub}
 use Rattle.subchannel.specs.declared.sub.Hearing.{Hearing}
 use Rattle.subchannel.specs.Call.{memory, sub, counts, counted, Given, owes, hear_on, Fine, HearingIs}
@@ -39,11 +36,6 @@ as_byte (some y) = code.Some y
 abbrev pub as_answer : Option Event → code.Option Answer
 as_answer none = code.None
 as_answer (some a) = code.Some (answered (some a))
-
--- what a received byte brings, and the cells behind it
-abbrev pub TurnedIs : Option ℕ × Back → Turned → List ℕ → Type 0
-TurnedIs x t cells =
-    (t ≡ record { brought = as_byte x.0; again = x.1.again; place = x.1.matrix.place }) × (cells ≡ x.1.matrix.cells)
 
 -- a step's answer, if there is one, and the lane behind it
 abbrev pub step_of : Option Event × Lane → Step
@@ -63,10 +55,8 @@ pub record Able (s : Lane) (l : List ℕ) : Type 0 where
   pub room : word_bytes ≤ length l
 
 -- one new byte
-abbrev pub EatenIs : Given → Eaten → List ℕ → List ℕ → Type 0
-EatenIs x t cells word =
-    (t ≡ record { step = step_of (x.0, x.1); again = x.2.again; place = x.2.matrix.place })
-    × (cells ≡ x.2.matrix.cells) × (word ≡ x.3)
+abbrev pub EatenIs : Given → Step → Back → List ℕ → Type 0
+EatenIs x t k word = (t ≡ step_of (x.0, x.1)) × (k ≡ x.2) × (word ≡ x.3)
 
 -- a stored word's rest, by the answer that ends the call, if there is one. Else the call goes on behind it
 abbrev pub HandedBy : code.Option Answer → Lane → List ℕ → List ℕ → Lane → List ℕ → Back → List ℕ → Type 0
@@ -110,10 +100,10 @@ abbrev pub filled : Lane → ℕ → Lane
 filled s n = counted s (counts (s.counts.group + n) s.counts.marker (s.counts.word + n) s.counts.handed)
 
 -- the n bytes from byte i of a piece on only fill the word
-abbrev pub FillAsks : Lane → Bool → ℕ → List ℕ → List ℕ → ℕ → ℕ → Type 0
-FillAsks s a p w bs i n =
-    Fills s a n × (s.settings.depth ≤ depth_limit) × (beyond s.settings.depth p ≡ false) × (word_bytes ≤ length w) × (i + n ≤ length bs)
+abbrev pub FillAsks : Lane → Back → List ℕ → List ℕ → ℕ → ℕ → Type 0
+FillAsks s k w bs i n =
+    Fills s k.again n × (s.settings.depth ≤ depth_limit) × (beyond s.settings.depth k.matrix.place ≡ false) × (word_bytes ≤ length w) × (i + n ≤ length bs)
 
--- .. and are taken: the cells' place, the cells and the word buffer behind them
-abbrev pub FilledIs : Lane → Bool → ℕ → List ℕ → List ℕ → List ℕ → ℕ → ℕ → ℕ → List ℕ → List ℕ → Type 0
-FilledIs s a p cs w bs i n p' cs' w' = GoesOn bs i (sub s (back a (matrix p cs))) w (i + n) (sub (filled s n) (back a (matrix p' cs'))) w'
+-- .. and are taken: the cells and the word buffer behind them
+abbrev pub FilledIs : Lane → Back → List ℕ → List ℕ → ℕ → ℕ → Back → List ℕ → Type 0
+FilledIs s k w bs i n k' w' = GoesOn bs i (sub s k) w (i + n) (sub (filled s n) k') w'

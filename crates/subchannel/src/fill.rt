@@ -8,15 +8,15 @@ use crate::cells;
 use crate::counts::Counts;
 use crate::lane::Lane;
 use crate::sub::Sub;
-use interleaver::Matrix;
+use interleaver::Back;
 
 // How many of the bytes that are left only fill the word: not its last one, and none before every byte brings one.
-pub(crate) fn plain(lane: Lane, again: bool, left: usize) -> usize
+pub(crate) fn plain(lane: Lane, back: &Back, left: usize) -> usize
     requires { (lane.counts.group ≤ group_bytes) × (lane.counts.word ≤ word_bytes) }
-    ensures { (result ≤ left) × Fills lane again result }
+    ensures { (result ≤ left) × Fills lane back.now.again result }
 {
     let counts = lane.counts;
-    let brings = again || lane.settings.depth < 2;
+    let brings = back.again || lane.settings.depth < 2;
     if lane.lost || !lane.locked || counts.word == Sub::WORD || counts.handed != 0 || !brings {
         return 0;
     }
@@ -40,29 +40,24 @@ pub(crate) fn filled(lane: Lane, n: usize) -> Lane
     }
 }
 
-// The n bytes of the piece from one on, each through the interleaver and into its place in the word: the cells' place behind them.
+// The n bytes of the piece from one on, each through the interleaver and into its place in the word. By their numbers: of what `iter_mut` lends
+// nothing is known once it is written.
 pub(crate) fn fill(
     lane: Lane,
-    again: bool,
-    first: usize,
-    cells: &mut [u8; Matrix::CELLS],
+    back: &mut Back,
     word: &mut [u8],
     piece: &[u8],
     from: usize,
     n: usize,
-) -> usize
-    requires { FillAsks lane again first word.old piece.now from n }
-    ensures { FilledIs lane again first cells.old word.old piece.now from n result cells.new word.new }
+)
+    requires { FillAsks lane back.old word.old piece.now from n }
+    ensures { FilledIs lane back.old word.old piece.now from n back.new word.new }
 {
     let depth = lane.settings.depth;
     let at = lane.counts.word;
-    let mut place = first;
     for k in 0..n {
-        let t = cells::turn(cells, again, place, depth, piece[from + k]);
-        if let Some(byte) = t.brought {
+        if let Some(byte) = cells::turn(back, depth, piece[from + k]) {
             word[at + k] = byte;
         }
-        place = t.place;
     }
-    place
 }

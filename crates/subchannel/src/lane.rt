@@ -1,8 +1,9 @@
 //! How far a sub-channel is: all of its state but the interleaver's cells.
-ghost use Rattle.std.specs.Prelude.{◌≡◌, true, false, suc, ◌≤◌, ◌<◌, ltb};
+ghost use Rattle.std.specs.Prelude.{◌≡◌, true, false, suc, ◌≤◌, ◌<◌, ltb, length};
 ghost use Rattle.std.proofs.Math.Option.{some, none};
-ghost use Rattle.interleaver_spec.specs.Running.{matrix, back, beyond};
+ghost use Rattle.interleaver_spec.specs.Running.{beyond};
 ghost use Rattle.parity.specs.Calls.{root_limit};
+ghost use Rattle.channel_spec.specs.Sender.{word_bytes};
 ghost use Rattle.channel_spec.specs.Meaning.{shift, is_marker};
 ghost use Rattle.channel.specs.Call.{roomy};
 ghost use Rattle.subchannel_spec.specs.Sender.{message_bytes, group_bytes};
@@ -25,7 +26,7 @@ use crate::counts::Counts;
 use crate::sub::Sub;
 use crate::{cells, word};
 use channel::{Answer, Hunting};
-use interleaver::Matrix;
+use interleaver::Back;
 use stream::FrameReader;
 use subchannel_spec::Settings;
 
@@ -42,20 +43,12 @@ pub struct Lane {
     pub frame: FrameReader,
 }
 
-// What a step gives that does not touch the cells.
+// What a step gives: all but the cells and the word.
 #[derive(Clone, Copy)]
 pub(crate) struct Step {
     // The answer, if it ends the call.
     pub answer: Option<Answer>,
     pub lane: Lane,
-}
-
-// What one new byte gives: all but the cells.
-#[derive(Clone, Copy)]
-pub(crate) struct Eaten {
-    pub step: Step,
-    pub again: bool,
-    pub place: usize,
 }
 
 impl Lane {
@@ -148,19 +141,17 @@ impl Lane {
         }
     }
 
-    // A byte of a word: stored behind those before it. The whole word gives the block's answer.
-    fn word_byte(self, word: &mut [u8], y: u8) -> Step
-        requires { Able self word.old × (self.counts.group < group_bytes) }
+    // A byte of a word, with the counts behind it in the group: stored behind those before it. The whole word gives the block's answer.
+    fn word_byte(self, behind: Counts, word: &mut [u8], y: u8) -> Step
+        requires { (word_bytes ≤ length word.old) × (behind ≡ counts (suc self.counts.group) self.counts.marker self.counts.word self.counts.handed) }
         ensures { WordIs (group_on (some y) self word.old) result word.new }
     {
-        let counts = self.counts;
-        let at = word::place_in(counts.word);
+        let at = word::place_in(behind.word);
         word[at] = y;
         let stored = Counts {
-            group: counts.group + 1,
             word: at + 1,
             handed: 0,
-            ..counts
+            ..behind
         };
         let lane = self.moved(self.hunting, stored);
         if at + 1 < Sub::WORD {
@@ -173,91 +164,40 @@ impl Lane {
         }
     }
 
-    // A byte of a group that brings none.
-    fn kept_byte(self) -> Step
-        requires { self.counts.group < group_bytes }
-        ensures { result ≡ step_of (
-          none,
-          moved self self.hunting
-              (counts (suc self.counts.group) self.counts.marker self.counts.word self.counts.handed),
-        ) }
-    {
-        let counts = self.counts;
-        self.on(
-            self.hunting,
-            Counts {
-                group: counts.group + 1,
-                ..counts
-            },
-        )
-    }
-
+    // That the lent cells and word buffer fit is asked here and by `eat`: the check covers no struct with a ghost field beside a `&mut`.
     // A byte of a group: through the interleaver, and then one of a word, if it brings one.
-    fn group_byte(
-        self,
-        again: bool,
-        place: usize,
-        cells: &mut [u8; Matrix::CELLS],
-        word: &mut [u8],
-        b: u8,
-    ) -> Eaten
-        requires { Able self word.old × (self.counts.group < group_bytes) × (beyond self.settings.depth place ≡ false) }
-        ensures { EatenIs (grouped self (back again (matrix place cells.old)) word.old b)
-            result cells.new word.new }
+    fn group_byte(self, back: &mut Back, word: &mut [u8], b: u8) -> Step
+        requires { Able self word.old × (self.counts.group < group_bytes) × (beyond self.settings.depth back.old.matrix.place ≡ false) }
+        ensures { EatenIs (grouped self back.old word.old b) result back.new word.new }
     {
-        let t = cells::turn(cells, again, place, self.settings.depth, b);
-        match t.brought {
-            Some(y) => Eaten {
-                step: self.word_byte(word, y),
-                again: t.again,
-                place: t.place,
-            },
-            None => Eaten {
-                step: self.kept_byte(),
-                again: t.again,
-                place: t.place,
-            },
+        let behind = Counts {
+            group: self.counts.group + 1,
+            ..self.counts
+        };
+        match cells::turn(back, self.settings.depth, b) {
+            Some(y) => self.word_byte(behind, word, y),
+            None => self.on(self.hunting, behind),
         }
     }
 
     // One new byte.
-    pub(crate) fn eat(
-        self,
-        again: bool,
-        place: usize,
-        cells: &mut [u8; Matrix::CELLS],
-        word: &mut [u8],
-        b: u8,
-    ) -> Eaten
-        requires { Able self word.old × (beyond self.settings.depth place ≡ false) }
-        ensures { EatenIs (eat self (back again (matrix place cells.old)) word.old b)
-            result cells.new word.new }
+    pub(crate) fn eat(self, back: &mut Back, word: &mut [u8], b: u8) -> Step
+        requires { Able self word.old × (beyond self.settings.depth back.old.matrix.place ≡ false) }
+        ensures { EatenIs (eat self back.old word.old b) result back.new word.new }
     {
         if self.lost {
-            return Eaten {
-                step: Step {
-                    answer: None,
-                    lane: self,
-                },
-                again,
-                place,
+            return Step {
+                answer: None,
+                lane: self,
             };
         }
         if !self.locked {
-            return Eaten {
-                step: self.hunt_byte(b),
-                again,
-                place,
-            };
+            return self.hunt_byte(b);
         }
         if self.counts.group < Sub::GROUP {
-            return self.group_byte(again, place, cells, word, b);
+            return self.group_byte(back, word, b);
         }
-        Eaten {
-            step: self.mark_byte(b),
-            again,
-            place,
-        }
+        self.mark_byte(b)
     }
 
     // Message bytes of a stored word that are not handed on yet.

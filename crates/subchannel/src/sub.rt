@@ -2,8 +2,7 @@
 ghost use Rattle.std.specs.Prelude.{◌≡◌, true, false};
 ghost use Rattle.base.specs.Refusals.{number};
 ghost use Rattle.channel.specs.Call.{roomy};
-ghost use Rattle.interleaver_spec.specs.Running.{matrix, back};
-ghost use Rattle.subchannel.specs.Call.{Fine, memory, sub, fresh_sub, untold, telling, as_telling, owes, sound, hear_on, hear_call};
+ghost use Rattle.subchannel.specs.Call.{Fine, memory, fresh_sub, untold, telling, as_telling, owes, sound, hear_on, hear_call};
 ghost use Rattle.subchannel.specs.Call.{HearingIs};
 ghost use Rattle.subchannel.specs.Private.{spare, BytesIs};
 
@@ -12,7 +11,7 @@ use crate::fill;
 use crate::lane::Lane;
 use base::Refusal;
 use channel::{Answer, Hunting, Receiver};
-use interleaver::{Back, Matrix};
+use interleaver::Back;
 use packet::Judged;
 use stream::FrameReader;
 use subchannel_spec::{Group, Settings};
@@ -119,57 +118,34 @@ impl Sub {
     }
 
     // The bytes of a piece up to the first answer: those that only fill a word in one go, and then the next by itself.
-    fn hear_bytes(
-        lane: Lane,
-        passed: bool,
-        first: usize,
-        from: [u8; Matrix::CELLS],
-        word: &mut [u8],
-        piece: &[u8],
-    ) -> Hearing
-        requires { Fine (memory (sub lane (back passed (matrix first from))) spare word.old) × (owes lane ≡ 0) }
-        ensures { BytesIs (sub lane (back passed (matrix first from))) word.old piece.now result word.new }
+    fn hear_bytes(self, word: &mut [u8], piece: &[u8]) -> Hearing
+        requires { Fine (memory self spare word.old) × (owes self.lane ≡ 0) }
+        ensures { BytesIs self word.old piece.now result word.new }
     {
-        let mut cells = from;
-        let mut state = lane;
-        let mut again = passed;
-        let mut place = first;
-        let mut i: usize = 0;
+        let mut lane = self.lane;
+        let mut back = self.back;
+        let mut taken: usize = 0;
         // The place goes on by a whole run and one byte, so that no `for` counts it.
-        while i < piece.len() {
-            let n = fill::plain(state, again, piece.len() - i - 1);
-            let there = fill::fill(state, again, place, &mut cells, word, piece, i, n);
-            let full = fill::filled(state, n);
-            let last = i + n;
-            let e = full.eat(again, there, &mut cells, word, piece[last]);
-            state = e.step.lane;
-            again = e.again;
-            place = e.place;
-            i = last + 1;
-            if let Some(answer) = e.step.answer {
+        while taken < piece.len() {
+            let n = fill::plain(lane, &back, piece.len() - taken - 1);
+            fill::fill(lane, &mut back, word, piece, taken, n);
+            let full = fill::filled(lane, n);
+            let last = taken + n;
+            let step = full.eat(&mut back, word, piece[last]);
+            lane = step.lane;
+            taken = last + 1;
+            if let Some(answer) = step.answer {
                 return Hearing {
                     answer,
-                    taken: i,
-                    sub: Sub {
-                        lane: state,
-                        back: Back {
-                            again,
-                            matrix: Matrix { place, cells },
-                        },
-                    },
+                    taken,
+                    sub: Sub { lane, back },
                 };
             }
         }
         Hearing {
             answer: Answer::More,
-            taken: i,
-            sub: Sub {
-                lane: state,
-                back: Back {
-                    again,
-                    matrix: Matrix { place, cells },
-                },
-            },
+            taken,
+            sub: Sub { lane, back },
         }
     }
 
@@ -190,15 +166,11 @@ impl Sub {
                 },
             };
         }
-        let back = self.back;
-        Sub::hear_bytes(
-            handed.lane,
-            back.again,
-            back.matrix.place,
-            back.matrix.cells,
-            word,
-            piece,
-        )
+        let settled = Sub {
+            lane: handed.lane,
+            ..self
+        };
+        settled.hear_bytes(word, piece)
     }
 
     // A refused call: the state as it was, and no byte taken.

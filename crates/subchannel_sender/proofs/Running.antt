@@ -1,5 +1,4 @@
 -- Sending group by group.
--- limited-ok, limited-not                       settings that are not refused are within their limits
 -- group-long                                    a group's bytes
 -- group-state, group-roots, group-depth, group-short, group-wrote   what the call answers and leaves
 -- count-are                                     what the count answers
@@ -16,9 +15,6 @@ use mathlib.Core.Bool.{true, false}
 use mathlib.Core.List.{List, [], ◌∷◌, ◌++◌}
 use lib.ListN.{length, take, drop, length-append, length-take}
 use lib.Seq.{take_all, take-take}
-use Rattle.std.specs.Prelude.{Result, Ok, Err}
-use Rattle.base.specs.declared.Refusal.{Refusal}
-use Rattle.base.specs.declared.Refusal.TheVariants.{Roots, Depth}
 use borrow.Author.Tests.{lt-ltb, le-ltb}
 use Rattle.base.specs.Choice.{pick}
 use Rattle.base.specs.Calls.{joined, run}
@@ -34,20 +30,9 @@ use Rattle.channel_spec.specs.Sender.{marker}
 use Rattle.subchannel_spec.specs.Sender.{message_bytes, group_words, word_of, missing, closing_words, sent}
 use Rattle.subchannel_sender.specs.Sending.{message_of, words_from, group_next, group_stream, group_written, group_sending, groups_by}
 use Rattle.subchannel_sender.specs.Sending.{group_count, Groups, counting}
-use Rattle.subchannel_sender.specs.Private.{group_length, groups_from, GroupIs, limited}
+use Rattle.subchannel_sender.specs.Private.{group_length, groups_from, GroupIs}
 use Rattle.subchannel_sender.proofs.Laying.{message-full, four-long, push-long}
 use Rattle.subchannel_sender.proofs.Storing.{push-placed, groups-next, groups-long, sent_is}
-
--- ---- the limits
-module _ (r d : ℕ) {x : Result Unit Refusal} (p : x ≡ limited r d) where
-  pub limited-not : ((e : Refusal) → x ≡ Err e → ⊥) → (r ≤ root_limit) × (d ≤ depth_limit)
-  limited-not n =
-      by_le r root_limit
-      (λ h. by_le d depth_limit (λ k. (h, k)) (λ k. absurd (n Depth (p ∙ rw (le-ltb root_limit r h, lt-ltb depth_limit d k) refl))))
-      (λ h. absurd (n Roots (p ∙ rw (lt-ltb root_limit r h) refl)))
-
-  pub limited-ok : {u : Unit} → x ≡ Ok u → (r ≤ root_limit) × (d ≤ depth_limit)
-  limited-ok {u} q = limited-not (λ e f. let z : ◌≡◌ {A = Result Unit Refusal} (Ok u) (Err e) = sym q ∙ f in cc)
 
 -- ---- the call
 pub group-long : (r d : ℕ) → r ≤ root_limit → (m : Matrix) (bs : List ℕ) → length (group_next r d m bs).0 ≡ group_length

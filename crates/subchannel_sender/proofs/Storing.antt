@@ -90,16 +90,18 @@ word-laid r x o {o₁} {z} {w} hr l k e f =
     ∙ (λ i. word_of r x ++ drop (sym (length-append x p) i) o)
     ∙ sym (copied-fits (word_of r x) o (omega (arith, length-append x p)))
 
--- .. where x is the start of an array that holds the next message
-pub word-put : (r : ℕ) (bs a o : List ℕ) {x z : List ℕ} {w : Written} → r ≤ root_limit → take (message_bytes r) a ≡ message_of r bs → word_bytes ≤ length o
-    → x ≡ take (message_bytes r) a
-    → outcome w z ≡ made r (take (message_bytes r) a)
-    (take (length (x ++ drop (message_bytes r) o) - message_bytes r) (drop (message_bytes r) (x ++ drop (message_bytes r) o)))
-    → put_mid (message_bytes r) (length (x ++ drop (message_bytes r) o) - message_bytes r) (x ++ drop (message_bytes r) o) z
-    ≡ copied (word_of r (message_of r bs)) o
-word-put r bs a o {x} hr q k e f =
+-- .. where x is the start of an array that holds the next message, of m bytes
+pub word-put : (r m : ℕ) (bs a o : List ℕ) {x z : List ℕ} {w : Written} → r ≤ root_limit → m ≡ message_bytes r → take (message_bytes r) a ≡ message_of r bs
+    → word_bytes ≤ length o → x ≡ take m a → outcome w z ≡ made r (take m a) (take (length (x ++ drop m o) - m) (drop m (x ++ drop m o)))
+    → put_mid m (length (x ++ drop m o) - m) (x ++ drop m o) z ≡ copied (word_of r (message_of r bs)) o
+word-put r m bs a o {x} {z} {w} hr s q k =
+    subst
+    (λ m. x ≡ take m a → outcome w z ≡ made r (take m a) (take (length (x ++ drop m o) - m) (drop m (x ++ drop m o)))
+    → put_mid m (length (x ++ drop m o) - m) (x ++ drop m o) z ≡ copied (word_of r (message_of r bs)) o)
+    (sym s)
+    (λ e f.
     let l : length (take (message_bytes r) a) ≡ message_bytes r = ap length q ∙ message-long r bs in
-    word-laid r (take (message_bytes r) a) o hr l k (λ i. e i ++ drop (sym l i) o) f ∙ ap (λ y. copied (word_of r y) o) q
+    word-laid r (take (message_bytes r) a) o hr l k (λ i. e i ++ drop (sym l i) o) f ∙ ap (λ y. copied (word_of r y) o) q)
 
 -- ---- stores one after the other
 pub sets-all : (l xs : List ℕ) → length xs ≡ length l → sets l 0 xs ≡ xs

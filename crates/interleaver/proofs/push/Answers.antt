@@ -23,4 +23,4 @@ returns c =
     let a = c.args in
     deep a.depth a.matrix.place (sent a.depth) a.matrix a.bytes.now a.out.now (sym c.is_beyond.ensures ∙ c.if-is_beyond.false)
     c.if-depth-gt-DEEPEST.false (length a.bytes.now) (pushed-length a.depth a.matrix a.bytes.now) (omega arith) c.if-depth-lt2.false
-    (c.send.ensures ∙ sent-out a.depth a.bytes.now a.matrix a.out.now (omega arith))
+    (c.send-turn.ensures ∙ sent-out a.depth a.bytes.now a.matrix a.out.now (omega arith))

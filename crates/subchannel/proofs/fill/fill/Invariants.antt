@@ -5,5 +5,8 @@ use Rattle.subchannel.proofs.Filling.{Runs}
 use Rattle.subchannel.proofs.fill.fill.Given as goal
 
 abbrev pub invariant-loop-k : goal.invariant-loop-k
-invariant-loop-k l =
-    Runs l.again l.n l.from l.depth l.at l.piece l.initial.place l.initial.cells l.initial.word l.k l.place l.cells l.word × (beyond l.depth l.place ≡ false)
+invariant-loop-k l = record {
+  runs : Runs l.n l.from l.depth l.at l.piece l.initial.back l.initial.word l.k l.back l.word;
+  same : l.back.again ≡ l.initial.back.again;
+  placed : beyond l.depth l.back.matrix.place ≡ false;
+}
