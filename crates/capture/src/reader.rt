@@ -197,7 +197,7 @@ fn is_sound(capture: CaptureReader) -> bool
     }
 }
 
-// The refusal that a fault's number is.
+// The refusal that a fault's number is. Not by `Refusal::try_from`: that would leave a case here that never comes.
 fn fault(f: u8) -> Refusal
     requires { (60 ≤ f) × (f ≤ 62) }
     ensures { number result ≡ f }
