@@ -131,7 +131,8 @@ impl RecordingReader {
         }
     }
 
-    // The stream bytes that come next, or the byte where there are none.
+    // The stream bytes that come next, or the byte where there are none. That the offset has room for the piece, hear and seek ask too: it ties the
+    // tape to what is left of a piece, so a struct of both would be made anew behind every call.
     fn turn(self, recv: &mut [u8], word: &mut [u8], piece: &[u8]) -> Turn
         requires { (sound self.receiver ≡ true) × (roomy recv.old word.old ≡ true) × (self.spot.offset + length piece.now ≤ far) }
         ensures { TurnIs (deck_of self recv.old word.old) piece.now result recv.new word.new }
