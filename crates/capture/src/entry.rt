@@ -17,7 +17,7 @@ pub fn packed(recv: &[u8], delivery: Delivery) -> &[u8]
     recv.get(..end).unwrap_or(&[])
 }
 
-// Asks the sender, with no room for its output: only that it misses for a packet that it would accept.
+// Asks the sender, with no room for its output: only that it misses for a packet that it would accept. The parts come one by one, as it takes them.
 fn ask(format: u8, number: u8, key: &[u8], rest: &[u8]) -> Judged
     requires { (length key.now < 256) × (4 ≤ length rest.now) }
     ensures { result ≡ judged (asked (unpacked format number key.now rest.now)) }
@@ -35,6 +35,7 @@ fn ask(format: u8, number: u8, key: &[u8], rest: &[u8]) -> Judged
         &mut nowhere,
     ) {
         Ok(_) => Judged::Refused(Refusal::NoPacket as u8),
+        // Not `Err(Refusal::Output)` and `Err(_)`: the latter arm is not known to have another refusal, so its proof does not close.
         Err(refusal) => match refusal {
             Refusal::Output => Judged::Packet(Delivery {
                 format,
@@ -49,6 +50,7 @@ fn ask(format: u8, number: u8, key: &[u8], rest: &[u8]) -> Judged
     }
 }
 
+// Not one function with what judges a frame's contents (`judge_body` of `packet`): there the receiver judges, and each refusal has its number.
 // What a record's bytes are: a packet that the sender would accept, or 62.
 pub(crate) fn told(bytes: &[u8]) -> Judged
     ensures { result ≡ judged (entry bytes.now) }

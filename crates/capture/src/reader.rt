@@ -44,6 +44,13 @@ struct Step {
     capture: CaptureReader,
 }
 
+// The store behind a byte: it has room for a whole packet.
+#[derive(Clone, Copy)]
+struct Store<'a> {
+    bytes: &'a [u8],
+    ghost long: { entry_limit ≤ length bytes.now },
+}
+
 // The number at i.
 fn four_at(bytes: &[u8], i: usize) -> usize
     requires { i + 3 < length bytes.now }
@@ -108,58 +115,58 @@ fn in_header(k: usize, b: u8) -> Step
     Step::on(CaptureReader::Header(k + 1))
 }
 
-// A whole head.
-fn headed(store: &[u8]) -> Step
-    requires { 16 ≤ length store.now }
-    ensures { result ≡ step_of (headed_by store.now) }
-{
-    let n = four_at(store, 8);
-    if n != four_at(store, 12) {
-        return Step::said(Judged::Refused(Refusal::Record as u8));
+impl Store<'_> {
+    // A whole head.
+    fn headed(self) -> Step
+        ensures { result ≡ step_of (headed_by self.entry.bytes.now) }
+    {
+        let n = four_at(self.bytes, 8);
+        if n != four_at(self.bytes, 12) {
+            return Step::said(Judged::Refused(Refusal::Record as u8));
+        }
+        if n == 0 {
+            return Step::said(Judged::Refused(Refusal::NoPacket as u8));
+        }
+        Step::on(CaptureReader::Record { size: n, done: 0 })
     }
-    if n == 0 {
-        return Step::said(Judged::Refused(Refusal::NoPacket as u8));
+
+    // A byte of a head, stored.
+    fn in_head(self, k: usize) -> Step
+        requires { k < 16 }
+        ensures { result ≡ step_of (head_by k self.entry.bytes.now) }
+    {
+        if k + 1 == CaptureReader::HEAD {
+            return self.headed();
+        }
+        Step::on(CaptureReader::Head(k + 1))
     }
-    Step::on(CaptureReader::Record { size: n, done: 0 })
+
+    // A whole record.
+    fn whole(self, n: usize) -> Step
+        ensures { result ≡ step_of (whole_by n self.entry.bytes.now) }
+    {
+        if CaptureReader::STORED < n {
+            return Step::said(Judged::Refused(Refusal::NoPacket as u8));
+        }
+        Step::said(entry::told(&self.bytes[..n]))
+    }
+
+    // A byte of a record, stored.
+    fn in_record(self, size: usize, done: usize) -> Step
+        requires { done < size }
+        ensures { result ≡ step_of (record_by size done self.entry.bytes.now) }
+    {
+        if done + 1 == size {
+            return self.whole(size);
+        }
+        Step::on(CaptureReader::Record {
+            size,
+            done: done + 1,
+        })
+    }
 }
 
-// A byte of a head, stored.
-fn in_head(k: usize, store: &[u8]) -> Step
-    requires { (k < 16) × (entry_limit ≤ length store.now) }
-    ensures { result ≡ step_of (head_by k store.now) }
-{
-    if k + 1 == CaptureReader::HEAD {
-        return headed(store);
-    }
-    Step::on(CaptureReader::Head(k + 1))
-}
-
-// A whole record.
-fn whole(n: usize, store: &[u8]) -> Step
-    requires { entry_limit ≤ length store.now }
-    ensures { result ≡ step_of (whole_by n store.now) }
-{
-    if CaptureReader::STORED < n {
-        return Step::said(Judged::Refused(Refusal::NoPacket as u8));
-    }
-    Step::said(entry::told(&store[..n]))
-}
-
-// A byte of a record, stored.
-fn in_record(size: usize, done: usize, store: &[u8]) -> Step
-    requires { (done < size) × (entry_limit ≤ length store.now) }
-    ensures { result ≡ step_of (record_by size done store.now) }
-{
-    if done + 1 == size {
-        return whole(size, store);
-    }
-    Step::on(CaptureReader::Record {
-        size,
-        done: done + 1,
-    })
-}
-
-// One byte.
+// One byte. That the state is sound, read_on and ending ask too: a struct that says it would be made anew behind every byte.
 fn take(capture: CaptureReader, store: &mut [u8], b: u8) -> Step
     requires { (sound capture ≡ true) × (entry_limit ≤ length store.old) }
     ensures { StepIs (take_byte (held capture store.old) b) result store.new }
@@ -168,11 +175,11 @@ fn take(capture: CaptureReader, store: &mut [u8], b: u8) -> Step
         CaptureReader::Header(k) => in_header(k, b),
         CaptureReader::Head(k) => {
             keep(store, k, b);
-            in_head(k, store)
+            Store { bytes: store }.in_head(k)
         }
         CaptureReader::Record { size, done } => {
             keep(store, done, b);
-            in_record(size, done, store)
+            Store { bytes: store }.in_record(size, done)
         }
         CaptureReader::Behind(f) => Step::on(CaptureReader::Behind(f)),
     }
@@ -190,7 +197,7 @@ fn is_sound(capture: CaptureReader) -> bool
     }
 }
 
-// The refusal that a fault's number is.
+// The refusal that a fault's number is. Not by `Refusal::try_from`: that would leave a case here that never comes.
 fn fault(f: u8) -> Refusal
     requires { (60 ≤ f) × (f ≤ 62) }
     ensures { number result ≡ f }

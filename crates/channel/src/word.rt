@@ -7,7 +7,6 @@ ghost use Rattle.channel.specs.Call.{mend_in};
 
 use channel_spec::{Block, Condition};
 use parity::Checked;
-use repair::Mended;
 
 // Whether a word is clean.
 fn is_clean(word: &[u8]) -> bool
@@ -37,9 +36,7 @@ fn mend(word: &mut [u8]) -> Condition
     ensures { (result ≡ condition word.old) × (word.new ≡ mend word.old) }
 {
     match repair::repair(Block::PARITY, word) {
-        Ok(Mended::Clean) => Condition::Clean,
-        Ok(Mended::Repaired(n)) => Condition::Repaired(n),
-        Ok(Mended::Beyond) => Condition::Beyond,
+        Ok(found) => Condition::from(found),
         // not refused: the word is one
         Err(_) => Condition::Beyond,
     }

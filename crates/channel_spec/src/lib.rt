@@ -1,12 +1,14 @@
 //! What the opportunistic channel's bytes mean, as they are sent and as they are received without a limit, and the laws of whole streams and
-//! of altered blocks. Of code the types that it names, and the four hunted bytes; `channel_sender` sends, `channel` receives. Read specs/.
+//! of altered blocks. Of code the types that it names, the four hunted bytes, and how a word came in; `channel_sender` sends, `channel` receives. Read specs/.
 #![tactic(auto)]
 
-ghost use Rattle.std.specs.Prelude.{◌≡◌};
-ghost use Rattle.channel_spec.specs.Meaning.{shift, is_marker, zeros};
+ghost use Rattle.std.specs.Prelude.{◌≡◌, Ok};
+ghost use Rattle.repair.specs.Mended.{as_mended};
+ghost use Rattle.channel_spec.specs.Meaning.{condition_by, shift, is_marker, zeros};
 
 use packet_spec::Judged;
 use parity::Word;
+use repair::Mended;
 
 // Four fields and not an array: in the definitions that speak of them an array is a list of any length, and each law would ask for four.
 /// Hunting: the last four bytes, the oldest first.
@@ -26,6 +28,19 @@ pub enum Condition {
     Repaired(usize),
     /// It is beyond repair, and left as it came.
     Beyond,
+}
+
+/// By what repair found of the word.
+impl From<Mended> for Condition {
+    ghost from_gives = { λ found condition. condition ≡ condition_by (as_mended (Ok found)) };
+
+    fn from(found: Mended) -> Condition {
+        match found {
+            Mended::Clean => Condition::Clean,
+            Mended::Repaired(n) => Condition::Repaired(n),
+            Mended::Beyond => Condition::Beyond,
+        }
+    }
 }
 
 /// What a call answers.

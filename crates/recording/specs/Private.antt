@@ -3,14 +3,18 @@
 -- ear_hear, EarIs, PlainIs   one call on stream bytes
 -- headed               behind a byte that is none
 -- TurnIs, TurnBy, CallIs, Stays, HeardIs   a turn of a call on a recording's bytes, and the call
+-- AdmittedIs           refusals 10 and 11 of both calls, or none
 -- passed, passed_frame, found_in, found_frame   an answer that is passed over on the way to a packet, and what is found in one that is not
 -- FoundIs, SoughtIs    a call for a packet
 use Rattle.std.specs.Prelude.{ℕ, ◌+◌, ◌-◌, ◌≤◌, ◌<◌, min, ◌≡◌, Bool, true, false, List, eqb, ltb, length, drop}
-use Rattle.std.specs.Prelude.{Option as Maybe, Some, None}
-use Rattle.std.proofs.Math.Option.{Option}
+use Rattle.std.specs.Prelude.{Option as Maybe, Some, None, Result, Ok, Err}
+use Rattle.std.proofs.Math.Option.{Option, some}
 use Rattle.base.specs.Choice.{pick}
+use Rattle.base.specs.declared.Refusal.{Refusal}
+use Rattle.base.specs.Refusals.{number}
 use Rattle.base.specs.Calls.{hear, after}
-use Rattle.channel_spec.specs.Meaning.{Event}
+use Rattle.channel_spec.specs.Meaning.{Event, said}
+use Rattle.packet_spec.specs.Frame.{refusal}
 use Rattle.channel.specs.Call.{memory, sound, roomy}
 use Rattle.channel_spec.specs.Answer.{answered}
 use Rattle.channel.specs.declared.receiver.Receiver.{Receiver}
@@ -30,8 +34,8 @@ use Rattle.recording.specs.declared.reader.NextPacket.{NextPacket}
 use Rattle.recording.specs.Found.{Found, as_found}
 use Rattle.recording.specs.Found as found
 use Rattle.recording.specs.Deck.{Ear, ear, ear_owes, ear_hand, ear_eat, channel_at, Deck, deck_hear}
-use Rattle.recording.specs.Call.{deck_of}
-use Rattle.recording.specs.Packets.{Item, packet_hear, found_of}
+use Rattle.recording.specs.Call.{deck_of, tape_by}
+use Rattle.recording.specs.Packets.{Item, refused, packet_hear, packet_by, found_of}
 
 -- stream bytes left in the record, this one with them
 abbrev pub left_at : Place → ℕ
@@ -94,6 +98,14 @@ TurnIs m bs t l k = TurnBy t.answer m bs t l k × Stays m bs t.taken t.tape l k
 -- one call
 abbrev pub HeardIs : Deck → List ℕ → Hearing → List ℕ → List ℕ → Type 0
 HeardIs m bs r l k = CallIs (deck_hear m bs) r.answer r.taken r.tape l k × Stays m bs r.taken r.tape l k
+
+-- refusals 10 and 11, by: are the receiver's counts and the offset within their limits, have the buffers room. A refused call's answer is so
+-- of both calls
+abbrev pub AdmittedIs : Bool → Bool → Bool → Result (Unit {0}) Refusal → Type 0
+AdmittedIs s n b (Ok u) = (s ≡ true) × (n ≡ true) × (b ≡ true)
+AdmittedIs s n b (Err r) =
+    (m : Deck) (bs : List ℕ) → (tape_by s n b m bs ≡ (some (said (refusal (number r))), 0, m))
+    × (packet_by s n b m bs ≡ (some (refused (number r)), 0, m))
 
 -- a frame that is no packet is passed over ..
 abbrev pub passed_frame : Judged → Bool

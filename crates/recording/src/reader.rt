@@ -4,13 +4,10 @@ ghost use Rattle.packet_spec.specs.Contents.{raw_limit};
 ghost use Rattle.stream.specs.Call.{sound as sound_frame};
 ghost use Rattle.channel.specs.Call.{memory, sound, roomy};
 ghost use Rattle.listing_spec.specs.Apart.{in_stream, well, is_wrong};
-ghost use Rattle.packet_spec.specs.declared.Judged.TheVariants.{Refused};
-ghost use Rattle.channel_spec.specs.declared.Answer.TheVariants.{Said};
-ghost use Rattle.base.specs.Refusals.{number};
 ghost use Rattle.recording.specs.Deck.{ear};
 ghost use Rattle.recording.specs.Call.{fresh_tape, far, deck_of, is_more, near_spot, tape_call, NextIs};
 ghost use Rattle.recording.specs.Packets.{packet_call, PacketIs};
-ghost use Rattle.recording.specs.Private.{ear_hear, EarIs, PlainIs, headed, TurnIs, HeardIs, SoughtIs};
+ghost use Rattle.recording.specs.Private.{ear_hear, EarIs, PlainIs, headed, TurnIs, HeardIs, AdmittedIs, SoughtIs};
 
 use crate::{found, spot};
 use base::Refusal;
@@ -18,6 +15,7 @@ use channel::{Answer, Hearing as ChannelHearing, Receiver};
 use listing_spec::Spot;
 use packet::{Delivery, Judged};
 
+// A flag and not an enum of both streams: callers hand the state in, and the definitions and the laws of calls speak of this field.
 /// Where a recording stands, which stream it is, and the receiver; of a plain stream the receiver's frame reader hears.
 #[derive(Clone, Copy)]
 pub struct RecordingReader {
@@ -92,30 +90,6 @@ impl Hearing {
     {
         is_more(self.answer)
     }
-
-    // The call is refused: nothing is taken.
-    fn refused(refusal: Refusal, tape: RecordingReader) -> Self
-        ensures { result ≡ record { answer = Said (Refused (number refusal)); taken = 0; tape = tape } }
-    {
-        Hearing {
-            answer: Answer::Said(Judged::Refused(refusal as u8)),
-            taken: 0,
-            tape,
-        }
-    }
-}
-
-impl NextPacket {
-    // The call is refused: nothing is taken.
-    fn refused(refusal: Refusal, tape: RecordingReader) -> Self
-        ensures { result ≡ record { found = Err refusal; taken = 0; tape = tape } }
-    {
-        NextPacket {
-            found: Err(refusal),
-            taken: 0,
-            tape,
-        }
-    }
 }
 
 impl RecordingReader {
@@ -130,7 +104,8 @@ impl RecordingReader {
         }
     }
 
-    // Stream bytes.
+    // Stream bytes. What it asks of the tape and the buffers, turn, hear and seek ask too. No struct says it: one by value would be made anew behind
+    // every call, and one over both buffers would have every contract say that it keeps both references, which is more than the fact that goes.
     fn listen(self, recv: &mut [u8], word: &mut [u8], piece: &[u8]) -> ChannelHearing
         requires { (sound self.receiver ≡ true) × (roomy recv.old word.old ≡ true) }
         ensures { EarIs self.channel
@@ -156,7 +131,8 @@ impl RecordingReader {
         }
     }
 
-    // The stream bytes that come next, or the byte where there are none.
+    // The stream bytes that come next, or the byte where there are none. That the offset has room for the piece, hear and seek ask too: it ties the
+    // tape to what is left of a piece, so a struct of both would be made anew behind every call.
     fn turn(self, recv: &mut [u8], word: &mut [u8], piece: &[u8]) -> Turn
         requires { (sound self.receiver ≡ true) × (roomy recv.old word.old ≡ true) × (self.spot.offset + length piece.now ≤ far) }
         ensures { TurnIs (deck_of self recv.old word.old) piece.now result recv.new word.new }
@@ -195,6 +171,7 @@ impl RecordingReader {
         ensures { HeardIs (deck_of self recv.old word.old) piece.now result recv.new word.new }
     {
         let mut tape = self;
+        // No `for`, and no rest that shrinks: what a turn takes is known only behind it, and the sum of it is what the call answers.
         let mut i: usize = 0;
         loop {
             let t = tape.turn(recv, word, &piece[i..]);
@@ -210,11 +187,17 @@ impl RecordingReader {
         }
     }
 
-    // Whether the offset cannot pass its width on n bytes.
-    fn near(self, n: usize) -> bool
-        ensures { result ≡ near_spot self.spot n }
+    // Refusals 10 and 11 of a call on n bytes: also where the offset could pass its width on them.
+    fn admitted(self, recv: &[u8], word: &[u8], n: usize) -> Result<(), Refusal>
+        ensures { AdmittedIs (sound self.receiver) (near_spot self.spot n) (roomy recv.now word.now) result }
     {
-        self.spot.offset <= u64::MAX - n as u64
+        if !self.receiver.sound() || self.spot.offset > u64::MAX - n as u64 {
+            return Err(Refusal::State);
+        }
+        if !Receiver::has_room(recv, word) {
+            return Err(Refusal::Buffer);
+        }
+        Ok(())
     }
 
     /// The next bytes: at most one answer. Both buffers are measured, also of a plain stream: which stream it is comes in with the bytes.
@@ -222,13 +205,14 @@ impl RecordingReader {
         ensures { NextIs (tape_call (deck_of self recv.old word.old) piece.now)
             result recv.new word.new }
     {
-        if !self.receiver.sound() || !self.near(piece.len()) {
-            return Hearing::refused(Refusal::State, self);
+        match self.admitted(recv, word, piece.len()) {
+            Ok(()) => self.hear(recv, word, piece),
+            Err(refusal) => Hearing {
+                answer: Answer::Said(Judged::Refused(refusal as u8)),
+                taken: 0,
+                tape: self,
+            },
         }
-        if !Receiver::has_room(recv, word) {
-            return Hearing::refused(Refusal::Buffer, self);
-        }
-        self.hear(recv, word, piece)
     }
 
     // A call for a packet behind refusals 10 and 11: other answers are passed over.
@@ -237,6 +221,7 @@ impl RecordingReader {
         ensures { SoughtIs (deck_of self recv.old word.old) piece.now result recv.new word.new }
     {
         let mut tape = self;
+        // As in hear: what a call takes is known only behind it, and the sum is told.
         let mut i: usize = 0;
         loop {
             let h = tape.hear(recv, word, &piece[i..]);
@@ -257,13 +242,14 @@ impl RecordingReader {
         ensures { PacketIs (packet_call (deck_of self recv.old word.old) piece.now)
             result recv.new word.new }
     {
-        if !self.receiver.sound() || !self.near(piece.len()) {
-            return NextPacket::refused(Refusal::State, self);
+        match self.admitted(recv, word, piece.len()) {
+            Ok(()) => self.seek(recv, word, piece),
+            Err(refusal) => NextPacket {
+                found: Err(refusal),
+                taken: 0,
+                tape: self,
+            },
         }
-        if !Receiver::has_room(recv, word) {
-            return NextPacket::refused(Refusal::Buffer, self);
-        }
-        self.seek(recv, word, piece)
     }
 
     /// Whether the recording may end here.

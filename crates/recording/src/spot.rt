@@ -123,6 +123,7 @@ pub(crate) fn step(spot: Spot, b: u8) -> Spot
     }
 }
 
+// The flag is the state's, which callers hand in: it switches nothing here, and stays behind every byte but the first.
 /// Which stream it is behind a byte that is no stream byte: the first byte says it.
 pub(crate) fn channel_behind(place: Place, channel: bool, b: u8) -> bool
     ensures { result ≡ channel_at place b channel }

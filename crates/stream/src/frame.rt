@@ -9,6 +9,7 @@ ghost use Rattle.stream.specs.Private.{before, counted, looked, gathered, closes
 use base::Refusal;
 use packet::{Delivery, Judged, Packet};
 
+// A flag and counts and not an Option of them: callers hand the state in, also from C, and the laws speak of each value that it can have.
 /// The reader's state.
 #[derive(Clone, Copy)]
 pub struct FrameReader {
@@ -116,7 +117,8 @@ impl FrameReader {
         }
     }
 
-    // Takes the bytes before the first flag: those of a frame are stored; how many.
+    // Takes the bytes before the first flag: those of a frame are stored; how many. That the buffer has room, turn and read_on ask too: a struct
+    // over the lent buffer would have each contract say that it keeps the reference, which is more than the fact that goes.
     fn gather(self, recv: &mut [u8], bytes: &[u8]) -> usize
         requires { raw_limit ≤ length recv.old }
         ensures { (result ≡ length (before bytes.now)) × (recv.new ≡ gathered self (before bytes.now) recv.old) }
@@ -174,6 +176,7 @@ impl FrameReader {
         ensures { ReadIs (read_on (held self recv.old) piece.now) result recv.new }
     {
         let mut frame = self;
+        // No `for`, and no rest that shrinks: what a turn takes is known only behind it, and the sum of it is what the call answers.
         let mut at: usize = 0;
         while at < piece.len() {
             let turn = frame.turn(recv, &piece[at..]);

@@ -19,6 +19,7 @@ pub fn begin(out: &mut [u8]) -> Written
     Ok(1)
 }
 
+// The packet's parts stay apart, here as in `packet::write_as`: both are public, and so their parameters may not change.
 /// Appends a packet of either format to a stream, which is the first `at` bytes of the output.
 pub fn append_as(
     out: &mut [u8],

@@ -6,7 +6,6 @@ ghost use Rattle.subchannel.specs.Call.{word_at, mend_in};
 
 use crate::sub::Sub;
 use channel::Condition;
-use repair::Mended;
 
 // Where the next byte goes behind so many: behind a whole word a new one begins.
 pub(crate) fn place_in(count: usize) -> usize
@@ -15,14 +14,12 @@ pub(crate) fn place_in(count: usize) -> usize
     if count < Sub::WORD { count } else { 0 }
 }
 
-// The answer to a word, which is repaired in its place. channel has such lines of its own: shared, they would be one more public function.
+// The answer to a word, which is repaired in its place.
 fn mend(parity: usize, word: &mut [u8]) -> Condition
     ensures { (result ≡ condition parity word.old) × (word.new ≡ mend parity word.old) }
 {
     match repair::repair(parity, word) {
-        Ok(Mended::Clean) => Condition::Clean,
-        Ok(Mended::Repaired(n)) => Condition::Repaired(n),
-        Ok(Mended::Beyond) => Condition::Beyond,
+        Ok(found) => Condition::from(found),
         Err(_) => Condition::Beyond,
     }
 }
