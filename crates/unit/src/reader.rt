@@ -25,7 +25,7 @@ struct Unit<'a> {
 impl Unit<'_> {
     // Bit k of payload byte j.
     fn payload_bit(&self, j: usize, k: usize) -> u8
-        requires { (j < most_bytes) × (k < 8) }
+        requires { (j < payload self.now.size) × (k < 8) }
         ensures { (result
             ≡ get_or (unwoven (start self.now.size) (step self.now.size - 1) (heads self.now.size) (bits self.now.bytes.now)) (j * 8 + k) 0) × (result < 2) }
     {
