@@ -105,7 +105,7 @@ impl Unit<'_> {
         0
     }
 
-    // Stores n payload bytes from `from` on, at `at`: by index, as of what stands where through `iter_mut` nothing is known behind the loop.
+    // Stores n payload bytes from `from` on, at `at`. By index, which says both the byte and its place.
     fn put(&self, from: usize, n: usize, out: &mut [u8], at: usize)
         requires { (from + n ≤ payload self.now.size) × (at + n ≤ length out.old) }
         ensures { out.new ≡ paste out.old at (drop from (payload_of self.now.size self.now.bytes.now)) n }

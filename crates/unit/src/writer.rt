@@ -65,14 +65,14 @@ impl Unit<'_> {
         bit::byte(a, b, c, d, e, f, g, h)
     }
 
-    // Its n bytes: by index, as of what stands where through `iter_mut` nothing is known behind the loop.
-    fn spread(&self, n: usize, out: &mut [u8])
-        requires { (n ≡ lent self.now.size) × (n ≤ length out.old) }
+    // Its bytes.
+    fn spread(&self, out: &mut [u8])
+        requires { length out.old ≡ lent self.now.size }
         ensures { out.new ≡ unit_in self.now.size (bits_of self.now.header) self.now.contents.delimiter self.now.contents.audio.now
-            self.now.contents.opportunistic.now self.now.contents.fixed.now ++ drop n out.old }
+            self.now.contents.opportunistic.now self.now.contents.fixed.now }
     {
-        for j in 0..n {
-            out[j] = self.byte(j);
+        for (j, byte) in out.iter_mut().enumerate() {
+            *byte = self.byte(j);
         }
     }
 }
@@ -129,6 +129,6 @@ pub fn write(
         header,
         contents,
     };
-    unit.spread(m, out);
+    unit.spread(&mut out[..m]);
     Ok(m)
 }
