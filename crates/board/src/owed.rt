@@ -125,11 +125,11 @@ impl Owed {
         ensures { PutIs self recv.now out.old result out.new }
     {
         let mut owed = self;
-        for w in 0..out.len() {
+        for (w, place) in out.iter_mut().enumerate() {
             if !owed.owes() {
                 return Put { owed, written: w };
             }
-            out[w] = owed.piece.bytes[owed.out];
+            *place = owed.piece.bytes[owed.out];
             owed = owed.forth(recv);
         }
         Put {

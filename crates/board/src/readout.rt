@@ -22,6 +22,7 @@ use ports_spec::Range;
 use recording::{Hearing, RecordingReader};
 
 /// A board.
+// `bare` and `blocks` are flags: settings, which callers hand in with any state, and the definitions take any (`screen_of`).
 #[derive(Clone, Copy)]
 pub struct Readout {
     /// The bytes of an opportunistic channel come in as they are, and not those of a recording.
@@ -36,6 +37,7 @@ pub struct Readout {
 }
 
 /// What a call wants next.
+// `missed` has the same two words, for its own calls: one type for both would be a public type, and its numbers, more in a crate below.
 #[derive(Clone, Copy)]
 pub enum Wants {
     /// More bytes: all are taken, and all that they show is written.

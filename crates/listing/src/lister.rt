@@ -20,6 +20,7 @@ pub struct Lister {
 }
 
 /// What a call wants next.
+// Not one type with the board's, nor that with `missed`'s: each is the word of one call, with its number in the definitions beside it (`as_got`).
 #[derive(Clone, Copy)]
 pub enum Wants {
     /// More bytes: all are taken, and no answer is owed.
@@ -153,6 +154,7 @@ impl Lister {
         let mut next = self;
         let mut i: usize = 0;
         let mut w: usize = 0;
+        // How far a step goes on, in the piece and in the output, is known only behind it, so that no `for` counts it.
         loop {
             let s = next.step(recv, word, &piece[i..], &mut out[w..]);
             next = s.next;

@@ -58,6 +58,7 @@ struct Ended {
 }
 
 // Puts out the whole messages among the first n bytes, and moves the rest to the start.
+// The room of lent buffers stands in clauses, here and below: of a struct that holds them each function would have to say that each is the same still.
 fn put_out(hold: &mut [u8], n: usize, out: &mut [u8]) -> usize
     requires { (n ≤ length hold.old) × (n ≤ hold_limit) × (out_limit ≤ length out.old) }
     ensures { PutIs (take n hold.old) hold.old out.old result hold.new out.new }

@@ -23,6 +23,7 @@ fn is_twice(table: &[Entry]) -> bool
     ensures { result ≡ twice table.now }
 {
     let mut rest = table;
+    // What stands behind each place is looked at, so that the loop takes the first off what is left: no iterator hands out the rest.
     while let Some((e, behind)) = rest.split_first() {
         if e.held && place_of(behind, e.port).is_some() {
             return true;

@@ -165,6 +165,7 @@ impl Draft {
     }
 
     /// The recording's end; `well`: it may end so.
+    // A flag, as a recording's `may_end` answers it and the definition takes it (`closing`).
     pub fn close(self, well: bool) -> Closed
         ensures { as_closed result ≡ closing self well }
     {

@@ -14,8 +14,9 @@ use Prim.Native.Nat.{ℕ, zero, suc, ◌+◌, ◌-◌, ◌*◌, ◌/◌, ◌%◌
 use native.Mathlib.Nat.{mod-add-div', le-mul_of_pos_right, pos_of_ne-zero, add-sub_cancel_left, mul-div_cancel, mul-mod_left}
 use native.Mathlib.Numerals.{add-one}
 use native.Mathlib.Omega.{arith}
-use lib.ListN.{length, take, drop, get_or, set}
+use lib.ListN.{length, take, drop, get_or, set, drop_of_length-le}
 use lib.Seq.{get_or-take, drop-drop, drop-cons, set_at, append_snoc}
+use Rattle.std.proofs.lemmas.List.{append-nil}
 use Rattle.unit_spec.specs.Bits.{digits, bits, number, pack}
 use Rattle.unit_spec.specs.Tables.{heads, start, step, payload, lent, unfit}
 use Rattle.unit_spec.specs.Unit.{weave, filled, laid_out, unit_bits, unit}
@@ -182,11 +183,12 @@ spread-more u out₀ out j v e w h =
     ∙ set_at (pack j u) (get_or out₀ j 0) (drop (suc j) out₀) (number 0 (take 8 (drop (j * 8) u))) j (length-pack j u)
     ∙ sym (ap (λ (l : List ℕ). l ++ drop (suc j) out₀) (pack-more j u) ∙ append_snoc (pack j u) (number 0 (take 8 (drop (j * 8) u))) (drop (suc j) out₀)))
 
-pub spread-done : (l cw : ℕ) (p out₀ out : List ℕ) (j n : ℕ) → out ≡ pack j (unit_bits l cw p) ++ drop j out₀ → j ≡ n → n ≡ lent l
-    → out ≡ unit l cw p ++ drop n out₀
+pub spread-done : (l cw : ℕ) (p out₀ out : List ℕ) (j : ℕ) → out ≡ pack j (unit_bits l cw p) ++ drop j out₀ → j ≡ length out₀ → length out₀ ≡ lent l
+    → out ≡ unit l cw p
 unfolding unit
-spread-done l cw p out₀ out j n e f g =
-    e ∙ ap (λ (k : ℕ). pack k (unit_bits l cw p) ++ drop k out₀) f ∙ ap (λ (k : ℕ). pack k (unit_bits l cw p) ++ drop n out₀) g
+spread-done l cw p out₀ out j e f g =
+    e ∙ ap₂ (λ (k : ℕ) (o : List ℕ). pack k (unit_bits l cw p) ++ o) (f ∙ g) (drop_of_length-le out₀ {i = j} (omega arith))
+    ∙ append-nil (pack (lent l) (unit_bits l cw p))
 
 pub byte-within : (l cw : ℕ) (d audio opp fixed : List ℕ) (j : ℕ) → unfit l ≡ false → filled d audio opp fixed ≤ payload l → j < lent l
     → j * 8 + 8 ≤ length (unit_bits l cw (laid_out (payload l) d audio opp fixed))

@@ -12,6 +12,7 @@ pub(crate) fn bit(v: u32, n: usize, k: usize) -> u8
 }
 
 /// Bit k of a byte.
+// `k < 8`, here and of units, is no type: each caller writes the number out, or divides for it, and it is a number again in the next line.
 pub(crate) fn byte_bit(b: u8, k: usize) -> u8
     requires { k < 8 }
     ensures { (result ≡ get_or (digits 8 b) k 0) × (result < 2) }

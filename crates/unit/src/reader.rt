@@ -25,7 +25,7 @@ struct Unit<'a> {
 impl Unit<'_> {
     // Bit k of payload byte j.
     fn payload_bit(&self, j: usize, k: usize) -> u8
-        requires { (j < most_bytes) × (k < 8) }
+        requires { (j < payload self.now.size) × (k < 8) }
         ensures { (result
             ≡ get_or (unwoven (start self.now.size) (step self.now.size - 1) (heads self.now.size) (bits self.now.bytes.now)) (j * 8 + k) 0) × (result < 2) }
     {
@@ -105,7 +105,7 @@ impl Unit<'_> {
         0
     }
 
-    // Stores n payload bytes from `from` on, at `at`: by index, as of what stands where through `iter_mut` nothing is known behind the loop.
+    // Stores n payload bytes from `from` on, at `at`. By index, which says both the byte and its place.
     fn put(&self, from: usize, n: usize, out: &mut [u8], at: usize)
         requires { (from + n ≤ payload self.now.size) × (at + n ≤ length out.old) }
         ensures { out.new ≡ paste out.old at (drop from (payload_of self.now.size self.now.bytes.now)) n }

@@ -31,6 +31,7 @@ pub enum Header {
 
 impl Header {
     /// Its 24 bits.
+    // By this name and no `From`: that they are its bits is what callers want to read.
     pub fn bits(self) -> u32
         ensures { result ≡ bits_of self }
     {
@@ -73,6 +74,7 @@ pub fn start(size: usize) -> usize
 }
 
 /// How many bits it is from one header bit to the next; 0 where there is no room for them.
+// No Option: 0 is what the division gives, and no distance; `unfit` asks for it once, and every other caller has a unit.
 pub fn step(size: usize) -> usize
     ensures { result ≡ step size }
 {

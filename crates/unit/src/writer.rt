@@ -20,12 +20,13 @@ struct Unit<'a> {
     contents: Payload<'a>,
     ghost fit: { unfit size ≡ false },
     ghost all: { contents.length ≡ payload size },
+    ghost low: { lent size ≤ most_bytes },
 }
 
 impl Unit<'_> {
     // Bit k of byte j.
     fn bit(&self, j: usize, k: usize) -> u8
-        requires { (j < most_bytes) × (k < 8) }
+        requires { (j < lent self.now.size) × (k < 8) }
         ensures { (result ≡ get_or (bits_in self.now.size (bits_of self.now.header) self.now.contents.delimiter self.now.contents.audio.now
             self.now.contents.opportunistic.now self.now.contents.fixed.now) (j * 8 + k) 0) × (result < 2) }
     {
@@ -48,7 +49,7 @@ impl Unit<'_> {
 
     // Byte j.
     fn byte(&self, j: usize) -> u8
-        requires { (j < lent self.now.size) × (j < most_bytes) }
+        requires { j < lent self.now.size }
         ensures { result
             ≡ number 0 (take 8 (drop (j * 8) (bits_in self.now.size (bits_of self.now.header) self.now.contents.delimiter self.now.contents.audio.now
             self.now.contents.opportunistic.now self.now.contents.fixed.now))) }
@@ -64,14 +65,14 @@ impl Unit<'_> {
         bit::byte(a, b, c, d, e, f, g, h)
     }
 
-    // Its n bytes: by index, as of what stands where through `iter_mut` nothing is known behind the loop.
-    fn spread(&self, n: usize, out: &mut [u8])
-        requires { (n ≡ lent self.now.size) × (n ≤ most_bytes) × (n ≤ length out.old) }
+    // Its bytes.
+    fn spread(&self, out: &mut [u8])
+        requires { length out.old ≡ lent self.now.size }
         ensures { out.new ≡ unit_in self.now.size (bits_of self.now.header) self.now.contents.delimiter self.now.contents.audio.now
-            self.now.contents.opportunistic.now self.now.contents.fixed.now ++ drop n out.old }
+            self.now.contents.opportunistic.now self.now.contents.fixed.now }
     {
-        for j in 0..n {
-            out[j] = self.byte(j);
+        for (j, byte) in out.iter_mut().enumerate() {
+            *byte = self.byte(j);
         }
     }
 }
@@ -128,6 +129,6 @@ pub fn write(
         header,
         contents,
     };
-    unit.spread(m, out);
+    unit.spread(&mut out[..m]);
     Ok(m)
 }

@@ -1,5 +1,5 @@
 -- `unit::writer::write` meets its contract: each way by what was found on it (Writing).
-use Rattle.std.proofs.Common.{ap, arith}
+use Rattle.std.proofs.Common.{◌++◌, ap, drop, arith}
 use Rattle.unit.specs.Private.{code}
 use Rattle.unit.proofs.Writing.{fit-of, mixed-of, roomy, is_seen, short, refuse-length, refuse-mix, refuse-room, refuse-hidden, refuse-output, wrote}
 use Rattle.unit.proofs.writer.write.Goals as goal
@@ -30,7 +30,7 @@ pub returns : goal.returns
 returns c =
     let k = mixed-of (fit-of c.unfit.ensures c.if-unfit.false (omega arith)) c.in-Some.header c.in-Some.ensures in
     let s = is_seen (roomy k c.payload-length.ensures c.overfull.ensures c.if-overfull.false) c.is_hidden.ensures c.if-is_hidden.false in
-    wrote s c.lent-m.ensures.0 c.if-out-m.false c.spread.ensures
+    wrote s c.lent-m.ensures.0 c.if-out-m.false (ap (λ l. l ++ drop c.lent-m.result c.args.out.now) c.spread.ensures)
 
 pub lent-m-requires : goal.lent-m-requires
 lent-m-requires c =

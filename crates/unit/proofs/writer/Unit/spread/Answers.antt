@@ -14,4 +14,4 @@ loop-j-preserved c = let l = c.loop-j.invariant in record {
 }
 
 pub returns : goal.returns
-returns c = spread-done _ _ _ _ _ _ _ c.loop-j.invariant.made (omega arith) c.requires.0
+returns c = spread-done _ _ _ _ _ _ c.loop-j.invariant.made (omega arith) c.requires
