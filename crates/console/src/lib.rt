@@ -6,6 +6,7 @@
 ghost use Rattle.std.specs.Prelude.{◌≤◌, length};
 
 use base::{Refusal, Written};
+use ports_spec::Range;
 use std::env::{Env, FillError};
 use std::io;
 use std::io::{Eprint, ErrorKind, Read};
@@ -78,6 +79,14 @@ fn with_digit(n: usize, b: u8) -> Option<usize> {
 /// The port that an argument names, in one to five digits.
 pub fn port(rt: &impl Env, place: usize) -> Option<u16> {
     u16::try_from(number(rt, place, 5)?).ok()
+}
+
+/// The ports from the one that an argument names to that of the next argument.
+pub fn range(rt: &impl Env, place: usize) -> Option<Range> {
+    Some(Range {
+        first: port(rt, place)?,
+        last: port(rt, place.saturating_add(1))?,
+    })
 }
 
 /// Standard input, piece by piece as it comes, to one who takes it, while more is wanted: whether it ended. Where it cannot be read, that is said.

@@ -26,18 +26,20 @@ fn main(rt: HostRuntime) -> ExitCode {
 
 // The ports that the arguments name.
 fn run(rt: &(impl Env + Input + Print + Speak)) -> io::Result<()> {
-    let (3, Some(first), Some(last)) = (
-        console::argument_count(rt),
-        console::port(rt, 1),
-        console::port(rt, 2),
-    ) else {
-        say(
-            rt,
-            b"usage: missed FIRST LAST <RECORDING; FIRST and LAST are ports\n",
-        );
-        return Ok(());
-    };
-    hear_all(rt, Range { first, last })
+    match console::range(rt, 1) {
+        Some(range) if console::argument_count(rt) == 3 => hear_all(rt, range),
+        _ => {
+            usage(rt);
+            Ok(())
+        }
+    }
+}
+
+fn usage(rt: &impl Speak) {
+    say(
+        rt,
+        b"usage: missed FIRST LAST <RECORDING; FIRST and LAST are ports\n",
+    );
 }
 
 // Standard input, piece by piece as it comes.

@@ -32,10 +32,10 @@ fn main(rt: HostRuntime) -> ExitCode {
 // The ports and the recordings that the arguments name.
 fn run(rt: &(impl Env + Files + Print + Speak)) -> io::Result<()> {
     let count = console::argument_count(rt);
-    match (console::port(rt, 2), console::port(rt, 3)) {
-        (Some(first), Some(last)) if count > 4 => {
+    match console::range(rt, 2) {
+        Some(range) if count > 4 => {
             let shown = console::is_argument(rt, 1, b"progress");
-            print_all(rt, count_all(rt, Range { first, last }, shown, count))
+            print_all(rt, count_all(rt, range, shown, count))
         }
         _ => {
             usage(rt);
