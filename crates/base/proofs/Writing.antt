@@ -5,26 +5,27 @@
 -- room-wrote, room-never     with room the result is written, and no call is refused
 -- write-is                   what is written is the result
 -- same-written               an answer of the code is told by its number: two that are the same by numbers are the same
+-- names-one                  what a number names is one answer
 -- copied-fits                with room, copying leaves the bytes and what stood behind them
 -- copied-over                without, as many bytes as there is room for
 -- copied-min                 the bytes for which there is room, and those behind them
 use mathlib.Core.Path.{◌≡◌, refl, sym, ap, ap₂, ◌∙◌}
 use mathlib.Core.Bool.{Bool, true, false}
-use mathlib.Core.List.{List, [], ◌∷◌, ◌++◌, append-nil}
-use Prim.Native.Nat.{ℕ, ◌+◌, ◌≤◌, ◌<◌, min}
+use mathlib.Core.List.{List, ◌++◌, append-nil}
+use Prim.Native.Nat.{ℕ, ◌≤◌, ◌<◌, min}
 use native.Mathlib.Omega.{arith}
-use lib.ListN.{length, take, drop, get_or, set}
-use lib.Seq.{take_all, take_at, take-nil, drop-nil}
+use lib.ListN.{length, take, drop}
+use lib.Seq.{take_all, take_at}
 use borrow.Author.Tests.{lt-ltb, le-ltb}
 use Rattle.base.specs.Choice.{pick}
 use Rattle.std.specs.Prelude.{eqb, Result, Ok, Err}
 use Rattle.base.specs.declared.Refusal.{Refusal}
 use Rattle.base.specs.declared.Refusal.TheVariants as refusal
-use Rattle.base.specs.Refusals.{number}
+use Rattle.base.specs.declared.NoRefusal.{NoRefusal}
+use Rattle.base.specs.Refusals.{number, Names}
 use Rattle.base.specs.Written.{Written, Wrote, Refused, as_written, Outcome, outcome, Keeps, refused, write, copied}
 use Rattle.base.proofs.Lists.{over}
 use Rattle.base.proofs.Tests.{by_le}
-use Rattle.base.proofs.InPlace.{next, done}
 
 pub copied-fits : (bs dst : List ℕ) → length bs ≤ length dst → copied bs dst ≡ bs ++ drop (length bs) dst
 unfolding copied
@@ -162,3 +163,9 @@ same-written (Ok n) (Ok m) e = cc
 same-written (Ok n) (Err s) e = cc
 same-written (Err r) (Ok m) e = cc
 same-written (Err r) (Err s) e = let k : number r ≡ number s = cc in ap Err (same-refusal r s k)
+
+pub names-one : (n : ℕ) (x y : Result Refusal NoRefusal) → Names n x → Names n y → x ≡ y
+names-one n (Ok r) (Ok s) e f = ap Ok (same-refusal r s (e ∙ sym f))
+names-one n (Ok r) (Err b) e f = absurd (f.1 r e)
+names-one n (Err a) (Ok s) e f = absurd (e.1 s f)
+names-one n (Err a) (Err b) e f = ap Err (λ i. record { 0 = (e.0 ∙ sym f.0) i })

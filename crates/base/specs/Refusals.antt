@@ -40,7 +40,7 @@ number refusal.Capture = 60
 number refusal.Record = 61
 number refusal.NoPacket = 62
 
--- of a number: the refusal that has it, or that none has it
+-- of a number: the refusal that has it, or this number, which none has
 abbrev pub Names : ℕ → Result Refusal NoRefusal → Type 0
 Names n (Ok r) = number r ≡ n
-Names n (Err e) = (r : Refusal) → number r ≡ n → ⊥
+Names n (Err e) = (e.0 ≡ n) × ((r : Refusal) → number r ≡ n → ⊥)
