@@ -4,10 +4,9 @@
 -- lent-start, lent-take, lent-within   what a part that was lent from the start on, and stored into, leaves
 -- last-is                        the last byte compared with 7D
 -- told-right, told-wrong         behind a 7D: a right byte, and a wrong one
--- found-is, found_within         the place of the 7D behind it, or the end
+-- found-is                       the place of the 7D behind it, or the end
 -- scan-ends, scan-hands          plain reading ends behind the run, or hands over behind the 7D that follows it
--- wrong-plain                    .. and goes on behind a right byte
--- at-start, behind-escape, behind-other   which reading begins at a place, by the byte before it
+-- at-start, behind-other         which reading begins at a place, by the byte before it
 -- undo-ends, undo-hands          the same where escapes are undone
 use mathlib.Core.Path.{◌≡◌, refl, sym, ap, ap₂, ◌∙◌}
 use mathlib.Core.Logic.{◌≢◌}
@@ -51,16 +50,13 @@ plain-run (b ∷ bs) h =
     by-eq b 0x7D (λ e. simp (eq-eqb b 0x7D e))
     (λ n. let k = simp (ne_eqb b 0x7D n) at h in simp (ne_eqb b 0x7D n) (ap (λ (x : List ℕ). b ∷ x) (plain-run bs (omega (arith, k)))))
 
-pub wrong-plain : (bs : List ℕ) (p at : ℕ) → p ≢ 0x7D → wrong_from 0 (at + 1) bs ≡ wrong_from p (suc at) bs
+wrong-plain : (bs : List ℕ) (p at : ℕ) → p ≢ 0x7D → wrong_from 0 (at + 1) bs ≡ wrong_from p (suc at) bs
 wrong-plain bs p at n = let e : at + 1 ≡ suc at = omega arith in rw e (wrong-before bs p (suc at) n)
 
 -- the bytes from a place on, by the byte before them
 module _ (l : List ℕ) (from : ℕ) where
   pub at-start : from ≡ 0 → wrong_from 0 from (drop from l) ≡ wrong_behind from l
   at-start e = simp (eq-eqb from 0 e)
-
-  pub behind-escape : from ≢ 0 → get_or l (from - 1) 0 ≡ 0x7D → wrong_from 0x7D from (drop from l) ≡ wrong_behind from l
-  behind-escape n e = simp (ne_eqb from 0 n) (ap (λ (p : ℕ). wrong_from p from (drop from l)) (sym e))
 
   pub behind-other : from ≢ 0 → get_or l (from - 1) 0 ≢ 0x7D → wrong_from 0 from (drop from l) ≡ wrong_behind from l
   behind-other n m = simp (ne_eqb from 0 n) (wrong-before (drop from l) (get_or l (from - 1) 0) from m)
@@ -136,9 +132,6 @@ pub found-is : (l : List ℕ) (at : ℕ) {k : ℕ} → k ≡ length (run (take (
 found-is l at e = ap (λ (k : ℕ). at + k) (e ∙ ap (λ (x : List ℕ). length (run x)) (tail-is at l))
 
 module _ (l : List ℕ) (at : ℕ) {i : ℕ} (e : i ≡ at + length (run (drop at l))) where
-  pub found_within : at ≤ length l → i ≤ length l
-  found_within h = omega (arith, up-to-short 0x7D (drop at l), length-drop at l)
-
   pub scan-ends : i ≡ length l → 0 ≡ wrong_from 0 at (drop at l)
   scan-ends h = sym (wrong-all (drop at l) 0 at (λ z. absurd (omega (arith, z))) (omega (arith, length-drop at l)))
 

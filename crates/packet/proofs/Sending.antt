@@ -2,7 +2,7 @@
 -- refusing-empty, refusing-long, refusing-barred, refusing-none   what the sender says of a packet, by facts on numbers
 -- write-empty, write-long, write-barred, write-head, write-frame  what the call answers and leaves, by the same
 -- framed-length, laid-frame, frame-fits      a frame stored part by part
--- laid-plain, laid-key, key-length, laid-opening   .. and its opening
+-- laid-key, laid-opening   .. and its opening
 -- head-most, opening-most, opening-short, opening-part, fits-most   .. and how long that is
 -- sent-parts                  the parts that are stored are the packet's frame
 -- writing-keeps               a refused call leaves the output as it was
@@ -15,12 +15,12 @@ use native.Mathlib.Omega.{arith}
 use lib.Dec.{eqb, ltb}
 use borrow.Author.Tests.{eq-eqb, ne_eqb, lt-ltb, le-ltb, eqb-false, ltb-false}
 use lib.ListN.{length, take, drop, set, length-append, length-set}
-use borrow.Rule.Slice.PartMut.{put_mid, same_len_mid}
+use borrow.Rule.Slice.PartMut.{put_mid}
 use Rattle.base.specs.Choice.{pick}
 use Rattle.base.specs.Private.{Laid}
 use Rattle.base.specs.Written.{Outcome, outcome, refused, write, copied, Keeps}
 use Rattle.base.specs.Written.{Wrote, Refused}
-use Rattle.base.proofs.Laid.{laid_none, laid_more, laid-append, laid-start, laid-take, laid-copied}
+use Rattle.base.proofs.Laid.{laid_more, laid-append, laid-start, laid-take, laid-copied}
 use Rattle.base.proofs.Writing.{refused-keeps, write_keeps, pick-keeps}
 use Rattle.fcs.specs.Fcs.{fcs}
 use Rattle.packet_spec.specs.Port.{barred}
@@ -99,9 +99,6 @@ module _ (a b c : List ℕ) where
 
 -- ---- format byte to sequence, stored part by part
 module _ (format number : ℕ) (key l : List ℕ) where
-  pub laid-plain : (format ≡ key_format → ⊥) → Laid l 0 (head format number key) (set l 0 format) 1
-  laid-plain n = rw (ne_eqb _ _ n) (laid_more format (laid_none (set l 0 format) 1))
-
   -- format byte, key length, key number
   abbrev three : List ℕ
   three = set (set (set l 0 format) 1 (length key)) 2 number
@@ -114,9 +111,6 @@ module _ (format number : ℕ) (key l : List ℕ) where
     pub laid-key : format ≡ key_format → key_at + length key ≤ length l → y ≡ copied key (take (length three - key_at) (drop key_at three))
         → Laid l 0 (head format number key) (put_mid key_at (length three - key_at) three y) (key_at + length key)
     laid-key e h c = rw (eq-eqb _ _ e) (laid_more format (laid_more (length key) (laid_more number (laid-copied (omega (arith, three-length)) c))))
-
-    pub key-length : length y ≡ length (take (length three - key_at) (drop key_at three)) → length (put_mid key_at (length three - key_at) three y) ≡ length l
-    key-length h = same_len_mid key_at (length three - key_at) three y h ∙ three-length
 
 pub laid-opening : (p : Packet) {l m₁ m₂ m₃ : List ℕ} {e₁ e₂ e₃ : ℕ}
     → Laid l 0 (head p.format p.number p.key) m₁ e₁ → Laid m₁ e₁ (two p.port) m₂ e₂ → Laid m₂ e₂ (two p.sequence) m₃ e₃

@@ -2,6 +2,7 @@
 ghost use Rattle.std.specs.Prelude.{◌≡◌, ◌+◌, ◌≤◌, ◌<◌, length};
 ghost use Rattle.packet_spec.specs.Contents.{key_sized, pair, pair_at, payload_at, unpacked};
 ghost use Rattle.packet_spec.specs.Frame.{judged, judge_packet, key_fits, judge_body, judge_contents, closed, judging};
+ghost use Rattle.packet.specs.Private.{as_judged};
 
 use crate::{escape, port};
 use base::Refusal;
@@ -70,18 +71,18 @@ fn key_fits(body: &[u8]) -> bool
 }
 
 // Judges port, sequence and payload, which stand behind the head.
-fn judge_packet(format: u8, number: u8, key: &[u8], rest: &[u8]) -> Judged
+fn judge_packet(format: u8, number: u8, key: &[u8], rest: &[u8]) -> Result<Delivery, Refusal>
     requires { (length key.now < 256) × (4 ≤ length rest.now) }
-    ensures { result ≡ judged (judge_packet (unpacked format number key.now rest.now)) }
+    ensures { as_judged result ≡ judged (judge_packet (unpacked format number key.now rest.now)) }
 {
     let port = pair_at(rest, 0);
     if port::barred(port) {
-        return Judged::Refused(Refusal::Port as u8);
+        return Err(Refusal::Port);
     }
     if escape::longer(&rest[4..], Packet::PAYLOAD) {
-        return Judged::Refused(Refusal::Payload as u8);
+        return Err(Refusal::Payload);
     }
-    Judged::Packet(Delivery {
+    Ok(Delivery {
         format,
         number,
         key: key.len() as u8,
@@ -92,9 +93,9 @@ fn judge_packet(format: u8, number: u8, key: &[u8], rest: &[u8]) -> Judged
 }
 
 // Judges format byte to last payload byte.
-fn judge_body(body: &[u8]) -> Judged
+fn judge_body(body: &[u8]) -> Result<Delivery, Refusal>
     requires { 6 ≤ length body.now }
-    ensures { result ≡ judged (judge_body body.now) }
+    ensures { as_judged result ≡ judged (judge_body body.now) }
 {
     let format = body[0];
     match format {
@@ -103,24 +104,34 @@ fn judge_body(body: &[u8]) -> Judged
             let end = Packet::KEY_AT + usize::from(body[1]);
             judge_packet(format, body[2], &body[Packet::KEY_AT..end], &body[end..])
         }
-        Packet::KEY_FORMAT => Judged::Refused(Refusal::Key as u8),
-        _ => Judged::Refused(Refusal::Format as u8),
+        Packet::KEY_FORMAT => Err(Refusal::Key),
+        _ => Err(Refusal::Format),
     }
 }
 
 // Judges contents.
-fn judge_contents(cs: &[u8]) -> Judged
-    ensures { result ≡ judged (judge_contents cs.now) }
+fn judge_contents(cs: &[u8]) -> Result<Delivery, Refusal>
+    ensures { as_judged result ≡ judged (judge_contents cs.now) }
 {
     let n = cs.len();
     if n < 8 {
-        return Judged::Refused(Refusal::Short as u8);
+        return Err(Refusal::Short);
     }
     let end = n - 2;
     if fcs::fcs(&cs[..end]) != pair_at(cs, end) {
-        return Judged::Refused(Refusal::Check as u8);
+        return Err(Refusal::Check);
     }
     judge_body(&cs[..end])
+}
+
+// What contents are judged to be, as the answer to a frame.
+fn told(contents: Result<Delivery, Refusal>) -> Judged
+    ensures { result ≡ as_judged contents }
+{
+    match contents {
+        Ok(delivery) => Judged::Packet(delivery),
+        Err(refusal) => Judged::Refused(refusal as u8),
+    }
 }
 
 // A frame of `raw` raw bytes, which `recv` holds from its start, is closed: escapes are undone in `recv`.
@@ -136,7 +147,7 @@ fn close(recv: &mut [u8], raw: usize) -> Judged
         Escapes::Wrong(place) => Judged::Broken(place),
         Escapes::Right => {
             let n = escape::undo_plain(&mut recv[..stored], 0, 0);
-            judge_contents(&recv[..n])
+            told(judge_contents(&recv[..n]))
         }
     }
 }

@@ -33,6 +33,6 @@ returns-in-Right c =
     let n = c.min-stored.result in
     let u = c.undo_plain-n.ensures in
     let j = both (closed-stored l c.args.raw c.if-raw-gt-RAW.false c.min-stored.ensures _ (sym c.scan.ensures ∙ c.in-Right.is)) in (
-      c.judge_contents.ensures ∙ ap (λ (x : List ℕ). judged (judge_contents x)) (lent-take l n u (plain-short _)) ∙ j.0,
+      c.told.ensures ∙ c.judge_contents.ensures ∙ ap (λ (x : List ℕ). judged (judge_contents x)) (lent-take l n u (plain-short _)) ∙ j.0,
       lent-start l n u (plain-short _) ∙ j.1,
     )
