@@ -70,7 +70,7 @@ fn step(c: u8, p: [u8; Word::MOST], v: [u8; Word::MOST]) -> [u8; Word::MOST]
     ensures { result ≡ stepped c p v }
 {
     let mut next = v;
-    // By index: tried by array::from_fn, of which a proof knows a call at each lane, but not with what its closure had captured.
+    // By index: tried by array::from_fn, and the proof did not close: of a lane it tells of a call at some state of the closure, not of what that captured.
     for lane in 0..Word::MOST {
         next[lane] = field::plus(field::times(p[lane], next[lane]), c);
     }

@@ -50,6 +50,7 @@ fn error_at(l: u8, v: &Solution, s: &[u8; Word::MOST], x: u8) -> u8
     let mut a: u8 = 0;
     let mut b: u8 = 0;
     let mut sum: u8 = 0;
+    // By index, from the last on: a chain would hand the three sums on as a triple, and is no plainer.
     for i in (1..v.len()).rev() {
         a = field::plus(v[i], field::times(x, a));
         b = field::plus(a, field::times(x, b));

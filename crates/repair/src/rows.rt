@@ -65,7 +65,7 @@ fn equations(n: usize, s: &[u8; Word::MOST]) -> [[u8; 33]; 32]
     ensures { take n result ≡ windows 0 n s.now }
 {
     let mut m = [[0u8; 33]; 32];
-    // By index, each row by itself: of what is written through iter_mut a proof knows the length alone, into m[i] nothing that has a name.
+    // By index, each row by itself: of what is written through iter_mut().zip(..) a proof knows the length alone, into m[i] nothing that has a name.
     for i in 0..n {
         let mut row = [0u8; 33];
         row.copy_from_slice(&s[i..i + 33]);

@@ -9,5 +9,5 @@ use Rattle.lanes.proofs.is_clean.Goals as goal
 pub returns : goal.returns
 returns c =
     let w = c.args.word.now in
-    c.is_zero.ensures ∙ ap is_zero (c.residue.ensures ∙ residue-fed lane_roots w (omega arith))
+    c.is_zero.ensures ∙ ap is_zero (c.divided.ensures ∙ residue-fed lane_roots w (omega arith))
     ∙ residue-clean lane_roots w (bytes_of w (λ i. (c.type_inv.word i).fits)) (omega arith)

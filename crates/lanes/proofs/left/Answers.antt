@@ -5,4 +5,4 @@ use Rattle.word_spec.proofs.Residue.{residue-fed}
 use Rattle.lanes.proofs.left.Goals as goal
 
 pub returns : goal.returns
-returns c = c.unlaid.ensures ∙ c.residue.ensures ∙ residue-fed lane_roots c.args.bytes.now (omega arith)
+returns c = c.unlaid.ensures ∙ c.divided.ensures ∙ residue-fed lane_roots c.args.bytes.now (omega arith)

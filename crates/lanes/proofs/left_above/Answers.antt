@@ -5,4 +5,4 @@ use Rattle.word_spec.proofs.Residue.{from-fed}
 use Rattle.lanes.proofs.left_above.Goals as goal
 
 pub returns : goal.returns
-returns c = c.unlaid.ensures ∙ c.residue.ensures ∙ from-fed next_root lane_roots c.args.bytes.now (omega arith)
+returns c = c.unlaid.ensures ∙ c.divided.ensures ∙ from-fed next_root lane_roots c.args.bytes.now (omega arith)
