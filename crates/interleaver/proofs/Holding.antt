@@ -57,6 +57,7 @@ module _ (d : ℕ) (deep : 2 ≤ d) (k : Back) (bs out : List ℕ) (n : ℕ) (h 
         let y : length (run (taken d) m (drop n bs)).0 ≡ length (drop n bs) = taken-length d m (drop n bs) in
         let z : length (drop n bs) ≡ length bs - n = length-drop n bs in
         let s : ◌≡◌ {A = List ℕ × Matrix} (o, g) (copied (run (taken d) m (drop n bs)).0 out, (run (taken d) m (drop n bs)).1) =
-        q ∙ (λ i. left (taken (same i)) (take_all (length bs - n) (drop n bs) (omega arith) i) 0 (p i) out) ∙ left_out (taken d) (drop n bs) m out (omega arith) in
+        q ∙ (λ i. left (taken (same i)) (take_all (length bs - n) (drop n bs) (omega arith) i) 0 (p i) out)
+        ∙ left_out (taken d) (drop n bs) m out (omega arith) in
         ap (λ (x : List ℕ × Matrix). (x.0, back true x.1)) s
         ∙ ap (λ (x : List ℕ × Back). (copied x.0 out, x.1)) (sym (some-given d bs n k.again k.matrix h held-is l))
