@@ -9,10 +9,10 @@ mod naming;
 mod output;
 mod warnings;
 
-use console::{PIECE, Speak, TakePieces, say};
+use console::{Next, PIECE, Speak, TakePieces, say};
 use naming::{name_line, say_no_bid};
 use office::{Answer, Hearing, Office};
-use output::{print, put};
+use output::{Form, print};
 use std::env::Env;
 use std::io;
 use std::process::ExitCode;
@@ -21,14 +21,13 @@ use warnings::Watch;
 // The sender, the memory that it is lent, and what the boards have seen.
 #[derive(Drop)]
 struct Sender {
-    // The stream goes out in records of a recording.
-    recording: bool,
+    form: Form,
     office: Office,
     watch: Watch,
     line: [u8; PIECE],
     hold: [u8; PIECE],
     out: [u8; PIECE],
-    // Bytes that wait in the output.
+    // Bytes that wait in the output; no Vec of them, since the office writes into room that it is lent.
     waiting: usize,
 }
 
@@ -39,21 +38,21 @@ fn main(rt: HostRuntime) -> ExitCode {
 // What the argument asks for.
 fn run(rt: &(impl Env + Input + Print + Speak)) -> io::Result<()> {
     if console::argument_count(rt) < 2 {
-        return send(rt, false);
+        return send(rt, Form::Stream);
     }
     if console::is_argument(rt, 1, b"--recording") {
         print(rt, &[0x4F])?;
-        return send(rt, true);
+        return send(rt, Form::Recording);
     }
     say(rt, b"usage: bids [--recording] <LINES >STREAM\n");
     Ok(())
 }
 
 // The whole input, sent.
-fn send(rt: &(impl Input + Print + Speak), recording: bool) -> io::Result<()> {
+fn send(rt: &(impl Input + Print + Speak), form: Form) -> io::Result<()> {
     let mut hold = [0u8; PIECE];
     match Office::start(&mut hold) {
-        Ok(office) => send_from(rt, recording, office, hold),
+        Ok(office) => send_from(rt, form, office, hold),
         Err(refusal) => {
             console::say_refused(rt, refusal as u8);
             Ok(())
@@ -64,12 +63,12 @@ fn send(rt: &(impl Input + Print + Speak), recording: bool) -> io::Result<()> {
 // The same behind the start. The end of the input ends a line that is begun; where it cannot be read further, those before it are sent.
 fn send_from(
     rt: &(impl Input + Print + Speak),
-    recording: bool,
+    form: Form,
     office: Office,
     hold: [u8; PIECE],
 ) -> io::Result<()> {
     let mut sender = Sender {
-        recording,
+        form,
         office,
         watch: Watch::fresh(),
         line: [0; PIECE],
@@ -84,30 +83,21 @@ fn send_from(
 }
 
 impl TakePieces for Sender {
-    // A piece, sent before more is read, which it always is: the stream's blocks go out, those of a recording wait for full records.
-    fn take(&mut self, rt: &(impl Print + Speak), piece: &[u8]) -> io::Result<bool> {
-        self.hear_all(rt, piece)?;
-        if !self.recording {
+    // Bytes up to the end of a line. Behind a piece, before more is read, which it always is, the stream's blocks go out; those of a recording wait
+    // for full records.
+    fn take(&mut self, rt: &(impl Print + Speak), piece: &[u8]) -> io::Result<Next> {
+        let taken = self.hear(rt, piece)?;
+        if 0 < taken && taken < piece.len() {
+            return Ok(Next::Again(taken));
+        }
+        if let Form::Stream = self.form {
             self.pass_on(rt)?;
         }
-        Ok(true)
+        Ok(Next::More)
     }
 }
 
 impl Sender {
-    // All lines of a piece.
-    fn hear_all(&mut self, rt: &(impl Print + Speak), piece: &[u8]) -> io::Result<()> {
-        let mut rest = piece;
-        while !rest.is_empty() {
-            let taken = self.hear(rt, rest)?;
-            if taken == 0 {
-                return Ok(());
-            }
-            rest = &rest[taken.min(rest.len())..];
-        }
-        Ok(())
-    }
-
     // Bytes up to the end of a line; how many.
     fn hear(&mut self, rt: &(impl Print + Speak), piece: &[u8]) -> io::Result<usize> {
         let stored = self.office.stored;
@@ -167,7 +157,7 @@ impl Sender {
 
     // What waits goes out.
     fn pass_on(&mut self, rt: &(impl Print + Speak)) -> io::Result<()> {
-        put(rt, self.recording, &self.out[..self.waiting.min(PIECE)])?;
+        self.form.put(rt, &self.out[..self.waiting.min(PIECE)])?;
         self.waiting = 0;
         Ok(())
     }
@@ -177,7 +167,7 @@ impl Sender {
         let from = self.waiting.min(PIECE);
         let written = self.office.finish(&self.hold, &mut self.out[from..]);
         let all = console::onward(from, written.unwrap_or(0), PIECE);
-        put(rt, self.recording, &self.out[..all])
+        self.form.put(rt, &self.out[..all])
     }
 }
 

@@ -2,6 +2,13 @@
 use console::Speak;
 use std::io;
 
+// The bytes of the stream as they are, or records of them.
+#[derive(Clone, Copy)]
+pub enum Form {
+    Stream,
+    Recording,
+}
+
 // Bytes of a record, at most.
 const RECORD: usize = 1000;
 
@@ -10,11 +17,18 @@ pub fn print(rt: &(impl Print + Speak), bytes: &[u8]) -> io::Result<()> {
     console::print(rt, b"bids", bytes)
 }
 
-// Writes bytes of the stream, or records of them.
-pub fn put(rt: &(impl Print + Speak), recording: bool, bytes: &[u8]) -> io::Result<()> {
-    if !recording {
-        return print(rt, bytes);
+impl Form {
+    // Writes bytes of the stream.
+    pub fn put(self, rt: &(impl Print + Speak), bytes: &[u8]) -> io::Result<()> {
+        match self {
+            Form::Stream => print(rt, bytes),
+            Form::Recording => put_records(rt, bytes),
+        }
     }
+}
+
+// Bytes in records.
+fn put_records(rt: &(impl Print + Speak), bytes: &[u8]) -> io::Result<()> {
     for record in bytes.chunks(RECORD) {
         put_record(rt, record)?;
     }

@@ -6,7 +6,7 @@ use console::{Speak, say};
 use packet::Class;
 use ports::{Entry, Noted, Ports};
 
-// What the boards have seen, and what was said once.
+// What the boards have seen, and what was said once. The two flags are no enum: each is set by itself, whatever the other is.
 #[derive(Clone, Copy)]
 pub struct Watch {
     ports: Ports,

@@ -4,27 +4,32 @@
 //! so on standard error and stops; where the input is no whole recording, it says so behind the last line.
 #![tactic(auto)]
 
-ghost use Rattle.std.specs.Prelude.{◌≤◌};
-
 use board::{Readout, Wants};
 use channel::Receiver;
-use console::{Speak, is_argument, say};
+use console::{Next, Speak, TakePieces, is_argument, say};
 use ports_spec::Range;
 use std::env::Env;
 use std::io;
-use std::io::Read;
 use std::process::ExitCode;
 
 // A board, and the memory that its calls are lent.
 #[derive(Drop)]
 struct Board {
     readout: Readout,
+    begin: Begin,
     recv: [u8; Receiver::RAW],
     word: [u8; Receiver::WORD],
     out: [u8; ROOM],
 }
 
-// Bytes that are read at once: fewer than console::each_piece reads, so the board reads by itself.
+// Whether the first bytes may be worth a hint: those of a stream, until they are read.
+#[derive(Clone, Copy)]
+enum Begin {
+    Unread,
+    Plain,
+}
+
+// Bytes that are read at once, fewer than other programs read.
 const PIECE: usize = 4096;
 
 // Bytes of text that a call may write.
@@ -34,47 +39,38 @@ fn main(rt: HostRuntime) -> ExitCode {
     console::status(run(&rt))
 }
 
-// With blocks, or without.
+// What the arguments ask for.
 fn run(rt: &(impl Env + Input + Print + Speak)) -> io::Result<()> {
-    if is_argument(rt, 2, b"blocks") {
-        return choose_ports(rt, true, 3);
-    }
-    choose_ports(rt, false, 2)
-}
-
-// Of all ports, or of those that two arguments from this place on name, the first and the last.
-fn choose_ports(
-    rt: &(impl Env + Input + Print + Speak),
-    blocks: bool,
-    place: usize,
-) -> io::Result<()>
-    requires { place ≤ 3 }
-{
-    let count = console::argument_count(rt);
-    if count == place {
-        return choose(rt, blocks, Range::all());
-    }
-    match (console::port(rt, place), console::port(rt, place + 1)) {
-        (Some(first), Some(last)) if count == place + 2 && first <= last => {
-            choose(rt, blocks, Range { first, last })
-        }
-        _ => {
+    match asked(rt) {
+        Some(fresh) => show(rt, fresh),
+        None => {
             usage(rt);
             Ok(())
         }
     }
 }
 
-// What the first argument asks for.
-fn choose(rt: &(impl Env + Input + Print + Speak), blocks: bool, range: Range) -> io::Result<()> {
+// The board that the arguments ask for, before the first byte.
+fn asked(rt: &impl Env) -> Option<Readout> {
+    let blocks = is_argument(rt, 2, b"blocks");
+    let range = asked_range(rt, if blocks { 3 } else { 2 })?;
     if is_argument(rt, 1, b"stream") {
-        return show(rt, Readout::fresh(true, blocks, range));
+        return Some(Readout::fresh(true, blocks, range));
     }
     if is_argument(rt, 1, b"recording") {
-        return show(rt, Readout::fresh(false, blocks, range));
+        return Some(Readout::fresh(false, blocks, range));
     }
-    usage(rt);
-    Ok(())
+    None
+}
+
+// All ports, or those that two arguments from this place on name, the first and the last.
+fn asked_range(rt: &impl Env, place: usize) -> Option<Range> {
+    let behind = console::argument_count(rt).checked_sub(place)?;
+    match behind {
+        0 => Some(Range::all()),
+        2 => console::range(rt, place).filter(|range| range.first <= range.last),
+        _ => None,
+    }
 }
 
 fn usage(rt: &impl Speak) {
@@ -88,37 +84,56 @@ fn usage(rt: &impl Speak) {
 fn show(rt: &(impl Input + Print + Speak), fresh: Readout) -> io::Result<()> {
     let mut board = Board {
         readout: fresh,
+        begin: if fresh.bare {
+            Begin::Unread
+        } else {
+            Begin::Plain
+        },
         recv: [0; Receiver::RAW],
         word: [0; Receiver::WORD],
         out: [0; ROOM],
     };
-    let mut piece = [0u8; PIECE];
-    let mut input = rt.reader();
-    for reads in 0..u64::MAX {
-        let Ok(n) = input.read(&mut piece) else {
-            say_unread(rt);
-            return Ok(());
-        };
-        if n == 0 {
-            return board.finish(rt);
-        }
-        if !board.read_piece(rt, reads, &piece[..n])? {
-            return Ok(());
-        }
+    let mut space = [0u8; PIECE];
+    if console::each_piece_in(rt, b"board", &mut space, &mut board)? {
+        board.finish(rt)?;
     }
     Ok(())
 }
 
-fn say_unread(rt: &impl Speak) {
-    console::say_unread(rt, b"board");
+impl TakePieces for Board {
+    // What bytes show is out before the next are read.
+    fn take(&mut self, rt: &(impl Print + Speak), piece: &[u8]) -> io::Result<Next> {
+        self.begin = self.begin.hint(rt, piece);
+        let took = self
+            .readout
+            .take(&mut self.recv, &mut self.word, piece, &mut self.out);
+        self.readout = took.next;
+        print(rt, &self.out[..took.written.min(ROOM)])?;
+        match took.wants {
+            Ok(Wants::Again) => Ok(Next::Again(took.taken)),
+            Ok(Wants::More) => self.go_on(rt),
+            // No recording of less than 2^64 bytes comes to that, and no stream.
+            Err(_) => {
+                say(rt, b"board: the recording is too long\n");
+                Ok(Next::Stop)
+            }
+        }
+    }
 }
 
-// The first bytes of a stream: where they are a recording's, that is said. They are read as told all the same.
-fn hint(rt: &impl Speak, bare: bool, reads: u64, begin: &[u8]) {
-    if !bare || reads > 0 || begin.len() < 3 {
-        return;
+impl Begin {
+    // Where the first bytes of a stream are a recording's, that is said, once. They are read as told all the same.
+    fn hint(self, rt: &impl Speak, piece: &[u8]) -> Self {
+        match self {
+            Begin::Unread => say_hint(rt, piece),
+            Begin::Plain => {}
+        }
+        Begin::Plain
     }
-    if begin.starts_with(b"\x4F\xF5\x5F") || begin.starts_with(b"\x50\xF5\x5F") {
+}
+
+fn say_hint(rt: &impl Speak, piece: &[u8]) {
+    if piece.starts_with(b"\x4F\xF5\x5F") || piece.starts_with(b"\x50\xF5\x5F") {
         say(
             rt,
             b"board: hint: begins as a recording does: --recording?\n",
@@ -127,46 +142,13 @@ fn hint(rt: &impl Speak, bare: bool, reads: u64, begin: &[u8]) {
 }
 
 impl Board {
-    // A piece read, of which the first may be worth a hint. Whether more is to be read: not where it was said why not, nor behind a recording's
-    // wrong byte, where nothing more is shown.
-    fn read_piece(
-        &mut self,
-        rt: &(impl Print + Speak),
-        reads: u64,
-        piece: &[u8],
-    ) -> io::Result<bool> {
-        hint(rt, self.readout.bare, reads, piece);
-        if !self.read_out(rt, piece)? {
-            return Ok(false);
+    // Behind a piece. Behind a recording's wrong byte nothing more is shown.
+    fn go_on(&self, rt: &(impl Print + Speak)) -> io::Result<Next> {
+        if !self.readout.tape.is_wrong() {
+            return Ok(Next::More);
         }
-        if self.readout.tape.is_wrong() {
-            self.finish(rt)?;
-            return Ok(false);
-        }
-        Ok(true)
-    }
-
-    // A piece, until more is wanted: whether the board goes on, else it was said why not.
-    fn read_out(&mut self, rt: &(impl Print + Speak), piece: &[u8]) -> io::Result<bool> {
-        let mut rest = piece;
-        for _ in 0..u64::MAX {
-            let took = self
-                .readout
-                .take(&mut self.recv, &mut self.word, rest, &mut self.out);
-            self.readout = took.next;
-            rest = &rest[took.taken.min(rest.len())..];
-            print(rt, &self.out[..took.written.min(ROOM)])?;
-            match took.wants {
-                Ok(Wants::Again) => {}
-                Ok(Wants::More) => return Ok(true),
-                // No recording of less than 2^64 bytes comes to that, and no stream.
-                Err(_) => {
-                    say_long(rt);
-                    return Ok(false);
-                }
-            }
-        }
-        Ok(true)
+        self.finish(rt)?;
+        Ok(Next::Stop)
     }
 
     // What is still to be said behind the last byte: a line where the input is no whole recording, and else none.
@@ -178,10 +160,6 @@ impl Board {
         }
         Ok(())
     }
-}
-
-fn say_long(rt: &impl Speak) {
-    say(rt, b"board: the recording is too long\n");
 }
 
 // Text to standard output.

@@ -5,7 +5,7 @@
 
 use capture::CaptureReader;
 use channel::Receiver;
-use console::{Speak, TakePieces, say};
+use console::{Next, Speak, TakePieces, say};
 use packet::Delivery;
 use recording::RecordingReader;
 use std::io;
@@ -47,41 +47,30 @@ fn hear_all(rt: &(impl Input + Print + Speak)) -> io::Result<()> {
 }
 
 impl TakePieces for Export {
-    // A piece: whether more is to be read, which behind a wrong byte it is not.
-    fn take(&mut self, rt: &(impl Print + Speak), piece: &[u8]) -> io::Result<bool> {
-        if !self.hear(rt, piece)? {
-            return Ok(false);
+    // A packet's record is out before the next bytes are read.
+    fn take(&mut self, rt: &(impl Print + Speak), piece: &[u8]) -> io::Result<Next> {
+        let next = self.tape.next_packet(&mut self.recv, &mut self.word, piece);
+        self.tape = next.tape;
+        match next.found {
+            Ok(None) => Ok(self.go_on(rt)),
+            Ok(Some(delivery)) if self.enter(rt, delivery)? => Ok(Next::Again(next.taken)),
+            Ok(Some(_)) => Ok(Next::Stop),
+            Err(_) => {
+                say(rt, b"capture: the recording is too long\n");
+                Ok(Next::Stop)
+            }
         }
-        if self.tape.is_wrong() {
-            self.finish(rt);
-            return Ok(false);
-        }
-        Ok(true)
     }
 }
 
 impl Export {
-    // A piece, until more is wanted: whether the recording is heard further, else it was said why not.
-    fn hear(&mut self, rt: &(impl Print + Speak), piece: &[u8]) -> io::Result<bool> {
-        let mut rest = piece;
-        for _ in 0..u64::MAX {
-            let next = self.tape.next_packet(&mut self.recv, &mut self.word, rest);
-            self.tape = next.tape;
-            rest = &rest[next.taken.min(rest.len())..];
-            match next.found {
-                Ok(None) => return Ok(true),
-                Ok(Some(delivery)) => {
-                    if !self.enter(rt, delivery)? {
-                        return Ok(false);
-                    }
-                }
-                Err(_) => {
-                    say(rt, b"capture: the recording is too long\n");
-                    return Ok(false);
-                }
-            }
+    // Behind a piece; no more is read behind a wrong byte.
+    fn go_on(&self, rt: &impl Speak) -> Next {
+        if !self.tape.is_wrong() {
+            return Next::More;
         }
-        Ok(true)
+        self.finish(rt);
+        Next::Stop
     }
 
     // A packet's record; whether it went to standard output. A recording has fewer packets than stream bytes, so none comes to the last number.

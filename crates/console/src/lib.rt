@@ -23,10 +23,21 @@ impl Speak for HostRuntime {
     }
 }
 
-/// Who takes standard input piece by piece.
+/// What follows a call that took bytes of a piece.
+#[derive(Clone, Copy)]
+pub enum Next {
+    /// Another call, with the piece behind so many bytes.
+    Again(usize),
+    /// The next piece.
+    More,
+    /// No call: no more is read.
+    Stop,
+}
+
+/// Who takes standard input piece by piece, each in one call or more.
 pub trait TakePieces {
-    /// Takes a piece: whether more is wanted.
-    fn take(&mut self, rt: &(impl Print + Speak), piece: &[u8]) -> io::Result<bool>;
+    /// One call, with a piece or what is left of it.
+    fn take(&mut self, rt: &(impl Print + Speak), piece: &[u8]) -> io::Result<Next>;
 }
 
 /// Bytes of an argument, at most: a longer one counts as empty.
@@ -95,18 +106,45 @@ pub fn each_piece(
     program: &[u8],
     taker: &mut impl TakePieces,
 ) -> io::Result<bool> {
-    let mut piece = [0u8; PIECE];
+    let mut space = [0u8; PIECE];
+    each_piece_in(rt, program, &mut space, taker)
+}
+
+/// The same, of so many bytes at once as are lent.
+pub fn each_piece_in(
+    rt: &(impl Input + Print + Speak),
+    program: &[u8],
+    space: &mut [u8],
+    taker: &mut impl TakePieces,
+) -> io::Result<bool> {
     let mut input = rt.reader();
     for _ in 0..u64::MAX {
-        let Ok(n) = input.read(&mut piece) else {
+        let Ok(n) = input.read(space) else {
             say_unread(rt, program);
             return Ok(false);
         };
         if n == 0 {
             return Ok(true);
         }
-        if !taker.take(rt, &piece[..n])? {
+        if !take_piece(rt, &space[..n], taker)? {
             return Ok(false);
+        }
+    }
+    Ok(false)
+}
+
+// A piece, call by call: whether more is to be read.
+fn take_piece(
+    rt: &(impl Print + Speak),
+    piece: &[u8],
+    taker: &mut impl TakePieces,
+) -> io::Result<bool> {
+    let mut rest = piece;
+    for _ in 0..u64::MAX {
+        match taker.take(rt, rest)? {
+            Next::Again(taken) => rest = &rest[taken.min(rest.len())..],
+            Next::More => return Ok(true),
+            Next::Stop => return Ok(false),
         }
     }
     Ok(false)
@@ -121,7 +159,12 @@ pub fn onward(at: usize, n: usize, end: usize) -> usize
 
 /// Bytes to standard output. Where not all of them go there, that is said, but nothing is where its reader has gone.
 pub fn print(rt: &(impl Print + Speak), program: &[u8], bytes: &[u8]) -> io::Result<()> {
-    match rt.write_all(bytes) {
+    tell_unwritten(rt, program, rt.write_all(bytes))
+}
+
+/// How writing to standard output ended. Where it failed, that is said, but nothing is where its reader has gone.
+pub fn tell_unwritten(rt: &impl Speak, program: &[u8], ended: io::Result<()>) -> io::Result<()> {
+    match ended {
         Ok(()) => Ok(()),
         Err(error) => {
             if error.kind() != ErrorKind::BrokenPipe {

@@ -1,7 +1,7 @@
 //! The receiver: received bytes in, a line of each answer out, and the totals.
 use base::Refusal;
 use channel::Answer;
-use console::{Speak, TakePieces};
+use console::{Next, Speak, TakePieces};
 use listing_lines::{Line, Totals};
 use packet::Judged;
 use std::io;
@@ -34,24 +34,20 @@ pub fn list_all(rt: &(impl Input + Print + Speak), parity: usize, depth: usize) 
 }
 
 impl TakePieces for Listing {
-    // A piece, until more is wanted: whether the listing goes on, else it was said why not.
-    fn take(&mut self, rt: &(impl Print + Speak), piece: &[u8]) -> io::Result<bool> {
+    // An answer's line is out before the next bytes are read.
+    fn take(&mut self, rt: &(impl Print + Speak), piece: &[u8]) -> io::Result<Next> {
+        let heard = self.sub.hear(&mut self.recv, &mut self.word, piece);
+        self.sub = heard.sub;
         // No input of less than 2^64 bytes comes to the end of the numbers.
-        self.bytes = self.bytes.saturating_add(piece.len() as u64);
-        let mut rest = piece;
-        for _ in 0..u64::MAX {
-            let heard = self.sub.hear(&mut self.recv, &mut self.word, rest);
-            self.sub = heard.sub;
-            self.totals = self.totals.count(heard.answer);
-            rest = &rest[heard.taken.min(rest.len())..];
-            if !tell(rt, heard.answer)? {
-                return Ok(false);
-            }
-            if matches!(heard.answer, Answer::More) {
-                return Ok(true);
-            }
+        self.bytes = self.bytes.saturating_add(heard.taken as u64);
+        self.totals = self.totals.count(heard.answer);
+        if !tell(rt, heard.answer)? {
+            return Ok(Next::Stop);
         }
-        Ok(true)
+        match heard.answer {
+            Answer::More => Ok(Next::More),
+            Answer::Said(_) | Answer::Block(_) | Answer::LockLost => Ok(Next::Again(heard.taken)),
+        }
     }
 }
 

@@ -6,7 +6,16 @@ use interleaver::Matrix;
 use std::io;
 use std::io::Read;
 use subchannel::Settings;
-use subchannel_sender::{Group, Sent};
+use subchannel_sender::Group;
+
+// A sender at its settings, and the memory of a group.
+#[derive(Drop)]
+struct Sending {
+    parity: usize,
+    depth: usize,
+    matrix: Matrix,
+    out: [u8; Group::LENGTH],
+}
 
 // Bytes of a stream that are held, at most.
 const HOLD: usize = 4096;
@@ -30,9 +39,13 @@ fn read_on(rt: &impl Input, hold: &mut [u8], have: usize, want: usize) -> io::Re
 
 // The sender: a group whenever its bytes are in.
 pub fn send_all(rt: &(impl Input + Print + Speak), parity: usize, depth: usize) -> io::Result<()> {
+    let mut sending = Sending {
+        parity,
+        depth,
+        matrix: interleaver::fresh(),
+        out: [0; Group::LENGTH],
+    };
     let mut hold = [0u8; HOLD];
-    let mut out = [0u8; Group::LENGTH];
-    let mut matrix = interleaver::fresh();
     let want = four_messages(parity).min(HOLD);
     let mut have = 0;
     for reads in 0..u64::MAX {
@@ -41,17 +54,16 @@ pub fn send_all(rt: &(impl Input + Print + Speak), parity: usize, depth: usize) 
             return Ok(());
         };
         let Some(held) = read else {
-            return finish(rt, parity, depth, matrix, &hold[..have], &mut out);
+            return sending.finish(rt, &hold[..have]);
         };
         if reads == 0 {
             hint(rt, &hold[..held]);
         }
         have = held;
         if have == want {
-            let Some(sent) = send(rt, parity, depth, matrix, &hold[..want], &mut out)? else {
+            if sending.send(rt, &hold[..want])?.is_none() {
                 return Ok(());
-            };
-            matrix = sent.matrix;
+            }
             have = 0;
         }
     }
@@ -68,57 +80,45 @@ fn hint(rt: &impl Speak, begin: &[u8]) {
     }
 }
 
-// The groups behind the last whole one: what is left of the stream, and the closing push.
-fn finish(
-    rt: &(impl Print + Speak),
-    parity: usize,
-    depth: usize,
-    matrix: Matrix,
-    rest: &[u8],
-    out: &mut [u8],
-) -> io::Result<()> {
-    match subchannel_sender::count(parity, depth, rest.len()) {
-        Ok(groups) => send_last(rt, parity, depth, groups, matrix, rest, out),
-        Err(refusal) => {
-            crate::say_refused(rt, refusal);
-            Ok(())
+impl Sending {
+    // The groups behind the last whole one: what is left of the stream, and the closing push.
+    fn finish(&mut self, rt: &(impl Print + Speak), rest: &[u8]) -> io::Result<()> {
+        match subchannel_sender::count(self.parity, self.depth, rest.len()) {
+            Ok(groups) => self.send_last(rt, groups, rest),
+            Err(refusal) => {
+                crate::say_refused(rt, refusal);
+                Ok(())
+            }
         }
     }
-}
 
-fn send_last(
-    rt: &(impl Print + Speak),
-    parity: usize,
-    depth: usize,
-    groups: usize,
-    first: Matrix,
-    rest: &[u8],
-    out: &mut [u8],
-) -> io::Result<()> {
-    let mut matrix = first;
-    let mut left = rest;
-    for _ in 0..groups {
-        let Some(sent) = send(rt, parity, depth, matrix, left, out)? else {
-            return Ok(());
-        };
-        matrix = sent.matrix;
-        left = &left[sent.taken.min(left.len())..];
+    fn send_last(
+        &mut self,
+        rt: &(impl Print + Speak),
+        groups: usize,
+        rest: &[u8],
+    ) -> io::Result<()> {
+        let mut left = rest;
+        for _ in 0..groups {
+            let Some(taken) = self.send(rt, left)? else {
+                return Ok(());
+            };
+            left = &left[taken.min(left.len())..];
+        }
+        Ok(())
     }
-    Ok(())
-}
 
-// One group, to standard output: what was sent, or it was said why nothing was.
-fn send(
-    rt: &(impl Print + Speak),
-    parity: usize,
-    depth: usize,
-    matrix: Matrix,
-    stream: &[u8],
-    out: &mut [u8],
-) -> io::Result<Option<Sent>> {
-    let sent = subchannel_sender::send_group(parity, depth, matrix, stream, out);
-    if crate::put(rt, sent.written, out)? {
-        return Ok(Some(sent));
+    // One group of a stream, to standard output: how many bytes of it were taken, or it was said why nothing was sent.
+    fn send(&mut self, rt: &(impl Print + Speak), stream: &[u8]) -> io::Result<Option<usize>> {
+        let sent = subchannel_sender::send_group(
+            self.parity,
+            self.depth,
+            self.matrix,
+            stream,
+            &mut self.out,
+        );
+        self.matrix = sent.matrix;
+        let is_out = crate::put(rt, sent.written, &self.out)?;
+        Ok(is_out.then_some(sent.taken))
     }
-    Ok(None)
 }

@@ -3,25 +3,25 @@
 //! standard error and stops.
 #![tactic(auto)]
 
-use console::{PIECE, Speak, TakePieces, say};
+use base::Written;
+use console::{Next, PIECE, Speak, TakePieces, say};
 use interleaver::{Back, Matrix};
 use std::env::Env;
 use std::io;
 use std::process::ExitCode;
 
-// The sender.
-#[derive(Drop)]
-struct Pushing {
-    depth: usize,
-    matrix: Matrix,
-    out: [u8; PIECE],
+// The sender, or the receiving side.
+#[derive(Clone, Copy)]
+enum Side {
+    Push(Matrix),
+    Pull(Back),
 }
 
-// The receiving side.
+// A side at its depth, which is no length of the output, and the memory that its calls are lent.
 #[derive(Drop)]
-struct Pulling {
+struct Passing {
     depth: usize,
-    back: Back,
+    side: Side,
     out: [u8; PIECE],
 }
 
@@ -29,10 +29,10 @@ fn main(rt: HostRuntime) -> ExitCode {
     console::status(run(&rt))
 }
 
-// What the first argument asks for.
+// What the arguments ask for.
 fn run(rt: &(impl Env + Input + Print + Speak)) -> io::Result<()> {
-    match console::number(rt, 2, 2) {
-        Some(depth) if depth <= 64 && console::argument_count(rt) == 3 => pass_all(rt, depth),
+    match (asked_depth(rt), asked_side(rt)) {
+        (Some(depth), Some(side)) if console::argument_count(rt) == 3 => pass_all(rt, depth, side),
         _ => {
             usage(rt);
             Ok(())
@@ -40,15 +40,20 @@ fn run(rt: &(impl Env + Input + Print + Speak)) -> io::Result<()> {
     }
 }
 
-fn pass_all(rt: &(impl Env + Input + Print + Speak), depth: usize) -> io::Result<()> {
+// The depth that the second argument says.
+fn asked_depth(rt: &impl Env) -> Option<usize> {
+    console::number(rt, 2, 2).filter(|depth| *depth <= 64)
+}
+
+// The side that the first argument says, before its first byte.
+fn asked_side(rt: &impl Env) -> Option<Side> {
     if console::is_argument(rt, 1, b"push") {
-        return push_all(rt, depth);
+        return Some(Side::Push(interleaver::fresh()));
     }
     if console::is_argument(rt, 1, b"pull") {
-        return pull_all(rt, depth);
+        return Some(Side::Pull(interleaver::fresh_back()));
     }
-    usage(rt);
-    Ok(())
+    None
 }
 
 fn usage(rt: &impl Speak) {
@@ -58,44 +63,54 @@ fn usage(rt: &impl Speak) {
     );
 }
 
-// The sender: pieces as they come, and the closing push behind the last.
-fn push_all(rt: &(impl Input + Print + Speak), depth: usize) -> io::Result<()> {
-    let mut pushing = Pushing {
+// Pieces as they come, and what is behind the last.
+fn pass_all(rt: &(impl Input + Print + Speak), depth: usize, side: Side) -> io::Result<()> {
+    let mut passing = Passing {
         depth,
-        matrix: interleaver::fresh(),
+        side,
         out: [0; PIECE],
     };
-    let ended = console::each_piece(rt, b"interleave", &mut pushing)?;
-    if ended {
-        let closed = interleaver::close(pushing.matrix, depth, &mut pushing.out);
-        console::put(rt, b"interleave", closed.written, &pushing.out)?;
+    if console::each_piece(rt, b"interleave", &mut passing)? {
+        passing.finish(rt)?;
     }
     Ok(())
 }
 
-// The receiving side: pieces as they come.
-fn pull_all(rt: &(impl Input + Print + Speak), depth: usize) -> io::Result<()> {
-    let mut pulling = Pulling {
-        depth,
-        back: interleaver::fresh_back(),
-        out: [0; PIECE],
-    };
-    console::each_piece(rt, b"interleave", &mut pulling)?;
-    Ok(())
-}
-
-impl TakePieces for Pushing {
-    fn take(&mut self, rt: &(impl Print + Speak), piece: &[u8]) -> io::Result<bool> {
-        let pushed = interleaver::push(self.matrix, self.depth, piece, &mut self.out);
-        self.matrix = pushed.matrix;
-        console::put(rt, b"interleave", pushed.written, &self.out)
+impl TakePieces for Passing {
+    // A piece in one call.
+    fn take(&mut self, rt: &(impl Print + Speak), piece: &[u8]) -> io::Result<Next> {
+        let written = self.pass(piece);
+        if console::put(rt, b"interleave", written, &self.out)? {
+            Ok(Next::More)
+        } else {
+            Ok(Next::Stop)
+        }
     }
 }
 
-impl TakePieces for Pulling {
-    fn take(&mut self, rt: &(impl Print + Speak), piece: &[u8]) -> io::Result<bool> {
-        let pulled = interleaver::pull(self.back, self.depth, piece, &mut self.out);
-        self.back = pulled.back;
-        console::put(rt, b"interleave", pulled.written, &self.out)
+impl Passing {
+    // A piece through the cells.
+    fn pass(&mut self, piece: &[u8]) -> Written {
+        match self.side {
+            Side::Push(matrix) => {
+                let pushed = interleaver::push(matrix, self.depth, piece, &mut self.out);
+                self.side = Side::Push(pushed.matrix);
+                pushed.written
+            }
+            Side::Pull(back) => {
+                let pulled = interleaver::pull(back, self.depth, piece, &mut self.out);
+                self.side = Side::Pull(pulled.back);
+                pulled.written
+            }
+        }
+    }
+
+    // The sender's closing push; the receiving side has none.
+    fn finish(&mut self, rt: &(impl Print + Speak)) -> io::Result<()> {
+        if let Side::Push(matrix) = self.side {
+            let closed = interleaver::close(matrix, self.depth, &mut self.out);
+            console::put(rt, b"interleave", closed.written, &self.out)?;
+        }
+        Ok(())
     }
 }

@@ -3,7 +3,7 @@
 #![tactic(auto)]
 
 use channel::Receiver;
-use console::{PIECE, Speak, TakePieces, say};
+use console::{Next, PIECE, Speak, TakePieces, say};
 use listing::{Lister, Wants};
 use std::io;
 use std::process::ExitCode;
@@ -37,41 +37,33 @@ fn list_all(rt: &(impl Input + Print + Speak)) -> io::Result<()> {
 }
 
 impl TakePieces for Listing {
-    // A piece: whether more is to be read. Behind a wrong byte nothing counts, so that the last line is printed there.
-    fn take(&mut self, rt: &(impl Print + Speak), piece: &[u8]) -> io::Result<bool> {
-        if !self.list(rt, piece)? {
-            return Ok(false);
+    // Lines are out before the next bytes are read.
+    fn take(&mut self, rt: &(impl Print + Speak), piece: &[u8]) -> io::Result<Next> {
+        let took = self
+            .recording
+            .take(&mut self.recv, &mut self.word, piece, &mut self.out);
+        self.recording = took.next;
+        console::print(rt, b"listing", &self.out[..took.written.min(PIECE)])?;
+        match took.wants {
+            Ok(Wants::Room) => Ok(Next::Again(took.taken)),
+            Ok(Wants::More) => self.go_on(rt),
+            // No recording of less than 2^64 bytes comes to that.
+            Err(_) => {
+                say(rt, b"listing: the recording is too long\n");
+                Ok(Next::Stop)
+            }
         }
-        if self.recording.tape.is_wrong() {
-            self.finish(rt)?;
-            return Ok(false);
-        }
-        Ok(true)
     }
 }
 
 impl Listing {
-    // A piece, until more is wanted: whether the listing goes on, else it was said why not.
-    fn list(&mut self, rt: &(impl Print + Speak), piece: &[u8]) -> io::Result<bool> {
-        let mut rest = piece;
-        for _ in 0..u64::MAX {
-            let took = self
-                .recording
-                .take(&mut self.recv, &mut self.word, rest, &mut self.out);
-            self.recording = took.next;
-            rest = &rest[took.taken.min(rest.len())..];
-            console::print(rt, b"listing", &self.out[..took.written.min(PIECE)])?;
-            match took.wants {
-                Ok(Wants::Room) => {}
-                Ok(Wants::More) => return Ok(true),
-                // No recording of less than 2^64 bytes comes to that.
-                Err(_) => {
-                    say(rt, b"listing: the recording is too long\n");
-                    return Ok(false);
-                }
-            }
+    // Behind a piece. Behind a wrong byte nothing counts, so that the last line is printed there.
+    fn go_on(&mut self, rt: &(impl Print + Speak)) -> io::Result<Next> {
+        if !self.recording.tape.is_wrong() {
+            return Ok(Next::More);
         }
-        Ok(true)
+        self.finish(rt)?;
+        Ok(Next::Stop)
     }
 
     // The last line, and where the input is no whole recording.

@@ -4,7 +4,7 @@
 #![tactic(auto)]
 
 use channel::Receiver;
-use console::{Speak, TakePieces, say};
+use console::{Next, Speak, TakePieces, say};
 use missed::{Notes, Wants};
 use ports_spec::Range;
 use std::env::Env;
@@ -58,41 +58,33 @@ fn hear_all(rt: &(impl Input + Print + Speak), range: Range) -> io::Result<()> {
 }
 
 impl TakePieces for Hearing {
-    // A piece: whether more is to be read. Nothing behind a wrong byte counts, so that no more is read there.
-    fn take(&mut self, rt: &(impl Print + Speak), piece: &[u8]) -> io::Result<bool> {
-        if !self.note(rt, piece)? {
-            return Ok(false);
+    // Lines are out before the next bytes are read.
+    fn take(&mut self, rt: &(impl Print + Speak), piece: &[u8]) -> io::Result<Next> {
+        let took = self
+            .notes
+            .take(&mut self.recv, &mut self.word, piece, &mut self.out);
+        self.notes = took.next;
+        console::print(rt, b"missed", &self.out[..took.written.min(Notes::ROOM)])?;
+        match took.wants {
+            Ok(Wants::Again) => Ok(Next::Again(took.taken)),
+            Ok(Wants::More) => Ok(self.go_on(rt)),
+            // No recording of less than 2^64 bytes comes to that.
+            Err(_) => {
+                say(rt, b"missed: the recording is too long\n");
+                Ok(Next::Stop)
+            }
         }
-        if self.notes.tape.is_wrong() {
-            self.finish(rt);
-            return Ok(false);
-        }
-        Ok(true)
     }
 }
 
 impl Hearing {
-    // A piece, until more is wanted: whether the recording is heard further, else it was said why not.
-    fn note(&mut self, rt: &(impl Print + Speak), piece: &[u8]) -> io::Result<bool> {
-        let mut rest = piece;
-        for _ in 0..u64::MAX {
-            let took = self
-                .notes
-                .take(&mut self.recv, &mut self.word, rest, &mut self.out);
-            self.notes = took.next;
-            rest = &rest[took.taken.min(rest.len())..];
-            console::print(rt, b"missed", &self.out[..took.written.min(Notes::ROOM)])?;
-            match took.wants {
-                Ok(Wants::Again) => {}
-                Ok(Wants::More) => return Ok(true),
-                // No recording of less than 2^64 bytes comes to that.
-                Err(_) => {
-                    say(rt, b"missed: the recording is too long\n");
-                    return Ok(false);
-                }
-            }
+    // Behind a piece. Nothing behind a wrong byte counts, so that no more is read there.
+    fn go_on(&self, rt: &impl Speak) -> Next {
+        if !self.notes.tape.is_wrong() {
+            return Next::More;
         }
-        Ok(true)
+        self.finish(rt);
+        Next::Stop
     }
 
     // Whether the recording ends as one, and where it does not.

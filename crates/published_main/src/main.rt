@@ -4,21 +4,11 @@
 
 use fcs::Register;
 use std::io;
-use std::io::ErrorKind;
 use std::process::ExitCode;
 
-// The status that a shell tells of a program that a pipe without a reader ended.
-const GONE: u8 = 141;
-
 fn main(rt: HostRuntime) -> ExitCode {
-    match print_all(&rt) {
-        Err(error) if error.kind() == ErrorKind::BrokenPipe => ExitCode::from(GONE),
-        Err(_) => {
-            let _ = eprintln!(rt; "published: cannot write standard output");
-            ExitCode::SUCCESS
-        }
-        Ok(()) => ExitCode::SUCCESS,
-    }
+    let ended = print_all(&rt);
+    console::status(console::tell_unwritten(&rt, b"published", ended))
 }
 
 fn print_all(rt: &impl Print) -> io::Result<()> {

@@ -5,7 +5,7 @@
 
 use base::{Refusal, Written};
 use capture::CaptureReader;
-use console::{Speak, TakePieces, say};
+use console::{Next, Speak, TakePieces, say};
 use packet::{Delivery, Judged, Packet};
 use std::io;
 use std::process::ExitCode;
@@ -46,26 +46,20 @@ fn run(rt: &(impl Input + Print + Speak)) -> io::Result<()> {
 }
 
 impl TakePieces for Replay {
-    // A piece; whether the capture is read further, else it was said why not.
-    fn take(&mut self, rt: &(impl Print + Speak), piece: &[u8]) -> io::Result<bool> {
-        let mut rest = piece;
-        for _ in 0..u64::MAX {
-            let told = self.capture.read(&mut self.store, rest);
-            self.capture = told.capture;
-            rest = &rest[told.taken.min(rest.len())..];
-            let Some(judged) = told.heard else {
-                return Ok(true);
-            };
-            if !self.pass(rt, judged)? {
-                return Ok(false);
-            }
+    // A packet's record is out before the next bytes are read.
+    fn take(&mut self, rt: &(impl Print + Speak), piece: &[u8]) -> io::Result<Next> {
+        let told = self.capture.read(&mut self.store, piece);
+        self.capture = told.capture;
+        match told.heard {
+            None => Ok(Next::More),
+            Some(judged) if self.pass(rt, judged)? => Ok(Next::Again(told.taken)),
+            Some(_) => Ok(Next::Stop),
         }
-        Ok(false)
     }
 }
 
 impl Replay {
-    // An answer: a packet is sent, and a refusal ends the work.
+    // An answer: a packet is sent, and a refusal ends the work. Whether the capture is read further, else it was said why not.
     fn pass(&mut self, rt: &(impl Print + Speak), judged: Judged) -> io::Result<bool> {
         match judged {
             Judged::Packet(delivery) => self.send(rt, delivery),
@@ -142,7 +136,7 @@ fn put(rt: &(impl Print + Speak), written: Written, out: &[u8]) -> io::Result<bo
 }
 
 fn record(rt: &(impl Print + Speak), bytes: &[u8]) -> io::Result<()> {
-    let [low, high] = ((bytes.len() % 65536) as u16).to_le_bytes();
+    let [low, high, ..] = bytes.len().to_le_bytes();
     console::print(rt, b"replay", &[0xF5, 0x5F, low, high])?;
     console::print(rt, b"replay", bytes)
 }

@@ -15,6 +15,13 @@ use std::process::ExitCode;
 use std::rt::Files;
 use std::{fs, io};
 
+// Whether it is said which recording is at hand.
+#[derive(Clone, Copy)]
+enum Pace {
+    Progress,
+    Quiet,
+}
+
 // A recording that is counted, and the memory that its calls are lent.
 #[derive(Drop)]
 struct Hearing {
@@ -33,10 +40,7 @@ fn main(rt: HostRuntime) -> ExitCode {
 fn run(rt: &(impl Env + Files + Print + Speak)) -> io::Result<()> {
     let count = console::argument_count(rt);
     match console::range(rt, 2) {
-        Some(range) if count > 4 => {
-            let shown = console::is_argument(rt, 1, b"progress");
-            print_all(rt, count_all(rt, range, shown, count))
-        }
+        Some(range) if count > 4 => { print_all(rt, count_all(rt, range, Pace::asked(rt), count)) }
         _ => {
             usage(rt);
             Ok(())
@@ -52,19 +56,35 @@ fn usage(rt: &impl Speak) {
 }
 
 // The sheet of the recordings that the arguments behind the fourth name.
-fn count_all(rt: &(impl Env + Files + Speak), range: Range, shown: bool, count: usize) -> Sheet {
+fn count_all(rt: &(impl Env + Files + Speak), range: Range, pace: Pace, count: usize) -> Sheet {
     let mut sheet = Sheet::fresh();
     for i in 4..count {
-        if shown {
-            progress(rt, i - 3, count - 4);
-        }
+        pace.tell(rt, i - 3, count - 4);
         sheet = counted(rt, range, sheet, i);
     }
     sheet
 }
 
-// Which recording of how many.
-fn progress(rt: &impl Speak, i: usize, all: usize) {
+impl Pace {
+    // What the first argument asks for.
+    fn asked(rt: &impl Env) -> Self {
+        if console::is_argument(rt, 1, b"progress") {
+            return Pace::Progress;
+        }
+        Pace::Quiet
+    }
+
+    // Which recording of how many.
+    fn tell(self, rt: &impl Speak, i: usize, all: usize) {
+        match self {
+            Pace::Progress => say_progress(rt, i, all),
+            Pace::Quiet => {}
+        }
+    }
+}
+
+// `recording N of M`, a line.
+fn say_progress(rt: &impl Speak, i: usize, all: usize) {
     say(rt, b"recording ");
     console::say_number(rt, i as u64);
     say(rt, b" of ");

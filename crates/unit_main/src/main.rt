@@ -15,7 +15,7 @@ use std::process::ExitCode;
 use std::rt::Files;
 use std::{fs, io};
 
-// A unit's length in bits, and the delimiter.
+// A unit's length in bits, which is no length of what stands beside it, and the delimiter.
 #[derive(Clone, Copy)]
 struct Asked {
     size: usize,
