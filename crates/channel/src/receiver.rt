@@ -244,6 +244,8 @@ impl Receiver {
         }
     }
 
+    // The two buffers come one by one, here and wherever a receiver is called: each is lent by itself, also from C (`aas_channel_read`), and a struct of
+    // both would be made for each call and taken apart in it.
     /// One call: at most one answer, and no byte behind the one that caused it is taken.
     pub fn hear(self, recv: &mut [u8], word: &mut [u8], piece: &[u8]) -> Hearing
         ensures { HearingIs (hear_call (memory self recv.old word.old) piece.now)

@@ -21,6 +21,7 @@ pub struct Hunting {
 }
 
 /// How a whole word came in.
+// The same three as repair's `Mended`, and a type of its own: a block's answer names this one, in definitions and laws (`condition_by`).
 #[derive(Clone, Copy)]
 pub enum Condition {
     Clean,
@@ -44,6 +45,7 @@ impl From<Mended> for Condition {
 }
 
 /// What a call answers.
+// `More` is one of four, as the definition has it (`answered`): an `Option` around the other three would be matched twice by each caller.
 #[derive(Clone, Copy)]
 pub enum Answer {
     /// More is wanted.

@@ -50,7 +50,8 @@ fn put_packet(text: &mut [u8], delivery: Delivery) -> usize
     put_text(text, d, &last)
 }
 
-// That, or `R n`, or `R 3` and the place.
+// That, or `R n`, or `R 3` and the place. The board's lines of the same answers have other words, and others have none there (`put_remark` of
+// `board_lines`): what is alike is which answers there are, and each `match` names them.
 fn put_told(text: &mut [u8], judged: Judged) -> usize
     ensures { Puts text.old 0 (told judged) text.new result }
 {

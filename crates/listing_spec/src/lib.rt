@@ -30,6 +30,7 @@ pub struct Spot {
 }
 
 /// The total that an answer counts in.
+// `Nothing` is a case and no `Option` is around the others: the definition has it so (`total_of`), and who counts matches one value.
 #[derive(Clone, Copy)]
 pub enum Total {
     Packets,

@@ -28,6 +28,7 @@ pub struct Office {
 }
 
 /// What a call answers; the line's number is then `lines` of the state.
+// `More` is one of three, as the definition has it (`answered`).
 #[derive(Clone, Copy)]
 pub enum Answer {
     /// More is wanted.

@@ -15,6 +15,7 @@ pub enum Class {
 }
 
 /// What the escapes of raw bytes are.
+// Three answers, as the definition has them (`scan`), and no `Option` of a fault around two: who closes a frame goes on by each of the three.
 #[derive(Clone, Copy)]
 pub enum Escapes {
     Right,

@@ -1,6 +1,8 @@
 //! Texts and numbers, put byte by byte into a lent buffer: as many bytes as there is room for.
 #![tactic(auto)]
 
+// No `Display` and no `write!`: these lay bytes into a lent buffer as far as it goes, and their promise says which of them stand there (`Puts`).
+
 ghost use Rattle.std.specs.Prelude.{◌≡◌, [], ◌∷◌, ◌++◌, take};
 ghost use Rattle.base.specs.Written.{as_written, outcome, write};
 ghost use Rattle.text.specs.Text.{decimal};
