@@ -44,7 +44,7 @@ impl Turn {
     }
 
     // The sender's bytes. Not one loop with the two below: which cell is written and which is read is all that they do.
-    // The output goes by the bytes' numbers, here and in `give`: of what `iter_mut` lends nothing is known once it is written.
+    // The output goes by the bytes' numbers, here and in `give`: of `iter_mut().zip(..)` a proof knows the length alone.
     pub(crate) fn send(self, cells: &mut [u8; Matrix::CELLS], bytes: &[u8], out: &mut [u8]) -> Self
         requires { length bytes.now ≤ length out.old }
         ensures { (out.new, matrix result.place cells.new) ≡ left (sent self.depth) bytes.now 0 (matrix self.place cells.old) out.old }

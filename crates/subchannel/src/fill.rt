@@ -40,8 +40,8 @@ pub(crate) fn filled(lane: Lane, n: usize) -> Lane
     }
 }
 
-// The n bytes of the piece from one on, each through the interleaver and into its place in the word. By their numbers: of what `iter_mut` lends
-// nothing is known once it is written.
+// The n bytes of the piece from one on, each through the interleaver and into its place in the word. By their numbers: byte and place go on
+// together, and of `iter_mut().zip(..)` a proof knows the length alone.
 pub(crate) fn fill(
     lane: Lane,
     back: &mut Back,

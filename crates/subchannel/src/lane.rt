@@ -164,7 +164,7 @@ impl Lane {
         }
     }
 
-    // That the lent cells and word buffer fit is asked here and by `eat`: the check covers no struct with a ghost field beside a `&mut`.
+    // That the lent cells and word buffer fit is asked here and by `eat`: of a struct that holds them each would have to say that they are the same still.
     // A byte of a group: through the interleaver, and then one of a word, if it brings one.
     fn group_byte(self, back: &mut Back, word: &mut [u8], b: u8) -> Step
         requires { Able self word.old × (self.counts.group < group_bytes) × (beyond self.settings.depth back.old.matrix.place ≡ false) }
