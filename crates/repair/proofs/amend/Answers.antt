@@ -10,4 +10,5 @@ returns-in-Some c =
 
 pub returns-in_default : goal.returns-in_default
 returns-in_default c =
-    amend-none c.args.roots.count c.args.word.now (sums-are _ _ c.args.roots.few c.at_roots.ensures) (ap (λ o. unwrap_or o []) (sym c.in_default.is) ∙ c.locator.ensures) refl
+    amend-none c.args.roots.count c.args.word.now (sums-are _ _ c.args.roots.few c.at_roots.ensures)
+    (ap (λ o. unwrap_or o []) (sym c.in_default.is) ∙ c.locator.ensures) refl
