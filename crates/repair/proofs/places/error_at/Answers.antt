@@ -20,5 +20,6 @@ loop-i-preserved c = record {
 pub returns : goal.returns
 returns c =
     error-done c.numbers-v.result.now c.args.s.now c.args.x c.loop-i.i c.loop-i.invariant.more (omega arith) (omega arith)
-    (c.requires ∙ ap (λ v. low v c.args.x) (sym c.numbers-v.ensures.0)) c.if-l-ne0.false c.loop-i.invariant.sums c.times-2.ensures c.inverse.ensures c.times-3.ensures
+    (c.requires ∙ ap (λ v. low v c.args.x) (sym c.numbers-v.ensures.0)) c.if-l-ne0.false c.loop-i.invariant.sums c.times-2.ensures c.inverse.ensures
+    c.times-3.ensures
     ∙ ap (λ v. error_at v c.args.s.now c.args.x) c.numbers-v.ensures.0
