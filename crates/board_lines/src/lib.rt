@@ -18,6 +18,7 @@ use ports::Noted;
 use text::{put_item, put_text};
 
 /// A piece of a text: the first so many bytes.
+// An array and a count, since a library has no heap; callers hand in any count with what is owed, and one above the array is refused with 10 (crates/board).
 #[derive(Clone, Copy)]
 pub struct Piece {
     pub bytes: [u8; Line::LONGEST],
@@ -54,6 +55,7 @@ impl Piece {
     }
 
     /// The line of an answer that is no packet, where it has one.
+    // `blocks` is the caller's setting, which the definition `remark` takes too; `put_remark` and `put_block_told` have it handed on.
     pub fn remark(blocks: bool, answer: Answer) -> Piece
         ensures { result ≡ piece_of (remark blocks answer) }
     {
@@ -110,7 +112,7 @@ fn put_shown(text: &mut [u8], b: u8) -> usize
     }
 }
 
-// Lines ahead of a packet's own.
+// Lines ahead of a packet's own. Numbers widen by `as`, as in listing_lines.
 fn put_ahead(text: &mut [u8], noted: Noted, port: u16) -> usize
     ensures { Puts text.old 0 (written_all (ahead_of noted port)) text.new result }
 {

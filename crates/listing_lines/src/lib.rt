@@ -39,6 +39,7 @@ fn letter(class: Class) -> u8
 }
 
 // `P port sequence payload-length class`.
+// Numbers widen by `as`: `u64::from` is a call, and each line's law would have to be carried over its answer (tried: this one and `put_told` fall).
 fn put_packet(text: &mut [u8], delivery: Delivery) -> usize
     ensures { Puts text.old 0 (told (Packet delivery)) text.new result }
 {
