@@ -60,7 +60,9 @@ fn is_there(rt: &impl Env, place: usize) -> bool {
 }
 
 /// The bytes of an argument, in a space that is lent; none where there is no such argument or it does not fit.
-pub fn argument<'a>(rt: &impl Env, place: usize, space: &'a mut [u8]) -> &'a [u8] {
+pub fn argument<'a>(rt: &impl Env, place: usize, space: &'a mut [u8]) -> &'a [u8]
+    ensures { length result.now ≤ length space.old }
+{
     let n = rt.arg(place, space).unwrap_or(0);
     &space[..n]
 }
