@@ -266,6 +266,7 @@ impl CaptureReader {
         }
     }
 
+    // As `read` of `stream`, of another state and buffer: a trait for both would say each test, and what it refuses, once more.
     /// One call: at most one answer, and no byte behind the one that caused it is taken.
     pub fn read(self, store: &mut [u8], piece: &[u8]) -> Read
         ensures { ReadIs (read_call (held self store.old) piece.now) result store.new }

@@ -96,6 +96,7 @@ pub fn fresh_back() -> Back
     }
 }
 
+// The tests are those of `push`, but for the room that is looked for; each call keeps another state.
 /// Takes received bytes in; those come back that N - 1 others have followed.
 pub fn pull(back: Back, depth: usize, bytes: &[u8], out: &mut [u8]) -> Pulled
     ensures { (outcome (as_written result.written) out.new, result.back) ≡ pulling depth back bytes.now out.old }
