@@ -112,7 +112,7 @@ fn put_shown(text: &mut [u8], b: u8) -> usize
     }
 }
 
-// Lines ahead of a packet's own. Numbers widen by `as`, as in listing_lines.
+// Lines ahead of a packet's own.
 fn put_ahead(text: &mut [u8], noted: Noted, port: u16) -> usize
     ensures { Puts text.old 0 (written_all (ahead_of noted port)) text.new result }
 {
@@ -120,12 +120,12 @@ fn put_ahead(text: &mut [u8], noted: Noted, port: u16) -> usize
         Noted::First | Noted::InOrder | Noted::Repeated | Noted::Late => 0,
         Noted::Missing(n) => {
             let a = put_text(text, 0, b"! missing ");
-            let b = put_item(text, a, port as u64, b' ');
-            put_item(text, b, n as u64, b'\n')
+            let b = put_item(text, a, u64::from(port), b' ');
+            put_item(text, b, u64::from(n), b'\n')
         }
         Noted::Refused(_) => {
             let a = put_text(text, 0, b"! unwatched ");
-            put_item(text, a, port as u64, b'\n')
+            put_item(text, a, u64::from(port), b'\n')
         }
     }
 }
@@ -134,8 +134,8 @@ fn put_ahead(text: &mut [u8], noted: Noted, port: u16) -> usize
 fn put_heading(text: &mut [u8], at: usize, port: u16, sequence: u16) -> usize
     ensures { Puts text.old at (heading port sequence) text.new result }
 {
-    let a = put_item(text, at, port as u64, b' ');
-    put_item(text, a, sequence as u64, b' ')
+    let a = put_item(text, at, u64::from(port), b' ');
+    put_item(text, a, u64::from(sequence), b' ')
 }
 
 // A packet's own line up to its text.
@@ -162,9 +162,9 @@ fn put_restricted(text: &mut [u8], at: usize, port: u16, sequence: u16, key: u8)
     ensures { Puts text.old at (written (restricted port sequence key)) text.new result }
 {
     let a = put_text(text, at, b"! restricted ");
-    let b = put_item(text, a, port as u64, b' ');
-    let c = put_item(text, b, sequence as u64, b' ');
-    put_item(text, c, key as u64, b'\n')
+    let b = put_item(text, a, u64::from(port), b' ');
+    let c = put_item(text, b, u64::from(sequence), b' ');
+    put_item(text, c, u64::from(key), b'\n')
 }
 
 // All that stands before a packet's text.
@@ -186,7 +186,7 @@ fn put_refused(text: &mut [u8], judged: Judged) -> usize
         Judged::Packet(_) => 0,
         Judged::Refused(n) => {
             let a = put_text(text, 0, b"! frame refused ");
-            put_item(text, a, n as u64, b'\n')
+            put_item(text, a, u64::from(n), b'\n')
         }
         Judged::Broken(place) => {
             let a = put_text(text, 0, b"! frame refused ");
