@@ -178,7 +178,7 @@ fn put_lead(text: &mut [u8], noted: Noted, delivery: Delivery) -> usize
     put_own(text, a, noted, delivery.port, delivery.sequence)
 }
 
-// A refused frame's line.
+// A refused frame's line. A `usize` widens by `as`: std has no `From` for it.
 fn put_refused(text: &mut [u8], judged: Judged) -> usize
     ensures { Puts text.old 0 (remark true (Said judged)) text.new result }
 {
