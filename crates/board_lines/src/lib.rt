@@ -1,7 +1,9 @@
 //! The lines of the board, written in pieces: by value, so that a piece can be written in parts.
 #![tactic(auto)]
 
-ghost use Rattle.std.specs.Prelude.{◌≡◌, true, ◌<◌, [], ◌∷◌};
+ghost use Rattle.std.specs.Prelude.{◌≡◌, true, ◌<◌, [], ◌∷◌, replicate};
+ghost use Rattle.std.specs.Fn.{FnOnceReturnsAtMut};
+ghost use Rattle.listing_spec.specs.Lines.{longest};
 ghost use Rattle.text.specs.Put.{Puts};
 ghost use Rattle.bid.specs.Line.{feed};
 ghost use Rattle.board_spec.specs.Text.{sixteenth, by_number, shown_byte, heading};
@@ -25,33 +27,36 @@ pub struct Piece {
     pub length: usize,
 }
 
-// Each piece is put by a function of its own: a closure for it in one shared function would be no plainer, as its contract would stand there too.
 impl Piece {
+    // What is put at the start of zeros.
+    fn of<F: FnOnce(&mut [u8]) -> usize>(put: F) -> Piece
+        requires { F.IsAlwaysCallable put }
+        ensures { FnOnceReturnsAtMut F.FnOnce put (replicate longest 0) result.length result.bytes }
+    {
+        let mut bytes: [u8; Line::LONGEST] = [0; Line::LONGEST];
+        let length = put(&mut bytes);
+        Piece { bytes, length }
+    }
+
     /// A line feed.
     pub fn line_feed() -> Piece
         ensures { result ≡ piece_of (feed ∷ []) }
     {
-        let mut bytes: [u8; Line::LONGEST] = [0; Line::LONGEST];
-        bytes[0] = b'\n';
-        Piece { bytes, length: 1 }
+        Piece::of(|text| put_text(text, 0, b"\n"))
     }
 
     /// A byte of a payload, as it is shown.
     pub fn shown_byte(b: u8) -> Piece
         ensures { result ≡ piece_of (shown_byte b) }
     {
-        let mut bytes: [u8; Line::LONGEST] = [0; Line::LONGEST];
-        let length = put_shown(&mut bytes, b);
-        Piece { bytes, length }
+        Piece::of(|text| put_shown(text, b))
     }
 
     /// What stands before a packet's text, by what it is to its port.
     pub fn lead(noted: Noted, delivery: Delivery) -> Piece
         ensures { result ≡ piece_of (lead noted delivery) }
     {
-        let mut bytes: [u8; Line::LONGEST] = [0; Line::LONGEST];
-        let length = put_lead(&mut bytes, noted, delivery);
-        Piece { bytes, length }
+        Piece::of(|text| put_lead(text, noted, delivery))
     }
 
     /// The line of an answer that is no packet, where it has one.
@@ -59,19 +64,14 @@ impl Piece {
     pub fn remark(blocks: bool, answer: Answer) -> Piece
         ensures { result ≡ piece_of (remark blocks answer) }
     {
-        let mut bytes: [u8; Line::LONGEST] = [0; Line::LONGEST];
-        let length = put_remark(&mut bytes, blocks, answer);
-        Piece { bytes, length }
+        Piece::of(|text| put_remark(text, blocks, answer))
     }
 
     /// The last line, of a recording that does not end as one.
     pub fn wrong_at(offset: u64) -> Piece
         ensures { result ≡ piece_of (written (wrong_at offset)) }
     {
-        let mut bytes: [u8; Line::LONGEST] = [0; Line::LONGEST];
-        let a = put_text(&mut bytes, 0, b"! wrong at ");
-        let length = put_item(&mut bytes, a, offset, b'\n');
-        Piece { bytes, length }
+        Piece::of(|text| put_wrong(text, offset))
     }
 
     /// No text.
@@ -221,4 +221,12 @@ fn put_remark(text: &mut [u8], blocks: bool, answer: Answer) -> usize
         Answer::Block(condition) => put_block_told(text, blocks, condition),
         Answer::LockLost => put_text(text, 0, b"! lock lost\n"),
     }
+}
+
+// The last line of a recording that does not end as one.
+fn put_wrong(text: &mut [u8], offset: u64) -> usize
+    ensures { Puts text.old 0 (written (wrong_at offset)) text.new result }
+{
+    let a = put_text(text, 0, b"! wrong at ");
+    put_item(text, a, offset, b'\n')
 }
