@@ -48,8 +48,9 @@ whole-line : (x : Line) → written x ≡ written_all (x ∷ [])
 unfolding written_all
 whole-line x = sym (append-nil (written x))
 
--- a number that is widened before it is put: what it is widened to is the number
-pub same-number : {l after : List ℕ} {at e n m : ℕ} (behind : List ℕ) → n ≡ m → Puts l at (decimal n ++ behind) after e → Puts l at (decimal m ++ behind) after e
+-- a number is put as what it is widened to
+pub same-number : {l after : List ℕ} {at e n m : ℕ} (behind : List ℕ) → n ≡ m → Puts l at (decimal n ++ behind) after e
+    → Puts l at (decimal m ++ behind) after e
 same-number behind same u = put_as u (ap (λ (k : ℕ). decimal k ++ behind) same)
 
 pub heading-put : {l l₁ l₂ : List ℕ} {at a e : ℕ} (port sequence : ℕ) → Puts l at (number port " ") l₁ a → Puts l₁ a (number sequence " ") l₂ e
