@@ -1,4 +1,5 @@
 -- Pieces of the board's text, as they are put.
+-- same-number                              a number that is widened
 -- heading-put                              `PORT SEQUENCE `
 -- own-as, ahead-as                         what stands before a packet's text, and the lines ahead of its own, by what it is to its port
 -- none_ahead, missing-put, unwatched-put   lines ahead of a packet's own
@@ -46,6 +47,11 @@ use Rattle.board_lines.specs.declared.Piece.{Piece}
 whole-line : (x : Line) → written x ≡ written_all (x ∷ [])
 unfolding written_all
 whole-line x = sym (append-nil (written x))
+
+-- a number is put as what it is widened to
+pub same-number : {l after : List ℕ} {at e n m : ℕ} (behind : List ℕ) → n ≡ m → Puts l at (decimal n ++ behind) after e
+    → Puts l at (decimal m ++ behind) after e
+same-number behind same u = put_as u (ap (λ (k : ℕ). decimal k ++ behind) same)
 
 pub heading-put : {l l₁ l₂ : List ℕ} {at a e : ℕ} (port sequence : ℕ) → Puts l at (number port " ") l₁ a → Puts l₁ a (number sequence " ") l₂ e
     → Puts l at (heading port sequence) l₂ e

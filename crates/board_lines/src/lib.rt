@@ -1,7 +1,9 @@
 //! The lines of the board, written in pieces: by value, so that a piece can be written in parts.
 #![tactic(auto)]
 
-ghost use Rattle.std.specs.Prelude.{◌≡◌, true, ◌<◌, [], ◌∷◌};
+ghost use Rattle.std.specs.Prelude.{◌≡◌, true, ◌<◌, [], ◌∷◌, replicate};
+ghost use Rattle.std.specs.Fn.{FnOnceReturnsAtMut};
+ghost use Rattle.listing_spec.specs.Lines.{longest};
 ghost use Rattle.text.specs.Put.{Puts};
 ghost use Rattle.bid.specs.Line.{feed};
 ghost use Rattle.board_spec.specs.Text.{sixteenth, by_number, shown_byte, heading};
@@ -25,33 +27,36 @@ pub struct Piece {
     pub length: usize,
 }
 
-// Each piece is put by a function of its own: a closure for it in one shared function would be no plainer, as its contract would stand there too.
 impl Piece {
+    // What is put at the start of zeros.
+    fn of<F: FnOnce(&mut [u8]) -> usize>(put: F) -> Piece
+        requires { F.IsAlwaysCallable put }
+        ensures { FnOnceReturnsAtMut F.FnOnce put (replicate longest 0) result.length result.bytes }
+    {
+        let mut bytes: [u8; Line::LONGEST] = [0; Line::LONGEST];
+        let length = put(&mut bytes);
+        Piece { bytes, length }
+    }
+
     /// A line feed.
     pub fn line_feed() -> Piece
         ensures { result ≡ piece_of (feed ∷ []) }
     {
-        let mut bytes: [u8; Line::LONGEST] = [0; Line::LONGEST];
-        bytes[0] = b'\n';
-        Piece { bytes, length: 1 }
+        Piece::of(|text| put_text(text, 0, b"\n"))
     }
 
     /// A byte of a payload, as it is shown.
     pub fn shown_byte(b: u8) -> Piece
         ensures { result ≡ piece_of (shown_byte b) }
     {
-        let mut bytes: [u8; Line::LONGEST] = [0; Line::LONGEST];
-        let length = put_shown(&mut bytes, b);
-        Piece { bytes, length }
+        Piece::of(|text| put_shown(text, b))
     }
 
     /// What stands before a packet's text, by what it is to its port.
     pub fn lead(noted: Noted, delivery: Delivery) -> Piece
         ensures { result ≡ piece_of (lead noted delivery) }
     {
-        let mut bytes: [u8; Line::LONGEST] = [0; Line::LONGEST];
-        let length = put_lead(&mut bytes, noted, delivery);
-        Piece { bytes, length }
+        Piece::of(|text| put_lead(text, noted, delivery))
     }
 
     /// The line of an answer that is no packet, where it has one.
@@ -59,19 +64,14 @@ impl Piece {
     pub fn remark(blocks: bool, answer: Answer) -> Piece
         ensures { result ≡ piece_of (remark blocks answer) }
     {
-        let mut bytes: [u8; Line::LONGEST] = [0; Line::LONGEST];
-        let length = put_remark(&mut bytes, blocks, answer);
-        Piece { bytes, length }
+        Piece::of(|text| put_remark(text, blocks, answer))
     }
 
     /// The last line, of a recording that does not end as one.
     pub fn wrong_at(offset: u64) -> Piece
         ensures { result ≡ piece_of (written (wrong_at offset)) }
     {
-        let mut bytes: [u8; Line::LONGEST] = [0; Line::LONGEST];
-        let a = put_text(&mut bytes, 0, b"! wrong at ");
-        let length = put_item(&mut bytes, a, offset, b'\n');
-        Piece { bytes, length }
+        Piece::of(|text| put_wrong(text, offset))
     }
 
     /// No text.
@@ -112,7 +112,7 @@ fn put_shown(text: &mut [u8], b: u8) -> usize
     }
 }
 
-// Lines ahead of a packet's own. Numbers widen by `as`, as in listing_lines.
+// Lines ahead of a packet's own.
 fn put_ahead(text: &mut [u8], noted: Noted, port: u16) -> usize
     ensures { Puts text.old 0 (written_all (ahead_of noted port)) text.new result }
 {
@@ -120,12 +120,12 @@ fn put_ahead(text: &mut [u8], noted: Noted, port: u16) -> usize
         Noted::First | Noted::InOrder | Noted::Repeated | Noted::Late => 0,
         Noted::Missing(n) => {
             let a = put_text(text, 0, b"! missing ");
-            let b = put_item(text, a, port as u64, b' ');
-            put_item(text, b, n as u64, b'\n')
+            let b = put_item(text, a, u64::from(port), b' ');
+            put_item(text, b, u64::from(n), b'\n')
         }
         Noted::Refused(_) => {
             let a = put_text(text, 0, b"! unwatched ");
-            put_item(text, a, port as u64, b'\n')
+            put_item(text, a, u64::from(port), b'\n')
         }
     }
 }
@@ -134,8 +134,8 @@ fn put_ahead(text: &mut [u8], noted: Noted, port: u16) -> usize
 fn put_heading(text: &mut [u8], at: usize, port: u16, sequence: u16) -> usize
     ensures { Puts text.old at (heading port sequence) text.new result }
 {
-    let a = put_item(text, at, port as u64, b' ');
-    put_item(text, a, sequence as u64, b' ')
+    let a = put_item(text, at, u64::from(port), b' ');
+    put_item(text, a, u64::from(sequence), b' ')
 }
 
 // A packet's own line up to its text.
@@ -162,9 +162,9 @@ fn put_restricted(text: &mut [u8], at: usize, port: u16, sequence: u16, key: u8)
     ensures { Puts text.old at (written (restricted port sequence key)) text.new result }
 {
     let a = put_text(text, at, b"! restricted ");
-    let b = put_item(text, a, port as u64, b' ');
-    let c = put_item(text, b, sequence as u64, b' ');
-    put_item(text, c, key as u64, b'\n')
+    let b = put_item(text, a, u64::from(port), b' ');
+    let c = put_item(text, b, u64::from(sequence), b' ');
+    put_item(text, c, u64::from(key), b'\n')
 }
 
 // All that stands before a packet's text.
@@ -178,7 +178,7 @@ fn put_lead(text: &mut [u8], noted: Noted, delivery: Delivery) -> usize
     put_own(text, a, noted, delivery.port, delivery.sequence)
 }
 
-// A refused frame's line.
+// A refused frame's line. A `usize` widens by `as`: std has no `From` for it.
 fn put_refused(text: &mut [u8], judged: Judged) -> usize
     ensures { Puts text.old 0 (remark true (Said judged)) text.new result }
 {
@@ -186,7 +186,7 @@ fn put_refused(text: &mut [u8], judged: Judged) -> usize
         Judged::Packet(_) => 0,
         Judged::Refused(n) => {
             let a = put_text(text, 0, b"! frame refused ");
-            put_item(text, a, n as u64, b'\n')
+            put_item(text, a, u64::from(n), b'\n')
         }
         Judged::Broken(place) => {
             let a = put_text(text, 0, b"! frame refused ");
@@ -221,4 +221,12 @@ fn put_remark(text: &mut [u8], blocks: bool, answer: Answer) -> usize
         Answer::Block(condition) => put_block_told(text, blocks, condition),
         Answer::LockLost => put_text(text, 0, b"! lock lost\n"),
     }
+}
+
+// The last line of a recording that does not end as one.
+fn put_wrong(text: &mut [u8], offset: u64) -> usize
+    ensures { Puts text.old 0 (written (wrong_at offset)) text.new result }
+{
+    let a = put_text(text, 0, b"! wrong at ");
+    put_item(text, a, offset, b'\n')
 }

@@ -12,11 +12,14 @@ use Rattle.packet_spec.specs.declared.Delivery.{Delivery}
 use Rattle.packet_spec.specs.declared.Judged.TheVariants.{Packet, Refused, Broken}
 use Rattle.listing_spec.specs.Lines.{letter, told, end_line, wrong_line}
 
-pub packet-put : {l l₁ l₂ l₃ l₄ l₅ : List ℕ} {a b c e f k : ℕ} (d : Delivery) → Puts l 0 (ascii "P ") l₁ a → Puts l₁ a (number d.port " ") l₂ b
-    → Puts l₂ b (number d.sequence " ") l₃ c → Puts l₃ c (number d.length " ") l₄ e → Puts l₄ e (k ∷ ascii "\n") l₅ f
+pub packet-put : {l l₁ l₂ l₃ l₄ l₅ : List ℕ} {a b c e f k p s : ℕ} (d : Delivery) → p ≡ d.port → s ≡ d.sequence → Puts l 0 (ascii "P ") l₁ a
+    → Puts l₁ a (number p " ") l₂ b → Puts l₂ b (number s " ") l₃ c → Puts l₃ c (number d.length " ") l₄ e → Puts l₄ e (k ∷ ascii "\n") l₅ f
     → k ≡ letter (class d.port) → Puts l 0 (told (Packet d)) l₅ f
 unfolding told
-packet-put d u v w x y h = put_then (put_then (put_then (put_then u v) w) x) (put_as y (ap (λ (k : ℕ). k ∷ ascii "\n") h))
+packet-put d m n u v w x y h =
+    let port = put_as v (ap (λ (p : ℕ). number p " ") m) in
+    let sequence = put_as w (ap (λ (s : ℕ). number s " ") n) in
+    put_then (put_then (put_then (put_then u port) sequence) x) (put_as y (ap (λ (k : ℕ). k ∷ ascii "\n") h))
 
 pub refused-put : {l l₁ l₂ : List ℕ} {a b : ℕ} (n : ℕ) → Puts l 0 (ascii "R ") l₁ a → Puts l₁ a (number n "\n") l₂ b → Puts l 0 (told (Refused n)) l₂ b
 unfolding told

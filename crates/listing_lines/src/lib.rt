@@ -39,13 +39,13 @@ fn letter(class: Class) -> u8
 }
 
 // `P port sequence payload-length class`.
-// Numbers widen by `as`: `u64::from` is a call, and each line's law would have to be carried over its answer (tried: this one and `put_told` fall).
+// A `usize` widens by `as`: std has no `From` for it.
 fn put_packet(text: &mut [u8], delivery: Delivery) -> usize
     ensures { Puts text.old 0 (told (Packet delivery)) text.new result }
 {
     let a = put_text(text, 0, b"P ");
-    let b = put_item(text, a, delivery.port as u64, b' ');
-    let c = put_item(text, b, delivery.sequence as u64, b' ');
+    let b = put_item(text, a, u64::from(delivery.port), b' ');
+    let c = put_item(text, b, u64::from(delivery.sequence), b' ');
     let d = put_item(text, c, delivery.length as u64, b' ');
     let last = [letter(packet::class_of(delivery.port)), b'\n'];
     put_text(text, d, &last)
@@ -60,7 +60,7 @@ fn put_told(text: &mut [u8], judged: Judged) -> usize
         Judged::Packet(delivery) => put_packet(text, delivery),
         Judged::Refused(n) => {
             let a = put_text(text, 0, b"R ");
-            put_item(text, a, n as u64, b'\n')
+            put_item(text, a, u64::from(n), b'\n')
         }
         Judged::Broken(place) => {
             let a = put_text(text, 0, b"R ");

@@ -6,5 +6,5 @@ use Rattle.listing_lines.proofs.put_packet.Goals as goal
 
 pub returns : goal.returns
 returns c =
-    packet-put _ c.put_text-a.ensures c.put_item-b.ensures c.put_item-c.ensures c.put_item-d.ensures c.put_text.ensures
+    packet-put _ c.from.ensures c.from-2.ensures c.put_text-a.ensures c.put_item-b.ensures c.put_item-c.ensures c.put_item-d.ensures c.put_text.ensures
     (c.letter.ensures ∙ ap letter c.class_of.ensures)

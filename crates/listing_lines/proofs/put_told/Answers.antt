@@ -1,4 +1,6 @@
 -- `listing_lines::put_told` meets its contract.
+use Rattle.std.proofs.Common.{sym, ap, ◌∙◌}
+use Rattle.packet_spec.specs.declared.Judged.TheVariants.{Refused}
 use Rattle.listing_spec.specs.Lines.{told}
 use Rattle.text.proofs.Putting.{put-case}
 use Rattle.listing_lines.proofs.Writing.{refused-put, broken-put}
@@ -6,7 +8,7 @@ use Rattle.listing_lines.proofs.put_told.Goals as goal
 
 pub returns-in-Refused : goal.returns-in-Refused
 returns-in-Refused c =
-    put-case told c.in-Refused.is (refused-put _ c.put_text-a.ensures c.put_item.ensures)
+    put-case told (c.in-Refused.is ∙ ap Refused (sym c.from.ensures)) (refused-put _ c.put_text-a.ensures c.put_item.ensures)
 
 pub returns-in-Broken : goal.returns-in-Broken
 returns-in-Broken c =
