@@ -9,7 +9,7 @@
 
 mod cut;
 
-use base::Written;
+use base::{Refusal, Written};
 pub use cut::Cut;
 use std::io;
 use std::io::{BufReader, BufWriter, ErrorKind, Read, Write};
@@ -52,21 +52,53 @@ pub fn read<'a>(input: &mut impl Read, space: &'a mut [u8]) -> io::Result<Option
     }))
 }
 
-/// Answers all cases of standard input: what is told of one, and behind it the output that it was lent.
-pub fn answer_all(rt: &HostRuntime, answers: &mut impl Answer) -> io::Result<()> {
+/// Who reads cases and answers them.
+pub trait Serve {
+    /// Reads a case and writes its answer: whether there was one.
+    fn serve(&mut self, input: &mut impl Read, told: &mut impl Write) -> io::Result<bool>;
+}
+
+/// Has all cases of standard input read and answered.
+pub fn serve_all(rt: &HostRuntime, server: &mut impl Serve) -> io::Result<()> {
     let mut input = BufReader::new(rt.alloc(), rt.stdin())?;
     let mut told = BufWriter::new(rt.alloc(), rt.stdout())?;
-    let mut space = [0u8; 65536];
-    let mut out = [0u8; 65536];
     for _ in 0..u64::MAX {
-        let Some(case) = read(&mut input, &mut space)? else {
+        if !server.serve(&mut input, &mut told)? {
             break;
-        };
-        let lent = lend(case.room, &mut out);
-        answers.answer(&mut told, case, lent)?;
-        told.write_all(lent)?;
+        }
     }
     told.flush()
+}
+
+// Who answers cases, and the memory of a case's bytes and of its output.
+#[derive(Drop)]
+struct Server<'a, A> {
+    answers: &'a mut A,
+    space: [u8; 65536],
+    out: [u8; 65536],
+}
+
+impl<A: Answer> Serve for Server<'_, A> {
+    // What is told of a case, and behind it the output that it was lent.
+    fn serve(&mut self, input: &mut impl Read, told: &mut impl Write) -> io::Result<bool> {
+        let Some(case) = read(input, &mut self.space)? else {
+            return Ok(false);
+        };
+        let lent = lend(case.room, &mut self.out);
+        self.answers.answer(told, case, lent)?;
+        told.write_all(lent)?;
+        Ok(true)
+    }
+}
+
+/// Answers all cases of standard input: what is told of one, and behind it the output that it was lent.
+pub fn answer_all(rt: &HostRuntime, answers: &mut impl Answer) -> io::Result<()> {
+    let mut server = Server {
+        answers,
+        space: [0; 65536],
+        out: [0; 65536],
+    };
+    serve_all(rt, &mut server)
 }
 
 /// Reads until the buffer is full or the input ends: whether it is full. What was read stands at its start.
@@ -150,8 +182,13 @@ pub fn show(told: &mut impl Write, n: usize, bytes: &[u8]) -> io::Result<()> {
 
 /// What a call that writes answered, as a number.
 pub fn written(w: Written) -> u64 {
-    match w {
-        Ok(n) => n as u64,
+    answered(w.map(|n| n as u64))
+}
+
+/// What any call answered, as a number.
+pub fn answered(answer: Result<u64, Refusal>) -> u64 {
+    match answer {
+        Ok(n) => n,
         Err(refusal) => refused(refusal as u8),
     }
 }

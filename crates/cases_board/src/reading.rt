@@ -3,7 +3,6 @@
 //! for blocks told. Its first four bytes: the first and the last port of the range. The output is lent to each call anew; the first piece is empty.
 //! Each call is told as the bytes taken, what it wants (0: more, 1: another call) and how many bytes it wrote, and those. Last comes what is still to
 //! be said: its length, and its bytes.
-use base::Refusal;
 use board::{Owed, Readout, Wants};
 use board_lines::Piece;
 use cases::Cut;
@@ -45,7 +44,7 @@ pub fn read_out(
 }
 
 fn end_at(bytes: &[u8], at: usize) -> u16 {
-    cases::half(cases::pair_at(bytes, at) as u64)
+    cases::half(cases::number_at(bytes, at))
 }
 
 fn lend(
@@ -170,7 +169,7 @@ fn call(
 ) -> io::Result<Place> {
     let t = readout.take(recv, word, cut.piece(bytes), out);
     cases::print(told, t.taken as u64)?;
-    cases::print(told, code(t.wants))?;
+    cases::print(told, cases::answered(t.wants.map(wanted)))?;
     cases::show(told, t.written, out)?;
     let cut = match t.wants {
         Ok(Wants::More) => cut.more(t.taken, bytes.len()),
@@ -183,10 +182,10 @@ fn call(
     })
 }
 
-fn code(wants: Result<Wants, Refusal>) -> u64 {
+// By name, here and in cases_listing: `as` would tell the place of a variant in another crate's enum.
+fn wanted(wants: Wants) -> u64 {
     match wants {
-        Ok(Wants::More) => 0,
-        Ok(Wants::Again) => 1,
-        Err(refusal) => cases::refused(refusal as u8),
+        Wants::More => 0,
+        Wants::Again => 1,
     }
 }

@@ -2,10 +2,9 @@
 //! crates/cases has the form of a case and of an answer; what is told is a number (two of a closed frame).
 #![tactic(auto)]
 
-use base::Refusal;
 use cases::{Answer, Case};
 use fcs::Register;
-use packet::Judged;
+use packet::{Class, Judged};
 use parity::Checked;
 use repair::Mended;
 use std::io;
@@ -51,9 +50,9 @@ fn tell_one(asked: u8, number: u64, bytes: &[u8], out: &mut [u8]) -> u64 {
         b'T' => u64::from(field::times(cases::low(number / 256), cases::low(number))),
         b'E' => u64::from(field::power(number as usize)),
         b'P' => cases::written(parity::make(number as usize, bytes, out)),
-        b'W' => checked(parity::check(number as usize, bytes)),
+        b'W' => cases::answered(parity::check(number as usize, bytes).map(checked)),
         b'Y' => repaired(number as usize, bytes, out),
-        b'C' => packet::class_of(cases::half(number)) as u64,
+        b'C' => class(packet::class_of(cases::half(number))),
         b'K' => cases::written(packet::write(
             cases::half(number),
             cases::half(number / 0x10000),
@@ -163,25 +162,35 @@ fn closed(told: &mut impl Write, raw: usize, bytes: &[u8], out: &mut [u8]) -> io
     })
 }
 
-fn checked(c: Result<Checked, Refusal>) -> u64 {
+// By name, as what is checked below: `as` would tell the place of a variant in another crate's enum.
+fn class(c: Class) -> u64 {
     match c {
-        Ok(Checked::Clean) => 0,
-        Ok(Checked::Damaged) => 1,
-        Err(refusal) => cases::refused(refusal as u8),
+        Class::System => 0,
+        Class::Applications => 1,
+        Class::M => 2,
+        Class::D => 3,
+        Class::Future => 4,
+        Class::Barred => 5,
+    }
+}
+
+fn checked(c: Checked) -> u64 {
+    match c {
+        Checked::Clean => 0,
+        Checked::Damaged => 1,
     }
 }
 
 // A word that the output holds, repaired there: 0 where it is clean, the places changed, or 256 where it is beyond repair.
 fn repaired(r: usize, bytes: &[u8], out: &mut [u8]) -> u64 {
     base::copy(bytes, out);
-    mended(repair::repair(r, out))
+    cases::answered(repair::repair(r, out).map(mended))
 }
 
-fn mended(m: Result<Mended, Refusal>) -> u64 {
+fn mended(m: Mended) -> u64 {
     match m {
-        Ok(Mended::Clean) => 0,
-        Ok(Mended::Repaired(n)) => n as u64,
-        Ok(Mended::Beyond) => 256,
-        Err(refusal) => cases::refused(refusal as u8),
+        Mended::Clean => 0,
+        Mended::Repaired(n) => n as u64,
+        Mended::Beyond => 256,
     }
 }

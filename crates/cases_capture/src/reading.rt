@@ -42,7 +42,7 @@ fn state(kind: u8, first: usize, second: usize) -> CaptureReader {
             size: first,
             done: second,
         },
-        _ => CaptureReader::Behind((first % 256) as u8),
+        _ => CaptureReader::Behind(cases::low(first as u64)),
     }
 }
 
@@ -59,10 +59,7 @@ fn numbers(capture: CaptureReader) -> [u64; 3] {
 // Writes the state's numbers, and what the end of the file says.
 fn finish(told: &mut impl Write, capture: CaptureReader) -> io::Result<()> {
     cases::print_all(told, &numbers(capture))?;
-    match capture.finish() {
-        Ok(()) => cases::print(told, 0),
-        Err(refusal) => cases::print(told, cases::refused(refusal as u8)),
-    }
+    cases::print(told, cases::answered(capture.finish().map(|()| 0)))
 }
 
 // One call, told; the next piece, of n bytes in all.

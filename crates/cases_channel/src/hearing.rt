@@ -133,7 +133,7 @@ fn call(
     })
 }
 
-// Repaired is a number of its own: all others are below 4, or 65,536 and more.
+// Repaired is a number of its own: all others are below 4, or 65,536 and more. As in cases_four, and why twice is said there.
 fn block(condition: Condition) -> u64 {
     match condition {
         Condition::Clean => 1,

@@ -42,10 +42,7 @@ impl Four {
             &mut self.cells,
         );
         self.receiver = done.receiver;
-        match done.answer {
-            Ok(()) => cases::print(told, 0),
-            Err(refusal) => cases::print(told, cases::refused(refusal as u8)),
-        }
+        cases::print(told, cases::answered(done.answer.map(|()| 0)))
     }
 
     // Lends the two buffers of a sub-channel, as much of them as the case says; beyond the four those of the last.
@@ -98,7 +95,7 @@ impl Four {
             _ => self.receiver.d,
         };
         print_lane(told, seat.lane)?;
-        cases::print(told, seat.again as u64)?;
+        cases::print(told, u64::from(seat.again))?;
         cases::print(told, seat.place as u64)?;
         let cells = self.cells[k];
         told.write_all(&self.recv[Sub::RAW * k..Sub::RAW * (k + 1)])?;
@@ -135,6 +132,7 @@ fn hear_all(
     Ok(receiver)
 }
 
+// As in cases_channel, where its numbers are said: a third crate over `channel` for what is told of an answer would be no plainer.
 fn block(condition: Condition) -> u64 {
     match condition {
         Condition::Clean => 1,
@@ -214,20 +212,20 @@ fn frame(x: &[u8]) -> FrameReader {
 
 fn print_lane(told: &mut impl Write, lane: Lane) -> io::Result<()> {
     let numbers = [
-        lane.settings.told as u64,
+        u64::from(lane.settings.told),
         lane.settings.parity as u64,
         lane.settings.depth as u64,
-        lane.locked as u64,
-        lane.lost as u64,
-        lane.hunting.a as u64,
-        lane.hunting.b as u64,
-        lane.hunting.c as u64,
-        lane.hunting.d as u64,
+        u64::from(lane.locked),
+        u64::from(lane.lost),
+        u64::from(lane.hunting.a),
+        u64::from(lane.hunting.b),
+        u64::from(lane.hunting.c),
+        u64::from(lane.hunting.d),
         lane.counts.group as u64,
         lane.counts.marker as u64,
         lane.counts.word as u64,
         lane.counts.handed as u64,
-        lane.frame.opened as u64,
+        u64::from(lane.frame.opened),
         lane.frame.raw as u64,
         lane.frame.stored as u64,
         lane.frame.place as u64,

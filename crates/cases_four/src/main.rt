@@ -8,24 +8,35 @@
 
 mod hearing;
 
-use cases::Case;
+use cases::{Case, Serve};
 use hearing::Four;
 use std::io;
-use std::io::{BufReader, BufWriter, Write};
+use std::io::{Read, Write};
+
+// A receiver of four, and the memory of a case's bytes.
+#[derive(Drop)]
+struct Server {
+    four: Four,
+    space: [u8; 65536],
+}
 
 fn main(rt: HostRuntime) -> io::Result<()> {
-    let mut input = BufReader::new(rt.alloc(), rt.stdin())?;
-    let mut told = BufWriter::new(rt.alloc(), rt.stdout())?;
-    let mut bytes = [0u8; 65536];
-    let mut four = Four::fresh();
+    let mut server = Server {
+        four: Four::fresh(),
+        space: [0; 65536],
+    };
+    cases::serve_all(&rt, &mut server)
+}
+
+impl Serve for Server {
     // What is told of a case is its whole answer: no output follows, as `cases::answer_all` would write it.
-    for _ in 0..u64::MAX {
-        let Some(case) = cases::read(&mut input, &mut bytes)? else {
-            break;
+    fn serve(&mut self, input: &mut impl Read, told: &mut impl Write) -> io::Result<bool> {
+        let Some(case) = cases::read(input, &mut self.space)? else {
+            return Ok(false);
         };
-        answer(&mut told, case, &mut four)?;
+        answer(told, case, &mut self.four)?;
+        Ok(true)
     }
-    told.flush()
 }
 
 // Writes the answer to one case.

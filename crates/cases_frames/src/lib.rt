@@ -33,10 +33,7 @@ pub fn delivery(number: u64) -> Delivery {
 /// A judged frame as a number. A packet: port, sequence, length, and 1 above them; a broken escape: its place above the number.
 pub fn judged(j: Judged) -> u64 {
     match j {
-        Judged::Packet(d) => u64::from(d.port)
-            | u64::from(d.sequence) << 16
-            | (d.length as u64 % 0x1000000) << 32
-            | 1 << 56,
+        Judged::Packet(d) => packet(d),
         Judged::Refused(n) => cases::refused(n),
         Judged::Broken(place) => {
             cases::refused(Refusal::Escape as u8) | (place as u64 % 65536) << 32
@@ -44,9 +41,16 @@ pub fn judged(j: Judged) -> u64 {
     }
 }
 
+fn packet(d: Delivery) -> u64 {
+    let [a, b] = d.port.to_le_bytes();
+    let [c, e] = d.sequence.to_le_bytes();
+    let [f, g, h, ..] = d.length.to_le_bytes();
+    u64::from_le_bytes([a, b, c, e, f, g, h, 1])
+}
+
 /// A packet's format, key number and key length as a number.
 pub fn kind(d: Delivery) -> u64 {
-    u64::from(d.format) | u64::from(d.number) << 8 | u64::from(d.key) << 16
+    u64::from(u32::from_le_bytes([d.format, d.number, d.key, 0]))
 }
 
 /// Tells a judged frame: its number, and of a packet the kind, key and payload. False where the call was refused: by 10, 11 or 42.

@@ -21,10 +21,7 @@ pub fn configure(told: &mut impl Write, number: u64, bytes: &[u8]) -> io::Result
     for settings in [next.a, next.b, next.c, next.d] {
         print(told, settings)?;
     }
-    match done.answer {
-        Ok(()) => Ok(0),
-        Err(refusal) => Ok(cases::refused(refusal as u8)),
-    }
+    Ok(cases::answered(done.answer.map(|()| 0)))
 }
 
 pub fn send(number: u64, bytes: &[u8], out: &mut [u8]) -> Written {
@@ -59,7 +56,7 @@ fn print(told: &mut impl Write, settings: Settings) -> io::Result<()> {
     cases::print_all(
         told,
         &[
-            settings.told as u64,
+            u64::from(settings.told),
             settings.parity as u64,
             settings.depth as u64,
         ],

@@ -117,7 +117,7 @@ impl Sides {
         if number == 0 {
             return show_cells(self.matrix, out);
         }
-        out.fill(self.back.again as u8);
+        out.fill(u8::from(self.back.again));
         show_cells(self.back.matrix, out)
     }
 }

@@ -3,7 +3,7 @@
 //! lines, lent to each call anew; the first piece is empty. Each call is told as the bytes taken, what it wants (0: more, 1: room) and how
 //! many bytes it wrote, and those. The last line stands in the output; told are its length, then the answers where just that length is
 //! lent, and a byte less.
-use base::{Refusal, Written};
+use base::Written;
 use cases::Cut;
 use channel::Receiver;
 use listing::{Lister, Wants};
@@ -117,7 +117,7 @@ fn call(
 ) -> io::Result<Place> {
     let t = recording.take(recv, word, cut.piece(bytes), out);
     cases::print(told, t.taken as u64)?;
-    cases::print(told, code(t.wants))?;
+    cases::print(told, cases::answered(t.wants.map(wanted)))?;
     cases::show(told, t.written, out)?;
     let cut = match t.wants {
         Ok(Wants::More) => cut.more(t.taken, bytes.len()),
@@ -130,10 +130,10 @@ fn call(
     })
 }
 
-fn code(wants: Result<Wants, Refusal>) -> u64 {
+// By name, here and in cases_board: `as` would tell the place of a variant in another crate's enum.
+fn wanted(wants: Wants) -> u64 {
     match wants {
-        Ok(Wants::More) => 0,
-        Ok(Wants::Room) => 1,
-        Err(refusal) => cases::refused(refusal as u8),
+        Wants::More => 0,
+        Wants::Room => 1,
     }
 }

@@ -6,39 +6,37 @@
 #![tactic(auto)]
 
 use base::Refusal;
+use cases::Serve;
 use ports::{Entry, Noted, Ports};
-use std::io::{BufReader, BufWriter, Read, Write};
+use std::io::{Read, Write};
 use std::{array, io};
 
+#[derive(Drop)]
+struct Tables;
+
 fn main(rt: HostRuntime) -> io::Result<()> {
-    let mut input = BufReader::new(rt.alloc(), rt.stdin())?;
-    let mut told = BufWriter::new(rt.alloc(), rt.stdout())?;
-    for _ in 0..u64::MAX {
-        if !answer(&mut input, &mut told)? {
-            break;
-        }
-    }
-    told.flush()
+    cases::serve_all(&rt, &mut Tables)
 }
 
-// Reads one case and writes its answer; whether there was one.
-fn answer(input: &mut impl Read, out: &mut impl Write) -> io::Result<bool> {
-    let mut case = [0u8; 85];
-    if !cases::read_full(input, &mut case)? {
-        return Ok(false);
+impl Serve for Tables {
+    fn serve(&mut self, input: &mut impl Read, told: &mut impl Write) -> io::Result<bool> {
+        let mut case = [0u8; 85];
+        if !cases::read_full(input, &mut case)? {
+            return Ok(false);
+        }
+        let head = place(cases::number_at(&case, 0));
+        let ports = Ports {
+            entries: places_of(&case),
+        };
+        if case[0] == b'N' {
+            let r = ports.note(head.port, head.last);
+            tell(told, noted(r.noted), r.ports)?;
+        } else {
+            let r = ports.forget(head.port);
+            tell(told, forgot(r.forgot), r.ports)?;
+        }
+        Ok(true)
     }
-    let head = place(cases::number_at(&case, 0));
-    let ports = Ports {
-        entries: places_of(&case),
-    };
-    if case[0] == b'N' {
-        let r = ports.note(head.port, head.last);
-        tell(out, noted(r.noted), r.ports)?;
-    } else {
-        let r = ports.forget(head.port);
-        tell(out, forgot(r.forgot), r.ports)?;
-    }
-    Ok(true)
 }
 
 fn noted(noted: Noted) -> u32 {

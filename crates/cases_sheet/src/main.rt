@@ -6,39 +6,37 @@
 //! and for each of 16 places its row, and its line with its length before it, or 65,536 and the number of a refusal.
 #![tactic(auto)]
 
+use cases::Serve;
 use ports_spec::Range;
 use sheet::{Draft, Sheet, Uncounted};
 use sheet_spec::{Row, Tally};
 use std::io;
-use std::io::{BufReader, BufWriter, Read, Write};
+use std::io::{Read, Write};
+
+#[derive(Drop)]
+struct Sheets;
 
 fn main(rt: HostRuntime) -> io::Result<()> {
-    let mut input = BufReader::new(rt.alloc(), rt.stdin())?;
-    let mut told = BufWriter::new(rt.alloc(), rt.stdout())?;
-    for _ in 0..u64::MAX {
-        if !answer(&mut input, &mut told)? {
-            break;
-        }
-    }
-    told.flush()
+    cases::serve_all(&rt, &mut Sheets)
 }
 
-// Reads one case and writes its answer; false at the end of the input.
-fn answer(input: &mut impl Read, told: &mut impl Write) -> io::Result<bool> {
-    let mut head = [0u8; 8];
-    if !cases::read_full(input, &mut head)? {
-        return Ok(false);
+impl Serve for Sheets {
+    fn serve(&mut self, input: &mut impl Read, told: &mut impl Write) -> io::Result<bool> {
+        let mut head = [0u8; 8];
+        if !cases::read_full(input, &mut head)? {
+            return Ok(false);
+        }
+        let ports = cases::number_at(&head, 0) as usize;
+        let rows = rows(input)?;
+        let sheet = Sheet { ports, rows };
+        let range = range(input)?;
+        let n = next(input)?;
+        let draft = note_all(input, range, sheet.begin(), n)?;
+        let closed = draft.close(next(input)? != 0);
+        cases::print(told, code(closed.counted))?;
+        tell_sheet(told, closed.sheet)?;
+        Ok(true)
     }
-    let ports = cases::number_at(&head, 0) as usize;
-    let rows = rows(input)?;
-    let sheet = Sheet { ports, rows };
-    let range = range(input)?;
-    let n = next(input)?;
-    let draft = note_all(input, range, sheet.begin(), n)?;
-    let closed = draft.close(next(input)? != 0);
-    cases::print(told, code(closed.counted))?;
-    tell_sheet(told, closed.sheet)?;
-    Ok(true)
 }
 
 fn rows(input: &mut impl Read) -> io::Result<[Row; 16]> {
