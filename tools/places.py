@@ -44,6 +44,8 @@ def functions():
             yield path, line_of(text, m.start()), m.group(2), m.group(3), m.group(4)
         for m in re.finditer(r"^( *)(?:pub(?:\([a-z]+\))? )?fn (\w+)([^\n{]*) \{\n(.*?)^\1\}", text, re.M | re.S):
             yield path, line_of(text, m.start()), m.group(2), m.group(3), m.group(4)
+        for m in re.finditer(r"^( *)(?:pub(?:\([a-z]+\))? )?fn (\w+)((?:<[^\n]*>)?\(\n(?:\1 +[^\n]*\n)*\1\)[^\n]*) \{\n(.*?)^\1\}", text, re.M | re.S):
+            yield path, line_of(text, m.start()), m.group(2), m.group(3), m.group(4)
 
 
 def conjuncts(clause):
