@@ -105,13 +105,13 @@ impl Unit<'_> {
         0
     }
 
-    // Stores n payload bytes from `from` on, at `at`. By index, which says both the byte and its place.
+    // Stores n payload bytes from `from` on, at `at`.
     fn put(&self, from: usize, n: usize, out: &mut [u8], at: usize)
         requires { (from + n ≤ payload self.now.size) × (at + n ≤ length out.old) }
         ensures { out.new ≡ paste out.old at (drop from (payload_of self.now.size self.now.bytes.now)) n }
     {
-        for i in 0..n {
-            out[at + i] = self.payload_byte(from + i);
+        for (i, byte) in out[at..at + n].iter_mut().enumerate() {
+            *byte = self.payload_byte(from + i);
         }
     }
 
