@@ -3,7 +3,7 @@
 -- Lent, Onward                              what the code has found: a whole unit; the bit is not before the header
 -- lent-of, onward-of                        .. from its facts
 -- heads-few, step-some                      how many there are, and that they stand apart
--- payload-low, table-low                    the numbers of an accepted length are low enough to reckon with
+-- payload-low                               the numbers of an accepted length are low enough to reckon with
 -- payload-before, payload-once, payload-gap   a payload bit
 -- byte-reach, byte_of                       a payload byte
 -- SoFar, hear-none, hear-more, hear-done    the loop that reads the header; low, at_low: its numbers
@@ -121,7 +121,7 @@ unfolding payload
 payload-low l fit = omega (arith, (accepted l fit).0, (few l).0)
 
 -- ---- the header
-pub table-low : (l : ℕ) → unfit l ≡ false → (step l ≤ 146176) × (start l ≤ 146176)
+table-low : (l : ℕ) → unfit l ≡ false → (step l ≤ 146176) × (start l ≤ 146176)
 table-low l fit =
     let b = (accepted l fit).0 in
     by_row (λ h s t. (t ≤ 146176) × (s ≤ 146176)) l (λ _ _. (omega arith, omega arith)) (λ _ _. (omega arith, omega arith))
