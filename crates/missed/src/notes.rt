@@ -21,6 +21,7 @@ pub struct Notes {
 }
 
 /// What a call wants next.
+// The board has the same two words, for its own calls: each is the word of one call, with its number in the definitions beside it (`as_took`).
 #[derive(Clone, Copy)]
 pub enum Wants {
     /// More bytes: all are taken, and no line is owed.

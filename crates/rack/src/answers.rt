@@ -62,6 +62,7 @@ impl Numbered {
 }
 
 // What is told of a closed frame, or of a call refused.
+// Functions and no `From`, here and below: each clause names the definition of its name.
 fn of_judged(judged: Judged) -> Numbered
     ensures { result ≡ of_judged judged }
 {

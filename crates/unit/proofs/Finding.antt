@@ -4,18 +4,20 @@
 -- window-of, window-next, window-begins            the five bytes from a place on
 -- find-here, find-next, find-over                  a turn of the search: found, not found, and its end
 -- opened-short, opened-is                          what stands behind the first delimiter is the end of what was searched
--- put-more                                         a turn of the loop that stores payload bytes
+-- put-more, put-all                                a turn of the loop that stores payload bytes in a part, and the whole behind it
 use mathlib.Core.Path.{◌≡◌, refl, sym, ap, ap₂, ◌∙◌}
 use mathlib.Core.Bool.{Bool, true, false, ◌&&◌}
-use mathlib.Core.List.{List, [], ◌∷◌, ◌++◌}
+use mathlib.Core.List.{List, [], ◌∷◌, ◌++◌, append-nil}
 use Prim.Native.Nat.{ℕ, zero, suc, ◌+◌, ◌-◌, ◌≤◌, ◌<◌}
-use native.Mathlib.Nat.{sub-zero}
+use native.Mathlib.Nat.{sub-zero, zero-add}
 use native.Mathlib.Numerals.{add-one}
 use native.Mathlib.Omega.{arith}
 use lib.Dec.{eqb}
 use lib.Pointwise.{pointwise}
 use lib.ListN.{length, take, drop, get_or, set, length-drop, drop_of_length-le}
-use lib.Seq.{drop-cons, drop-drop, length-take-le, drop-length, get_or-drop, paste, paste-suc}
+use lib.Seq.{drop-cons, drop-drop, length-take-le, take_all, drop-length, get_or-drop, paste, paste-suc}
+use borrow.Rule.Slice.PartMut.{put_mid}
+use Rattle.std.proofs.lemmas.Slice.{put_mid-paste}
 use Rattle.base.specs.Choice.{pick}
 use Rattle.base.proofs.Lists.{drop-take}
 use Rattle.base.proofs.Tests.{by-test, by_le}
@@ -153,10 +155,27 @@ opened-is d (x ∷ xs) = by-test (begins d (x ∷ xs)) (λ t. rw t (found (lengt
         let f : suc (length xs) - length (opened d xs) ≡ suc (length xs - length (opened d xs)) = omega arith in e ∙ sym (ap (λ (n : ℕ). drop n (x ∷ xs)) f)
 
 -- ---- payload bytes stored
-pub put-more : (before after p : List ℕ) (at from i b : ℕ) → after ≡ paste before at (drop from p) i → b ≡ get_or p (from + i) 0 → at + i < length before
+pub put-more : (before after p : List ℕ) (from i b : ℕ) → after ≡ take i (drop from p) ++ drop i before → b ≡ get_or p (from + i) 0 → i < length before
     → from + i < length p
-    → set after (at + i) b ≡ paste before at (drop from p) (i + 1)
-put-more before after p at from i b e w h k =
-    ap₂ (λ (x : List ℕ) (y : ℕ). set x (at + i) y) e (w ∙ sym (get_or-drop from p i 0))
-    ∙ paste-suc before at (drop from p) i 0 h (omega (arith, length-drop from p))
-    ∙ ap (paste before at (drop from p)) (sym (add-one i))
+    → set after i b ≡ take (i + 1) (drop from p) ++ drop (i + 1) before
+put-more before after p from i b e w h k =
+    let q = drop from p in
+    ap₂ (λ (x : List ℕ) (y : ℕ). set x y b) (e ∙ ap (λ (n : ℕ). take i q ++ drop n before) (sym (zero-add i))) (sym (zero-add i))
+    ∙ ap (set (paste before 0 q i) (0 + i)) (w ∙ sym (get_or-drop from p i 0))
+    ∙ paste-suc before 0 q i 0 (omega arith) (omega (arith, length-drop from p))
+    ∙ ap (paste before 0 q) (sym (add-one i)) ∙ ap (λ (n : ℕ). take (i + 1) q ++ drop n before) (zero-add (i + 1))
+
+module _ (before after q : List ℕ) (at n i : ℕ) where
+  pub put-all : after ≡ take i q ++ drop i (take (at + n - at) (drop at before)) → length (take (at + n - at) (drop at before)) ≤ i
+      → i ≤ length (take (at + n - at) (drop at before)) → at + n ≤ length before → n ≤ length q
+      → put_mid at (at + n - at) before after ≡ paste before at q n
+  put-all e h k room long =
+      let m : at + n - at ≡ n = omega arith in
+      let whole = length-take-le (at + n - at) (drop at before) (omega (arith, length-drop at before)) in
+      let f : i ≡ n = omega (arith, whole) in
+      let all : after ≡ take n q =
+      e ∙ ap (λ (x : List ℕ). take i q ++ x) (drop_of_length-le (take (at + n - at) (drop at before)) h) ∙ append-nil (take i q)
+      ∙ ap (λ (x : ℕ). take x q) f in
+      let some = length-take-le n q long in
+      put_mid-paste at (at + n - at) before after (take n q) n all (sym m) (sym some)
+      ∙ ap (λ (x : List ℕ). take at before ++ x ++ drop (at + n) before) (take_all n (take n q) (omega (arith, some)))

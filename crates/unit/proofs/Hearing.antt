@@ -3,7 +3,7 @@
 -- Lent, Onward                              what the code has found: a whole unit; the bit is not before the header
 -- lent-of, onward-of                        .. from its facts
 -- heads-few, step-some                      how many there are, and that they stand apart
--- payload-low, table-low                    the numbers of an accepted length are low enough to reckon with
+-- payload-low                               the numbers of an accepted length are low enough to reckon with
 -- payload-before, payload-once, payload-gap   a payload bit
 -- byte-reach, byte_of                       a payload byte
 -- SoFar, hear-none, hear-more, hear-done    the loop that reads the header; low, at_low: its numbers
@@ -121,7 +121,7 @@ unfolding payload
 payload-low l fit = omega (arith, (accepted l fit).0, (few l).0)
 
 -- ---- the header
-pub table-low : (l : ℕ) → unfit l ≡ false → (step l ≤ 146176) × (start l ≤ 146176)
+table-low : (l : ℕ) → unfit l ≡ false → (step l ≤ 146176) × (start l ≤ 146176)
 table-low l fit =
     let b = (accepted l fit).0 in
     by_row (λ h s t. (t ≤ 146176) × (s ≤ 146176)) l (λ _ _. (omega arith, omega arith)) (λ _ _. (omega arith, omega arith))
@@ -156,18 +156,19 @@ module _ (l : ℕ) (u : List ℕ) {n at v k : ℕ} (fit : unfit l ≡ false) (en
   pub at_low : at ≤ 3654400
   at_low = omega (arith, w.near, (few l).1)
 
-  pub hear-more : {s b v' : ℕ} → s ≡ step l → b ≡ get_or (bits u) at 0 → b < 2 → v' ≡ v * 2 + b → SoFar l u n (at + s) v' (k + 1)
+  pub hear-more : {s b v' at' : ℕ} → s ≡ step l → at' ≡ at + s → b ≡ get_or (bits u) at 0 → b < 2 → v' ≡ v * 2 + b → SoFar l u n at' v' (k + 1)
   unfolding number
-  hear-more {s} {b} {v'} es eb hb ev =
+  hear-more {s} {b} {v'} {at'} es ea eb hb ev =
       let p : 2 ^ (k + 1) ≡ 2 * 2 ^ k = ap (λ (x : ℕ). 2 ^ x) (add-one k) ∙ pow-succ' 2 k in
       let m : n - k ≡ suc (n - (k + 1)) = omega arith in
       let g : suc (step l - 1) ≡ step l = omega (arith, (accepted l fit).1) in
       record {
         some = omega arith;
         small = omega (arith, w.small);
-        near = omega (arith, w.near, (table-low l fit).0);
+        near = omega (arith, ea, es, w.near, (table-low l fit).0);
         left =
-            ap₂ (λ (x y : ℕ). number x (heard 0 (step l - 1) (n - (k + 1)) (drop (at + y) (bits u)))) (ev ∙ ap (λ (x : ℕ). v * 2 + x) eb) (es ∙ sym g)
+            ap₂ (λ (x y : ℕ). number x (heard 0 (step l - 1) (n - (k + 1)) (drop y (bits u)))) (ev ∙ ap (λ (x : ℕ). v * 2 + x) eb)
+            (ea ∙ ap (λ (y : ℕ). at + y) (es ∙ sym g))
             ∙ sym (ap (number v) (ap (λ (x : ℕ). heard 0 (step l - 1) x (drop at (bits u))) m ∙ heard-next at (step l - 1) (n - (k + 1)) (bits u))) ∙ w.left;
       }
 

@@ -3,6 +3,7 @@ ghost use Rattle.std.specs.Prelude.{◌≡◌, ◌∷◌, [], ◌≤◌, ◌<◌
 ghost use Rattle.unit_spec.specs.Bits.{digits, bits, number};
 
 /// Bit k of the n low bits of v.
+// A bit is a number and no type: the definitions' bits are 0 and 1, and each is summed in the next line.
 pub(crate) fn bit(v: u32, n: usize, k: usize) -> u8
     requires { (k < n) × (n ≤ 24) }
     ensures { (result ≡ get_or (digits n v) k 0) × (result < 2) }
@@ -24,12 +25,7 @@ pub(crate) fn byte_bit(b: u8, k: usize) -> u8
 pub fn bit_at(bytes: &[u8], t: usize) -> u8
     ensures { (result ≡ get_or (bits bytes.now) t 0) × (result < 2) }
 {
-    let i = t / 8;
-    if i < bytes.len() {
-        byte_bit(bytes[i], t % 8)
-    } else {
-        0
-    }
+    byte_bit(bytes.get(t / 8).copied().unwrap_or(0), t % 8)
 }
 
 /// Eight bits as a byte. They are handed in one by one, since each is known to be a bit by its own call: of an array, or of a closure that gives

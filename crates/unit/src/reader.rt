@@ -44,6 +44,7 @@ impl Unit<'_> {
     }
 
     // Payload byte j.
+    // As `byte` of writer.rt: a trait for both would repeat both clauses, and each bit is known by its own call.
     fn payload_byte(&self, j: usize) -> u8
         requires { j < payload self.now.size }
         ensures { result ≡ get_or (payload_of self.now.size self.now.bytes.now) j 0 }
@@ -63,12 +64,11 @@ impl Unit<'_> {
     fn header(&self) -> u32
         ensures { result ≡ header_of self.now.size self.now.bytes.now }
     {
+        let start = table::start(self.size);
         let step = table::step(self.size);
-        let mut at = table::start(self.size);
         let mut v: u32 = 0;
-        for _k in 0..table::heads(self.size) {
-            v = with_bit(v, bit::bit_at(self.bytes, at));
-            at += step;
+        for k in 0..table::heads(self.size) {
+            v = with_bit(v, bit::bit_at(self.bytes, start + k * step));
         }
         v
     }
@@ -105,13 +105,13 @@ impl Unit<'_> {
         0
     }
 
-    // Stores n payload bytes from `from` on, at `at`. By index, which says both the byte and its place.
+    // Stores n payload bytes from `from` on, at `at`.
     fn put(&self, from: usize, n: usize, out: &mut [u8], at: usize)
         requires { (from + n ≤ payload self.now.size) × (at + n ≤ length out.old) }
         ensures { out.new ≡ paste out.old at (drop from (payload_of self.now.size self.now.bytes.now)) n }
     {
-        for i in 0..n {
-            out[at + i] = self.payload_byte(from + i);
+        for (i, byte) in out[at..at + n].iter_mut().enumerate() {
+            *byte = self.payload_byte(from + i);
         }
     }
 

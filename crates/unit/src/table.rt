@@ -39,6 +39,7 @@ impl Header {
     }
 
     /// 1 where it announces opportunistic data, else 0: a length, for `sequence`, which looks only at whether there is any.
+    // A number and no bool: the definition `announced` is that number.
     pub fn announced(self) -> usize
         ensures { result ≡ announced (bits_of self) }
     {

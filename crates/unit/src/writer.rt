@@ -48,6 +48,7 @@ impl Unit<'_> {
     }
 
     // Byte j.
+    // As `payload_byte` of reader.rt, and why twice is said there.
     fn byte(&self, j: usize) -> u8
         requires { j < lent self.now.size }
         ensures { result
