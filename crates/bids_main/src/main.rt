@@ -83,8 +83,7 @@ fn send_from(
 }
 
 impl TakePieces for Sender {
-    // Bytes up to the end of a line. Behind a piece, before more is read, which it always is, the stream's blocks go out; those of a recording wait
-    // for full records.
+    // Bytes up to a line's end. Once the piece is through, the stream's blocks go out; a recording's wait for full records.
     fn take(&mut self, rt: &(impl Print + Speak), piece: &[u8]) -> io::Result<Next> {
         let taken = self.hear(rt, piece)?;
         if 0 < taken && taken < piece.len() {

@@ -30,14 +30,7 @@ impl Form {
 // Bytes in records.
 fn put_records(rt: &(impl Print + Speak), bytes: &[u8]) -> io::Result<()> {
     for record in bytes.chunks(RECORD) {
-        put_record(rt, record)?;
+        console::put_record(rt, b"bids", record)?;
     }
     Ok(())
-}
-
-// A record, behind what says that it is one and how long.
-fn put_record(rt: &(impl Print + Speak), bytes: &[u8]) -> io::Result<()> {
-    let [low, high, ..] = bytes.len().to_le_bytes();
-    print(rt, &[0xF5, 0x5F, low, high])?;
-    print(rt, bytes)
 }

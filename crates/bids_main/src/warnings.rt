@@ -104,7 +104,7 @@ impl Watch {
     }
 }
 
-// The last number of a port that is held.
+// The last number of a port that is held, as each with a gap or a late number is; 0 for none.
 fn last_of(port: u16, entries: &[Entry]) -> u16 {
     entries
         .iter()

@@ -26,7 +26,7 @@ struct Board {
 #[derive(Clone, Copy)]
 enum Begin {
     Unread,
-    Plain,
+    Read,
 }
 
 // Bytes that are read at once, fewer than other programs read.
@@ -87,7 +87,7 @@ fn show(rt: &(impl Input + Print + Speak), fresh: Readout) -> io::Result<()> {
         begin: if fresh.bare {
             Begin::Unread
         } else {
-            Begin::Plain
+            Begin::Read
         },
         recv: [0; Receiver::RAW],
         word: [0; Receiver::WORD],
@@ -126,9 +126,9 @@ impl Begin {
     fn hint(self, rt: &impl Speak, piece: &[u8]) -> Self {
         match self {
             Begin::Unread => say_hint(rt, piece),
-            Begin::Plain => {}
+            Begin::Read => {}
         }
-        Begin::Plain
+        Begin::Read
     }
 }
 

@@ -53,8 +53,13 @@ impl TakePieces for Export {
         self.tape = next.tape;
         match next.found {
             Ok(None) => Ok(self.go_on(rt)),
-            Ok(Some(delivery)) if self.enter(rt, delivery)? => Ok(Next::Again(next.taken)),
-            Ok(Some(_)) => Ok(Next::Stop),
+            Ok(Some(delivery)) => {
+                if self.enter(rt, delivery)? {
+                    Ok(Next::Again(next.taken))
+                } else {
+                    Ok(Next::Stop)
+                }
+            }
             Err(_) => {
                 say(rt, b"capture: the recording is too long\n");
                 Ok(Next::Stop)
@@ -64,7 +69,7 @@ impl TakePieces for Export {
 }
 
 impl Export {
-    // Behind a piece; no more is read behind a wrong byte.
+    // Behind a piece; no more is read behind a wrong byte. As in the other programs over a recording: what each says at a wrong byte is its own.
     fn go_on(&self, rt: &impl Speak) -> Next {
         if !self.tape.is_wrong() {
             return Next::More;

@@ -119,6 +119,7 @@ fn lend(room: usize, out: &mut [u8]) -> &mut [u8] {
 }
 
 /// The number in two bytes from a place on; 0 where they are not there.
+// Numbers: they are what is compared.
 pub fn pair_at(bytes: &[u8], at: usize) -> usize {
     if bytes.len() < 2 || bytes.len() - 2 < at {
         return 0;

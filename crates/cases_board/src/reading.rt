@@ -134,6 +134,7 @@ fn longer(fresh: Readout) -> Readout {
     }
 }
 
+// As in cases_listing and cases_channel: each of another state and answer, told in another form.
 fn run(
     told: &mut impl Write,
     first: Place,
@@ -158,6 +159,7 @@ fn finish(told: &mut impl Write, readout: Readout) -> io::Result<()> {
 }
 
 // One call, told, and what follows from its answer. Where it took nothing and there is no room, nothing would come of another.
+// The buffers come one by one, as the call that is compared takes them.
 fn call(
     told: &mut impl Write,
     readout: Readout,

@@ -182,6 +182,7 @@ fn checked(c: Checked) -> u64 {
 }
 
 // A word that the output holds, repaired there: 0 where it is clean, the places changed, or 256 where it is beyond repair.
+// Numbers: they are what is compared.
 fn repaired(r: usize, bytes: &[u8], out: &mut [u8]) -> u64 {
     base::copy(bytes, out);
     cases::answered(repair::repair(r, out).map(mended))

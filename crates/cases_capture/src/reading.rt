@@ -11,6 +11,7 @@ use std::io::Write;
 
 const HEAD: usize = 11;
 
+// As in cases_stream: each of another state and answer, told in another form.
 pub fn read(told: &mut impl Write, number: u64, bytes: &[u8], store: &mut [u8]) -> io::Result<()> {
     if bytes.len() < HEAD {
         return Ok(());

@@ -109,7 +109,8 @@ fn print_cells(told: &mut impl Write, cells: [u8; Matrix::CELLS], room: usize) -
     told.write_all(&cells[..room.min(Matrix::CELLS)])
 }
 
-// A piece, until more is wanted or a call is refused: the receiver behind it.
+// A piece, until more is wanted or a call is refused: the receiver behind it. The buffers come one by one, as the call that is compared
+// takes them.
 fn hear_all(
     told: &mut impl Write,
     first: Receiver,

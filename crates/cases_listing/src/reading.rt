@@ -106,6 +106,7 @@ fn length(told: &mut impl Write, w: Written) -> io::Result<usize> {
 }
 
 // One call, told, and what follows from its answer. Where it wants room and wrote nothing, nothing would come of another.
+// The buffers come one by one, as the call that is compared takes them.
 fn call(
     told: &mut impl Write,
     recording: Lister,

@@ -1,6 +1,6 @@
-//! What programs share: how they read their arguments, write standard output, and say on standard error what they say: a text, a number, a refusal by
-//! its number and in words. No contract can speak of what is read or written, so this promises nothing of it, and only programs stand on it; tests/
-//! compares what is said. docs/REFUSALS.md has each number with its cause and what to do.
+//! What programs share: how they read their arguments and, piece by piece, standard input, write standard output, and say on standard error what
+//! they say: a text, a number, a refusal by its number and in words. No contract can speak of what is read or written, so this promises nothing of
+//! it, and only programs stand on it; tests/ compares what is said. docs/REFUSALS.md has each number with its cause and what to do.
 #![tactic(auto)]
 
 ghost use Rattle.std.specs.Prelude.{◌≤◌, length};
@@ -59,7 +59,7 @@ fn is_there(rt: &impl Env, place: usize) -> bool {
     !matches!(rt.arg(place, &mut space), Err(FillError::NotPresent))
 }
 
-/// The bytes of an argument, in a space that is lent; none where there is no such argument or it does not fit.
+/// The bytes of an argument, in a space that is lent; empty where there is none or it does not fit.
 pub fn argument<'a>(rt: &impl Env, place: usize, space: &'a mut [u8]) -> &'a [u8]
     ensures { length result.now ≤ length space.old }
 {
@@ -73,7 +73,7 @@ pub fn is_argument(rt: &impl Env, place: usize, text: &[u8]) -> bool {
     argument(rt, place, &mut space) == text
 }
 
-/// The number that an argument says, in one to so many digits; the greatest one where it is above that.
+/// The number that an argument says, in one to so many digits; the greatest of 64 bits where it says more.
 pub fn number(rt: &impl Env, place: usize, digits: usize) -> Option<usize> {
     let mut space = [0u8; ARGUMENT];
     let text = argument(rt, place, &mut space);
@@ -195,6 +195,13 @@ pub fn put(
             Ok(false)
         }
     }
+}
+
+/// A record of a recording, to standard output: what says that it is one, how long it is, the low byte first, and the bytes. It holds 65,535, at most.
+pub fn put_record(rt: &(impl Print + Speak), program: &[u8], bytes: &[u8]) -> io::Result<()> {
+    let [low, high, ..] = bytes.len().to_le_bytes();
+    print(rt, program, &[0xF5, 0x5F, low, high])?;
+    print(rt, program, bytes)
 }
 
 // The status that a shell tells of a program that a pipe without a reader ended.

@@ -76,7 +76,7 @@ fn tell(rt: &(impl Print + Speak), answer: Answer) -> io::Result<bool> {
 fn is_refused(answer: Answer) -> bool {
     match answer {
         Answer::Said(Judged::Refused(n)) => {
-            n == Refusal::State as u8 || n == Refusal::Buffer as u8
+            matches!(Refusal::try_from(n), Ok(Refusal::State | Refusal::Buffer))
         }
         _ => false,
     }

@@ -12,35 +12,48 @@ use std::env::Env;
 use std::io;
 use std::process::ExitCode;
 
+// The sender, or the receiver.
+#[derive(Clone, Copy)]
+enum Task {
+    Send,
+    List,
+}
+
 fn main(rt: HostRuntime) -> ExitCode {
     console::status(choose(&rt))
 }
 
-// What the first argument asks for.
+// What the arguments ask for.
 fn choose(rt: &(impl Env + Input + Print + Speak)) -> io::Result<()> {
-    let (4, Some(parity), Some(depth)) = (
+    let (4, Some(parity), Some(depth), Some(task)) = (
         console::argument_count(rt),
         console::number(rt, 2, 2),
         console::number(rt, 3, 2),
+        asked(rt),
     ) else {
         usage(rt);
         return Ok(());
     };
-    let sends = is_argument(rt, 1, b"send");
-    if !sends && !is_argument(rt, 1, b"list") {
-        usage(rt);
-        return Ok(());
-    }
     // Settings that are refused are so before anything is read.
     if let Err(refusal) = subchannel_sender::count(parity, depth, 0) {
         say_refused(rt, refusal);
         return Ok(());
     }
-    if sends {
-        sending::send_all(rt, parity, depth)
-    } else {
-        listing::list_all(rt, parity, depth)
+    match task {
+        Task::Send => sending::send_all(rt, parity, depth),
+        Task::List => listing::list_all(rt, parity, depth),
     }
+}
+
+// What the first argument asks for.
+fn asked(rt: &impl Env) -> Option<Task> {
+    if is_argument(rt, 1, b"send") {
+        return Some(Task::Send);
+    }
+    if is_argument(rt, 1, b"list") {
+        return Some(Task::List);
+    }
+    None
 }
 
 fn usage(rt: &impl Speak) {

@@ -8,7 +8,7 @@ use std::io::Read;
 use subchannel::Settings;
 use subchannel_sender::Group;
 
-// A sender at its settings, and the memory of a group.
+// A sender at its settings, which are no lengths of the output, and the memory of a group.
 #[derive(Drop)]
 struct Sending {
     parity: usize,
@@ -37,7 +37,7 @@ fn read_on(rt: &impl Input, hold: &mut [u8], have: usize, want: usize) -> io::Re
     Ok(Some(console::onward(have, n, want)))
 }
 
-// The sender: a group whenever its bytes are in.
+// The sender: a group whenever its bytes are in. They gather over several reads, so not by console::each_piece.
 pub fn send_all(rt: &(impl Input + Print + Speak), parity: usize, depth: usize) -> io::Result<()> {
     let mut sending = Sending {
         parity,

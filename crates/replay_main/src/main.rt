@@ -52,8 +52,13 @@ impl TakePieces for Replay {
         self.capture = told.capture;
         match told.heard {
             None => Ok(Next::More),
-            Some(judged) if self.pass(rt, judged)? => Ok(Next::Again(told.taken)),
-            Some(_) => Ok(Next::Stop),
+            Some(judged) => {
+                if self.pass(rt, judged)? {
+                    Ok(Next::Again(told.taken))
+                } else {
+                    Ok(Next::Stop)
+                }
+            }
         }
     }
 }
@@ -61,17 +66,13 @@ impl TakePieces for Replay {
 impl Replay {
     // An answer: a packet is sent, and a refusal ends the work. Whether the capture is read further, else it was said why not.
     fn pass(&mut self, rt: &(impl Print + Speak), judged: Judged) -> io::Result<bool> {
-        match judged {
-            Judged::Packet(delivery) => self.send(rt, delivery),
-            Judged::Refused(number) => Ok(self.refuse(rt, number)),
-            Judged::Broken(_) => Ok(self.refuse(rt, Refusal::Escape as u8)),
-        }
-    }
-
-    // A refusal, and no more is read.
-    fn refuse(&self, rt: &impl Speak, number: u8) -> bool {
+        let number = match judged {
+            Judged::Packet(delivery) => return self.send(rt, delivery),
+            Judged::Refused(number) => number,
+            Judged::Broken(_) => Refusal::Escape as u8,
+        };
         say_refused(rt, number, self.packets);
-        false
+        Ok(false)
     }
 
     // A packet, where the recording has room for it.
@@ -125,7 +126,7 @@ fn say_refused(rt: &impl Speak, number: u8, record: u64) {
 fn put(rt: &(impl Print + Speak), written: Written, out: &[u8]) -> io::Result<bool> {
     match written {
         Ok(n) => {
-            record(rt, &out[..n.min(out.len())])?;
+            console::put_record(rt, b"replay", &out[..n.min(out.len())])?;
             Ok(true)
         }
         Err(refusal) => {
@@ -133,10 +134,4 @@ fn put(rt: &(impl Print + Speak), written: Written, out: &[u8]) -> io::Result<bo
             Ok(false)
         }
     }
-}
-
-fn record(rt: &(impl Print + Speak), bytes: &[u8]) -> io::Result<()> {
-    let [low, high, ..] = bytes.len().to_le_bytes();
-    console::print(rt, b"replay", &[0xF5, 0x5F, low, high])?;
-    console::print(rt, b"replay", bytes)
 }

@@ -17,7 +17,7 @@ use std::{fs, io};
 
 // Whether it is said which recording is at hand.
 #[derive(Clone, Copy)]
-enum Pace {
+enum Telling {
     Progress,
     Quiet,
 }
@@ -40,7 +40,7 @@ fn main(rt: HostRuntime) -> ExitCode {
 fn run(rt: &(impl Env + Files + Print + Speak)) -> io::Result<()> {
     let count = console::argument_count(rt);
     match console::range(rt, 2) {
-        Some(range) if count > 4 => { print_all(rt, count_all(rt, range, Pace::asked(rt), count)) }
+        Some(range) if count > 4 => print_all(rt, count_all(rt, range, Telling::asked(rt), count)),
         _ => {
             usage(rt);
             Ok(())
@@ -56,29 +56,34 @@ fn usage(rt: &impl Speak) {
 }
 
 // The sheet of the recordings that the arguments behind the fourth name.
-fn count_all(rt: &(impl Env + Files + Speak), range: Range, pace: Pace, count: usize) -> Sheet {
+fn count_all(
+    rt: &(impl Env + Files + Speak),
+    range: Range,
+    telling: Telling,
+    count: usize,
+) -> Sheet {
     let mut sheet = Sheet::fresh();
     for i in 4..count {
-        pace.tell(rt, i - 3, count - 4);
+        telling.tell(rt, i - 3, count - 4);
         sheet = counted(rt, range, sheet, i);
     }
     sheet
 }
 
-impl Pace {
+impl Telling {
     // What the first argument asks for.
     fn asked(rt: &impl Env) -> Self {
         if console::is_argument(rt, 1, b"progress") {
-            return Pace::Progress;
+            return Telling::Progress;
         }
-        Pace::Quiet
+        Telling::Quiet
     }
 
     // Which recording of how many.
     fn tell(self, rt: &impl Speak, i: usize, all: usize) {
         match self {
-            Pace::Progress => say_progress(rt, i, all),
-            Pace::Quiet => {}
+            Telling::Progress => say_progress(rt, i, all),
+            Telling::Quiet => {}
         }
     }
 }
@@ -120,7 +125,8 @@ fn open<R: Files>(rt: &R, name: &[u8]) -> io::Result<R::File> {
     }
 }
 
-// A recording, piece by piece; none where it cannot be read to its end, or to a wrong byte.
+// A recording, piece by piece; none where it cannot be read to its end, or to a wrong byte. A file and not standard input, so not by
+// console::each_piece.
 fn hear_all(range: Range, sheet: Sheet, mut file: impl Read + Drop) -> Option<Closed> {
     let mut hearing = Hearing {
         range,
