@@ -106,7 +106,7 @@ impl Sender {
         Ok(heard.taken)
     }
 
-    // The end of the input: it ends a line that is begun.
+    // The end of the input: it ends a line that is begun. As `hear`, by the office's other call.
     fn end(&mut self, rt: &(impl Print + Speak)) -> io::Result<()> {
         let stored = self.office.stored;
         let from = self.waiting.min(PIECE);

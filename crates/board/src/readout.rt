@@ -71,7 +71,7 @@ fn owed_packet(noted: Noted, delivery: Delivery) -> Owed
 }
 
 impl Took {
-    // The call is refused: nothing is taken and nothing written.
+    // The call is refused: nothing is taken and nothing written. As in `listing`, of another state: one answer over any would be one public type more.
     fn refused(refusal: Refusal, readout: Readout) -> Self
         ensures { result ≡ record { wants = Err refusal; taken = 0; written = 0; next = readout } }
     {

@@ -17,6 +17,7 @@ fn is_clean(word: &[u8]) -> bool
 }
 
 // Whether the word is clean whose last n bytes stand in the piece from `at` on: where those are all its bytes, it is checked there.
+// That the lent buffer holds a word, `settle` and `fill` ask too: each function over a struct of it would have to say that it is the same still.
 fn is_clean_last(word: &[u8], piece: &[u8], at: usize, n: usize) -> bool
     requires word_bytes_in_bounds { word_bytes ≤ length word.now }
     requires n_in_bounds { at + n ≤ length piece.now }
@@ -30,7 +31,7 @@ fn is_clean_last(word: &[u8], piece: &[u8], at: usize, n: usize) -> bool
     is_clean(&word[0..Block::WORD])
 }
 
-// The answer to a word, which is repaired in its place.
+// The answer to a word, which is repaired in its place. `subchannel` has such lines for any number of roots: each names its own channel's definitions.
 fn mend(word: &mut [u8]) -> Condition
     requires { length word.old ≡ word_bytes }
     ensures { (result ≡ condition word.old) × (word.new ≡ mend word.old) }

@@ -53,7 +53,7 @@ pub struct Hearing {
 }
 
 impl Seat {
-    // A sub-channel without its cells.
+    // A sub-channel without its cells. By this name and no `From`: its clause names the definition of it (`seat`).
     fn of(sub: Sub) -> Self
         ensures { result ≡ seat sub }
     {
@@ -177,7 +177,7 @@ impl Receiver {
         }
     }
 
-    // A refused call: the state as it was, and no byte taken.
+    // A refused call: the state as it was, and no byte taken. As `unheard` of `subchannel`, of another state.
     fn unheard(self, refusal: Refusal) -> Hearing
         ensures { result ≡ record { answer = Answer.Said (Judged.Refused (number refusal)); taken = 0; receiver = self } }
     {

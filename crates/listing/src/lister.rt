@@ -71,7 +71,7 @@ fn near_totals(totals: Totals, room: usize) -> bool
 }
 
 impl Took {
-    // The call is refused: nothing is taken and nothing written.
+    // The call is refused: nothing is taken and nothing written. As in `board`, where it is said why twice.
     fn refused(refusal: Refusal, recording: Lister) -> Self
         ensures { result ≡ record { wants = Err refusal; taken = 0; written = 0; next = recording } }
     {

@@ -7,7 +7,7 @@ use crate::answers::Numbered;
 use crate::{answers, reading};
 use channel::{Hunting, Locked, Receiver};
 
-// A byte from its number: the lowest one counts.
+// A byte from its number: the lowest one counts. By the remainder, as the definition has it.
 fn low(number: u64) -> u8
     ensures { result ≡ number % 256 }
 {

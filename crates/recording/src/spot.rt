@@ -74,7 +74,7 @@ pub(crate) fn skip(spot: Spot, n: usize) -> Spot
     }
 }
 
-// One byte on, at a new place.
+// One byte on, at a new place. That the offset has room for it, `step` and `head` ask too: a spot is made anew with each byte, and so would a type of it be.
 fn on(spot: Spot, place: Place) -> Spot
     requires { spot.offset < far }
     ensures { result ≡ on place spot }

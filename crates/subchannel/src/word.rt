@@ -14,7 +14,7 @@ pub(crate) fn place_in(count: usize) -> usize
     if count < Sub::WORD { count } else { 0 }
 }
 
-// The answer to a word, which is repaired in its place.
+// The answer to a word, which is repaired in its place, as in `channel`, where there is one number of roots.
 fn mend(parity: usize, word: &mut [u8]) -> Condition
     ensures { (result ≡ condition parity word.old) × (word.new ≡ mend parity word.old) }
 {
