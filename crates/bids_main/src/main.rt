@@ -171,6 +171,8 @@ impl Sender {
 }
 
 // How many bytes of a line stand in its buffer, of so many before the call and of those that it took, its end among them.
-fn line_end(stored: usize, taken: usize) -> usize {
+fn line_end(stored: usize, taken: usize) -> usize
+    ensures { result ≤ 65536 }
+{
     console::onward(stored.min(PIECE), taken.saturating_sub(1), PIECE)
 }

@@ -4,6 +4,9 @@
 //! so on standard error and stops; where the input is no whole recording, it says so behind the last line.
 #![tactic(auto)]
 
+ghost use Rattle.std.specs.Prelude.{◌≤◌, length, IfOk};
+ghost use Rattle.console.specs.Next.{passed};
+
 use board::{Readout, Wants};
 use channel::Receiver;
 use console::{Next, Speak, TakePieces, is_argument, say};
@@ -68,7 +71,7 @@ fn asked_range(rt: &impl Env, place: usize) -> Option<Range> {
     let behind = console::argument_count(rt).checked_sub(place)?;
     match behind {
         0 => Some(Range::all()),
-        2 => console::range(rt, place).filter(|range| range.first <= range.last),
+        2 => console::named_range(rt, place).filter(|range| range.first <= range.last),
         _ => None,
     }
 }
@@ -104,20 +107,7 @@ impl TakePieces for Board {
     // What bytes show is out before the next are read.
     fn take(&mut self, rt: &(impl Print + Speak), piece: &[u8]) -> io::Result<Next> {
         self.begin = self.begin.hint(rt, piece);
-        let took = self
-            .readout
-            .take(&mut self.recv, &mut self.word, piece, &mut self.out);
-        self.readout = took.next;
-        print(rt, &self.out[..took.written.min(ROOM)])?;
-        match took.wants {
-            Ok(Wants::Again) => Ok(Next::Again(took.taken)),
-            Ok(Wants::More) => self.go_on(rt),
-            // No recording of less than 2^64 bytes comes to that, and no stream.
-            Err(_) => {
-                say(rt, b"board: the recording is too long\n");
-                Ok(Next::Stop)
-            }
-        }
+        self.call(rt, piece)
     }
 }
 
@@ -142,8 +132,30 @@ fn say_hint(rt: &impl Speak, piece: &[u8]) {
 }
 
 impl Board {
+    // One call, and what it wrote: it stays within what it is lent.
+    fn call(&mut self, rt: &(impl Print + Speak), piece: &[u8]) -> io::Result<Next>
+        ensures { IfOk result (λ next. passed next ≤ length piece.now) }
+    {
+        let took = self
+            .readout
+            .take(&mut self.recv, &mut self.word, piece, &mut self.out);
+        self.readout = took.next;
+        print(rt, &self.out[..took.written])?;
+        match took.wants {
+            Ok(Wants::Again) => Ok(Next::Again(took.taken)),
+            Ok(Wants::More) => self.go_on(rt),
+            // No recording of less than 2^64 bytes comes to that, and no stream.
+            Err(_) => {
+                say(rt, b"board: the recording is too long\n");
+                Ok(Next::Stop)
+            }
+        }
+    }
+
     // Behind a piece. Behind a recording's wrong byte nothing more is shown.
-    fn go_on(&self, rt: &(impl Print + Speak)) -> io::Result<Next> {
+    fn go_on(&self, rt: &(impl Print + Speak)) -> io::Result<Next>
+        ensures { IfOk result (λ next. passed next ≤ 0) }
+    {
         if !self.readout.tape.is_wrong() {
             return Ok(Next::More);
         }

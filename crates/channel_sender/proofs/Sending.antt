@@ -1,6 +1,6 @@
 -- Laws of the sender.
 -- block-put                       one block, from what its calls leave
--- mark-short, mark-fits            what the call for one block answers and leaves
+-- mark-short, mark-fits, next-put   what the call for one block answers and leaves
 -- first_blocks, blocks-next        the blocks passed are written, and the rest is as it was: a turn of the loop
 -- blocks-room                     and the output's length stays
 -- send-short, send-fits           what the call for a whole stream answers and leaves
@@ -72,6 +72,10 @@ module _ (m out : List ℕ) (h : length m ≡ message_bytes) where
       → outcome (Wrote block_bytes) after ≡ marking m out
   mark-fits k e = simp (eq-eqb (length m) message_bytes h) (wrote-fits (marker ++ word_of m) out block_bytes (block-length m h) k e)
 
+  mark-put : {w : Written} {after : List ℕ} → block_bytes ≤ length out → outcome w after ≡ marking m out
+      → after ≡ (marker ++ word_of m) ++ drop block_bytes out
+  mark-put k e = ap (λ (o : Outcome). o.output) (e ∙ sym (mark-fits k refl))
+
 -- ---- a message: the next 223 bytes, or those that are left and flags behind them
 abbrev message_of : List ℕ → List ℕ
 message_of bs = copied bs (replicate message_bytes flag)
@@ -85,6 +89,12 @@ length-copied bs dst =
 
 message-length : (bs : List ℕ) → length (message_of bs) ≡ message_bytes
 message-length bs = length-copied bs (replicate message_bytes flag) ∙ length-replicate message_bytes flag
+
+-- the block of the next message
+pub next-put : (s out : List ℕ) {m : List ℕ} {w : Written} {after : List ℕ} → m ≡ copied s (replicate message_bytes flag) → block_bytes ≤ length out
+    → outcome w after ≡ marking m out → after ≡ (marker ++ word_of (copied s (replicate message_bytes flag))) ++ drop block_bytes out
+next-put s out e k f =
+    mark-put (copied s (replicate message_bytes flag)) out (message-length s) k (f ∙ ap (λ (m : List ℕ). marking m out) e)
 
 -- ---- block after block
 abbrev block_of : List ℕ → List ℕ

@@ -42,7 +42,8 @@ fn put_next(stream: &[u8], out: &mut [u8])
 {
     let mut message = [FrameReader::FLAG; Block::MESSAGE];
     base::copy(stream, &mut message);
-    put_block(&message, out);
+    // Never refused, as there. By `mark`, so that one operation makes every marked byte.
+    let _ = mark(&message, out);
 }
 
 // How many blocks so many bytes fill.

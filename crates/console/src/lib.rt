@@ -94,12 +94,23 @@ pub fn port(rt: &impl Env, place: usize) -> Option<u16> {
     u16::try_from(number(rt, place, 5)?).ok()
 }
 
+/// The ports from one to another, each told by its low 16 bits.
+pub fn range(first: usize, last: usize) -> Range {
+    Range {
+        first: low(first),
+        last: low(last),
+    }
+}
+
+fn low(n: usize) -> u16 {
+    (n % 65536) as u16
+}
+
 /// The ports from the one that an argument names to that of the next argument.
-pub fn range(rt: &impl Env, place: usize) -> Option<Range> {
-    Some(Range {
-        first: port(rt, place)?,
-        last: port(rt, place.saturating_add(1))?,
-    })
+pub fn named_range(rt: &impl Env, place: usize) -> Option<Range> {
+    let first = port(rt, place)?;
+    let last = port(rt, place.saturating_add(1))?;
+    Some(range(usize::from(first), usize::from(last)))
 }
 
 /// Standard input, piece by piece as it comes, to one who takes it, while more is wanted: whether it ended. Where it cannot be read, that is said.
@@ -144,7 +155,7 @@ fn take_piece(
     let mut rest = piece;
     for _ in 0..u64::MAX {
         match taker.take(rt, rest)? {
-            Next::Again(taken) => rest = &rest[taken.min(rest.len())..],
+            Next::Again(taken) => rest = &rest[onward(0, taken, rest.len())..],
             Next::More => return Ok(true),
             Next::Stop => return Ok(false),
         }

@@ -103,7 +103,7 @@ impl Sending {
             let Some(taken) = self.send(rt, left)? else {
                 return Ok(());
             };
-            left = &left[taken.min(left.len())..];
+            left = &left[console::onward(0, taken, left.len())..];
         }
         Ok(())
     }

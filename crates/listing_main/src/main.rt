@@ -2,6 +2,9 @@
 //! without a last line. Where the last line is `X`, it stands on standard error too. Behind a wrong byte it reads no more.
 #![tactic(auto)]
 
+ghost use Rattle.std.specs.Prelude.{◌≤◌, length, IfOk};
+ghost use Rattle.console.specs.Next.{passed};
+
 use channel::Receiver;
 use console::{Next, PIECE, Speak, TakePieces, say};
 use listing::{Lister, Wants};
@@ -39,11 +42,20 @@ fn list_all(rt: &(impl Input + Print + Speak)) -> io::Result<()> {
 impl TakePieces for Listing {
     // Lines are out before the next bytes are read.
     fn take(&mut self, rt: &(impl Print + Speak), piece: &[u8]) -> io::Result<Next> {
+        self.call(rt, piece)
+    }
+}
+
+impl Listing {
+    // One call, and its lines: it stays within what it is lent.
+    fn call(&mut self, rt: &(impl Print + Speak), piece: &[u8]) -> io::Result<Next>
+        ensures { IfOk result (λ next. passed next ≤ length piece.now) }
+    {
         let took = self
             .recording
             .take(&mut self.recv, &mut self.word, piece, &mut self.out);
         self.recording = took.next;
-        console::print(rt, b"listing", &self.out[..took.written.min(PIECE)])?;
+        console::print(rt, b"listing", &self.out[..took.written])?;
         match took.wants {
             Ok(Wants::Room) => Ok(Next::Again(took.taken)),
             Ok(Wants::More) => self.go_on(rt),
@@ -54,11 +66,11 @@ impl TakePieces for Listing {
             }
         }
     }
-}
 
-impl Listing {
     // Behind a piece. Behind a wrong byte nothing counts, so that the last line is printed there.
-    fn go_on(&mut self, rt: &(impl Print + Speak)) -> io::Result<Next> {
+    fn go_on(&mut self, rt: &(impl Print + Speak)) -> io::Result<Next>
+        ensures { IfOk result (λ next. passed next ≤ 0) }
+    {
         if !self.recording.tape.is_wrong() {
             return Ok(Next::More);
         }

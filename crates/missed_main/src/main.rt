@@ -26,7 +26,7 @@ fn main(rt: HostRuntime) -> ExitCode {
 
 // The ports that the arguments name.
 fn run(rt: &(impl Env + Input + Print + Speak)) -> io::Result<()> {
-    match console::range(rt, 1) {
+    match console::named_range(rt, 1) {
         Some(range) if console::argument_count(rt) == 3 => hear_all(rt, range),
         _ => {
             usage(rt);

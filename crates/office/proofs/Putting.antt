@@ -1,12 +1,12 @@
 -- What the private functions leave.
--- put_is                        whole messages put out, the rest moved
+-- put_is, put-none               whole messages put out, the rest moved; where none is whole, nothing is
 -- send-asks, send-is, send-not   a bid
 -- line-asks, line-bid, line-none a line's end
 use Prim.Native.Nat.{ℕ, suc, ◌+◌, ◌-◌, ◌*◌, ◌/◌, ◌%◌, ◌≤◌}
 use native.Mathlib.Omega.{arith}
 use mathlib.Core.Path.{◌≡◌, refl, sym, ◌∙◌, ap, subst}
 use mathlib.Core.List.{List, [], ◌∷◌, ◌++◌, append_assoc}
-use lib.ListN.{length, take, drop, length-append, length-drop}
+use lib.ListN.{length, take, drop, length-append, length-drop, take-append-drop}
 use lib.Seq.{take-take, take_at, length-take-le, drop-drop}
 use Rattle.base.specs.Written.{Outcome, outcome, write, copied, refused as keeps}
 use Rattle.std.specs.Prelude.{Result, Ok, Err}
@@ -79,6 +79,13 @@ module _ (hold out : List ℕ) (n : ℕ) (h : n ≤ length hold) (m : n ≤ hold
   put_is w es er eh =
       let p = written w (es ∙ ap (λ (x : List ℕ). sending x out) first-is) in
       (er ∙ p.0, eh ∙ moved, p.1)
+
+  unmoved : whole ≡ 0 → hold ≡ copy_within hold whole n 0
+  unmoved z = sym (take-append-drop n hold) ∙ ap (λ (k : ℕ). copy_within hold k n 0) (sym z)
+
+  pub put-none : (w : Result ℕ Refusal) {r : ℕ} {out' : List ℕ} → outcome (as_written w) out' ≡ sending (take whole hold) out → r ≡ result_unwrap_or w 0
+      → whole ≡ 0 → PutIs bs hold out r hold out'
+  put-none w es er z = put_is w es er (unmoved z)
 
 -- ---- a bid
 module _ (port sequence : ℕ) (payload : List ℕ) (at : ℕ) (hold : List ℕ) (small : at ≤ held_limit) (room : hold_limit ≤ length hold) where

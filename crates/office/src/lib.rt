@@ -66,6 +66,10 @@ fn put_out(hold: &mut [u8], n: usize, out: &mut [u8]) -> usize
 {
     let whole = n / Block::MESSAGE * Block::MESSAGE;
     let sent = channel_sender::send(&hold[..whole], out).unwrap_or(0);
+    // Onto themselves bytes would be moved one by one.
+    if whole == 0 {
+        return sent;
+    }
     hold.copy_within(whole..n, 0);
     sent
 }

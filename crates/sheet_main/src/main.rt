@@ -39,7 +39,7 @@ fn main(rt: HostRuntime) -> ExitCode {
 // The ports and the recordings that the arguments name.
 fn run(rt: &(impl Env + Files + Print + Speak)) -> io::Result<()> {
     let count = console::argument_count(rt);
-    match console::range(rt, 2) {
+    match console::named_range(rt, 2) {
         Some(range) if count > 4 => print_all(rt, count_all(rt, range, Telling::asked(rt), count)),
         _ => {
             usage(rt);
@@ -153,7 +153,7 @@ impl Hearing {
         for _ in 0..u64::MAX {
             let next = self.tape.next_packet(&mut self.recv, &mut self.word, rest);
             self.tape = next.tape;
-            rest = &rest[next.taken.min(rest.len())..];
+            rest = &rest[console::onward(0, next.taken, rest.len())..];
             let Some(delivery) = next.found? else {
                 break;
             };

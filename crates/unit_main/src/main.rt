@@ -56,10 +56,13 @@ fn write(rt: &(impl Env + Files + Alloc + Print + Speak)) -> io::Result<()> {
         usage(rt);
         return Ok(());
     };
-    let audio = get(rt, 4);
-    let opportunistic = get(rt, 5);
-    let fixed = get(rt, 6);
-    match (&audio, &opportunistic, &fixed) {
+    let mut audio_space = [0u8; PIECE];
+    let mut opportunistic_space = [0u8; PIECE];
+    let mut fixed_space = [0u8; PIECE];
+    let audio = get(rt, 4, &mut audio_space);
+    let opportunistic = get(rt, 5, &mut opportunistic_space);
+    let fixed = get(rt, 6, &mut fixed_space);
+    match (audio, opportunistic, fixed) {
         (Some(audio), Some(opportunistic), Some(fixed)) => {
             write_parts(rt, asked, audio, opportunistic, fixed)
         }
@@ -93,8 +96,9 @@ fn read(rt: &(impl Env + Files + Alloc + Speak)) -> io::Result<()> {
         usage(rt);
         return Ok(());
     };
-    match get(rt, 6) {
-        Some(unit) => read_parts(rt, asked, audio, fixed, &unit),
+    let mut space = [0u8; PIECE];
+    match get(rt, 6, &mut space) {
+        Some(unit) => read_parts(rt, asked, audio, fixed, unit),
         None => Ok(()),
     }
 }
@@ -175,14 +179,18 @@ fn path(name: &[u8]) -> io::Result<&str> {
     str::from_utf8(name).map_err(|_| io::Error::from(ErrorKind::InvalidFilename))
 }
 
-// The first bytes of the file that an argument names; where that fails it was said why.
-fn get<R: Env + Files + Alloc + Speak>(rt: &R, i: usize) -> Option<Vec<u8, R::A>> {
+// The first bytes of the file that an argument names, in a space that is lent; where that fails it was said why.
+fn get<'a>(
+    rt: &(impl Env + Files + Alloc + Speak),
+    i: usize,
+    space: &'a mut [u8],
+) -> Option<&'a [u8]> {
     if is_argument(rt, i, b"-") {
-        return Some(Vec::new(rt.alloc()));
+        return Some(&[]);
     }
-    let mut space = [0u8; ARGUMENT];
-    let name = console::argument(rt, i, &mut space);
-    match read_file(rt, name) {
+    let mut text = [0u8; ARGUMENT];
+    let name = console::argument(rt, i, &mut text);
+    match read_file(rt, name, space) {
         Ok(bytes) => Some(bytes),
         Err(error) => {
             say_failed(rt, name, error);
@@ -191,13 +199,20 @@ fn get<R: Env + Files + Alloc + Speak>(rt: &R, i: usize) -> Option<Vec<u8, R::A>
     }
 }
 
-// The first bytes of the file of this name.
-fn read_file<R: Files + Alloc>(rt: &R, name: &[u8]) -> io::Result<Vec<u8, R::A>> {
-    let mut bytes = Vec::new(rt.alloc());
-    fs::open(rt, path(name)?)?
-        .take(PIECE as u64)
-        .read_to_end(&mut bytes)?;
-    Ok(bytes)
+// The first bytes of the file of this name, in as much space as is lent. No Vec of them: there may be no memory to ask for, and std reads into one by
+// pieces, of which a pipe that hands out whole messages cuts off the rest.
+fn read_file<'a>(rt: &impl Files, name: &[u8], space: &'a mut [u8]) -> io::Result<&'a [u8]> {
+    let mut file = fs::open(rt, path(name)?)?;
+    let mut n: usize = 0;
+    // How many bytes a read gives is known only behind it, so that no `for` counts them.
+    while n < space.len() {
+        let more = file.read(&mut space[n..])?;
+        if more == 0 {
+            break;
+        }
+        n += more;
+    }
+    Ok(&space[..n])
 }
 
 // `unit: NAME: WORDS`, a line, in the system's words for an error.
