@@ -4,7 +4,7 @@
 -- known-within        a number that is configured
 -- put_last            the last of the four exchanged
 -- told-is, told-none  a sub-channel that is configured, or not
--- configured-told     one that is told
+-- configured-refused, configured-told   30 and 32 on configuring; one that is told
 -- hear-..             a call on one of the four
 -- call-is             a call among the boards is that call
 use Prim.Native.Nat.{ℕ, zero, suc, ◌≤◌}
@@ -35,7 +35,7 @@ use Rattle.std.specs.Prelude.{Result, Ok, Err}
 use Rattle.std.specs.Prelude as option
 use Rattle.base.specs.declared.Refusal.{Refusal}
 use Rattle.subchannel_spec.specs.Settings.{Configured, Done, Refused, as_configured}
-use Rattle.four_receivers.specs.Call.{Receiver, seated, seat, whole, seats, laid, get, put, sound_four, known, configuring, ConfiguringIs}
+use Rattle.four_receivers.specs.Call.{Receiver, seated, seat, whole, seats, laid, get, put, sound_four, known, configuring, as_configuring, ConfiguringIs}
 use Rattle.four_receivers.specs.Call.{heard_by, hear_four, FourIs}
 use Rattle.four_receivers.specs.Call.{Memories, memory_at, call_by, call_on}
 
@@ -163,6 +163,13 @@ module _ (s : code.Receiver) (cs : List (List ℕ)) (n r d : ℕ) where
           done : (a : Result Unit Refusal) → t.answer ≡ a → left (as_telling t) ≡ (Done, put (whole s cs) n t.sub)
           done (Ok u) k = ap (λ a. left (as_configured a, t.sub)) k
           done (Err e) k = absurd (q e k)
+
+    -- refused with m, as telling is
+    module _ (h : n ≤ 3) where
+      pub configured-refused : (x : Configuring) (t : Telling) (m : ℕ) → as_telling t ≡ telling r d → as_configured t.answer ≡ Refused m
+          → as_configuring x ≡ (Refused m, s) → Told x cs
+      configured-refused x t m p q w =
+          subst (λ z. ConfiguringIs cs z x cs) (sym (is-left h t p ∙ ap (λ a. left (a, t.sub)) q)) (w, laid_same s cs)
 
 -- ---- a call
 module _ (s : code.Receiver) (cs : List (List ℕ)) (n : ℕ) (l w bs : List ℕ) where

@@ -1,3 +1,4 @@
 pub mod Determined
 pub mod Says
 pub mod Finding
+pub mod Tables

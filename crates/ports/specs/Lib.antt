@@ -1,1 +1,2 @@
 pub mod ByValue
+pub mod Private
