@@ -8,14 +8,16 @@
 -- names-one                  what a number names is one answer
 -- copied-fits                with room, copying leaves the bytes and what stood behind them
 -- copied-over                without, as many bytes as there is room for
+-- copied-all                 and where there is just so much room, the bytes
 -- copied-min                 the bytes for which there is room, and those behind them
+-- copied_next, copied-done   a turn of the loop that copies, and its end
 use mathlib.Core.Path.{◌≡◌, refl, sym, ap, ap₂, ◌∙◌}
 use mathlib.Core.Bool.{Bool, true, false}
-use mathlib.Core.List.{List, ◌++◌, append-nil}
-use Prim.Native.Nat.{ℕ, ◌≤◌, ◌<◌, min}
+use mathlib.Core.List.{List, [], ◌∷◌, ◌++◌, append-nil}
+use Prim.Native.Nat.{ℕ, ◌+◌, ◌≤◌, ◌<◌, min}
 use native.Mathlib.Omega.{arith}
-use lib.ListN.{length, take, drop}
-use lib.Seq.{take_all, take_at}
+use lib.ListN.{length, take, drop, get_or, set}
+use lib.Seq.{take_all, take_at, take-nil, drop-nil}
 use borrow.Author.Tests.{lt-ltb, le-ltb}
 use Rattle.base.specs.Choice.{pick}
 use Rattle.std.specs.Prelude.{eqb, Result, Ok, Err}
@@ -26,6 +28,7 @@ use Rattle.base.specs.Refusals.{number, Names}
 use Rattle.base.specs.Written.{Written, Wrote, Refused, as_written, Outcome, outcome, Keeps, refused, write, copied}
 use Rattle.base.proofs.Lists.{over}
 use Rattle.base.proofs.Tests.{by_le}
+use Rattle.base.proofs.InPlace.{next, done}
 
 pub copied-fits : (bs dst : List ℕ) → length bs ≤ length dst → copied bs dst ≡ bs ++ drop (length bs) dst
 unfolding copied
@@ -34,6 +37,9 @@ copied-fits bs dst h = ap (λ (l : List ℕ). l ++ drop (length bs) dst) (take_a
 pub copied-over : (bs dst : List ℕ) → length dst ≤ length bs → copied bs dst ≡ take (length dst) bs
 unfolding copied
 copied-over bs dst h = ap (λ (l : List ℕ). take (length dst) bs ++ l) (over dst (length bs) h) ∙ append-nil (take (length dst) bs)
+
+pub copied-all : (bs dst : List ℕ) → length bs ≡ length dst → copied bs dst ≡ bs
+copied-all bs dst h = copied-over bs dst (omega arith) ∙ take_all (length dst) bs (omega arith)
 
 pub write-fits : (bs out : List ℕ) → length bs ≤ length out → write bs out ≡ outcome (Wrote (length bs)) (copied bs out)
 write-fits bs out h = simp (le-ltb (length out) (length bs) h, copied-fits bs out h)
@@ -75,6 +81,31 @@ copied-min src dst {n} {x} e f =
     let k : n ≡ length dst = omega (arith, e) in
     ap₂ (λ (l m : List ℕ). l ++ m) f (over dst n (omega (arith, k))) ∙ append-nil (take n src) ∙ ap (λ (m : ℕ). take m src) k
     ∙ sym (copied-over src dst (omega arith)))
+
+none : (dst : List ℕ) → copied [] dst ≡ dst
+unfolding copied
+none dst = ap (λ (l : List ℕ). l ++ dst) (take-nil (length dst))
+
+full : (bs : List ℕ) → copied bs [] ≡ []
+unfolding copied
+full bs = drop-nil (length bs)
+
+one : (b d : ℕ) (bs dst : List ℕ) → copied (b ∷ bs) (d ∷ dst) ≡ b ∷ copied bs dst
+unfolding copied
+one b d bs dst = refl
+
+module _ (i : ℕ) (src dst : List ℕ) {t : List ℕ} (p : take i dst ++ copied (drop i src) (drop i dst) ≡ t) where
+  pub copied_next : i < length src → i < length dst
+      → take (i + 1) (set dst i (get_or src i 0)) ++ copied (drop (i + 1) src) (drop (i + 1) (set dst i (get_or src i 0))) ≡ t
+  copied_next h k = next copied (λ b d. b) none one i src dst (get_or src i 0) h k refl p
+
+  pub copied-done : (n : ℕ) → n ≤ i → n ≡ min (length src) (length dst) → dst ≡ t
+  copied-done n h e =
+      by_le (length src) i (λ l. done copied (λ b d. b) none one i src dst l p) λ l.
+      let k : length dst ≤ i = omega arith in
+      sym
+      (ap (λ (x : List ℕ). take i dst ++ copied (drop i src) x) (over dst i k) ∙ ap (λ (x : List ℕ). take i dst ++ x) (full (drop i src))
+      ∙ append-nil (take i dst) ∙ take_all i dst k) ∙ p
 
 -- where there is room, an answer and an output of the call
 module _ (bs out : List ℕ) {w : Written} {after : List ℕ} (h : length bs ≤ length out) (e : outcome w after ≡ write bs out) where

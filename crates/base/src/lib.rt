@@ -145,6 +145,8 @@ pub fn up_to(bytes: &[u8], c: u8) -> usize
 pub fn copy(src: &[u8], dst: &mut [u8])
     ensures { dst.new ≡ copied src.now dst.old }
 {
-    let n = src.len().min(dst.len());
-    dst[..n].copy_from_slice(&src[..n]);
+    // By their numbers: of `copy_from_slice` the compiler makes calls of `memmove`, and the archive for C wants none.
+    for i in 0..src.len().min(dst.len()) {
+        dst[i] = src[i];
+    }
 }

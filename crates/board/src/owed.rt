@@ -112,8 +112,15 @@ impl Owed {
         ensures { result ≡ forth self recv.now }
     {
         let out = self.out + 1;
+        // Each field by itself: by `..self` the piece is copied twice for each byte that goes out.
         if out < self.piece.length {
-            Owed { out, ..self }
+            Owed {
+                piece: self.piece,
+                out,
+                text: self.text,
+                delivery: self.delivery,
+                at: self.at,
+            }
         } else {
             self.next_piece(recv)
         }

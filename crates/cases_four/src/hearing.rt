@@ -34,6 +34,16 @@ impl Four {
         }
     }
 
+    // As fresh, where it stands: a second one would be laid beside it in every case.
+    pub fn begin(&mut self) {
+        self.receiver = Receiver::fresh();
+        for cells in self.cells.iter_mut() {
+            cells.fill(0);
+        }
+        self.recv.fill(0xA5);
+        self.word.fill(0xA5);
+    }
+
     pub fn configure(&mut self, told: &mut impl Write, number: u64) -> io::Result<()> {
         let done = self.receiver.configure(
             cases::first(number),

@@ -42,7 +42,7 @@ impl Serve for Server {
 // Writes the answer to one case.
 fn answer(told: &mut impl Write, case: Case, four: &mut Four) -> io::Result<()> {
     match case.asked {
-        b'n' => *four = Four::fresh(),
+        b'n' => four.begin(),
         b'c' => four.configure(told, case.number)?,
         b'h' => four.hear(told, case.number, case.given)?,
         b'x' => four.set(case.number, case.given),

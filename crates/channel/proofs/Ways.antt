@@ -4,6 +4,7 @@
 -- taken-within, hand-more, hand-said                           the rest of a stored word
 -- compare-more, compare-again, compare-lost                    marker bytes
 -- hunt-found, hunt-more, sought-none                           hunting, or nothing to seek
+-- fill-copied                                                  bytes copied where there is just room for them
 -- fill-room, fill-within, fill-same, fill_more, fill-whole     bytes of a word
 -- sought-end, filled-end                                       phase behind phase
 -- call-unsound, call-cramped, call-on                          refused with 10, with 11, or let on
@@ -19,6 +20,8 @@ use lib.Seq.{drop-cons, take_at, take_all, length-take-le}
 use lib.Dec.{eqb, leb}
 use borrow.Author.Tests.{le-leb, leb-true}
 use borrow.Rule.Slice.PartMut.{put_mid}
+use Rattle.base.specs.Written.{copied}
+use Rattle.base.proofs.Writing.{copied-all}
 use Rattle.base.specs.Choice.{pick}
 use Rattle.base.specs.Calls.{after}
 use Rattle.base.proofs.Calls.{after_none}
@@ -330,6 +333,19 @@ module _ (s : Receiver) (bs : List ℕ) (o : s.locked ≡ false) {x : Found} (ex
 -- ---- nothing to seek: a word's bytes are wanted
 pub sought-none : (s : Receiver) (bs : List ℕ) → s.locked ≡ true → s.lock.word < word_bytes → Sought s bs 0 s
 sought-none s bs o h = record { means = λ l k. after_none (hear_on (memory s l k) bs); within = omega arith; locked = o; word = h }
+
+-- ---- bytes of a word, copied from `at` on in a piece
+module _ (s : Receiver) (word piece : List ℕ) (at : ℕ) (w : s.lock.word < word_bytes) (room : word_bytes ≤ length word) (in-piece : at ≤ length piece)
+    {n : ℕ} (left : n ≡ min (word_bytes - s.lock.word) (length piece - at)) where
+  pub fill-copied : {y : List ℕ} → y ≡ copied (take (at + n - at) (drop at piece)) (take (s.lock.word + n - s.lock.word) (drop s.lock.word word))
+      → y ≡ take (at + n - at) (drop at piece)
+  fill-copied e =
+      e ∙ copied-all (take (at + n - at) (drop at piece)) (take (s.lock.word + n - s.lock.word) (drop s.lock.word word))
+      (omega (
+        arith,
+        length-take-le (at + n - at) (drop at piece) (omega (arith, length-drop at piece, left)),
+        length-take-le (s.lock.word + n - s.lock.word) (drop s.lock.word word) (omega (arith, length-drop s.lock.word word, left)),
+      ))
 
 -- ---- bytes of a word, from `at` on in a piece
 module _ (s : Receiver) (word piece : List ℕ) (at : ℕ) (o : s.locked ≡ true) (w : s.lock.word < word_bytes) (room : word_bytes ≤ length word)

@@ -203,7 +203,7 @@ impl Receiver {
         let n = (Block::WORD - lock.word).min(piece.len() - at);
         let taken = at + n;
         let count = lock.word + n;
-        word[lock.word..count].copy_from_slice(&piece[at..taken]);
+        base::copy(&piece[at..taken], &mut word[lock.word..count]);
         if count < Block::WORD {
             return Hearing {
                 answer: Answer::More,
