@@ -50,9 +50,9 @@ pub took-within : (room : ℕ) (s : Screen) (bs : List ℕ) → (takes room s bs
 took-within room s bs = by_tests (sound_state (readout_of s) (length bs)) (roomy (recv_on s) (memory_in s.source.deck).word) room s bs
 
 -- a call's result, and the output then
-pub call-within : (s : Screen) (bs old : List ℕ) {r : Took} {l k out : List ℕ}
+pub call-within : (s : Screen) (bs old : List ℕ) (r : Took) {l k out : List ℕ}
     → TookIs (takes (length old) s bs) r l k old out → (r.taken ≤ length bs) × (r.written ≤ length out)
-call-within s bs old h =
+call-within s bs old r h =
     let x : Part = takes (length old) s bs in (
       omega (arith, ap (λ (y : Got). y.taken) h.0, took-within (length old) s bs),
       omega (arith, ap (λ (y : Got). y.written) h.0, ap length h.3, length-append x.text (drop (length x.text) old)),

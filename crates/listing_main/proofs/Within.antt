@@ -61,9 +61,9 @@ took-within m t room bs =
     by_tests (sound m.ear.memory.st) (near m.spot t (length bs) room) (roomy m.ear.memory.recv m.ear.memory.word) m t room bs
 
 -- a call's result, and the output then
-pub call-within : (m : Deck) (t : Totals) (bs old : List ℕ) {r : Took} {l k out : List ℕ}
+pub call-within : (m : Deck) (t : Totals) (bs old : List ℕ) (r : Took) {l k out : List ℕ}
     → TookIs (takes m t (length old) bs) r l k old out → (r.taken ≤ length bs) × (r.written ≤ length out)
-call-within m t bs old h =
+call-within m t bs old r h =
     let x : Printed = takes m t (length old) bs in (
       omega (arith, ap (λ (y : Got). y.taken) h.0, took-within m t (length old) bs),
       omega (arith, ap (λ (y : Got). y.written) h.0, ap length h.3, length-append x.text (drop (length x.text) old)),

@@ -81,7 +81,10 @@ module _ (hold out : List ℕ) (n : ℕ) (h : n ≤ length hold) (m : n ≤ hold
       (er ∙ p.0, eh ∙ moved, p.1)
 
   unmoved : whole ≡ 0 → hold ≡ copy_within hold whole n 0
-  unmoved z = sym (take-append-drop n hold) ∙ ap (λ (k : ℕ). copy_within hold k n 0) (sym z)
+  unmoved z =
+      let e : n ≡ n - whole = omega (arith, z) in
+      let f : n ≡ 0 + (n - whole) = omega (arith, z) in
+      sym (take-append-drop n hold) ∙ λ i. take (e i) (drop (sym z i) hold) ++ drop (f i) hold
 
   pub put-none : (w : Result ℕ Refusal) {r : ℕ} {out' : List ℕ} → outcome (as_written w) out' ≡ sending (take whole hold) out → r ≡ result_unwrap_or w 0
       → whole ≡ 0 → PutIs bs hold out r hold out'
