@@ -9,6 +9,8 @@ mod naming;
 mod output;
 mod warnings;
 
+ghost use Rattle.std.specs.Prelude.{◌≤◌};
+
 use console::{Next, PIECE, Speak, TakePieces, say};
 use naming::{name_line, say_no_bid};
 use office::{Answer, Hearing, Office};

@@ -106,23 +106,16 @@ impl Owed {
         }
     }
 
-    // One byte further.
-    fn forth(self, recv: &[u8]) -> Owed
-        requires { (owes self ≡ true) × (self.piece.length ≤ longest) }
-        ensures { result ≡ forth self recv.now }
+    // One byte further, where it stands: copied for each byte, the piece would be moved twice.
+    fn forth(&mut self, recv: &[u8])
+        requires { (owes self.old ≡ true) × (self.old.piece.length ≤ longest) }
+        ensures { self.new ≡ forth self.old recv.now }
     {
         let out = self.out + 1;
-        // Each field by itself: by `..self` the piece is copied twice for each byte that goes out.
         if out < self.piece.length {
-            Owed {
-                piece: self.piece,
-                out,
-                text: self.text,
-                delivery: self.delivery,
-                at: self.at,
-            }
+            self.out = out;
         } else {
-            self.next_piece(recv)
+            *self = self.next_piece(recv);
         }
     }
 
@@ -137,7 +130,7 @@ impl Owed {
                 return Put { owed, written: w };
             }
             *place = owed.piece.bytes[owed.out];
-            owed = owed.forth(recv);
+            owed.forth(recv);
         }
         Put {
             owed,

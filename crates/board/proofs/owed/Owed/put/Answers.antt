@@ -16,4 +16,4 @@ returns-then-not-owes c = rw set-get_or (put-out c.loop-w.invariant (sym c.owes.
 
 pub loop-w-preserved : goal.loop-w-preserved
 loop-w-preserved c =
-    put_on c.loop-w.invariant (sym c.owes.ensures ∙ c.if-not-owes.false) (omega arith) (omega arith) refl c.forth-owed.ensures
+    put_on c.loop-w.invariant (sym c.owes.ensures ∙ c.if-not-owes.false) (omega arith) (omega arith) refl c.forth.ensures
