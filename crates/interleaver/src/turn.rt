@@ -77,8 +77,10 @@ impl Turn {
         ensures { (out.new, matrix result.place cells.new) ≡ left (taken self.depth) bytes.now 0 (matrix self.place cells.old) out.old }
     {
         let mut turn = self;
-        for (i, &byte) in bytes.iter().enumerate() {
-            cells[turn.cell()] = byte;
+        // The byte by its number too: fetched before its cell is known, it makes a third more of the time.
+        for i in 0..bytes.len() {
+            let cell = turn.cell();
+            cells[cell] = bytes[i];
             turn = turn.next();
             out[i] = cells[turn.place];
         }
