@@ -42,7 +42,7 @@ fn put_next(stream: &[u8], out: &mut [u8])
 {
     let mut message = [FrameReader::FLAG; Block::MESSAGE];
     base::copy(stream, &mut message);
-    // Never refused, as there. By `mark`, so that one operation makes every marked byte.
+    // Never refused: the message has its length, and there is room. By `mark`, so that one operation makes every marked byte.
     let _ = mark(&message, out);
 }
 

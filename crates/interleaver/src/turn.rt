@@ -77,7 +77,7 @@ impl Turn {
         ensures { (out.new, matrix result.place cells.new) ≡ left (taken self.depth) bytes.now 0 (matrix self.place cells.old) out.old }
     {
         let mut turn = self;
-        // The byte by its number too: fetched before its cell is known, it makes a third more of the time.
+        // The byte by its number too: fetched before its cell is known, it takes a third more time.
         for i in 0..bytes.len() {
             let cell = turn.cell();
             cells[cell] = bytes[i];

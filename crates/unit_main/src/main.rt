@@ -200,7 +200,7 @@ fn get<'a>(
 }
 
 // The first bytes of the file of this name, in as much space as is lent. No Vec of them: there may be no memory to ask for, and std reads into one by
-// pieces, of which a pipe that hands out whole messages cuts off the rest.
+// steps, the first of 512 bytes; a pipe that hands out whole messages drops what a step has no room for.
 fn read_file<'a>(rt: &impl Files, name: &[u8], space: &'a mut [u8]) -> io::Result<&'a [u8]> {
     let mut file = fs::open(rt, path(name)?)?;
     let mut n: usize = 0;
