@@ -125,29 +125,29 @@ impl Sender {
         stored: usize,
         heard: Hearing,
     ) -> io::Result<()> {
-        let end = line_end(stored, heard.taken);
-        self.told(rt, heard, end);
+        self.told(rt, heard, stored);
         if PIECE - self.waiting.min(PIECE) < Office::OUTPUT {
             self.pass_on(rt)?;
         }
         Ok(())
     }
 
-    // Behind an answer to a line, which are so many bytes of its buffer: the blocks of one that is sent wait, with what the boards will make of it;
-    // one that is not sent is named.
-    fn told(&mut self, rt: &impl Speak, heard: Hearing, end: usize) {
+    // Behind an answer to a line, of which so many bytes stood in its buffer before: the blocks of one that is sent wait, with what the boards will make
+    // of it; one that is not sent is named.
+    fn told(&mut self, rt: &impl Speak, heard: Hearing, stored: usize) {
         self.office = heard.office;
         let number = heard.office.lines;
+        let line = &self.line[..line_end(stored, heard.taken)];
         let from = self.waiting.min(PIECE);
         match heard.answer {
             Ok(Answer::More) => {}
             Ok(Answer::Sent(n)) => {
-                self.waiting = from + n.min(PIECE - from);
-                self.watch.heed(rt, number, &self.line[..end.min(PIECE)]);
+                self.waiting = from + told_bytes(n, PIECE - from);
+                self.watch.heed(rt, number, line);
             }
             Ok(Answer::NoBid) => {
                 name_line(rt, number);
-                say_no_bid(rt, number, &self.line[..end.min(PIECE)]);
+                say_no_bid(rt, number, line);
             }
             Err(refusal) => {
                 name_line(rt, number);
@@ -177,4 +177,11 @@ fn line_end(stored: usize, taken: usize) -> usize
     ensures { result ≤ 65536 }
 {
     console::onward(stored.min(PIECE), taken.saturating_sub(1), PIECE)
+}
+
+// How many bytes of the room behind what waits a line that is sent fills, of so many written there.
+fn told_bytes(written: usize, room: usize) -> usize
+    ensures { result ≤ room }
+{
+    written.min(room)
 }

@@ -28,7 +28,7 @@ fn four_messages(parity: usize) -> usize {
 // Reads behind the bytes that are held, until so many are: how many are held then, if the stream has not ended.
 fn read_on(rt: &impl Input, hold: &mut [u8], have: usize, want: usize) -> io::Result<Option<usize>>
     requires { (have ≤ want) × (want ≤ length hold.old) }
-    ensures { IfOk result (λ held. IfSome held (λ n. n ≤ want)) }
+    ensures { IfOk result (λ held. IfSome held (λ n. (have ≤ n) × (n ≤ want))) }
 {
     let n = rt.reader().read(&mut hold[have..want])?;
     if n == 0 {

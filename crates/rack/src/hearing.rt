@@ -41,7 +41,7 @@ fn numbers(taken: usize, told: Numbered, receiver: Receiver) -> [u64; 21]
 {
     let lock = receiver.lock;
     let last = receiver.hunting;
-    // One by one into one array: parts laid down before and copied cost a third more on a call of one byte.
+    // One by one into one array: a part that is laid down first is moved once more.
     let [a, b, c, d, e, f, g, h, i, j, k, l] = reading::numbers(taken, told, receiver.frame);
     [
         a,
